@@ -1,0 +1,12 @@
+use Rattle.std.proofs.Common.{◌≡◌, ◌≤◌, map, take}
+use Rattle.cg_ending.specs.Outcome.{file_of}
+use Rattle.cg_ending.specs.Ends.{Wrote}
+use Rattle.cg_ending.proofs.finishing.write_all.Given as goal
+
+-- the files so far were written
+abbrev pub invariant-loop-file : goal.invariant-loop-file
+invariant-loop-file g l = record {
+  wrote : Wrote (g.S.Store.held l.fn.store) (map file_of (take l.file-index l.files)) (g.S.Store.held l.store);
+  reads : g.S.Store.read_faults l.store ≡ g.S.Store.read_faults l.fn.store;
+  writes : g.S.Store.write_faults l.fn.store ≤ g.S.Store.write_faults l.store;
+}

@@ -1,0 +1,39 @@
+use Rattle.std.proofs.Common.{rules, ◌≡◌, arith, string_bytes, inl, inr}
+use Rattle.std.proofs.lemmas.List.{map-append}
+use Rattle.cg_ending.specs.Outcome.{file_of}
+use Rattle.cg_ending.proofs.Writes.{map_more, map_split}
+use Rattle.cg_ending.proofs.ReadsLemmas.{read_one, stopped, caused}
+use Rattle.cg_ending.proofs.read.read_all.Goals as goal
+
+pub returns-in-Err-Failed-clause-stopped : goal.returns-in-Err-Failed-clause-stopped
+returns-in-Err-Failed-clause-stopped g c = stopped _ _ _ _ _ (string_bytes c.name-item.result) c.as_str.result.now _ _
+    (search rules)
+    (map_split string_bytes c.args.names.now c.loop-name.name-index c.name-item.result c.loop-name-test.true c.name-item.is)
+    c.loop-name.invariant.read
+    (inl (
+      let e : c.as_str-in-Err-Failed.result.now ≡ c.as_str.result.now = search rules in rw e at c.in_ok-read_fault-in-Err-Failed.ensures,
+      caused _ _ _ _ _ _ (c.in-Err-Failed.ensures.failed (search rules)) c.loop-name.invariant.reads c.loop-name.invariant.held,
+    ))
+
+pub returns-in-Err-TooLong-clause-stopped : goal.returns-in-Err-TooLong-clause-stopped
+returns-in-Err-TooLong-clause-stopped g c = stopped _ _ _ _ _ (string_bytes c.name-item.result) c.as_str.result.now _ _
+    (search rules)
+    (map_split string_bytes c.args.names.now c.loop-name.name-index c.name-item.result c.loop-name-test.true c.name-item.is)
+    c.loop-name.invariant.read
+    (inr (
+      let e : c.as_str-in-Err-TooLong.result.now ≡ c.as_str.result.now = search rules in rw e at c.in_ok-too_long-in-Err-TooLong.ensures,
+      rw c.loop-name.invariant.held at (c.in-Err-TooLong.ensures.too_long c.in-Err-TooLong.field-0-0 (search rules)).1,
+    ))
+
+pub loop-name-preserved : goal.loop-name-preserved
+loop-name-preserved g c = record {
+  read = rw (c.in_ok-push-in-Ok.ensures.items, map-append) (read_one _ _ _ _
+      (file_of (record { name = c.in_ok-name-in-Ok.name; bytes = c.in-Ok.bytes }))
+      c.loop-name.invariant.read
+      (let e : c.as_str.result.now ≡ string_bytes c.in_ok-name-in-Ok.name = search rules in rw (c.loop-name.invariant.held, e) at c.in-Ok.ensures.ok)
+      (let e : string_bytes c.in_ok-name-in-Ok.name ≡ string_bytes c.name-item.result = search rules in
+      rw e (map_more string_bytes c.args.names.now c.loop-name.name-index c.name-item.result c.loop-name-test.true c.name-item.is)));
+  held = grind arith;
+  reads = grind arith;
+  writes = grind arith;
+}

@@ -1,0 +1,41 @@
+-- What a command defines: a status, a report, and files to write in order.
+use Rattle.std.specs.Prelude.{ℕ, List, [], ◌∷◌, ◌++◌, map, string_bytes}
+use Rattle.cg_ending.specs.declared.outcome.Status.{Status}
+use Rattle.cg_ending.specs.declared.outcome.File.{File as FileValue}
+use Rattle.cg_ending.specs.declared.outcome.Outcome.{Outcome as OutcomeValue}
+
+-- the bytes of a name
+abbrev pub Name : Type 0
+Name = List ℕ
+
+-- the bytes of a file or a report
+abbrev pub Bytes : Type 0
+Bytes = List ℕ
+
+-- a file that was read, or is to be written
+pub record File : Type 0 where
+  pub name : Name
+  pub bytes : Bytes
+
+-- how a call ends, what it puts, and what it writes, in order
+pub record Outcome : Type 0 where
+  pub status : Status
+  pub report : Bytes
+  pub writes : List File
+
+-- the line of these pieces: one after the other, and a line feed
+abbrev pub line_of : List Bytes → Bytes
+line_of [] = 10 ∷ []
+line_of (piece ∷ pieces) = piece ++ line_of pieces
+
+-- what a file of the program stands for
+abbrev pub file_of : FileValue → File
+file_of file = record { name = string_bytes file.name; bytes = file.bytes.items }
+
+-- what an outcome of the program stands for
+abbrev pub outcome_of : OutcomeValue → Outcome
+outcome_of outcome = record {
+  status = outcome.status;
+  report = outcome.report.items;
+  writes = map file_of outcome.writes.items;
+}

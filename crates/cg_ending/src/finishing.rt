@@ -1,0 +1,77 @@
+//! Writes the files of an outcome, and then puts its report.
+ghost use Rattle.std.specs.Prelude.{◌≡◌, ◌≤◌, ℕ, Err, OnOk, IsErrOf, map};
+ghost use Rattle.cg_files.specs.Causes.{Rose};
+ghost use Rattle.cg_ending.specs.Outcome.{file_of, outcome_of};
+ghost use Rattle.cg_ending.specs.Ends.{moment, Finished, Wrote, WrotePart, FailedAt, Reported};
+
+use crate::outcome::{File, Outcome, Status};
+use cg_files::{Sink, SinkFail, Store, StoreFail};
+use std::alloc::Global;
+
+/// Does what the outcome says: each write, then the report.
+pub fn finish<S: Store, O: Sink>(
+    alloc: Global,
+    outcome: &Outcome,
+    store: &mut S,
+    out: &mut O,
+) -> Status
+    ensures ends { Finished (outcome_of outcome.now)
+        (moment (S.held store.old) (S.read_faults store.old) (S.write_faults store.old)
+        (O.taken out.old) (O.faults out.old))
+        (moment (S.held store.new) (S.read_faults store.new) (S.write_faults store.new)
+        (O.taken out.new) (O.faults out.new))
+        result }
+    ensures reads { S.read_faults store.new ≡ S.read_faults store.old }
+    ensures writes { S.write_faults store.old ≤ S.write_faults store.new }
+    ensures faults { O.faults out.old ≤ O.faults out.new }
+{
+    match write_all(alloc, outcome.writes.as_slice(), store) {
+        Ok(()) => report(alloc, outcome.status, outcome.report.as_slice(), out),
+        Err(StoreFail::Failed) => Status::WriteFault,
+        Err(StoreFail::TooLong(_) | StoreFail::Memory) => Status::Memory,
+    }
+}
+
+/// Writes the files in order.
+fn write_all<S: Store>(alloc: Global, files: &[File], store: &mut S) -> Result<(), StoreFail>
+    ensures ok { OnOk result (Wrote (S.held store.old) (map file_of files.now) (S.held store.new)) }
+    ensures failed { IsErrOf result StoreFail.Failed
+        → Rose (S.write_faults store.old) (S.write_faults store.new)
+        × FailedAt (S.held store.old) (map file_of files.now) (S.held store.new) }
+    ensures memory { IsErrOf result StoreFail.Memory
+        → WrotePart (S.held store.old) (map file_of files.now) (S.held store.new) }
+    ensures too_long { (got : ℕ) → result ≡ Err (StoreFail.TooLong got) → ⊥ }
+    ensures reads { S.read_faults store.new ≡ S.read_faults store.old }
+    ensures writes { S.write_faults store.old ≤ S.write_faults store.new }
+{
+    for file in files {
+        store.write(alloc, file.name.as_str(), file.bytes.as_slice())?;
+    }
+    Ok(())
+}
+
+/// Puts the report, where there is one.
+fn report<O: Sink>(alloc: Global, status: Status, bytes: &[u8], out: &mut O) -> Status
+    ensures ends { Reported status bytes.now (O.taken out.old) (O.faults out.old)
+        (O.taken out.new) (O.faults out.new) result }
+    ensures faults { O.faults out.old ≤ O.faults out.new }
+{
+    if bytes.is_empty() {
+        return status;
+    }
+    match out.put(alloc, bytes) {
+        Ok(()) => status,
+        Err(SinkFail::Memory) => Status::Memory,
+        Err(SinkFail::Failed) => match status {
+            Status::Done => Status::WriteFault,
+            Status::Memory
+            | Status::Usage
+            | Status::Malformed
+            | Status::Impossible
+            | Status::ReadFault
+            | Status::WriteFault
+            | Status::BudgetSpent
+            | Status::No => status,
+        },
+    }
+}

@@ -1,0 +1,10 @@
+//! How a command's call begins and ends: the reading of its inputs, then its writes and its report.
+#![tactic(auto)]
+
+mod finishing;
+mod outcome;
+mod read;
+
+pub use finishing::finish;
+pub use outcome::{File, Outcome, Status};
+pub use read::{READ_LIMIT, Stop, read_all};

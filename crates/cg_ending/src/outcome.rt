@@ -1,0 +1,61 @@
+//! What a command defines.
+ghost use Rattle.std.specs.Prelude.{◌≡◌};
+
+/// How a call ended.
+#[derive(Clone, Copy, Debug, PartialEq, Eq)]
+pub enum Status {
+    /// The command did its work.
+    Done,
+    /// Memory was wanting.
+    Memory,
+    /// The words fit no command.
+    Usage,
+    /// An input file is too long, or isn't what it should be.
+    Malformed,
+    /// No mapping can exist at that interval.
+    Impossible,
+    /// An input file couldn't be read.
+    ReadFault,
+    /// An output file couldn't be written, or the report couldn't be put.
+    WriteFault,
+    /// The search found no mapping with the moves it had.
+    BudgetSpent,
+    /// The answer to the question asked is no.
+    No,
+}
+
+impl Status {
+    ghost use Rattle.cg_ending.specs.Status.{number_of};
+
+    /// The exit status of the program.
+    pub fn number(self) -> u8
+        ensures { result ≡ number_of self }
+    {
+        match self {
+            Status::Done => 0,
+            Status::Memory => 1,
+            Status::Usage => 2,
+            Status::Malformed => 3,
+            Status::Impossible => 4,
+            Status::ReadFault => 5,
+            Status::WriteFault => 6,
+            Status::BudgetSpent => 7,
+            Status::No => 8,
+        }
+    }
+}
+
+/// A file that was read, or is to be written.
+#[derive(Drop)]
+pub struct File {
+    pub name: String,
+    pub bytes: Vec<u8>,
+}
+
+/// What a command defines: how the call ends, what it puts, and the files to write, in order.
+#[derive(Drop)]
+pub struct Outcome {
+    pub status: Status,
+    pub report: Vec<u8>,
+    pub writes: Vec<File>,
+}

@@ -1,0 +1,90 @@
+//! Reads the input files of a command.
+ghost use Rattle.std.specs.Prelude.{◌≡◌, ◌≤◌, IfOk, IfErr, map, string_bytes};
+ghost use Rattle.cg_files.specs.Causes.{Rose};
+ghost use Rattle.cg_ending.specs.Outcome.{file_of, outcome_of};
+ghost use Rattle.cg_ending.specs.Reads.{AreRead, IsStop, read_fault_of, too_long_of};
+
+use crate::outcome::{File, Outcome, Status};
+use cg_files::{Store, StoreFail};
+use std::alloc::{AllocError, AllocFailed, Global};
+
+/// The most bytes that an input file may have.
+pub const READ_LIMIT: u64 = 16_777_216;
+
+/// Why the reading of a command's inputs ended before all were read.
+#[derive(Drop)]
+pub enum Stop {
+    /// A file couldn't be read, or is too long: the call ends by this outcome.
+    Ended(Outcome),
+    /// Memory is wanting.
+    Memory,
+}
+
+impl From<AllocError> for Stop {
+    ghost use Rattle.std.specs.Prelude.{◌≡◌};
+    ghost use Rattle.cg_ending.specs.declared.read.Stop.TheVariants.{Memory};
+
+    ghost from_gives = { λ _ e. e ≡ Memory };
+
+    fn from(_error: AllocError) -> Stop {
+        Stop::Memory
+    }
+}
+
+impl<T: Drop> From<AllocFailed<T>> for Stop {
+    ghost use Rattle.std.specs.Prelude.{◌≡◌};
+    ghost use Rattle.cg_ending.specs.declared.read.Stop.TheVariants.{Memory};
+
+    ghost from_gives = { λ _ e. e ≡ Memory };
+
+    fn from(_error: AllocFailed<T>) -> Stop {
+        Stop::Memory
+    }
+}
+
+/// Reads the files of these names in order, up to the first that can't be read or is too long.
+pub fn read_all<S: Store>(alloc: Global, names: &[String], store: &mut S) -> Result<Vec<File>, Stop>
+    ensures ok { IfOk result (λ files.
+        AreRead (S.held store.old) (map string_bytes names.now) (map file_of files.items)) }
+    ensures stopped { IfErr result (IsStop (S.held store.old)
+        (Rose (S.read_faults store.old) (S.read_faults store.new)) (map string_bytes names.now)) }
+    ensures held { S.held store.new ≡ S.held store.old }
+    ensures reads { S.read_faults store.old ≤ S.read_faults store.new }
+    ensures writes { S.write_faults store.new ≡ S.write_faults store.old }
+{
+    let mut files = Vec::new(alloc);
+    for name in names {
+        match store.read(alloc, name.as_str(), READ_LIMIT) {
+            Ok(bytes) => {
+                let name = String::from_str(alloc, name.as_str())?;
+                files.push(File { name, bytes })?;
+            }
+            Err(StoreFail::Failed) => return Err(Stop::Ended(read_fault(alloc, name.as_str())?)),
+            Err(StoreFail::TooLong(_)) => return Err(Stop::Ended(too_long(alloc, name.as_str())?)),
+            Err(StoreFail::Memory) => return Err(Stop::Memory),
+        }
+    }
+    Ok(files)
+}
+
+fn read_fault(alloc: Global, name: &str) -> Result<Outcome, AllocError>
+    ensures { IfOk result (λ outcome. outcome_of outcome ≡ read_fault_of name.now) }
+{
+    let report = format!(in alloc; "read fault {name}\n")?;
+    Ok(Outcome {
+        status: Status::ReadFault,
+        report: report.into_bytes(),
+        writes: Vec::new(alloc),
+    })
+}
+
+fn too_long(alloc: Global, name: &str) -> Result<Outcome, AllocError>
+    ensures { IfOk result (λ outcome. outcome_of outcome ≡ too_long_of name.now) }
+{
+    let report = format!(in alloc; "malformed {name}: G1 TooLong limit 16777216\n")?;
+    Ok(Outcome {
+        status: Status::Malformed,
+        report: report.into_bytes(),
+        writes: Vec::new(alloc),
+    })
+}

@@ -1,0 +1,5 @@
+pub mod Calls
+pub mod Causes
+pub mod Held
+pub mod MemSink
+pub mod MemStore

@@ -1,0 +1,35 @@
+-- What a store in memory shows.
+use Rattle.std.specs.Prelude.{◌≡◌, ℕ, List, Option, option_map}
+use Rattle.std.specs.BTreeMap.{get_by_text}
+use Rattle.cg_files.specs.Calls.{IsListed}
+use Rattle.cg_files.specs.declared.memory.MemStore.{MemStore}
+
+-- the bytes held under each name
+abbrev pub files_of : MemStore → List ℕ → Option (List ℕ)
+files_of store name = option_map (λ v. v.items) (get_by_text store.files name)
+
+-- how many calls were counted
+abbrev pub calls_of : MemStore → ℕ
+calls_of store = store.calls.made
+
+-- the numbers of the calls that are to fail
+abbrev pub failing_of : MemStore → List ℕ
+failing_of store = store.calls.failing.items
+
+-- how many reads were told to fail, and did
+abbrev pub read_faults_of : MemStore → ℕ
+read_faults_of store = store.read_faults
+
+-- how many writes were told to fail, and did
+abbrev pub write_faults_of : MemStore → ℕ
+write_faults_of store = store.write_faults
+
+-- the next call is to fail
+abbrev pub FailsNext : MemStore → Type 0
+FailsNext store = IsListed (failing_of store) (calls_of store)
+
+-- no call was made
+pub record SameCalls (old new : MemStore) : Type 0 where
+  pub calls : calls_of new ≡ calls_of old
+  pub read_faults : read_faults_of new ≡ read_faults_of old
+  pub write_faults : write_faults_of new ≡ write_faults_of old

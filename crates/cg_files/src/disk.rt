@@ -1,0 +1,159 @@
+//! The system's files and its standard output. They tell nothing of content.
+ghost use Rattle.std.specs.Prelude.{◌≡◌, ◌<◌, ◌≤◌, ℕ, Err, IfOk, IfSome, OnOk, length};
+
+use crate::fail::{SinkFail, StoreFail};
+use crate::sink::Sink;
+use crate::store::Store;
+use std::alloc::Global;
+use std::io::{Read, Write};
+use std::rt::Files;
+use std::{fs, io};
+
+/// The files of the system. Each error of the system raises a count, and a missing file is one.
+#[derive(Drop)]
+pub struct DiskStore<'a, R: Files> {
+    rt: &'a R,
+    read_faults: u64,
+    write_faults: u64,
+}
+
+impl<'a, R: Files> DiskStore<'a, R> {
+    /// The files of this runtime.
+    pub fn new(rt: &'a R) -> DiskStore<'a, R>
+        ensures reads { ⟦<DiskStore<'a, R> as Store>⟧.read_faults result ≡ 0 }
+        ensures writes { ⟦<DiskStore<'a, R> as Store>⟧.write_faults result ≡ 0 }
+    {
+        DiskStore {
+            rt,
+            read_faults: 0,
+            write_faults: 0,
+        }
+    }
+}
+
+impl<'a, R: Files> Store for DiskStore<'a, R> {
+    ghost use Rattle.std.specs.Prelude.{None};
+
+    ghost held = { λ _. None };
+
+    ghost read_faults = { λ s. s.read_faults };
+
+    ghost write_faults = { λ s. s.write_faults };
+
+    fn read(&mut self, alloc: Global, name: &str, limit: u64) -> Result<Vec<u8>, StoreFail> {
+        let answer = match fs::open(self.rt, name) {
+            Ok(file) => read_up_to(alloc, file, limit),
+            Err(_) => Err(StoreFail::Failed),
+        };
+        if let Err(StoreFail::Failed) = answer {
+            self.read_faults = self.read_faults.saturating_add(1);
+        }
+        answer
+    }
+
+    fn write(&mut self, _alloc: Global, name: &str, bytes: &[u8]) -> Result<(), StoreFail> {
+        match fs::write(self.rt, name, bytes) {
+            Ok(()) => Ok(()),
+            Err(_) => {
+                self.write_faults = self.write_faults.saturating_add(1);
+                Err(StoreFail::Failed)
+            }
+        }
+    }
+}
+
+/// The bytes up to the file's end. It stops at the first piece that goes past the limit.
+fn read_up_to<F: Read + Drop>(alloc: Global, mut file: F, limit: u64) -> Result<Vec<u8>, StoreFail>
+    ensures short { IfOk result (λ v. length v.items ≤ limit) }
+    ensures too_long { (got : ℕ) → result ≡ Err (StoreFail.TooLong got) → limit < got }
+
+    // Where the reader tells what it has left, this is what was read.
+    ensures whole { IfSome (F.remaining file) (λ bytes. IfOk result (λ v. v.items ≡ bytes)) }
+    ensures longer { IfSome (F.remaining file) (λ bytes. (got : ℕ)
+        → result ≡ Err (StoreFail.TooLong got) → limit < length bytes) }
+{
+    let mut bytes = Vec::new(alloc);
+    let mut piece = [0u8; 4096];
+    for _ in 0..u64::MAX {
+        let Ok(count) = file.read(&mut piece) else {
+            return Err(StoreFail::Failed);
+        };
+        if count == 0 {
+            return Ok(bytes);
+        }
+        bytes.extend_from_slice(&piece[..count])?;
+        let len = bytes.len() as u64;
+        if len > limit {
+            return Err(StoreFail::TooLong(len));
+        }
+    }
+    Err(StoreFail::Failed)
+}
+
+/// The standard output. Each error of the system raises the count.
+#[derive(Drop)]
+pub struct StdSink<'a, R: Print> {
+    rt: &'a R,
+    faults: u64,
+}
+
+impl<'a, R: Print> StdSink<'a, R> {
+    /// The standard output of this runtime.
+    pub fn new(rt: &'a R) -> StdSink<'a, R>
+        ensures { ⟦<StdSink<'a, R> as Sink>⟧.faults result ≡ 0 }
+    {
+        StdSink { rt, faults: 0 }
+    }
+}
+
+impl<'a, R: Print> Sink for StdSink<'a, R> {
+    ghost use Rattle.std.specs.Prelude.{None};
+
+    ghost taken = { λ _. None };
+
+    ghost faults = { λ s. s.faults };
+
+    fn put(&mut self, _alloc: Global, bytes: &[u8]) -> Result<(), SinkFail> {
+        match io::writer(self.rt).write_all(bytes) {
+            Ok(()) => Ok(()),
+            Err(_) => {
+                self.faults = self.faults.saturating_add(1);
+                Err(SinkFail::Failed)
+            }
+        }
+    }
+}
+
+#[cfg(test)]
+mod tests {
+    use super::*;
+    use std::test::Fail;
+
+    #[test]
+    fn reads_back_what_it_wrote(rt: HostRuntime) -> Result<(), Fail> {
+        let mut store = DiskStore::new(&rt);
+        store.write(rt.alloc(), "words.txt", b"seven words")?;
+        store.write(rt.alloc(), "words.txt", b"one two")?;
+        let bytes = store.read(rt.alloc(), "words.txt", 7)?;
+        assert_eq!(rt; bytes.as_slice(), b"one two".as_slice());
+        let shorter = store.read(rt.alloc(), "words.txt", 6);
+        assert_eq!(rt; shorter.err(), Some(StoreFail::TooLong(7)));
+        assert_eq!(rt; store.read_faults, 0);
+        let missing = store.read(rt.alloc(), "missing.txt", 7);
+        assert_eq!(rt; missing.err(), Some(StoreFail::Failed));
+        assert_eq!(rt; store.read_faults, 1);
+        let nowhere = store.write(rt.alloc(), "missing/words.txt", b"one");
+        assert_eq!(rt; nowhere.err(), Some(StoreFail::Failed));
+        assert_eq!(rt; store.write_faults, 1);
+        fs::remove_file(&rt, "words.txt")?;
+        Ok(())
+    }
+
+    #[test]
+    fn puts_to_standard_output(rt: HostRuntime) -> Result<(), Fail> {
+        let mut sink = StdSink::new(&rt);
+        assert_eq!(rt; sink.put(rt.alloc(), b"one two\n"), Ok(()));
+        assert_eq!(rt; sink.faults, 0);
+        Ok(())
+    }
+}

@@ -1,0 +1,55 @@
+//! Why a call of a store or a sink failed.
+use std::alloc::{AllocError, AllocFailed};
+
+/// Why a call of a store failed.
+#[derive(Clone, Copy, Debug, PartialEq, Eq)]
+pub enum StoreFail {
+    /// The system, or what stands for it, failed.
+    Failed,
+    /// More bytes are held than were asked for: so many were seen.
+    TooLong(u64),
+    /// Memory is wanting.
+    Memory,
+}
+
+/// Why a call of a sink failed.
+#[derive(Clone, Copy, Debug, PartialEq, Eq)]
+pub enum SinkFail {
+    /// The system, or what stands for it, failed.
+    Failed,
+    /// Memory is wanting.
+    Memory,
+}
+
+impl From<AllocError> for StoreFail {
+    ghost use Rattle.std.specs.Prelude.{◌≡◌};
+    ghost use Rattle.cg_files.specs.declared.fail.StoreFail.TheVariants.{Memory};
+
+    ghost from_gives = { λ _ e. e ≡ Memory };
+
+    fn from(_error: AllocError) -> StoreFail {
+        StoreFail::Memory
+    }
+}
+
+impl<T: Drop> From<AllocFailed<T>> for StoreFail {
+    ghost use Rattle.std.specs.Prelude.{◌≡◌};
+    ghost use Rattle.cg_files.specs.declared.fail.StoreFail.TheVariants.{Memory};
+
+    ghost from_gives = { λ _ e. e ≡ Memory };
+
+    fn from(_error: AllocFailed<T>) -> StoreFail {
+        StoreFail::Memory
+    }
+}
+
+impl From<AllocError> for SinkFail {
+    ghost use Rattle.std.specs.Prelude.{◌≡◌};
+    ghost use Rattle.cg_files.specs.declared.fail.SinkFail.TheVariants.{Memory};
+
+    ghost from_gives = { λ _ e. e ≡ Memory };
+
+    fn from(_error: AllocError) -> SinkFail {
+        SinkFail::Memory
+    }
+}

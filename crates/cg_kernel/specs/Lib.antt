@@ -1,0 +1,5 @@
+pub mod Answer
+pub mod Numbers
+pub mod Rules
+pub mod Words
+pub mod Written

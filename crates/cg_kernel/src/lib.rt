@@ -1,0 +1,19 @@
+//! Kernels: their file format, and what is valid.
+#![tactic(auto)]
+
+mod build;
+mod fault;
+mod first;
+mod kernel;
+mod numbers;
+mod read;
+mod reading;
+mod rule;
+mod rules;
+mod written;
+
+pub use cg_model::{Items, Name, Node, Operand, Operands, OrderEdge, Words};
+pub use cg_word::Op;
+pub use fault::{KernelFault, Place};
+pub use kernel::Kernel;
+pub use read::read_kernel;

@@ -1,0 +1,54 @@
+//! From bytes to a kernel.
+ghost use Rattle.std.specs.Prelude.{◌≡◌, Some, None, IfOk, IsOkAnd};
+ghost use Rattle.serde_json.specs.View.{view};
+ghost use Rattle.cg_json.specs.Answers.{Gives};
+ghost use Rattle.cg_model.specs.Kernel.{IsKernel};
+ghost use Rattle.cg_kernel.specs.Answer.{answer_of, judged, answer_in, answer_written};
+ghost use Rattle.cg_kernel.specs.Words.{HasAllWords};
+ghost use Rattle.cg_kernel.specs.Written.{written_of};
+
+use crate::build::kernel_of;
+use crate::fault::KernelFault;
+use crate::first::first_fault;
+use crate::kernel::Kernel;
+use crate::numbers::numbers_of;
+use crate::reading;
+use crate::written::WrittenKernel;
+use cg_json::{JsonFault, json_value};
+use serde_json::Value;
+use std::alloc::Global;
+
+/// The kernel that the bytes spell, or the lowest fault that applies, at its first place.
+pub fn read_kernel(alloc: Global, bytes: &[u8]) -> Result<Kernel, KernelFault>
+    ensures answer { Gives KernelFault.Memory result (answer_of bytes.now) }
+    ensures valid { IfOk result IsKernel }
+{
+    match json_value(alloc, bytes) {
+        Ok(value) => kernel_in(alloc, &value),
+        Err(JsonFault::NotJson) => Err(KernelFault::NotJson),
+        Err(JsonFault::Memory) => Err(KernelFault::Memory),
+    }
+}
+
+fn kernel_in(alloc: Global, value: &Value) -> Result<Kernel, KernelFault>
+    ensures answer { Gives KernelFault.Memory result (answer_written (written_of (view value.now))) }
+    ensures valid { IfOk result IsKernel }
+{
+    match reading::written_of(alloc, value) {
+        Ok(Ok(written)) => judged(alloc, &written),
+        Ok(Err(place)) => Err(KernelFault::WrongShape(place)),
+        Err(_) => Err(KernelFault::Memory),
+    }
+}
+
+fn judged(alloc: Global, written: &WrittenKernel) -> Result<Kernel, KernelFault>
+    requires { HasAllWords written.now }
+    ensures answer { Gives KernelFault.Memory result (judged written.now) }
+    ensures valid { IfOk result IsKernel }
+{
+    let numbers = numbers_of(alloc, written.nodes.as_slice())?;
+    if let Some(fault) = first_fault(&numbers, written) {
+        return Err(fault);
+    }
+    Ok(kernel_of(alloc, &numbers, written)?)
+}

@@ -1,0 +1,382 @@
+//! Whether a fault applies to an argument, a node, an order edge or the whole file.
+ghost use Rattle.std.specs.Prelude.{◌≡◌, ◌≤◌, length};
+ghost use Rattle.std.specs.List.{list_all, list_any};
+ghost use Rattle.cg_word.specs.Word as word;
+ghost use Rattle.cg_model.specs.Names as names;
+ghost use Rattle.cg_kernel.specs.Numbers.{IsIndex};
+ghost use Rattle.cg_kernel.specs.Rules as spec;
+
+use crate::numbers::{Numbers, number_in};
+use crate::rule::Rule;
+use crate::written::{Format, WrittenArg, WrittenEdge, WrittenKernel, WrittenNode};
+use cg_word::Op;
+
+/// The operation of a node, where the format knows one of that name.
+pub fn op_of(written: &WrittenKernel, node: &WrittenNode) -> Option<Op>
+    ensures { result ≡ spec.op_of written.now node.now }
+{
+    op_in(written.format, node.op.as_str())
+}
+
+fn op_in(format: Format, name: &str) -> Option<Op>
+    ensures { result ≡ spec.op_in format name.now }
+{
+    match Op::from_name(name) {
+        Some(op) => if knows(format, op) { Some(op) } else { None },
+        None => None,
+    }
+}
+
+fn knows(format: Format, op: Op) -> bool
+    ensures { result ≡ spec.knows format op }
+{
+    match format {
+        Format::First => op.code() <= 22,
+        Format::Second => true,
+    }
+}
+
+fn source_op(written: &WrittenKernel, numbers: &Numbers, name: &str) -> Option<Op>
+    requires { IsIndex numbers.now written.now.nodes }
+    ensures { result ≡ spec.source_op written.now name.now }
+{
+    match number_in(numbers, name) {
+        Some(number) => match written.nodes.as_slice().get(number) {
+            Some(node) => op_of(written, node),
+            None => None,
+        },
+        None => None,
+    }
+}
+
+fn is_before(number: Option<usize>, node: usize) -> bool
+    ensures { result ≡ spec.is_before number node }
+{
+    match number {
+        Some(number) => number < node,
+        None => false,
+    }
+}
+
+fn is_name(name: &str) -> bool
+    ensures { result ≡ spec.is_name name.now }
+{
+    let bytes = name.as_bytes();
+    match bytes {
+        [first, ..] => bytes.len() <= 32 && begins_name(*first) && are_within_name(bytes),
+        [] => false,
+    }
+}
+
+fn are_within_name(bytes: &[u8]) -> bool
+    ensures { result ≡ list_all names.within_name bytes.now }
+{
+    bytes.iter().all(|byte| within_name(*byte))
+}
+
+fn begins_name(byte: u8) -> bool
+    ensures { result ≡ names.begins_name byte }
+{
+    matches!(byte, b'A'..=b'Z' | b'a'..=b'z' | b'_')
+}
+
+fn within_name(byte: u8) -> bool
+    ensures { result ≡ names.within_name byte }
+{
+    begins_name(byte) || byte.is_ascii_digit()
+}
+
+fn repeats_name(
+    numbers: &Numbers,
+    written: &WrittenKernel,
+    number: usize,
+    node: &WrittenNode,
+) -> bool
+    requires { IsIndex numbers.now written.now.nodes }
+    ensures { result ≡ spec.repeats_name written.now number node.now }
+{
+    is_before(number_in(numbers, node.name.as_str()), number)
+}
+
+fn has_wrong_count(written: &WrittenKernel, node: &WrittenNode) -> bool
+    ensures { result ≡ spec.has_wrong_count written.now node.now }
+{
+    match op_of(written, node) {
+        Some(op) => op.arity() as usize != node.args.as_slice().len(),
+        None => false,
+    }
+}
+
+fn names_no_node(numbers: &Numbers, written: &WrittenKernel, arg: &WrittenArg) -> bool
+    requires { IsIndex numbers.now written.now.nodes }
+    ensures { result ≡ spec.names_no_node written.now arg.now }
+{
+    match arg {
+        WrittenArg::Number(_) => false,
+        WrittenArg::Source { from, .. } => number_in(numbers, from.as_str()).is_none(),
+    }
+}
+
+fn joins_no_nodes(numbers: &Numbers, written: &WrittenKernel, edge: &WrittenEdge) -> bool
+    requires { IsIndex numbers.now written.now.nodes }
+    ensures { result ≡ spec.joins_no_nodes written.now edge.now }
+{
+    number_in(numbers, edge.from.as_str()).is_none()
+        || number_in(numbers, edge.to.as_str()).is_none()
+}
+
+fn has_no_value(numbers: &Numbers, written: &WrittenKernel, arg: &WrittenArg) -> bool
+    requires { IsIndex numbers.now written.now.nodes }
+    ensures { result ≡ spec.has_no_value written.now arg.now }
+{
+    match arg {
+        WrittenArg::Number(_) => false,
+        WrittenArg::Source { from, .. } => match source_op(written, numbers, from.as_str()) {
+            Some(op) => !has_value(op),
+            None => false,
+        },
+    }
+}
+
+fn has_value(op: Op) -> bool
+    ensures { result ≡ word.has_value op }
+{
+    !matches!(op, Op::Store | Op::Output | Op::StoreIf | Op::OutputIf)
+}
+
+fn has_port(op: Op) -> bool
+    ensures { result ≡ word.has_port op }
+{
+    matches!(op, Op::Input | Op::Output | Op::OutputIf)
+}
+
+fn is_output(op: Op) -> bool
+    ensures { result ≡ word.is_output op }
+{
+    matches!(op, Op::Output | Op::OutputIf)
+}
+
+fn arg_goes_back(
+    numbers: &Numbers,
+    written: &WrittenKernel,
+    number: usize,
+    arg: &WrittenArg,
+) -> bool
+    requires { IsIndex numbers.now written.now.nodes }
+    ensures { result ≡ spec.arg_goes_back written.now number arg.now }
+{
+    match arg {
+        WrittenArg::Number(_) => false,
+        WrittenArg::Source { from, distance, .. } => {
+            *distance == 0 && !is_before(number_in(numbers, from.as_str()), number)
+        }
+    }
+}
+
+fn edge_goes_back(numbers: &Numbers, written: &WrittenKernel, edge: &WrittenEdge) -> bool
+    requires { IsIndex numbers.now written.now.nodes }
+    ensures { result ≡ spec.edge_goes_back written.now edge.now }
+{
+    if edge.distance != 0 {
+        return false;
+    }
+    match number_in(numbers, edge.to.as_str()) {
+        Some(to) => !is_before(number_in(numbers, edge.from.as_str()), to),
+        None => false,
+    }
+}
+
+fn is_too_far(arg: &WrittenArg) -> bool
+    ensures { result ≡ spec.is_too_far arg.now }
+{
+    match arg {
+        WrittenArg::Number(_) => false,
+        WrittenArg::Source { distance, .. } => *distance > 4,
+    }
+}
+
+fn has_wrong_init(arg: &WrittenArg) -> bool
+    ensures { result ≡ spec.has_wrong_init arg.now }
+{
+    match arg {
+        WrittenArg::Number(_) => false,
+        WrittenArg::Source { distance, init, .. } => init.as_slice().len() != *distance as usize,
+    }
+}
+
+fn is_number(arg: &WrittenArg) -> bool
+    ensures { result ≡ spec.is_number arg.now }
+{
+    matches!(arg, WrittenArg::Number(_))
+}
+
+fn has_two_constants(node: &WrittenNode) -> bool
+    ensures { result ≡ spec.has_two_constants node.now }
+{
+    let args = node.args.as_slice();
+    let constants = args.iter().filter(|arg| is_number(arg)).count();
+    constants > 1
+}
+
+fn has_bad_port(written: &WrittenKernel, node: &WrittenNode) -> bool
+    ensures { result ≡ spec.has_bad_port written.now node.now }
+{
+    match op_of(written, node) {
+        Some(op) => is_bad_port(op, node.port),
+        None => false,
+    }
+}
+
+fn is_bad_port(op: Op, port: Option<u32>) -> bool
+    ensures { result ≡ spec.is_bad_port op port }
+{
+    match port {
+        Some(port) => !has_port(op) || port > 15,
+        None => has_port(op),
+    }
+}
+
+fn output_port(written: &WrittenKernel, node: &WrittenNode) -> Option<u32>
+    ensures { result ≡ spec.output_port written.now node.now }
+{
+    match op_of(written, node) {
+        Some(op) => if is_output(op) { node.port } else { None },
+        None => None,
+    }
+}
+
+fn outputs_to(written: &WrittenKernel, port: u32, node: &WrittenNode) -> bool
+    ensures { result ≡ spec.outputs_to written.now port node.now }
+{
+    match output_port(written, node) {
+        Some(other) => other == port,
+        None => false,
+    }
+}
+
+fn repeats_port(written: &WrittenKernel, number: usize, node: &WrittenNode) -> bool
+    requires { number ≤ length written.now.nodes }
+    ensures { result ≡ spec.repeats_port written.now number node.now }
+{
+    match output_port(written, node) {
+        Some(port) => any_outputs_to(written, port, &written.nodes.as_slice()[..number]),
+        None => false,
+    }
+}
+
+fn any_outputs_to(written: &WrittenKernel, port: u32, nodes: &[WrittenNode]) -> bool
+    ensures { result ≡ list_any (spec.outputs_to written.now port) nodes.now }
+{
+    nodes.iter().any(|node| outputs_to(written, port, node))
+}
+
+fn applies_to_arg(
+    rule: Rule,
+    numbers: &Numbers,
+    written: &WrittenKernel,
+    number: usize,
+    arg: &WrittenArg,
+) -> bool
+    requires { IsIndex numbers.now written.now.nodes }
+    ensures { result ≡ spec.applies_to_arg rule written.now number arg.now }
+{
+    match rule {
+        Rule::UnknownKey => has_other_keys(arg),
+        Rule::UnknownNode => names_no_node(numbers, written, arg),
+        Rule::NoValue => has_no_value(numbers, written, arg),
+        Rule::BackEdgeWithoutDistance => arg_goes_back(numbers, written, number, arg),
+        Rule::BadDistance => is_too_far(arg),
+        Rule::InitCount => has_wrong_init(arg),
+        _ => false,
+    }
+}
+
+fn has_other_keys(arg: &WrittenArg) -> bool
+    ensures { result ≡ spec.arg_has_other_keys arg.now }
+{
+    match arg {
+        WrittenArg::Number(_) => false,
+        WrittenArg::Source { other_keys, .. } => *other_keys,
+    }
+}
+
+fn applies_to_some_arg(
+    rule: Rule,
+    numbers: &Numbers,
+    written: &WrittenKernel,
+    number: usize,
+    args: &[WrittenArg],
+) -> bool
+    requires { IsIndex numbers.now written.now.nodes }
+    ensures { result ≡ list_any (spec.applies_to_arg rule written.now number) args.now }
+{
+    args.iter()
+        .any(|arg| applies_to_arg(rule, numbers, written, number, arg))
+}
+
+/// Whether the fault applies to a node.
+pub fn applies_to_node(
+    rule: Rule,
+    numbers: &Numbers,
+    written: &WrittenKernel,
+    number: usize,
+    node: &WrittenNode,
+) -> bool
+    requires index { IsIndex numbers.now written.now.nodes }
+    requires within { number ≤ length written.now.nodes }
+    ensures { result ≡ spec.applies_to_node rule written.now number node.now }
+{
+    match rule {
+        Rule::TooLarge => false,
+        Rule::BadName => !is_name(node.name.as_str()),
+        Rule::RepeatedName => repeats_name(numbers, written, number, node),
+        Rule::UnknownOp => op_of(written, node).is_none(),
+        Rule::WrongOperandCount => has_wrong_count(written, node),
+        Rule::TwoConstants => has_two_constants(node),
+        Rule::BadPort => has_bad_port(written, node),
+        Rule::RepeatedOutputPort => repeats_port(written, number, node),
+        Rule::UnknownKey => {
+            node.other_keys
+                || applies_to_some_arg(rule, numbers, written, number, node.args.as_slice())
+        }
+        Rule::UnknownNode
+        | Rule::NoValue
+        | Rule::BackEdgeWithoutDistance
+        | Rule::BadDistance
+        | Rule::InitCount => {
+            applies_to_some_arg(rule, numbers, written, number, node.args.as_slice())
+        }
+    }
+}
+
+/// Whether it applies to an order edge.
+pub fn applies_to_edge(
+    rule: Rule,
+    numbers: &Numbers,
+    written: &WrittenKernel,
+    edge: &WrittenEdge,
+) -> bool
+    requires { IsIndex numbers.now written.now.nodes }
+    ensures { result ≡ spec.applies_to_edge rule written.now edge.now }
+{
+    match rule {
+        Rule::UnknownKey => edge.other_keys,
+        Rule::UnknownNode => joins_no_nodes(numbers, written, edge),
+        Rule::BackEdgeWithoutDistance => edge_goes_back(numbers, written, edge),
+        Rule::BadDistance => edge.distance > 255,
+        _ => false,
+    }
+}
+
+/// Whether it applies to the file.
+pub fn applies_to_file(rule: Rule, written: &WrittenKernel) -> bool
+    ensures { result ≡ spec.applies_to_file rule written.now }
+{
+    match rule {
+        Rule::UnknownKey => written.other_keys,
+        Rule::TooLarge => {
+            written.nodes.as_slice().len() > 1024 || written.order.as_slice().len() > 4096
+        }
+        _ => false,
+    }
+}

@@ -1,0 +1,12 @@
+pub mod Names
+pub mod Work
+pub mod Kernel
+pub mod Turns
+pub mod Order
+pub mod Array
+pub mod Mapping
+pub mod Config
+pub mod Canonical
+pub mod Machine
+pub mod Equations
+pub mod Overlap

@@ -1,0 +1,22 @@
+-- Names of nodes, units, resources and architectures, as the bytes of their text.
+use Rattle.std.specs.Prelude.{◌≡◌, ℕ, ◌<◌, ◌≤◌, nat_le, eqb, Bool, true, ◌&&◌, ◌||◌, List, length, slice_index}
+
+-- the byte is one of low, .., high
+abbrev pub between : ℕ → ℕ → ℕ → Bool
+between low high byte = nat_le low byte && nat_le byte high
+
+-- a letter of ASCII or `_`
+abbrev pub begins_name : ℕ → Bool
+begins_name byte = between 65 90 byte || (between 97 122 byte || eqb byte 95)
+
+-- a letter of ASCII, `_` or a digit
+abbrev pub within_name : ℕ → Bool
+within_name byte = begins_name byte || between 48 57 byte
+
+-- a name begins with a letter or `_`, goes on with letters, digits or `_`, and has at most `most`
+-- characters
+pub record IsName (most : ℕ) (name : List ℕ) : Type 0 where
+  pub some : 0 < length name
+  pub short : length name ≤ most
+  pub first : begins_name (slice_index name 0) ≡ true
+  pub rest : (k : ℕ) → k < length name → within_name (slice_index name k) ≡ true

@@ -1,0 +1,16 @@
+//! The types of kernels, architectures, mappings and configurations, and in `specs/` what they mean:
+//! what the turns of a kernel do, when a mapping is legal, what the array does in each cycle, and what
+//! the overlap theorem says of them. The repository's `docs/array.md` says each definition in words.
+#![tactic(auto)]
+
+mod array;
+mod config;
+mod kernel;
+mod lists;
+mod mapping;
+
+pub use array::{Kind, Resource, Unit};
+pub use config::{ArgFields, UnitFields};
+pub use kernel::{Node, Operand, OrderEdge};
+pub use lists::{Items, Name, Operands, Words};
+pub use mapping::{Place, Route};

@@ -1,0 +1,5 @@
+use Rattle.cg_overlap.proofs.Canonical.{canonical}
+use Rattle.cg_overlap.proofs.configures.Goals as goal
+
+pub returns : goal.returns
+returns c = λ A K M good legal shaped. canonical A K M good legal shaped.places

@@ -1,0 +1,70 @@
+//! Images of memory and streams.
+ghost use Rattle.std.specs.Prelude.{◌≡◌, [], IfOk, replicate};
+
+use cg_model::{Items, Words};
+use std::alloc::{AllocError, Global};
+use std::marker::Model;
+
+/// The number of streams of an image, one a port.
+pub const PORTS: usize = 16;
+
+/// Streams of words, by port.
+pub type Streams = Items<Words>;
+
+/// The words of a memory, and sixteen streams: what a run starts from, and what it leaves.
+#[derive(Drop)]
+pub struct Image {
+    pub memory: Words,
+    pub streams: Streams,
+}
+
+impl Model for Image {
+    ghost use Rattle.std.specs.Prelude.{◌≡◌, length};
+    ghost use Rattle.cg_model.specs.Work as works;
+
+    ghost Value = { works.Image };
+
+    ghost view = { λ i. record { memory = i.memory; streams = i.streams } };
+
+    ghost invariant = { λ i. length i.streams ≡ 16 };
+}
+
+impl Image {
+    ghost use Rattle.std.specs.Prelude.{◌≡◌, [], IfOk, length, replicate};
+
+    /// An image without words.
+    pub fn empty(alloc: Global) -> Result<Image, AllocError>
+        ensures { IfOk result (λ i. i ≡ record { memory = []; streams = replicate 16 [] }) }
+    {
+        Ok(Image {
+            memory: Words::new(Vec::new(alloc)),
+            streams: empty_streams(alloc)?,
+        })
+    }
+
+    /// The words of the memory.
+    pub fn memory(&self) -> &[u32]
+        ensures { result.now ≡ self.now.memory }
+    {
+        self.memory.as_slice()
+    }
+
+    /// The streams, by port.
+    pub fn streams(&self) -> &[Words]
+        ensures streams { result.now ≡ self.now.streams }
+        ensures sixteen { length self.now.streams ≡ 16 }
+    {
+        self.streams.as_slice()
+    }
+}
+
+/// Sixteen streams without words.
+pub fn empty_streams(alloc: Global) -> Result<Streams, AllocError>
+    ensures { IfOk result (λ s. s ≡ replicate 16 []) }
+{
+    let mut streams = Vec::with_capacity(alloc, PORTS)?;
+    for _port in 0..PORTS {
+        streams.push(Words::new(Vec::new(alloc)))?;
+    }
+    Ok(Streams::new(streams))
+}

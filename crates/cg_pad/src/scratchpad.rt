@@ -1,0 +1,79 @@
+//! The scratchpad of a run.
+
+use cg_model::Words;
+use std::alloc::{AllocError, Global};
+use std::marker::Model;
+
+/// The words that accesses reach, by address.
+#[derive(Drop)]
+pub struct Scratchpad {
+    words: Vec<u32>,
+}
+
+impl Model for Scratchpad {
+    ghost use Rattle.std.specs.Prelude.{List, ℕ};
+
+    ghost Value = { List ℕ };
+
+    ghost view = { λ s. s.words.items };
+}
+
+impl Scratchpad {
+    ghost use Rattle.std.specs.Prelude.{◌≡◌, ◌<◌, ◌↔◌, IfOk, IsTrue, length, slice_index, slice_set};
+
+    /// A scratchpad that holds a copy of these words.
+    pub fn new(alloc: Global, words: &[u32]) -> Result<Scratchpad, AllocError>
+        ensures { IfOk result (λ s. s ≡ words.now) }
+    {
+        Ok(Scratchpad {
+            words: Vec::from_slice(alloc, words)?,
+        })
+    }
+
+    /// The number of words.
+    pub fn size(&self) -> usize
+        ensures { result ≡ length self.now }
+    {
+        self.words.len()
+    }
+
+    /// Whether the address is that of a word.
+    pub fn inside(&self, address: u32) -> bool
+        ensures { IsTrue result ↔ (address < length self.now) }
+    {
+        (address as usize) < self.words.len()
+    }
+
+    /// The word at an address, 0 outside.
+    pub fn load(&self, address: u32) -> u32
+        ensures { result ≡ slice_index self.now address }
+    {
+        match self.words.get(address as usize) {
+            Some(word) => *word,
+            None => 0,
+        }
+    }
+
+    /// Sets the word at an address; outside nothing changes.
+    pub fn store(&mut self, address: u32, value: u32)
+        ensures { self.new ≡ slice_set self.old address value }
+    {
+        if self.inside(address) {
+            self.words[address as usize] = value;
+        }
+    }
+
+    /// All words, by address.
+    pub fn words(&self) -> &[u32]
+        ensures { result.now ≡ self.now }
+    {
+        self.words.as_slice()
+    }
+
+    /// Gives the words away.
+    pub fn into_words(self) -> Words
+        ensures { result ≡ self }
+    {
+        Words::new(self.words)
+    }
+}

@@ -1,0 +1,10 @@
+pub mod Reports
+pub mod Numbers
+pub mod Turned
+pub mod Shapes
+pub mod Commands
+pub mod Exact
+pub mod Table
+pub mod Complete
+pub mod Finished
+pub mod Kept

@@ -1,0 +1,5 @@
+pub mod Words
+pub mod Refusals
+pub mod Turns
+pub mod Commands
+pub mod TopCall

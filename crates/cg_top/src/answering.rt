@@ -1,0 +1,20 @@
+//! What the planned command answers.
+ghost use Rattle.std.specs.Prelude.{◌≡◌, IfOk, length, map, string_bytes};
+ghost use Rattle.cg_ending.specs.Outcome.{file_of, outcome_of};
+ghost use Rattle.cg_top.specs.Words.{HasShape};
+ghost use Rattle.cg_top.specs.Commands.{IsAnswer};
+
+use crate::turning::turns;
+use crate::words::{Command, Plan};
+use cg_ending::{File, Outcome};
+use std::alloc::{AllocError, Global};
+
+/// The command's outcome over its input files.
+pub(crate) fn answer(alloc: Global, plan: &Plan, files: &[File]) -> Result<Outcome, AllocError>
+    requires { HasShape plan.now.command (length files.now) (length plan.now.outputs.items) }
+    ensures { IfOk result (λ o. IsAnswer plan.now.command (map file_of files.now) (map string_bytes plan.now.outputs.items) (outcome_of o)) }
+{
+    match plan.command {
+        Command::Turns { turns: count } => turns(alloc, count, &files[0]),
+    }
+}

@@ -1,0 +1,101 @@
+//! The top call: from the words of a command line to what the store holds, what the sink takes and the status.
+#![tactic(auto)]
+
+ghost use Rattle.std.specs.Prelude.{◌≡◌, ◌≤◌, IfOk, map, string_bytes};
+ghost use Rattle.cg_files.specs.Causes.{Rose};
+ghost use Rattle.cg_ending.specs.Outcome.{outcome_of};
+ghost use Rattle.cg_ending.specs.Ends.{moment};
+ghost use Rattle.cg_top.specs.TopCall.{IsOutcome, Ends, IsExact, IsByTable, IsComplete, IsTurned, IsKept};
+
+mod answering;
+mod refusing;
+mod streams;
+mod turning;
+mod words;
+
+use answering::answer;
+pub use cg_ending::Status;
+use cg_ending::{Outcome, Stop, finish, read_all};
+use cg_files::{Sink, Store};
+use refusing::usage;
+use std::alloc::{AllocError, Global};
+pub use words::{Command, Plan, plan_words};
+
+/// Does what the words ask: reads the input files out of the store, writes the output files into it, and puts the
+/// report into the sink by one call.
+///
+/// `words` are the arguments after the program's name. The status is the exit status of the program.
+pub fn run_line<S: Store, O: Sink>(
+    alloc: Global,
+    words: &[String],
+    store: &mut S,
+    out: &mut O,
+) -> Status
+    ensures ends { Ends (map string_bytes words.now)
+        (moment (S.held store.old) (S.read_faults store.old) (S.write_faults store.old) (O.taken out.old) (O.faults out.old))
+        (moment (S.held store.new) (S.read_faults store.new) (S.write_faults store.new) (O.taken out.new) (O.faults out.new))
+        result }
+    // What follows from it.
+    ensures turned { IsTurned (map string_bytes words.now)
+        (moment (S.held store.old) (S.read_faults store.old) (S.write_faults store.old) (O.taken out.old) (O.faults out.old))
+        (moment (S.held store.new) (S.read_faults store.new) (S.write_faults store.new) (O.taken out.new) (O.faults out.new))
+        result }
+    ensures exact { IsExact (map string_bytes words.now)
+        (moment (S.held store.old) (S.read_faults store.old) (S.write_faults store.old) (O.taken out.old) (O.faults out.old))
+        (moment (S.held store.new) (S.read_faults store.new) (S.write_faults store.new) (O.taken out.new) (O.faults out.new))
+        result }
+    ensures table { IsByTable (map string_bytes words.now)
+        (moment (S.held store.old) (S.read_faults store.old) (S.write_faults store.old) (O.taken out.old) (O.faults out.old))
+        (moment (S.held store.new) (S.read_faults store.new) (S.write_faults store.new) (O.taken out.new) (O.faults out.new))
+        result }
+    ensures complete { IsComplete (map string_bytes words.now)
+        (moment (S.held store.old) (S.read_faults store.old) (S.write_faults store.old) (O.taken out.old) (O.faults out.old))
+        (moment (S.held store.new) (S.read_faults store.new) (S.write_faults store.new) (O.taken out.new) (O.faults out.new))
+        result }
+    ensures kept { IsKept (map string_bytes words.now)
+        (moment (S.held store.old) (S.read_faults store.old) (S.write_faults store.old) (O.taken out.old) (O.faults out.old))
+        (moment (S.held store.new) (S.read_faults store.new) (S.write_faults store.new) (O.taken out.new) (O.faults out.new)) }
+    ensures reads { S.read_faults store.old ≤ S.read_faults store.new }
+    ensures writes { S.write_faults store.old ≤ S.write_faults store.new }
+    ensures faults { O.faults out.old ≤ O.faults out.new }
+{
+    carry_out(alloc, words, store, out)
+}
+
+fn carry_out<S: Store, O: Sink>(
+    alloc: Global,
+    words: &[String],
+    store: &mut S,
+    out: &mut O,
+) -> Status
+    ensures ends { Ends (map string_bytes words.now)
+        (moment (S.held store.old) (S.read_faults store.old) (S.write_faults store.old) (O.taken out.old) (O.faults out.old))
+        (moment (S.held store.new) (S.read_faults store.new) (S.write_faults store.new) (O.taken out.new) (O.faults out.new))
+        result }
+    ensures reads { S.read_faults store.old ≤ S.read_faults store.new }
+    ensures writes { S.write_faults store.old ≤ S.write_faults store.new }
+    ensures faults { O.faults out.old ≤ O.faults out.new }
+{
+    match outcome(alloc, words, store) {
+        Ok(outcome) => finish(alloc, &outcome, store, out),
+        Err(_) => Status::Memory,
+    }
+}
+
+/// What the words define, over what the store gives.
+fn outcome<S: Store>(alloc: Global, words: &[String], store: &mut S) -> Result<Outcome, AllocError>
+    ensures ok { IfOk result (λ o. IsOutcome (map string_bytes words.now) (S.held store.old)
+        (Rose (S.read_faults store.old) (S.read_faults store.new)) (outcome_of o)) }
+    ensures held { S.held store.new ≡ S.held store.old }
+    ensures reads { S.read_faults store.old ≤ S.read_faults store.new }
+    ensures writes { S.write_faults store.new ≡ S.write_faults store.old }
+{
+    let Some(plan) = plan_words(alloc, words)? else {
+        return usage(alloc);
+    };
+    match read_all(alloc, plan.inputs.as_slice(), store) {
+        Ok(files) => answer(alloc, &plan, files.as_slice()),
+        Err(Stop::Ended(outcome)) => Ok(outcome),
+        Err(Stop::Memory) => Err(AllocError),
+    }
+}

@@ -1,0 +1,95 @@
+//! The reports of refusals.
+ghost use Rattle.std.specs.Prelude.{◌≡◌, IfOk, string_bytes};
+ghost use Rattle.cg_ending.specs.Outcome.{file_of, outcome_of};
+ghost use Rattle.cg_top.specs.Refusals.{usage_outcome, malformed_of, kernel_fault_text, kernel_fault_name, kernel_fault_place, place_text};
+
+use cg_ending::{File, Outcome, Status};
+use cg_kernel::{KernelFault, Place};
+use std::alloc::{AllocError, Global};
+
+/// The words fit no command.
+pub(crate) fn usage(alloc: Global) -> Result<Outcome, AllocError>
+    ensures { IfOk result (λ o. outcome_of o ≡ usage_outcome) }
+{
+    let report = String::from_str(alloc, "usage: cgra COMMAND ARGUMENTS\n")?;
+    Ok(Outcome {
+        status: Status::Usage,
+        report: report.into_bytes(),
+        writes: Vec::new(alloc),
+    })
+}
+
+/// The bytes of the file spell no kernel.
+pub(crate) fn no_kernel(
+    alloc: Global,
+    file: &File,
+    fault: &KernelFault,
+) -> Result<Outcome, AllocError>
+    ensures { IfOk result (λ o. outcome_of o ≡ malformed_of (file_of file.now) (kernel_fault_text fault.now)) }
+{
+    let name = file.name.as_str();
+    let code = fault_name(fault);
+    let place = place_text(alloc, fault_place(fault))?;
+    let report = format!(in alloc; "malformed {name}: {code} {place}\n")?;
+    Ok(Outcome {
+        status: Status::Malformed,
+        report: report.into_bytes(),
+        writes: Vec::new(alloc),
+    })
+}
+
+fn place_text(alloc: Global, place: Place) -> Result<String, AllocError>
+    ensures { IfOk result (λ s. string_bytes s ≡ place_text place) }
+{
+    match place {
+        Place::File => String::from_str(alloc, "file"),
+        Place::Node(node) => format!(in alloc; "nodes {node}"),
+        Place::Order(edge) => format!(in alloc; "order {edge}"),
+    }
+}
+
+fn fault_place(fault: &KernelFault) -> Place
+    ensures { result ≡ kernel_fault_place fault.now }
+{
+    match fault {
+        KernelFault::Memory | KernelFault::NotJson | KernelFault::TooLarge => Place::File,
+        KernelFault::WrongShape(place)
+        | KernelFault::UnknownKey(place)
+        | KernelFault::BadName(place)
+        | KernelFault::RepeatedName(place)
+        | KernelFault::UnknownOp(place)
+        | KernelFault::WrongOperandCount(place)
+        | KernelFault::UnknownNode(place)
+        | KernelFault::NoValue(place)
+        | KernelFault::BackEdgeWithoutDistance(place)
+        | KernelFault::BadDistance(place)
+        | KernelFault::InitCount(place)
+        | KernelFault::TwoConstants(place)
+        | KernelFault::BadPort(place)
+        | KernelFault::RepeatedOutputPort(place) => *place,
+    }
+}
+
+fn fault_name(fault: &KernelFault) -> &'static str
+    ensures { result.now ≡ kernel_fault_name fault.now }
+{
+    match fault {
+        KernelFault::Memory => "",
+        KernelFault::NotJson => "K1 NotJson",
+        KernelFault::WrongShape(_) => "K2 WrongShape",
+        KernelFault::UnknownKey(_) => "K3 UnknownKey",
+        KernelFault::TooLarge => "K4 TooLarge",
+        KernelFault::BadName(_) => "K5 BadName",
+        KernelFault::RepeatedName(_) => "K6 RepeatedName",
+        KernelFault::UnknownOp(_) => "K7 UnknownOp",
+        KernelFault::WrongOperandCount(_) => "K8 WrongOperandCount",
+        KernelFault::UnknownNode(_) => "K9 UnknownNode",
+        KernelFault::NoValue(_) => "K10 NoValue",
+        KernelFault::BackEdgeWithoutDistance(_) => "K11 BackEdgeWithoutDistance",
+        KernelFault::BadDistance(_) => "K12 BadDistance",
+        KernelFault::InitCount(_) => "K13 InitCount",
+        KernelFault::TwoConstants(_) => "K14 TwoConstants",
+        KernelFault::BadPort(_) => "K15 BadPort",
+        KernelFault::RepeatedOutputPort(_) => "K16 RepeatedOutputPort",
+    }
+}

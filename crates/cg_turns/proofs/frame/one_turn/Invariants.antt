@@ -1,0 +1,6 @@
+use Rattle.std.proofs.Common.{◌≤◌, ◌+◌, ◌*◌}
+use Rattle.cg_turns.specs.Frame.{IsAt}
+use Rattle.cg_turns.proofs.frame.one_turn.Given as goal
+
+abbrev pub invariant-loop-place : goal.invariant-loop-place
+invariant-loop-place l = record { at : IsAt l.kernel l.image l.turn l.place l.frame; outside : l.frame.outside ≤ 1024 * l.turn + l.place }

@@ -1,0 +1,4 @@
+pub mod Window
+pub mod Frame
+pub mod Step
+pub mod Done

@@ -1,0 +1,94 @@
+//! What a run keeps from step to step.
+ghost use Rattle.std.specs.Prelude.{◌≡◌, ◌<◌, ◌≤◌, ◌+◌, ◌*◌, ◌%◌, ◌^◌, IfOk, OnOk, length};
+ghost use Rattle.cg_model.specs.Kernel.{size};
+ghost use Rattle.cg_turns.specs.Frame.{IsAt};
+ghost use Rattle.cg_turns.specs.Step.{Steps};
+
+use crate::window::{ROWS, argument};
+use cg_kernel::Kernel;
+use cg_model::Words;
+use cg_pad::{Image, Scratchpad, Work, empty_streams};
+use std::alloc::{AllocError, Global};
+
+/// What the steps so far have left: the values of the last turns, the scratchpad, the output streams and the outside count.
+#[derive(Drop)]
+pub(crate) struct Frame {
+    pub(crate) window: Vec<u32>,
+    pub(crate) memory: Scratchpad,
+    pub(crate) streams: Vec<Words>,
+    pub(crate) outside: u64,
+}
+
+/// Before the first step.
+pub(crate) fn start(alloc: Global, kernel: &Kernel, image: &Image) -> Result<Frame, AllocError>
+    ensures at { IfOk result (λ f. IsAt kernel.now image.now 0 0 f) }
+    ensures outside { IfOk result (λ f. f.outside ≡ 0) }
+{
+    let size = kernel.nodes().len();
+    Ok(Frame {
+        window: vec![in alloc; 0; ROWS * size]?,
+        memory: Scratchpad::new(alloc, image.memory())?,
+        streams: empty_streams(alloc)?.into_vec(),
+        outside: 0,
+    })
+}
+
+/// One step: a node in a turn.
+fn step(
+    kernel: &Kernel,
+    image: &Image,
+    place: usize,
+    turn: u32,
+    row: usize,
+    frame: &mut Frame,
+) -> Result<(), AllocError>
+    requires place { place < size kernel.now }
+    requires row { row < 5 }
+    requires window { length frame.old.window.items ≡ 5 * size kernel.now }
+    requires streams { length frame.old.streams.items ≡ 16 }
+    requires outside { frame.old.outside < 2 ^ 63 }
+    ensures steps { OnOk result (Steps kernel.now image.now place turn row frame.old frame.new) }
+    ensures outside { OnOk result (frame.new.outside ≤ frame.old.outside + 1) }
+{
+    let nodes = kernel.nodes();
+    let size = nodes.len();
+    let node = &nodes[place];
+    let operands = node.operands.as_slice();
+    let a = argument(operands, 0, row, size, turn, &frame.window);
+    let b = argument(operands, 1, row, size, turn, &frame.window);
+    let c = argument(operands, 2, row, size, turn, &frame.window);
+    let work = Work {
+        op: node.op,
+        port: node.port,
+        turn,
+        args: [a, b, c],
+    };
+    let value = work.value(image, &frame.memory);
+    frame.outside += work.missed(frame.memory.size());
+    work.send(&mut frame.streams)?;
+    work.store(&mut frame.memory);
+    frame.window[row * size + place] = value;
+    Ok(())
+}
+
+/// One turn: the nodes in program order.
+pub(crate) fn one_turn(
+    kernel: &Kernel,
+    image: &Image,
+    turn: u32,
+    row: usize,
+    frame: &mut Frame,
+) -> Result<(), AllocError>
+    requires at { IsAt kernel.now image.now turn 0 frame.old }
+    requires row { row ≡ turn % 5 }
+    requires turn { turn < 1000000 }
+    requires outside { frame.old.outside ≤ 1024 * turn }
+    ensures at { OnOk result (IsAt kernel.now image.now turn (size kernel.now) frame.new) }
+    ensures outside { OnOk result (frame.new.outside ≤ 1024 * turn + 1024) }
+{
+    let size = kernel.nodes().len();
+    for place in 0..size {
+        step(kernel, image, place, turn, row, frame)?;
+    }
+    Ok(())
+}

@@ -1,0 +1,71 @@
+//! Turns, one after the other.
+ghost use Rattle.std.specs.Prelude.{◌≡◌, ◌<◌, ◌≤◌, ◌↔◌, ℕ, Err, IfOk, length};
+ghost use Rattle.cg_model.specs.Turns.{turns_left};
+ghost use Rattle.cg_turns.specs.Done.{left_by, left_of};
+
+use crate::fault::TurnsFault;
+use crate::frame::{Frame, one_turn, start};
+use cg_kernel::Kernel;
+use cg_pad::{Image, Streams};
+use std::alloc::{AllocError, Global};
+
+/// The greatest number of turns that are run.
+pub const MOST_TURNS: u32 = 1_000_000;
+
+/// What turns leave: the memory and the output streams, and how often accesses reached outside the memory.
+#[derive(Drop)]
+pub struct TurnsDone {
+    pub image: Image,
+    pub outside: u64,
+}
+
+/// Runs `n` turns of a kernel from an image: its nodes in program order, one turn after the other.
+///
+/// The values of the last turns alone are kept, so the memory taken doesn't grow with `n` but for the output streams.
+pub fn run_turns(
+    alloc: Global,
+    kernel: &Kernel,
+    n: u32,
+    image: &Image,
+) -> Result<TurnsDone, TurnsFault>
+    ensures done { IfOk result (λ d. left_of d ≡ turns_left kernel.now n image.now) }
+    ensures many { (t : ℕ) → (result ≡ Err (TurnsFault.TooManyTurns t)) ↔ ((t ≡ n) × (1000000 < n)) }
+{
+    if n > MOST_TURNS {
+        return Err(TurnsFault::TooManyTurns(n));
+    }
+    Ok(run(alloc, kernel, n, image)?)
+}
+
+fn run(alloc: Global, kernel: &Kernel, n: u32, image: &Image) -> Result<TurnsDone, AllocError>
+    requires { n ≤ 1000000 }
+    ensures { IfOk result (λ d. left_of d ≡ turns_left kernel.now n image.now) }
+{
+    let mut frame = start(alloc, kernel, image)?;
+    let mut row = 0;
+    for turn in 0..n {
+        one_turn(kernel, image, turn, row, &mut frame)?;
+        row = if row == 4 { 0 } else { row + 1 };
+    }
+    Ok(done(frame))
+}
+
+/// What the frame leaves.
+fn done(frame: Frame) -> TurnsDone
+    requires { length frame.streams.items ≡ 16 }
+    ensures { left_of result ≡ left_by frame.memory frame.streams.items frame.outside }
+{
+    let Frame {
+        memory,
+        streams,
+        outside,
+        ..
+    } = frame;
+    TurnsDone {
+        image: Image {
+            memory: memory.into_words(),
+            streams: Streams::new(streams),
+        },
+        outside,
+    }
+}

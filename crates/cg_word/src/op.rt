@@ -1,0 +1,196 @@
+//! The operations, with what a table says of each.
+
+/// An operation of a kernel's node and of an array's unit.
+///
+/// `LoadIf`, `StoreIf` and `OutputIf` are guarded: they act only where their first operand isn't 0.
+#[derive(Clone, Copy, Debug, PartialEq, Eq)]
+pub enum Op {
+    Const,
+    Iter,
+    Input,
+    Add,
+    Sub,
+    Mul,
+    And,
+    Or,
+    Xor,
+    Shl,
+    Shr,
+    Sar,
+    Eq,
+    Ne,
+    Lts,
+    Ltu,
+    Mins,
+    Maxs,
+    Select,
+    Load,
+    Store,
+    Output,
+    LoadIf,
+    StoreIf,
+    OutputIf,
+}
+
+impl Op {
+    ghost use Rattle.std.specs.Prelude.{◌≡◌, ◌≤◌, ◌↔◌, Some};
+    ghost use Rattle.cg_word.specs.Word.{code, name_of, arity, op_of, op_named};
+    ghost use Rattle.cg_word.specs.declared.op.Op as ops;
+
+    /// All operations, in the order of their codes.
+    pub const ALL: [Op; 25] = [
+        Op::Const,
+        Op::Iter,
+        Op::Input,
+        Op::Add,
+        Op::Sub,
+        Op::Mul,
+        Op::And,
+        Op::Or,
+        Op::Xor,
+        Op::Shl,
+        Op::Shr,
+        Op::Sar,
+        Op::Eq,
+        Op::Ne,
+        Op::Lts,
+        Op::Ltu,
+        Op::Mins,
+        Op::Maxs,
+        Op::Select,
+        Op::Load,
+        Op::Store,
+        Op::Output,
+        Op::LoadIf,
+        Op::StoreIf,
+        Op::OutputIf,
+    ];
+
+    /// Its code in bits and tables, from 1 on.
+    pub fn code(self) -> u32
+        ensures { result ≡ code self }
+    {
+        match self {
+            Op::Const => 1,
+            Op::Iter => 2,
+            Op::Input => 3,
+            Op::Add => 4,
+            Op::Sub => 5,
+            Op::Mul => 6,
+            Op::And => 7,
+            Op::Or => 8,
+            Op::Xor => 9,
+            Op::Shl => 10,
+            Op::Shr => 11,
+            Op::Sar => 12,
+            Op::Eq => 13,
+            Op::Ne => 14,
+            Op::Lts => 15,
+            Op::Ltu => 16,
+            Op::Mins => 17,
+            Op::Maxs => 18,
+            Op::Select => 19,
+            Op::Load => 20,
+            Op::Store => 21,
+            Op::Output => 22,
+            Op::LoadIf => 23,
+            Op::StoreIf => 24,
+            Op::OutputIf => 25,
+        }
+    }
+
+    /// Its name in kernel and architecture files.
+    pub fn name(self) -> &'static str
+        ensures { result.now ≡ name_of self }
+    {
+        match self {
+            Op::Const => "const",
+            Op::Iter => "iter",
+            Op::Input => "input",
+            Op::Add => "add",
+            Op::Sub => "sub",
+            Op::Mul => "mul",
+            Op::And => "and",
+            Op::Or => "or",
+            Op::Xor => "xor",
+            Op::Shl => "shl",
+            Op::Shr => "shr",
+            Op::Sar => "sar",
+            Op::Eq => "eq",
+            Op::Ne => "ne",
+            Op::Lts => "lts",
+            Op::Ltu => "ltu",
+            Op::Mins => "mins",
+            Op::Maxs => "maxs",
+            Op::Select => "select",
+            Op::Load => "load",
+            Op::Store => "store",
+            Op::Output => "output",
+            Op::LoadIf => "loadif",
+            Op::StoreIf => "storeif",
+            Op::OutputIf => "outputif",
+        }
+    }
+
+    /// The number of its operands.
+    pub fn arity(self) -> u32
+        ensures count { result ≡ arity self }
+        ensures few { result ≤ 3 }
+    {
+        match self {
+            Op::Iter | Op::Input => 0,
+            Op::Const | Op::Load | Op::Output => 1,
+            Op::Add
+            | Op::Sub
+            | Op::Mul
+            | Op::And
+            | Op::Or
+            | Op::Xor
+            | Op::Shl
+            | Op::Shr
+            | Op::Sar
+            | Op::Eq
+            | Op::Ne
+            | Op::Lts
+            | Op::Ltu
+            | Op::Mins
+            | Op::Maxs
+            | Op::Store
+            | Op::LoadIf
+            | Op::OutputIf => 2,
+            Op::Select | Op::StoreIf => 3,
+        }
+    }
+
+    /// The operation with that code.
+    pub fn from_code(number: u32) -> Option<Op>
+        ensures value { result ≡ op_of number }
+        // None exactly for a code that the table lacks.
+        ensures exact { (op : ops.Op) → (result ≡ Some op) ↔ (code op ≡ number) }
+    {
+        Op::find_code(number)
+    }
+
+    #[tactic(auto, unfolding(crate::specs::Word::op_of))]
+    fn find_code(number: u32) -> Option<Op>
+        ensures { result ≡ op_of number }
+    {
+        Op::ALL.iter().copied().find(|op| op.code() == number)
+    }
+
+    /// The operation of that name.
+    pub fn from_name(name: &str) -> Option<Op>
+        ensures value { result ≡ op_named name.now }
+        // None exactly for a name that the table lacks.
+        ensures exact { (op : ops.Op) → (result ≡ Some op) ↔ (name_of op ≡ name.now) }
+    {
+        Op::find_name(name)
+    }
+
+    #[tactic(auto, unfolding(crate::specs::Word::op_named))]
+    fn find_name(name: &str) -> Option<Op>
+        ensures { result ≡ op_named name.now }
+    {
+        Op::ALL.iter().copied().find(|op| op.name() == name)
+    }
+}

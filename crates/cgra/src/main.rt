@@ -1,0 +1,34 @@
+//! `cgra`: hands its words to the top call, over the files of the system and the standard output.
+#![tactic(auto)]
+
+use cg_files::{DiskStore, StdSink};
+use cg_top::run_line;
+use std::io::ErrorKind;
+use std::process::ExitCode;
+use std::rt::Env;
+use std::{env, io};
+
+/// The exit status where memory for the arguments is wanting.
+const WANTS_MEMORY: u8 = 1;
+
+/// The exit status where an argument isn't text.
+const NO_TEXT: u8 = 9;
+
+/// The arguments after the program's name.
+fn arguments<R: Env + AllocGlobal>(rt: &R) -> io::Result<Vec<String>> {
+    Ok(env::args(rt)?.skip(1).collect(rt.alloc())?)
+}
+
+fn main(rt: HostRuntime) -> ExitCode {
+    let words = match arguments(&rt) {
+        Ok(words) => words,
+        Err(error) => return ExitCode::from(match error.kind() {
+            ErrorKind::OutOfMemory => WANTS_MEMORY,
+            _ => NO_TEXT,
+        }),
+    };
+    let mut store = DiskStore::new(&rt);
+    let mut out = StdSink::new(&rt);
+    let status = run_line(rt.alloc(), words.as_slice(), &mut store, &mut out);
+    ExitCode::from(status.number())
+}
