@@ -1,5 +1,5 @@
 //! Writes the files of an outcome, and then puts its report.
-ghost use Rattle.std.specs.Prelude.{◌≡◌, ◌≤◌, ℕ, Err, OnOk, IsErrOf, map};
+ghost use Rattle.std.specs.Prelude.{◌≡◌, ◌≤◌, [], ℕ, Err, OnOk, IsErrOf, map};
 ghost use Rattle.cg_files.specs.Causes.{Rose};
 ghost use Rattle.cg_ending.specs.Outcome.{file_of, outcome_of};
 ghost use Rattle.cg_ending.specs.Ends.{moment, Finished, Wrote, WrotePart, FailedAt, Reported};
@@ -21,6 +21,8 @@ pub fn finish<S: Store, O: Sink>(
         (moment (S.held store.new) (S.read_faults store.new) (S.write_faults store.new)
         (O.taken out.new) (O.faults out.new))
         result }
+    // Where nothing is to be written, the store is not called.
+    ensures untouched { outcome.now.writes.items ≡ [] → store.new ≡ store.old }
     ensures reads { S.read_faults store.new ≡ S.read_faults store.old }
     ensures writes { S.write_faults store.old ≤ S.write_faults store.new }
     ensures faults { O.faults out.old ≤ O.faults out.new }
@@ -41,6 +43,7 @@ fn write_all<S: Store>(alloc: Global, files: &[File], store: &mut S) -> Result<(
     ensures memory { IsErrOf result StoreFail.Memory
         → WrotePart (S.held store.old) (map file_of files.now) (S.held store.new) }
     ensures too_long { (got : ℕ) → result ≡ Err (StoreFail.TooLong got) → ⊥ }
+    ensures untouched { files.now ≡ [] → store.new ≡ store.old }
     ensures reads { S.read_faults store.new ≡ S.read_faults store.old }
     ensures writes { S.write_faults store.old ≤ S.write_faults store.new }
 {

@@ -10,7 +10,6 @@ mod members;
 pub use members::{
     has_other_keys, list_at, list_or_none, optional_word_at, text_at, word_of, word_or, words_of,
 };
-
 use serde_json::Value;
 use std::alloc::Global;
 

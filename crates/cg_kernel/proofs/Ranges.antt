@@ -6,7 +6,7 @@ use Rattle.serde_json.specs.Data.{Data, Items, no_items, item}
 use Rattle.serde_json.specs.Find.{as_number, as_u64}
 use Rattle.cg_word.specs.Word.{words}
 use Rattle.cg_json.specs.Members.{fitting, word_in, all_of, all_or_first, and_rest, items_at, items_or_none, has_other_keys}
-use Rattle.cg_kernel.specs.Written.{Place, Format, WrittenArg, WrittenNode, WrittenEdge, WrittenKernel, arg_in, source_in, source_from, node_in, node_from, joined, kernel_from, format_in, written_of}
+use Rattle.cg_kernel.specs.Written.{Place, Format, WrittenArg, WrittenNode, WrittenEdge, WrittenKernel, arg_in, source_in, source_from, node_in, node_from, joined, written_from, format_in, written_of}
 use Rattle.cg_kernel.specs.declared.fault.Place.TheVariants as place
 use Rattle.cg_kernel.specs.declared.written.WrittenArg.TheVariants.{Number, Source}
 use Rattle.cg_kernel.specs.Words.{HasWords, HasAllWords}
@@ -124,7 +124,7 @@ of_joined format other (Ok nodes) (Ok order) w e =
     let made : record { format = format; nodes = nodes; order = order; other_keys = other } ≡ w = cc in
     ap (λ k. Ok k.nodes) made
 
-of_kernel : (format : Option Format) (nodes order : Option Items) (other : Bool) (w : WrittenKernel) → kernel_from format nodes order other ≡ Ok w → HasAllWords w
+of_kernel : (format : Option Format) (nodes order : Option Items) (other : Bool) (w : WrittenKernel) → written_from format nodes order other ≡ Ok w → HasAllWords w
 of_kernel None nodes order other w e = let bad : Err place.File ≡ Ok w = e in absurd (cc)
 of_kernel (Some format) None order other w e = let bad : Err place.File ≡ Ok w = e in absurd (cc)
 of_kernel (Some format) (Some nodes) None other w e = let bad : Err place.File ≡ Ok w = e in absurd (cc)

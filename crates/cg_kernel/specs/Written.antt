@@ -68,13 +68,13 @@ joined format other (Ok nodes) (Ok order) = Ok (record { format = format; nodes 
 joined format other (Ok nodes) (Err e) = Err (place.Order e)
 joined format other (Err v) order = Err (place.Node v)
 
-abbrev pub kernel_from : Option Format → Option Items → Option Items → Bool → Result WrittenKernel Place
-kernel_from (Some format) (Some nodes) (Some order) other = joined format other (all_or_first node_in 0 nodes) (all_or_first edge_in 0 order)
-kernel_from _ _ _ other = Err place.File
+abbrev pub written_from : Option Format → Option Items → Option Items → Bool → Result WrittenKernel Place
+written_from (Some format) (Some nodes) (Some order) other = joined format other (all_or_first node_in 0 nodes) (all_or_first edge_in 0 order)
+written_from _ _ _ other = Err place.File
 
 -- K2 WrongShape: what the value writes, or the first place where a needed key is missing or a value has another kind or range
 unfoldable pub written_of : Data → Result WrittenKernel Place
-written_of d = kernel_from
+written_of d = written_from
     (format_in d)
     (items_at (codes "nodes") d)
     (items_or_none (codes "order") d)

@@ -19,11 +19,11 @@ pub fn written_of(alloc: Global, value: &Value) -> Result<Result<WrittenKernel, 
     ensures value { IfOk result (λ read. read ≡ spec.written_of (view value.now)) }
     ensures words { IfOk result (λ read. IfOk read HasAllWords) }
 {
-    kernel_of(alloc, value)
+    whole_of(alloc, value)
 }
 
 #[tactic(auto, unfolding(crate::specs::Written::written_of))]
-fn kernel_of(alloc: Global, value: &Value) -> Result<Result<WrittenKernel, Place>, AllocError>
+fn whole_of(alloc: Global, value: &Value) -> Result<Result<WrittenKernel, Place>, AllocError>
     ensures { IfOk result (λ read. read ≡ spec.written_of (view value.now)) }
 {
     let Some(format) = format_of(value) else {

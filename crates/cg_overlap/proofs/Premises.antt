@@ -16,7 +16,7 @@ use Rattle.cg_overlap.proofs.ArchTest.{arch_by}
 use Rattle.cg_overlap.proofs.KernelTest.{kernel_by}
 use Rattle.cg_overlap.proofs.LegalTest.{goes, legal_by}
 use Rattle.cg_overlap.proofs.Aliases.{swap_unaliased, odd_inside_unaliased}
-use Rattle.cg_overlap.proofs.Rows.{t1, t2, t4, t4g, t4l, pair, sum_on_t1, late, held_shortly, double, doubled_by, apart, apart_on_t1, swap_on_t4, astray_on_t4, swap_on_pair, odd_on_t4g, odd_on_t4l}
+use Rattle.cg_overlap.proofs.Rows.{t1, t2, t3, t4, t4g, t4l, pair, sum_on_t1, sum_in_two_stages, growing, growing_on_t3, late, held_shortly, double, doubled_by, apart, apart_on_t1, swap_on_t4, astray_on_t4, swap_on_pair, odd_on_t4g, odd_on_t4l}
 
 -- ---- architectures, each with a level for each resource: ports stand above what drives them, a wire above its drivers
 
@@ -27,6 +27,10 @@ t1_is = arch_by t1 (0 ∷ 1 ∷ 1 ∷ 0 ∷ []) refl
 pub t2_is : IsArch t2
 unfolding all_true every has all_below any_below links owner
 t2_is = arch_by t2 (1 ∷ 1 ∷ 2 ∷ 3 ∷ 3 ∷ 0 ∷ []) refl
+
+pub t3_is : IsArch t3
+unfolding all_true every has all_below any_below links owner
+t3_is = arch_by t3 (1 ∷ 1 ∷ 0 ∷ 1 ∷ 1 ∷ 0 ∷ []) refl
 
 pub t4_is : IsArch t4
 unfolding all_true every has all_below any_below links owner
@@ -61,6 +65,10 @@ late_is = kernel_by late refl
 pub double_is : IsKernel double
 unfolding all_true every all_below
 double_is = kernel_by double refl
+
+pub growing_is : IsKernel growing
+unfolding all_true every all_below
+growing_is = kernel_by growing refl
 
 pub apart_is : IsKernel apart
 unfolding all_true every all_below
@@ -102,6 +110,15 @@ sum_shaped = record { places = refl; routes = refl }
 pub sum_legal : IsLegal t1 sum sum_on_t1
 unfolding all_true every has all_below goes positions
 sum_legal = legal_by t1 sum sum_on_t1 sum_shaped refl
+
+-- the register's value goes to an argument of the sum and to the output
+pub two_stages_legal : IsLegal t1 sum sum_in_two_stages
+unfolding all_true every has all_below goes positions
+two_stages_legal = legal_by t1 sum sum_in_two_stages (record { places = refl; routes = refl }) refl
+
+pub growing_legal : IsLegal t3 growing growing_on_t3
+unfolding all_true every has all_below goes positions
+growing_legal = legal_by t3 growing growing_on_t3 (record { places = refl; routes = refl }) refl
 
 pub held_shortly_legal : IsLegal t1 late held_shortly
 unfolding all_true every has all_below goes positions

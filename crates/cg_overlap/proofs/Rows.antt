@@ -2,7 +2,7 @@
 use Rattle.std.proofs.Common.{◌≡◌, ℕ, false, [], ◌∷◌, map, Some, refl}
 use Rattle.std.specs.Prelude.{codes}
 use Rattle.std.specs.List.{range_with_len}
-use Rattle.cg_word.specs.declared.op.Op.TheVariants.{Iter, Add, And, Load, Store, Output, LoadIf, StoreIf, OutputIf}
+use Rattle.cg_word.specs.declared.op.Op.TheVariants.{Iter, Add, Mul, And, Load, Store, Output, LoadIf, StoreIf, OutputIf}
 use Rattle.cg_word.specs.Word.{apply_of}
 use Rattle.cg_model.specs.Work.{Work, value_by, stored, sent, missed}
 use Rattle.cg_model.specs.declared.kernel.Operand.TheVariants.{Const as Constant, Edge}
@@ -86,6 +86,70 @@ running_sum_words : map (λ c. map (λ r. word t1 (configuration_of t1 sum sum_o
     ∷ []
 unfolding configuration_of positions at_cycle word_by memory_by sent_by_units missed_by_units owner value_by stored sent missed apply_of
 running_sum_words = refl
+
+-- the output a round later: the register goes on holding the sum for it, and two turns overlap
+abbrev pub sum_in_two_stages : Mapping
+sum_in_two_stages = record {
+  ii = 3;
+  places = record { unit = 0; time = 0 } ∷ record { unit = 0; time = 1 } ∷ record { unit = 0; time = 5 } ∷ [];
+  routes =
+      record { node = 1; arg = 0; path = 3 ∷ 0 ∷ 0 ∷ 1 ∷ [] }
+      ∷ record { node = 1; arg = 1; path = 3 ∷ 2 ∷ [] }
+      ∷ record { node = 2; arg = 0; path = 3 ∷ 0 ∷ 0 ∷ 0 ∷ 1 ∷ [] }
+      ∷ [];
+}
+
+two_stages_take_18_cycles : cycles (configuration_of t1 sum sum_in_two_stages) 5 ≡ 18
+unfolding configuration_of
+two_stages_take_18_cycles = refl
+
+two_stages_give_the_turns : machine_left t1 (configuration_of t1 sum sum_in_two_stages) 5 empty ≡ leaving [] (0 ∷ 1 ∷ 3 ∷ 6 ∷ 10 ∷ []) [] 0
+unfolding configuration_of positions at_cycle word_by memory_by sent_by_units missed_by_units owner value_by stored sent missed apply_of
+two_stages_give_the_turns = refl
+
+-- ---- a unit of latency 2, at interval 3
+
+abbrev pub t3 : Arch
+t3 = record {
+  name = codes "t3";
+  contexts = 8;
+  memory = 0;
+  resources =
+      record { name = codes "r0c0_p_a"; kind = Port; drivers = 2 ∷ 5 ∷ [] }
+      ∷ record { name = codes "r0c0_p_b"; kind = Port; drivers = 2 ∷ 5 ∷ [] }
+      ∷ record { name = codes "r0c0_p_o"; kind = Out; drivers = [] }
+      ∷ record { name = codes "r0c0_q_a"; kind = Port; drivers = 2 ∷ 5 ∷ [] }
+      ∷ record { name = codes "r0c0_q_b"; kind = Port; drivers = 2 ∷ 5 ∷ [] }
+      ∷ record { name = codes "r0c0_q_o"; kind = Out; drivers = [] }
+      ∷ [];
+  units =
+      record { name = codes "r0c0_p"; ops = Add ∷ []; latency = 1; ports = 0 ∷ 1 ∷ []; out = 2 }
+      ∷ record { name = codes "r0c0_q"; ops = Mul ∷ []; latency = 2; ports = 3 ∷ 4 ∷ []; out = 5 }
+      ∷ [];
+  hub = [];
+}
+
+-- a recurrence of latency 3 over one turn
+abbrev pub growing : Kernel
+growing = record {
+  nodes =
+      record { name = codes "a"; op = Add; port = 0; operands = Edge 1 1 (1 ∷ []) ∷ Constant 1 ∷ [] }
+      ∷ record { name = codes "x"; op = Mul; port = 0; operands = Edge 0 0 [] ∷ Constant 3 ∷ [] }
+      ∷ [];
+  order = [];
+}
+
+abbrev pub growing_on_t3 : Mapping
+growing_on_t3 = record {
+  ii = 3;
+  places = record { unit = 0; time = 0 } ∷ record { unit = 1; time = 1 } ∷ [];
+  routes = record { node = 0; arg = 0; path = 5 ∷ 0 ∷ [] } ∷ record { node = 1; arg = 0; path = 2 ∷ 3 ∷ [] } ∷ [];
+}
+
+-- the out of the multiplier in the first ten cycles: each product two cycles after it was begun
+products_after_two_cycles : map (word t3 (configuration_of t3 growing growing_on_t3) 3 empty 5) (range_with_len 0 10) ≡ 0 ∷ 0 ∷ 0 ∷ 6 ∷ 0 ∷ 0 ∷ 21 ∷ 0 ∷ 0 ∷ 66 ∷ []
+unfolding configuration_of positions at_cycle word_by memory_by sent_by_units missed_by_units owner value_by stored sent missed apply_of
+products_after_two_cycles = refl
 
 -- ---- a value held in a register, on t1 at interval 2
 

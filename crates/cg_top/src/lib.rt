@@ -1,10 +1,11 @@
 //! The top call: from the words of a command line to what the store holds, what the sink takes and the status.
 #![tactic(auto)]
 
-ghost use Rattle.std.specs.Prelude.{◌≡◌, ◌≤◌, IfOk, map, string_bytes};
+ghost use Rattle.std.specs.Prelude.{◌≡◌, ◌≤◌, [], None, IfOk, map, string_bytes};
 ghost use Rattle.cg_files.specs.Causes.{Rose};
 ghost use Rattle.cg_ending.specs.Outcome.{outcome_of};
 ghost use Rattle.cg_ending.specs.Ends.{moment};
+ghost use Rattle.cg_top.specs.Words.{plan_of};
 ghost use Rattle.cg_top.specs.TopCall.{IsOutcome, Ends, IsExact, IsByTable, IsComplete, IsTurned, IsKept};
 
 mod answering;
@@ -55,6 +56,8 @@ pub fn run_line<S: Store, O: Sink>(
     ensures kept { IsKept (map string_bytes words.now)
         (moment (S.held store.old) (S.read_faults store.old) (S.write_faults store.old) (O.taken out.old) (O.faults out.old))
         (moment (S.held store.new) (S.read_faults store.new) (S.write_faults store.new) (O.taken out.new) (O.faults out.new)) }
+    // Where the words fit no command, the store is not called.
+    ensures no_call { plan_of (map string_bytes words.now) ≡ None → store.new ≡ store.old }
     ensures reads { S.read_faults store.old ≤ S.read_faults store.new }
     ensures writes { S.write_faults store.old ≤ S.write_faults store.new }
     ensures faults { O.faults out.old ≤ O.faults out.new }
@@ -72,6 +75,7 @@ fn carry_out<S: Store, O: Sink>(
         (moment (S.held store.old) (S.read_faults store.old) (S.write_faults store.old) (O.taken out.old) (O.faults out.old))
         (moment (S.held store.new) (S.read_faults store.new) (S.write_faults store.new) (O.taken out.new) (O.faults out.new))
         result }
+    ensures no_call { plan_of (map string_bytes words.now) ≡ None → store.new ≡ store.old }
     ensures reads { S.read_faults store.old ≤ S.read_faults store.new }
     ensures writes { S.write_faults store.old ≤ S.write_faults store.new }
     ensures faults { O.faults out.old ≤ O.faults out.new }
@@ -86,6 +90,8 @@ fn carry_out<S: Store, O: Sink>(
 fn outcome<S: Store>(alloc: Global, words: &[String], store: &mut S) -> Result<Outcome, AllocError>
     ensures ok { IfOk result (λ o. IsOutcome (map string_bytes words.now) (S.held store.old)
         (Rose (S.read_faults store.old) (S.read_faults store.new)) (outcome_of o)) }
+    ensures no_call { plan_of (map string_bytes words.now) ≡ None → store.new ≡ store.old }
+    ensures no_write { IfOk result (λ o. plan_of (map string_bytes words.now) ≡ None → o.writes.items ≡ []) }
     ensures held { S.held store.new ≡ S.held store.old }
     ensures reads { S.read_faults store.old ≤ S.read_faults store.new }
     ensures writes { S.write_faults store.new ≡ S.write_faults store.old }

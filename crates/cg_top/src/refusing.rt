@@ -1,5 +1,5 @@
 //! The reports of refusals.
-ghost use Rattle.std.specs.Prelude.{◌≡◌, IfOk, string_bytes};
+ghost use Rattle.std.specs.Prelude.{◌≡◌, [], IfOk, string_bytes};
 ghost use Rattle.cg_ending.specs.Outcome.{file_of, outcome_of};
 ghost use Rattle.cg_top.specs.Refusals.{usage_outcome, malformed_of, kernel_fault_text, kernel_fault_name, kernel_fault_place, place_text};
 
@@ -9,7 +9,8 @@ use std::alloc::{AllocError, Global};
 
 /// The words fit no command.
 pub(crate) fn usage(alloc: Global) -> Result<Outcome, AllocError>
-    ensures { IfOk result (λ o. outcome_of o ≡ usage_outcome) }
+    ensures outcome { IfOk result (λ o. outcome_of o ≡ usage_outcome) }
+    ensures no_write { IfOk result (λ o. o.writes.items ≡ []) }
 {
     let report = String::from_str(alloc, "usage: cgra COMMAND ARGUMENTS\n")?;
     Ok(Outcome {

@@ -2,7 +2,7 @@
 use Rattle.std.proofs.Common.{◌≡◌, ℕ, ◌+◌, List, [], ◌∷◌, ◌++◌, length, map, ap, ◌∙◌, refl}
 use Rattle.std.specs.Prelude.{slice_index, slice_index_or, slice_set}
 use Rattle.cg_model.specs.declared.kernel.Node.{Node}
-use Rattle.cg_model.specs.Work.{Image, Work, value, stored, sent, missed}
+use Rattle.cg_model.specs.Work.{Image, value, stored, sent, missed}
 use Rattle.cg_pad.proofs.Args.{three, on, value-three, stored-three, sent-three, missed-three}
 use Rattle.cg_turns.specs.Window.{operand_in}
 use Rattle.cg_turns.specs.Step.{DoesWork}

@@ -27,6 +27,7 @@ pub loop-file-preserved : goal.loop-file-preserved
 loop-file-preserved g c = record {
   wrote = rw (map_more file_of c.args.files.now c.loop-file.file-index c.file-item.result c.loop-file-test.true c.file-item.is)
       (wrote_one _ _ _ _ (file_of c.file-item.result) _ _ (search rules) (search rules) c.loop-file.invariant.wrote c.in_ok-write.ensures.ok c.in_ok-write.ensures.others c.in_ok-write.ensures.tells);
+  untouched = λ first. absurd (omega arith);
   reads = grind arith;
   writes = grind arith;
 }

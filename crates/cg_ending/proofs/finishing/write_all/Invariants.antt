@@ -7,6 +7,7 @@ use Rattle.cg_ending.proofs.finishing.write_all.Given as goal
 abbrev pub invariant-loop-file : goal.invariant-loop-file
 invariant-loop-file g l = record {
   wrote : Wrote (g.S.Store.held l.fn.store) (map file_of (take l.file-index l.files)) (g.S.Store.held l.store);
+  untouched : l.file-index ≡ 0 → l.store ≡ l.fn.store;
   reads : g.S.Store.read_faults l.store ≡ g.S.Store.read_faults l.fn.store;
   writes : g.S.Store.write_faults l.fn.store ≤ g.S.Store.write_faults l.store;
 }

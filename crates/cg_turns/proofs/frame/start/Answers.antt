@@ -1,4 +1,4 @@
-use Rattle.std.proofs.Common.{rules, ◌≡◌, ◌*◌, arith, ap, ◌∙◌, length}
+use Rattle.std.proofs.Common.{rules, arith}
 use Rattle.std.proofs.lemmas.Grind.{common_steps}
 use Rattle.cg_turns.proofs.Steps.{started}
 use Rattle.cg_turns.proofs.frame.start.Goals as goal
