@@ -1,7 +1,7 @@
 //! From bytes to a kernel.
 ghost use Rattle.std.specs.Prelude.{◌≡◌, Some, None, IfOk, IsOkAnd};
 ghost use Rattle.serde_json.specs.View.{view};
-ghost use Rattle.cg_json.specs.Answers.{Gives};
+ghost use Rattle.cg_model.specs.Answers.{Gives};
 ghost use Rattle.cg_model.specs.Kernel.{IsKernel};
 ghost use Rattle.cg_kernel.specs.Answer.{answer_of, judged, answer_in, answer_written};
 ghost use Rattle.cg_kernel.specs.Words.{HasAllWords};

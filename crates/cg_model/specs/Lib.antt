@@ -10,3 +10,4 @@ pub mod Canonical
 pub mod Machine
 pub mod Equations
 pub mod Overlap
+pub mod Answers

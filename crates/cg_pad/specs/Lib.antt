@@ -1,1 +1,4 @@
 pub mod Work
+pub mod Bytes
+pub mod Cursor
+pub mod Lent

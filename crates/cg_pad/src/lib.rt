@@ -1,10 +1,16 @@
 //! Images of memory and streams, the scratchpad of a run, and what an operation does to it.
 #![tactic(auto)]
 
+mod fault;
 mod image;
+mod reading;
 mod scratchpad;
 mod work;
+mod writing;
 
+pub use fault::ImageFault;
 pub use image::{Image, PORTS, Streams, empty_streams};
+pub use reading::read_image;
 pub use scratchpad::Scratchpad;
 pub use work::Work;
+pub use writing::{reads_back, write_image};

@@ -1,4 +1,7 @@
 //! The scratchpad of a run.
+ghost use Rattle.std.specs.Borrow.{Lends, sem, Array, u32 as word};
+ghost use Rattle.cg_pad.specs.Lent.{overlaid};
+ghost use Rattle.cg_pad.specs.contracts.scratchpad.Scratchpad.{the_row};
 
 use cg_model::Words;
 use std::alloc::{AllocError, Global};
@@ -68,6 +71,14 @@ impl Scratchpad {
         ensures { result.now ≡ self.now }
     {
         self.words.as_slice()
+    }
+
+    /// All words, by address, to be changed in place: what is written through the loan stands afterwards.
+    pub fn words_mut(&mut self) -> &mut [u32]
+        ensures* written { sem 𝓛 (Lends the_row (Array word 0) self.entry result (overlaid self.entry.now)) }
+        ensures value { result.now ≡ self.old }
+    {
+        self.words.as_mut_slice()
     }
 
     /// Gives the words away.

@@ -1,4 +1,4 @@
-//! Calls of the top call over a store and a sink in memory, one test a subject.
+//! Tests that cross crates: calls of the top call over a store and a sink in memory, and image files. One test a subject.
 #![tactic(auto)]
 
 #[cfg(test)]
@@ -6,7 +6,11 @@ mod calls;
 #[cfg(test)]
 mod failing;
 #[cfg(test)]
+mod images;
+#[cfg(test)]
 mod kernels;
+#[cfg(test)]
+mod printing;
 #[cfg(test)]
 mod turns;
 #[cfg(test)]

@@ -1,17 +1,12 @@
 -- Where everything fits and nothing fails, the command is done, or memory was wanting.
-use Rattle.std.proofs.Common.{◌≡◌, ◌≤◌, ℕ, Bool, true, false, cond, List, [], ◌∷◌, Option, Some, None, All, refl, sym, ◌∙◌, ap, ◌⊎◌, inl, inr, arith, nat_lt, length}
-use Rattle.std.proofs.lemmas.Grind.{common_steps}
-use Rattle.std.proofs.lemmas.List.Elements.{All-contains}
+use Rattle.std.proofs.Common.{◌≡◌, List, ◌∙◌, ◌⊎◌, inl, inr}
 use Rattle.cg_files.specs.Causes.{Rose}
 use Rattle.cg_ending.specs.declared.outcome.Status.{Status}
-use Rattle.cg_ending.specs.declared.outcome.Status.TheVariants.{Done, Memory, No, ReadFault}
-use Rattle.cg_ending.specs.Outcome.{Name, Bytes, File, Outcome}
-use Rattle.cg_ending.specs.Reads.{AreRead}
+use Rattle.cg_ending.specs.declared.outcome.Status.TheVariants.{Done, Memory}
+use Rattle.cg_ending.specs.Outcome.{Name}
 use Rattle.cg_ending.specs.Ends.{Moment, Finished}
-use Rattle.cg_ending.proofs.Reading.{reading, all, reads_all}
-use Rattle.cg_top.specs.Words.{Plan, plan_of}
-use Rattle.cg_top.specs.Commands.{Accepts}
-use Rattle.cg_top.specs.TopCall.{Ends, Ended, IsComplete}
+use Rattle.cg_ending.proofs.Reading.{all, reads_all}
+use Rattle.cg_top.specs.TopCall.{Ends, IsComplete}
 use Rattle.cg_top.proofs.Commands.{accepted}
 use Rattle.cg_top.proofs.Exact.{IsOf, told}
 

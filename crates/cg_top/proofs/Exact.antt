@@ -1,16 +1,15 @@
 -- Over files that are told the status is determined, but for faults and want of memory.
-use Rattle.std.proofs.Common.{◌≡◌, ℕ, List, [], ◌∷◌, Option, Some, None, refl, sym, ◌∙◌, ap, ◌⊎◌, inl, inr}
+use Rattle.std.proofs.Common.{◌≡◌, List, Option, Some, None, sym, ◌∙◌, ap, ◌⊎◌, inl, inr}
 use Rattle.cg_files.specs.Causes.{Rose}
 use Rattle.cg_ending.specs.declared.outcome.Status.{Status}
 use Rattle.cg_ending.specs.declared.outcome.Status.TheVariants.{Memory, ReadFault, WriteFault}
-use Rattle.cg_ending.specs.Outcome.{Name, Bytes, File, Outcome}
-use Rattle.cg_ending.specs.Reads.{AreRead, StopsAt, read_fault_of, too_long_of}
-use Rattle.cg_ending.specs.Ends.{Moment, Finished, Did, StoreFailed, SinkFailed, Wanted}
+use Rattle.cg_ending.specs.Outcome.{Name, Bytes, Outcome}
+use Rattle.cg_ending.specs.Reads.{read_fault_of, too_long_of}
+use Rattle.cg_ending.specs.Ends.{Moment, Finished}
 use Rattle.cg_ending.proofs.Reading.{Reading, all, missing, longer, reading, reads_all, stops}
 use Rattle.cg_top.specs.Words.{Plan, plan_of}
-use Rattle.cg_top.specs.Refusals.{usage_outcome}
 use Rattle.cg_top.specs.Commands.{IsAnswer}
-use Rattle.cg_top.specs.TopCall.{Answers, IsPlanned, IsOutcome, IsDefined, Ended, GaveUp, Ends, IsExact}
+use Rattle.cg_top.specs.TopCall.{IsPlanned, Ends, IsExact}
 use Rattle.cg_top.proofs.Commands.{same_status}
 
 -- what the told reading leads to

@@ -1,5 +1,5 @@
 -- `turns` that is done.
-use Rattle.std.proofs.Common.{◌≡◌, ◌≢◌, ◌++◌, ℕ, List, [], ◌∷◌, Option, Some, None, Result, Ok, Err, refl, sym, ◌∙◌, ap, subst, ◌⊎◌, inl, inr, map}
+use Rattle.std.proofs.Common.{◌≡◌, ◌≢◌, ℕ, List, [], ◌∷◌, Some, Result, Ok, Err, refl, sym, ◌∙◌, ap, subst, ◌⊎◌, inl, inr}
 use Rattle.std.proofs.lemmas.List.Elements.{All-head}
 use Rattle.cg_files.specs.Causes.{Rose}
 use Rattle.cg_files.specs.Held.{Held, Appends, AppendsSome, IsMissing, IsLonger}
@@ -8,15 +8,15 @@ use Rattle.cg_model.specs.Turns.{turns_left}
 use Rattle.cg_ending.specs.declared.outcome.Status.{Status}
 use Rattle.cg_ending.specs.declared.outcome.Status.TheVariants.{Done, Memory, WriteFault, ReadFault, Malformed}
 use Rattle.cg_ending.specs.Outcome.{Name, Bytes, File, Outcome}
-use Rattle.cg_ending.specs.Reads.{AreRead, StopsAt, IsRead, read_fault_of, too_long_of}
-use Rattle.cg_ending.specs.Ends.{Moment, Finished, Did}
+use Rattle.cg_ending.specs.Reads.{AreRead, IsRead, read_fault_of, too_long_of}
+use Rattle.cg_ending.specs.Ends.{Moment, Finished}
 use Rattle.cg_kernel.specs.declared.fault.KernelFault.{KernelFault}
 use Rattle.cg_kernel.specs.Answer.{answer_of}
 use Rattle.cg_top.specs.declared.words.Command.TheVariants.{Turns}
-use Rattle.cg_top.specs.Words.{Plan, plan_of}
+use Rattle.cg_top.specs.Words.{Plan}
 use Rattle.cg_top.specs.Commands.{IsAnswer}
 use Rattle.cg_top.specs.Turns.{blank, streams_report, turns_by}
-use Rattle.cg_top.specs.TopCall.{Answers, IsPlanned, Ends, Ended, TurnedBy, IsTurned}
+use Rattle.cg_top.specs.TopCall.{IsPlanned, Ends, TurnedBy, IsTurned}
 use Rattle.cg_top.proofs.Commands.{turns_is}
 
 -- the plan of the command

@@ -5,7 +5,7 @@ use Rattle.cg_files.specs.Causes.{Rose}
 use Rattle.cg_files.specs.Held.{Held, IsMissing, IsLonger}
 use Rattle.cg_ending.specs.declared.outcome.Status.{Status}
 use Rattle.cg_ending.specs.Outcome.{Name, File, Outcome}
-use Rattle.cg_ending.specs.Reads.{StopsAt, read_fault_of, too_long_of}
+use Rattle.cg_ending.specs.Reads.{read_fault_of, too_long_of}
 use Rattle.cg_ending.specs.Ends.{Moment, Finished, Wrote}
 use Rattle.cg_kernel.specs.declared.fault.KernelFault.{KernelFault}
 use Rattle.cg_kernel.specs.Answer.{answer_of}

@@ -1,5 +1,5 @@
 -- The lines of a report, one after the other.
-use Rattle.std.proofs.Common.{◌≡◌, ℕ, zero, suc, ◌+◌, length, ◌<◌, List, [], ◌∷◌, ◌++◌, take, get_or, decimal, refl, ap, ◌∙◌, sym, arith, append_assoc, codes}
+use Rattle.std.proofs.Common.{◌≡◌, ℕ, zero, suc, ◌+◌, length, ◌<◌, List, [], ◌∷◌, ◌++◌, take, decimal, refl, ap, ◌∙◌, sym, arith, append_assoc, codes}
 use Rattle.std.specs.Prelude.{slice_index}
 use Rattle.std.specs.List.{range_with_len, flat_map}
 use Rattle.std.proofs.lemmas.Grind.{flat_map-append}

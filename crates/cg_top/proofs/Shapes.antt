@@ -1,5 +1,5 @@
 -- What a plan's files are.
-use Rattle.std.proofs.Common.{◌≡◌, ℕ, List, [], ◌∷◌, map, length, String, Vec, string_bytes, refl, sym, ap, ◌∙◌, get_or, suc, arith}
+use Rattle.std.proofs.Common.{◌≡◌, List, [], ◌∷◌, length, sym, ap, ◌∙◌, get_or, arith}
 use Rattle.std.proofs.lemmas.List.{length-map}
 use Rattle.cg_files.specs.Held.{Held}
 use Rattle.cg_ending.specs.Outcome.{Name, File}

@@ -1,19 +1,18 @@
 -- The rows of the table of statuses.
-use Rattle.std.proofs.Common.{◌≡◌, ℕ, Bool, true, false, List, [], ◌∷◌, ◌++◌, map, Contains, Option, Some, None, refl, sym, ◌∙◌, ap, ◌⊎◌, inl, inr, drop, length, arith}
+use Rattle.std.proofs.Common.{◌≡◌, true, false, List, [], ◌∷◌, ◌++◌, Contains, Option, Some, None, refl, sym, ◌∙◌, ap, ◌⊎◌, inl, inr, length, arith}
 use Rattle.std.proofs.lemmas.Grind.{common_steps}
 use Rattle.std.proofs.Math.Seq.{get_or-append_seam}
 use Rattle.cg_files.specs.Causes.{Rose}
 use Rattle.cg_files.specs.Held.{Held, IsMissing, IsLonger}
 use Rattle.cg_ending.specs.declared.outcome.Status.{Status}
-use Rattle.cg_ending.specs.declared.outcome.Status.TheVariants.{Done, Memory, Usage, Malformed, ReadFault, WriteFault, No}
-use Rattle.cg_ending.specs.Outcome.{Name, Bytes, File, Outcome}
-use Rattle.cg_ending.specs.Reads.{AreRead, StopsAt, read_fault_of, too_long_of}
-use Rattle.cg_ending.specs.Ends.{Moment, Finished, Wrote, WrotePart, FailedAt, Did, StoreFailed, SinkFailed, Wanted}
+use Rattle.cg_ending.specs.declared.outcome.Status.TheVariants.{Done, Memory, Usage, Malformed, ReadFault, WriteFault}
+use Rattle.cg_ending.specs.Outcome.{Name, File, Outcome}
+use Rattle.cg_ending.specs.Reads.{StopsAt, read_fault_of, too_long_of}
+use Rattle.cg_ending.specs.Ends.{Moment, Finished, Wrote}
 use Rattle.cg_top.specs.Words.{Plan, plan_of}
 use Rattle.cg_top.specs.Refusals.{usage_outcome}
-use Rattle.cg_top.specs.Commands.{IsAnswer}
-use Rattle.cg_top.specs.TopCall.{Answers, IsPlanned, IsOutcome, Ended, GaveUp, Ends, IsByTable, leaves_all}
-use Rattle.cg_top.proofs.Commands.{sound, IsSound, is_own}
+use Rattle.cg_top.specs.TopCall.{IsPlanned, Ends, IsByTable, leaves_all}
+use Rattle.cg_top.proofs.Commands.{sound, is_own}
 
 -- what is known of an outcome by its status
 record Known (words : List Name) (before after : Moment) (o : Outcome) : Type 0 where

@@ -1,5 +1,5 @@
 -- What each command answers for its input files. A command is a case of each definition.
-use Rattle.std.specs.Prelude.{◌≡◌, ℕ, List, [], ◌∷◌, Ok}
+use Rattle.std.specs.Prelude.{◌≡◌, List, [], ◌∷◌, Ok}
 use Rattle.cg_model.specs.Kernel.{Kernel}
 use Rattle.cg_ending.specs.Outcome.{Name, File, Outcome}
 use Rattle.cg_kernel.specs.Answer.{answer_of}

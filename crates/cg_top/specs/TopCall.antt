@@ -1,9 +1,9 @@
 -- How a call of the top call ends.
-use Rattle.std.specs.Prelude.{◌≡◌, ◌⊎◌, ℕ, Bool, true, false, List, [], ◌∷◌, length, drop, Contains, Option, Some, None, Ok}
+use Rattle.std.specs.Prelude.{◌≡◌, ◌⊎◌, ℕ, Bool, true, false, List, [], ◌∷◌, Contains, Option, Some, None, Ok}
 use Rattle.cg_files.specs.Causes.{Rose}
 use Rattle.cg_files.specs.Held.{Held, Holds, IsMissing, Appends}
 use Rattle.cg_ending.specs.declared.outcome.Status.{Status}
-use Rattle.cg_ending.specs.declared.outcome.Status.TheVariants.{Done, Memory, Usage, Malformed, Impossible, ReadFault, WriteFault, BudgetSpent, No}
+use Rattle.cg_ending.specs.declared.outcome.Status.TheVariants.{Done, Memory, Usage, Malformed, Impossible, ReadFault, WriteFault, BudgetSpent}
 use Rattle.cg_ending.specs.Outcome.{Name, Bytes, File, Outcome}
 use Rattle.cg_ending.specs.Reads.{AreRead, StopsAt}
 use Rattle.cg_ending.specs.Ends.{Moment, Finished, Wrote}

@@ -1,6 +1,6 @@
 use Rattle.std.proofs.Common.{Option, ap, sym, subst, Err}
 use Rattle.serde_json.specs.Data.{Data}
-use Rattle.cg_json.specs.Answers.{Gives}
+use Rattle.cg_model.specs.Answers.{Gives}
 use Rattle.cg_kernel.specs.Answer.{answer_of, answer_in}
 use Rattle.cg_kernel.specs.declared.fault.KernelFault.TheVariants.{Memory}
 use Rattle.cg_kernel.proofs.read.read_kernel.Goals as goal

@@ -1,4 +1,4 @@
-use Rattle.std.proofs.Common.{◌≡◌, ◌++◌, ◌∙◌, ap, sym}
+use Rattle.std.proofs.Common.{◌++◌, ◌∙◌, ap, sym}
 use Rattle.cg_top.specs.Turns.{port_report}
 use Rattle.cg_top.proofs.Reports.{flat_range_more}
 use Rattle.cg_top.proofs.streams.streams_report.Goals as goal

@@ -1,4 +1,4 @@
-use Rattle.std.proofs.Common.{◌≡◌, ◌∙◌, rules, [], ap}
+use Rattle.std.proofs.Common.{◌≡◌, []}
 use Rattle.cg_turns.specs.Done.{left_of}
 use Rattle.cg_top.proofs.Turned.{turned_by}
 use Rattle.cg_top.proofs.turning.turned.Goals as goal

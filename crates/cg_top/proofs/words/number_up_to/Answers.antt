@@ -1,4 +1,4 @@
-use Rattle.std.proofs.Common.{◌≡◌, ◌∙◌, sym}
+use Rattle.std.proofs.Common.{◌∙◌, sym}
 use Rattle.cg_top.proofs.Numbers.{too_great}
 use Rattle.cg_top.proofs.words.number_up_to.Goals as goal
 

@@ -1,0 +1,4 @@
+pub mod Back
+pub mod Clear
+pub mod Depths
+pub mod Elements

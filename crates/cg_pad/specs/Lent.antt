@@ -1,0 +1,6 @@
+-- All words of a scratchpad, lent to be changed.
+use Rattle.std.specs.Prelude.{ℕ, List, ◌++◌, length, take, drop}
+
+-- words written over a list, which keeps its length
+abbrev pub overlaid : List ℕ → List ℕ → List ℕ
+overlaid old new = take (length old) (new ++ drop (length new) old)

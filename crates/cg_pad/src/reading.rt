@@ -1,0 +1,170 @@
+//! Images out of bytes.
+ghost use Rattle.std.specs.Prelude.{◌≡◌, IfOk};
+ghost use Rattle.cg_model.specs.Answers.{Gives};
+ghost use Rattle.cg_pad.specs.Bytes.{answer_of};
+
+use crate::fault::ImageFault;
+use crate::image::{Image, PORTS, Streams};
+use crate::writing::MAGIC;
+use cg_model::Words;
+use std::alloc::{AllocError, Global};
+
+/// The greatest number of memory words of a file.
+const MOST_MEMORY: u32 = 1_048_576;
+
+/// The greatest number of words of a stream.
+const MOST_STREAM: u32 = 1_000_000;
+
+/// The image that the bytes spell: `CGI1`, the memory, and the sixteen streams, each as its number of words and the words.
+#[tactic(auto, unfolding(crate::specs::Bytes::answer_of))]
+pub fn read_image(alloc: Global, bytes: &[u8]) -> Result<Image, ImageFault>
+    ensures { Gives ImageFault.Memory result (answer_of bytes.now) }
+{
+    let mut cursor = Cursor {
+        size: bytes.len(),
+        rest: bytes,
+    };
+    cursor.magic()?;
+    cursor.image(alloc)
+}
+
+/// The bytes that are left, of a file of that size.
+#[derive(Drop)]
+struct Cursor<'a> {
+    size: usize,
+    rest: &'a [u8],
+}
+
+impl Cursor<'_> {
+    ghost use Rattle.std.specs.Prelude.{◌≡◌, ◌<◌, ◌≤◌, ℕ, IfOk, length};
+    ghost use Rattle.cg_model.specs.Answers.{Gives};
+    ghost use Rattle.cg_pad.specs.declared.fault.ImageFault.TheVariants.{MemoryTooLarge, StreamTooLarge};
+    ghost use Rattle.cg_pad.specs.Bytes.{take_number, take_words, or_truncated, read_magic, read_block, read_streams, at_end, read_blocks};
+    ghost use Rattle.cg_pad.specs.Cursor.{with_rest, bytes_after, Takes};
+
+    /// The letters `CGI1`.
+    fn magic(&mut self) -> Result<(), ImageFault>
+        ensures answer { Gives ImageFault.Memory (bytes_after result self.new.rest.now) (read_magic self.old.size self.old.rest.now) }
+        ensures size { self.new.size ≡ self.old.size }
+    {
+        let bytes = self.rest;
+        let first = &bytes[..bytes.len().min(MAGIC.len())];
+        if !MAGIC.starts_with(first) {
+            return Err(ImageFault::Magic);
+        }
+        if bytes.len() < MAGIC.len() {
+            return Err(ImageFault::Truncated(self.size));
+        }
+        self.rest = &bytes[MAGIC.len()..];
+        Ok(())
+    }
+
+    /// The memory and the streams, and then the end.
+    fn image(&mut self, alloc: Global) -> Result<Image, ImageFault>
+        ensures { Gives ImageFault.Memory result (read_blocks self.old.size self.old.rest.now) }
+    {
+        let memory = self.memory(alloc)?;
+        let streams = self.streams(alloc)?;
+        self.end(memory, streams)
+    }
+
+    /// Nothing may follow.
+    fn end(&self, memory: Words, streams: Streams) -> Result<Image, ImageFault>
+        requires { length streams ≡ 16 }
+        ensures { result ≡ at_end self.now.size (record { memory = memory; streams = streams }) self.now.rest.now }
+    {
+        if !self.rest.is_empty() {
+            return Err(ImageFault::Trailing(self.size.saturating_sub(self.rest.len())));
+        }
+        Ok(Image { memory, streams })
+    }
+
+    /// The words of the memory.
+    fn memory(&mut self, alloc: Global) -> Result<Words, ImageFault>
+        ensures answer { Gives ImageFault.Memory (with_rest result self.new.rest.now) (read_block 1048576 MemoryTooLarge self.old.size self.old.rest.now) }
+        ensures size { self.new.size ≡ self.old.size }
+    {
+        let count = self.count()?;
+        if count > MOST_MEMORY {
+            return Err(ImageFault::MemoryTooLarge(count));
+        }
+        self.block(alloc, count)
+    }
+
+    /// The words of a stream.
+    fn stream(&mut self, alloc: Global, port: u32) -> Result<Words, ImageFault>
+        ensures answer { Gives ImageFault.Memory (with_rest result self.new.rest.now) (read_block 1000000 (StreamTooLarge port) self.old.size self.old.rest.now) }
+        ensures size { self.new.size ≡ self.old.size }
+    {
+        let count = self.count()?;
+        if count > MOST_STREAM {
+            return Err(ImageFault::StreamTooLarge(port, count));
+        }
+        self.block(alloc, count)
+    }
+
+    /// The words of all streams, by port.
+    fn streams(&mut self, alloc: Global) -> Result<Streams, ImageFault>
+        ensures answer { Gives ImageFault.Memory (with_rest result self.new.rest.now) (read_streams self.old.size 0 16 self.old.rest.now) }
+        ensures sixteen { IfOk result (λ streams. length streams ≡ 16) }
+        ensures size { self.new.size ≡ self.old.size }
+    {
+        let mut streams = Vec::with_capacity(alloc, PORTS)?;
+        for port in 0..16 {
+            streams.push(self.stream(alloc, port)?)?;
+        }
+        Ok(Streams::new(streams))
+    }
+
+    /// A number of words.
+    fn count(&mut self) -> Result<u32, ImageFault>
+        ensures answer { Gives ImageFault.Memory (with_rest result self.new.rest.now) (or_truncated self.old.size (take_number self.old.rest.now)) }
+        ensures size { self.new.size ≡ self.old.size }
+    {
+        let size = self.size;
+        self.number().ok_or(ImageFault::Truncated(size))
+    }
+
+    /// So many words.
+    fn block(&mut self, alloc: Global, count: u32) -> Result<Words, ImageFault>
+        ensures answer { Gives ImageFault.Memory (with_rest result self.new.rest.now) (or_truncated self.old.size (take_words count self.old.rest.now)) }
+        ensures size { self.new.size ≡ self.old.size }
+    {
+        let size = self.size;
+        match self.words(alloc, count) {
+            Ok(Some(words)) => Ok(words),
+            Ok(None) => Err(ImageFault::Truncated(size)),
+            Err(_) => Err(ImageFault::Memory),
+        }
+    }
+
+    /// The next words, so many; None where the bytes end before.
+    fn words(&mut self, alloc: Global, count: u32) -> Result<Option<Words>, AllocError>
+        ensures taken { IfOk result (λ words. Takes words self.new.rest.now (take_words count self.old.rest.now)) }
+        ensures size { self.new.size ≡ self.old.size }
+    {
+        let mut words = Vec::new(alloc);
+        for _word in 0..count {
+            let Some(word) = self.number() else {
+                return Ok(None);
+            };
+            words.push(word)?;
+        }
+        Ok(Some(Words::new(words)))
+    }
+
+    /// The next four bytes, as a number.
+    fn number(&mut self) -> Option<u32>
+        ensures taken { Takes result self.new.rest.now (take_number self.old.rest.now) }
+        ensures size { self.new.size ≡ self.old.size }
+    {
+        match self.rest {
+            [a, b, c, d, rest @ ..] => {
+                let number = u32::from_be_bytes([*a, *b, *c, *d]);
+                self.rest = rest;
+                Some(number)
+            }
+            _ => None,
+        }
+    }
+}
