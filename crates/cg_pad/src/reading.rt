@@ -1,5 +1,5 @@
 //! Images out of bytes.
-ghost use Rattle.std.specs.Prelude.{◌≡◌, IfOk};
+ghost use Rattle.std.specs.Prelude.{◌≡◌, ◌≤◌, IfOk, length};
 ghost use Rattle.cg_model.specs.Answers.{Gives};
 ghost use Rattle.cg_pad.specs.Bytes.{answer_of};
 
@@ -18,7 +18,8 @@ const MOST_STREAM: u32 = 1_000_000;
 /// The image that the bytes spell: `CGI1`, the memory, and the sixteen streams, each as its number of words and the words.
 #[tactic(auto, unfolding(crate::specs::Bytes::answer_of))]
 pub fn read_image(alloc: Global, bytes: &[u8]) -> Result<Image, ImageFault>
-    ensures { Gives ImageFault.Memory result (answer_of bytes.now) }
+    ensures answer { Gives ImageFault.Memory result (answer_of bytes.now) }
+    ensures small { IfOk result (λ image. length image.memory ≤ 1048576) }
 {
     let mut cursor = Cursor {
         size: bytes.len(),
@@ -36,7 +37,7 @@ struct Cursor<'a> {
 }
 
 impl Cursor<'_> {
-    ghost use Rattle.std.specs.Prelude.{◌≡◌, ◌<◌, ◌≤◌, ℕ, IfOk, length};
+    ghost use Rattle.std.specs.Prelude.{◌≡◌, ◌<◌, ◌≤◌, ℕ, IfOk, IfSome, length};
     ghost use Rattle.cg_model.specs.Answers.{Gives};
     ghost use Rattle.cg_pad.specs.declared.fault.ImageFault.TheVariants.{MemoryTooLarge, StreamTooLarge};
     ghost use Rattle.cg_pad.specs.Bytes.{take_number, take_words, or_truncated, read_magic, read_block, read_streams, at_end, read_blocks};
@@ -61,7 +62,8 @@ impl Cursor<'_> {
 
     /// The memory and the streams, and then the end.
     fn image(&mut self, alloc: Global) -> Result<Image, ImageFault>
-        ensures { Gives ImageFault.Memory result (read_blocks self.old.size self.old.rest.now) }
+        ensures small { IfOk result (λ image. length image.memory ≤ 1048576) }
+        ensures answer { Gives ImageFault.Memory result (read_blocks self.old.size self.old.rest.now) }
     {
         let memory = self.memory(alloc)?;
         let streams = self.streams(alloc)?;
@@ -71,7 +73,8 @@ impl Cursor<'_> {
     /// Nothing may follow.
     fn end(&self, memory: Words, streams: Streams) -> Result<Image, ImageFault>
         requires { length streams ≡ 16 }
-        ensures { result ≡ at_end self.now.size (record { memory = memory; streams = streams }) self.now.rest.now }
+        ensures memory { IfOk result (λ image. image.memory ≡ memory) }
+        ensures answer { result ≡ at_end self.now.size (record { memory = memory; streams = streams }) self.now.rest.now }
     {
         if !self.rest.is_empty() {
             return Err(ImageFault::Trailing(self.size.saturating_sub(self.rest.len())));
@@ -83,6 +86,7 @@ impl Cursor<'_> {
     fn memory(&mut self, alloc: Global) -> Result<Words, ImageFault>
         ensures answer { Gives ImageFault.Memory (with_rest result self.new.rest.now) (read_block 1048576 MemoryTooLarge self.old.size self.old.rest.now) }
         ensures size { self.new.size ≡ self.old.size }
+        ensures small { IfOk result (λ words. length words ≤ 1048576) }
     {
         let count = self.count()?;
         if count > MOST_MEMORY {
@@ -129,6 +133,7 @@ impl Cursor<'_> {
     fn block(&mut self, alloc: Global, count: u32) -> Result<Words, ImageFault>
         ensures answer { Gives ImageFault.Memory (with_rest result self.new.rest.now) (or_truncated self.old.size (take_words count self.old.rest.now)) }
         ensures size { self.new.size ≡ self.old.size }
+        ensures count { IfOk result (λ words. length words ≡ count) }
     {
         let size = self.size;
         match self.words(alloc, count) {
@@ -142,6 +147,7 @@ impl Cursor<'_> {
     fn words(&mut self, alloc: Global, count: u32) -> Result<Option<Words>, AllocError>
         ensures taken { IfOk result (λ words. Takes words self.new.rest.now (take_words count self.old.rest.now)) }
         ensures size { self.new.size ≡ self.old.size }
+        ensures count { IfOk result (λ words. IfSome words (λ ws. length ws ≡ count)) }
     {
         let mut words = Vec::new(alloc);
         for _word in 0..count {

@@ -10,7 +10,7 @@ use Rattle.cg_ending.specs.Ends.{Moment, Finished, Wrote}
 use Rattle.cg_kernel.specs.declared.fault.KernelFault.{KernelFault}
 use Rattle.cg_kernel.specs.Answer.{answer_of}
 use Rattle.cg_top.specs.declared.words.Command.{Command}
-use Rattle.cg_top.specs.declared.words.Command.TheVariants.{Turns}
+use Rattle.cg_top.specs.declared.words.Command.TheVariants.{Turns, TurnsOnImage}
 use Rattle.cg_top.specs.Words.{Plan, plan_of}
 use Rattle.cg_top.specs.Turns.{turns_by}
 use Rattle.cg_top.specs.Commands.{IsAnswer}
@@ -25,7 +25,12 @@ quiet_turns n file (Err f) = refl
 -- a command without output files writes none
 quiet : (c : Command) (files : List File) (o : Outcome) → IsAnswer c files [] o → o.writes ≡ []
 quiet (Turns n) (f ∷ []) o p = ap (λ x. x.writes) (turns_is n f o p) ∙ quiet_turns n f (answer_of f.bytes)
-quiet _ _ o p = absurd p
+quiet (Turns n) [] o p = absurd p
+quiet (Turns n) (f ∷ g ∷ fs) o p = absurd p
+quiet (TurnsOnImage n) [] o p = absurd p
+quiet (TurnsOnImage n) (f ∷ []) o p = absurd p
+quiet (TurnsOnImage n) (f ∷ g ∷ []) o p = absurd p
+quiet (TurnsOnImage n) (f ∷ g ∷ h ∷ fs) o p = absurd p
 
 quiet_plan : (held : Held) (rose : Type 0) (plan : Option Plan) (o : Outcome) → WritesNothing plan → IsPlanned held rose plan o → o.writes ≡ []
 quiet_plan held rose None o w p = ap (λ x. x.writes) p

@@ -8,3 +8,4 @@ pub mod Table
 pub mod Complete
 pub mod Finished
 pub mod Kept
+pub mod Imaged

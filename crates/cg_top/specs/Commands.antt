@@ -1,22 +1,36 @@
 -- What each command answers for its input files. A command is a case of each definition.
-use Rattle.std.specs.Prelude.{◌≡◌, List, [], ◌∷◌, Ok}
+use Rattle.std.specs.Prelude.{◌≡◌, ℕ, List, [], ◌∷◌, Ok}
 use Rattle.cg_model.specs.Kernel.{Kernel}
 use Rattle.cg_ending.specs.Outcome.{Name, File, Outcome}
 use Rattle.cg_kernel.specs.Answer.{answer_of}
 use Rattle.cg_top.specs.declared.words.Command.{Command}
-use Rattle.cg_top.specs.declared.words.Command.TheVariants.{Turns}
+use Rattle.cg_top.specs.declared.words.Command.TheVariants.{Turns, TurnsOnImage}
+use Rattle.cg_pad.specs.Bytes as images
+use Rattle.cg_model.specs.Work.{Image}
+use Rattle.cg_model.specs.Order.{IsUnaliased}
 use Rattle.cg_top.specs.Turns.{turns_of}
+use Rattle.cg_top.specs.TurnsOnImage.{IsTurnsOnImage}
 
 -- the outcomes that the command allows
 abbrev pub IsAnswer : Command → List File → List Name → Outcome → Type 0
 IsAnswer (Turns n) (file ∷ []) [] o = o ≡ turns_of n file
+IsAnswer (TurnsOnImage n) (file ∷ input ∷ []) (out ∷ []) o = IsTurnsOnImage n file input out o
 IsAnswer _ _ _ o = ⊥
 
 -- the bytes spell a kernel
 abbrev pub SpellsKernel : File → Type 0
 SpellsKernel file = (K : Kernel) × (answer_of file.bytes ≡ Ok K)
 
+-- kernel and image are spelled, and of the n turns all accesses that matter are ordered
+pub record IsUnaliasedRun (n : ℕ) (file input : File) : Type 0 where
+  pub kernel : Kernel
+  pub image : Image
+  pub kernel_is : answer_of file.bytes ≡ Ok kernel
+  pub image_is : images.answer_of input.bytes ≡ Ok image
+  pub unaliased : IsUnaliased kernel n image
+
 -- the input files that the command takes to its end
 abbrev pub Accepts : Command → List File → Type 0
 Accepts (Turns n) (file ∷ []) = SpellsKernel file
+Accepts (TurnsOnImage n) (file ∷ input ∷ []) = IsUnaliasedRun n file input
 Accepts _ _ = ⊥

@@ -7,6 +7,8 @@ use Rattle.cg_kernel.specs.declared.fault.Place.{Place}
 use Rattle.cg_kernel.specs.declared.fault.Place.TheVariants as place
 use Rattle.cg_kernel.specs.declared.fault.KernelFault.{KernelFault}
 use Rattle.cg_kernel.specs.declared.fault.KernelFault.TheVariants as fault
+use Rattle.cg_pad.specs.declared.fault.ImageFault.{ImageFault}
+use Rattle.cg_pad.specs.declared.fault.ImageFault.TheVariants as image
 
 -- a status with a report, and nothing written
 abbrev pub reports : Status → Bytes → Outcome
@@ -69,3 +71,14 @@ kernel_fault_place (fault.RepeatedOutputPort p) = p
 
 abbrev pub kernel_fault_text : KernelFault → List Bytes
 kernel_fault_text f = kernel_fault_name f ∷ codes " " ∷ place_text (kernel_fault_place f) ∷ []
+
+-- ---- faults of images
+
+-- code, name and place
+abbrev pub image_fault_text : ImageFault → Bytes
+image_fault_text image.Memory = []
+image_fault_text image.Magic = codes "I1 Magic byte 0"
+image_fault_text (image.Truncated n) = codes "I2 Truncated length " ++ decimal n
+image_fault_text (image.MemoryTooLarge n) = codes "I3 TooLarge memory " ++ decimal n
+image_fault_text (image.StreamTooLarge port n) = codes "I3 TooLarge stream " ++ (decimal port ++ (codes " " ++ decimal n))
+image_fault_text (image.Trailing n) = codes "I4 Trailing byte " ++ decimal n

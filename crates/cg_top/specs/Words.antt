@@ -5,7 +5,7 @@ use Rattle.std.specs.List.{list_all}
 use Rattle.std.specs.Str.Parse.{digits_value}
 use Rattle.cg_ending.specs.Outcome.{Name}
 use Rattle.cg_top.specs.declared.words.Command.{Command}
-use Rattle.cg_top.specs.declared.words.Command.TheVariants.{Turns}
+use Rattle.cg_top.specs.declared.words.Command.TheVariants.{Turns, TurnsOnImage}
 use Rattle.cg_top.specs.declared.words.Plan.{Plan as PlanValue}
 
 -- a command with its numbers, and the names of its files: inputs in the order of reading, outputs in that of writing
@@ -32,9 +32,20 @@ abbrev pub number_up_to : ℕ → Name → Option ℕ
 number_up_to most word = if is_number word && nat_le (digits_value 10 word) most then Some (digits_value 10 word) else None
 
 -- turns KERNEL TURNS
+abbrev pub plain_plan : Name → Name → Option Plan
+plain_plan kernel turns =
+    if is_file kernel then option_map (λ n. record { command = Turns n; inputs = kernel ∷ []; outputs = [] }) (number_up_to 1000000 turns) else None
+
+-- turns KERNEL TURNS IN OUT
+abbrev pub image_plan : Name → Name → Name → Name → Option Plan
+image_plan kernel turns input output =
+    if is_file kernel && (is_file input && is_file output)
+    then option_map (λ n. record { command = TurnsOnImage n; inputs = kernel ∷ input ∷ []; outputs = output ∷ [] }) (number_up_to 1000000 turns)
+    else None
+
 abbrev pub turns_plan : List Name → Option Plan
-turns_plan (file ∷ turns ∷ []) =
-    if is_file file then option_map (λ n. record { command = Turns n; inputs = file ∷ []; outputs = [] }) (number_up_to 1000000 turns) else None
+turns_plan (kernel ∷ turns ∷ []) = plain_plan kernel turns
+turns_plan (kernel ∷ turns ∷ input ∷ output ∷ []) = image_plan kernel turns input output
 turns_plan _ = None
 
 -- what the words ask, None where they fit no command
@@ -45,3 +56,4 @@ plan_of (name ∷ rest) = if bytes_eq name (codes "turns") then turns_plan rest 
 -- how many files a command reads and writes, and the range of its number
 abbrev pub HasShape : Command → ℕ → ℕ → Type 0
 HasShape (Turns turns) inputs outputs = (inputs ≡ 1) × (outputs ≡ 0) × (turns ≤ 1000000)
+HasShape (TurnsOnImage turns) inputs outputs = (inputs ≡ 2) × (outputs ≡ 1) × (turns ≤ 1000000)

@@ -4,6 +4,7 @@ ghost use Rattle.cg_ending.specs.Outcome.{file_of, outcome_of};
 ghost use Rattle.cg_top.specs.Words.{HasShape};
 ghost use Rattle.cg_top.specs.Commands.{IsAnswer};
 
+use crate::imaging::turns_on_image;
 use crate::turning::turns;
 use crate::words::{Command, Plan};
 use cg_ending::{File, Outcome};
@@ -16,5 +17,12 @@ pub(crate) fn answer(alloc: Global, plan: &Plan, files: &[File]) -> Result<Outco
 {
     match plan.command {
         Command::Turns { turns: count } => turns(alloc, count, &files[0]),
+        Command::TurnsOnImage { turns: count } => turns_on_image(
+            alloc,
+            count,
+            &files[0],
+            &files[1],
+            plan.outputs[0].as_str(),
+        ),
     }
 }

@@ -9,6 +9,7 @@ ghost use Rattle.cg_top.specs.Words.{plan_of};
 ghost use Rattle.cg_top.specs.TopCall.{IsOutcome, Ends, IsExact, IsByTable, IsComplete, IsTurned, IsKept};
 
 mod answering;
+mod imaging;
 mod refusing;
 mod streams;
 mod turning;

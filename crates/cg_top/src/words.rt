@@ -2,7 +2,7 @@
 ghost use Rattle.std.specs.Prelude.{◌≡◌, ◌≤◌, IfOk, IfSome, map, option_map, string_bytes, vec_len};
 ghost use Rattle.std.specs.Char.{is_ascii_digit};
 ghost use Rattle.std.specs.List.{list_all};
-ghost use Rattle.cg_top.specs.Words.{planned, plan_of, turns_plan, number_up_to, is_number, is_file, HasShape};
+ghost use Rattle.cg_top.specs.Words.{planned, plan_of, turns_plan, plain_plan, image_plan, number_up_to, is_number, is_file, HasShape};
 
 use std::alloc::{AllocError, Global};
 
@@ -14,6 +14,8 @@ const MOST_TURNS: u64 = 1_000_000;
 pub enum Command {
     /// `turns KERNEL TURNS`: so many turns of the kernel.
     Turns { turns: u32 },
+    /// `turns KERNEL TURNS IN OUT`: the same from an image, and the result image.
+    TurnsOnImage { turns: u32 },
 }
 
 /// A command with the names of its files: the inputs in the order of reading, the outputs in that of writing.
@@ -42,10 +44,18 @@ fn turns_plan(alloc: Global, words: &[String]) -> Result<Option<Plan>, AllocErro
     ensures plan { IfOk result (λ p. option_map planned p ≡ turns_plan (map string_bytes words.now)) }
     ensures shape { IfOk result (λ p. IfSome p (λ plan. HasShape plan.command (vec_len plan.inputs) (vec_len plan.outputs))) }
 {
-    let [file, turns] = words else {
-        return Ok(None);
-    };
-    if !is_file(file.as_str()) {
+    match words {
+        [kernel, turns] => plain_plan(alloc, kernel, turns),
+        [kernel, turns, input, output] => image_plan(alloc, kernel, turns, input, output),
+        _ => Ok(None),
+    }
+}
+
+fn plain_plan(alloc: Global, kernel: &String, turns: &String) -> Result<Option<Plan>, AllocError>
+    ensures plan { IfOk result (λ p. option_map planned p ≡ plain_plan (string_bytes kernel.now) (string_bytes turns.now)) }
+    ensures shape { IfOk result (λ p. IfSome p (λ plan. HasShape plan.command (vec_len plan.inputs) (vec_len plan.outputs))) }
+{
+    if !is_file(kernel.as_str()) {
         return Ok(None);
     }
     let Some(turns) = number_up_to(turns.as_str(), MOST_TURNS) else {
@@ -54,8 +64,32 @@ fn turns_plan(alloc: Global, words: &[String]) -> Result<Option<Plan>, AllocErro
     let turns = turns as u32;
     Ok(Some(Plan {
         command: Command::Turns { turns },
-        inputs: vec![in alloc; file.clone()?]?,
+        inputs: vec![in alloc; kernel.clone()?]?,
         outputs: Vec::new(alloc),
+    }))
+}
+
+fn image_plan(
+    alloc: Global,
+    kernel: &String,
+    turns: &String,
+    input: &String,
+    output: &String,
+) -> Result<Option<Plan>, AllocError>
+    ensures plan { IfOk result (λ p. option_map planned p ≡ image_plan (string_bytes kernel.now) (string_bytes turns.now) (string_bytes input.now) (string_bytes output.now)) }
+    ensures shape { IfOk result (λ p. IfSome p (λ plan. HasShape plan.command (vec_len plan.inputs) (vec_len plan.outputs))) }
+{
+    if !(is_file(kernel.as_str()) && is_file(input.as_str()) && is_file(output.as_str())) {
+        return Ok(None);
+    }
+    let Some(turns) = number_up_to(turns.as_str(), MOST_TURNS) else {
+        return Ok(None);
+    };
+    let turns = turns as u32;
+    Ok(Some(Plan {
+        command: Command::TurnsOnImage { turns },
+        inputs: vec![in alloc; kernel.clone()?, input.clone()?]?,
+        outputs: vec![in alloc; output.clone()?]?,
     }))
 }
 

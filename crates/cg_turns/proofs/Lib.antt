@@ -1,3 +1,5 @@
+pub mod Pairs
 pub mod Worked
 pub mod Rows
 pub mod Steps
+pub mod Small

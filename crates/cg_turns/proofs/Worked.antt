@@ -1,6 +1,8 @@
 -- What the code of a step does is the node's work.
-use Rattle.std.proofs.Common.{◌≡◌, ℕ, ◌+◌, List, [], ◌∷◌, ◌++◌, length, map, ap, ◌∙◌, refl}
-use Rattle.std.specs.Prelude.{slice_index, slice_index_or, slice_set}
+use Rattle.std.proofs.Common.{◌≡◌, ℕ, ◌+◌, List, [], ◌∷◌, ◌++◌, length, map, ap, ◌∙◌, refl, subst}
+use Rattle.cg_turns.specs.Watched.{IsReached}
+use Rattle.cg_turns.proofs.Pairs.{reached-three}
+use Rattle.std.specs.Prelude.{Option, slice_index, slice_index_or, slice_set}
 use Rattle.cg_model.specs.declared.kernel.Node.{Node}
 use Rattle.cg_model.specs.Work.{Image, value, stored, sent, missed}
 use Rattle.cg_pad.proofs.Args.{three, on, value-three, stored-three, sent-three, missed-three}
@@ -38,3 +40,6 @@ module _ (N : Node) (m i row : ℕ) (f : Frame) (a b c : ℕ)
           outside = eo ∙ ap (λ z. f.outside + z) (ey ∙ ap (λ z. missed (length f.memory) (on N.op N.port i z)) args_are ∙ missed-three (length f.memory) N.op N.port i args);
           window = ew ∙ ap (λ z. slice_set f.window.items at z) (ex ∙ ap (λ z. value image f.memory (on N.op N.port i z)) args_are ∙ value-three image f.memory N.op N.port i args);
         }
+
+    pub reached_worked : (n : ℕ) (o : Option ℕ) → IsReached n (on N.op N.port i (a ∷ b ∷ c ∷ [])) o → IsReached n (on N.op N.port i (operands_of N m i row f)) o
+    reached_worked n o r = reached-three n N.op N.port i (operands_of N m i row f) o (subst (λ z. IsReached n (on N.op N.port i z) o) args_are r)

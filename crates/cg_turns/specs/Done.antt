@@ -1,6 +1,6 @@
 -- What a run has left, as the sequential meaning says it.
-use Rattle.std.specs.Prelude.{ℕ, List}
-use Rattle.cg_model.specs.Work.{Left}
+use Rattle.std.specs.Prelude.{◌≡◌, ◌≤◌, ℕ, List, [], length, slice_index_or}
+use Rattle.cg_model.specs.Work.{Image, Left}
 use Rattle.cg_turns.specs.declared.turns.TurnsDone.{TurnsDone}
 
 abbrev pub left_by : List ℕ → List (List ℕ) → ℕ → Left
@@ -9,3 +9,7 @@ left_by memory streams outside = record { image = record { memory = memory; stre
 -- image and outside count
 abbrev pub left_of : TurnsDone → Left
 left_of d = record { image = d.image; outside = d.outside }
+
+-- n turns have left a memory of the same length, and streams of at most n words each
+abbrev pub IsSmall : Image → ℕ → Image → Type 0
+IsSmall before n after = (length after.memory ≡ length before.memory) × ((port : ℕ) → length (slice_index_or after.streams port []) ≤ n)

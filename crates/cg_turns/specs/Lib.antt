@@ -2,3 +2,5 @@ pub mod Window
 pub mod Frame
 pub mod Step
 pub mod Done
+pub mod Pairs
+pub mod Watched

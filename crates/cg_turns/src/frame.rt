@@ -1,12 +1,16 @@
 //! What a run keeps from step to step.
 ghost use Rattle.std.specs.Prelude.{◌≡◌, ◌<◌, ◌≤◌, ◌+◌, ◌*◌, ◌%◌, ◌^◌, IfOk, OnOk, length};
-ghost use Rattle.cg_model.specs.Kernel.{size};
+ghost use Rattle.cg_model.specs.Kernel.{IsKernel, size};
 ghost use Rattle.cg_turns.specs.Frame.{IsAt};
-ghost use Rattle.cg_turns.specs.Step.{Steps};
+ghost use Rattle.cg_turns.specs.Step.{Steps, work_in};
+ghost use Rattle.cg_turns.specs.Watched.{IsReached, IsWatched};
 
+use crate::pair::Access;
+use crate::watch::{Watch, reached, watch_step};
 use crate::window::{ROWS, argument};
 use cg_kernel::Kernel;
 use cg_model::Words;
+use cg_order::DistanceTable;
 use cg_pad::{Image, Scratchpad, Work, empty_streams};
 use std::alloc::{AllocError, Global};
 
@@ -23,6 +27,7 @@ pub(crate) struct Frame {
 pub(crate) fn start(alloc: Global, kernel: &Kernel, image: &Image) -> Result<Frame, AllocError>
     ensures at { IfOk result (λ f. IsAt kernel.now image.now 0 0 f) }
     ensures outside { IfOk result (λ f. f.outside ≡ 0) }
+    ensures valid { IsKernel kernel.now }
 {
     let size = kernel.nodes().len();
     Ok(Frame {
@@ -33,7 +38,7 @@ pub(crate) fn start(alloc: Global, kernel: &Kernel, image: &Image) -> Result<Fra
     })
 }
 
-/// One step: a node in a turn.
+/// One step: a node in a turn. It gives the word of the memory that it reaches.
 fn step(
     kernel: &Kernel,
     image: &Image,
@@ -41,7 +46,7 @@ fn step(
     turn: u32,
     row: usize,
     frame: &mut Frame,
-) -> Result<(), AllocError>
+) -> Result<Option<u32>, AllocError>
     requires place { place < size kernel.now }
     requires row { row < 5 }
     requires window { length frame.old.window.items ≡ 5 * size kernel.now }
@@ -49,6 +54,7 @@ fn step(
     requires outside { frame.old.outside < 2 ^ 63 }
     ensures steps { OnOk result (Steps kernel.now image.now place turn row frame.old frame.new) }
     ensures outside { OnOk result (frame.new.outside ≤ frame.old.outside + 1) }
+    ensures reached { IfOk result (IsReached (length frame.old.memory) (work_in kernel.now place turn row frame.old)) }
 {
     let nodes = kernel.nodes();
     let size = nodes.len();
@@ -63,12 +69,13 @@ fn step(
         turn,
         args: [a, b, c],
     };
+    let word = reached(work, frame.memory.size());
     let value = work.value(image, &frame.memory);
     frame.outside += work.missed(frame.memory.size());
     work.send(&mut frame.streams)?;
     work.store(&mut frame.memory);
     frame.window[row * size + place] = value;
-    Ok(())
+    Ok(word)
 }
 
 /// One turn: the nodes in program order.
@@ -78,17 +85,27 @@ pub(crate) fn one_turn(
     turn: u32,
     row: usize,
     frame: &mut Frame,
+    table: &DistanceTable,
+    watch: &mut Watch,
 ) -> Result<(), AllocError>
+    requires table { table.now ≡ kernel.now }
+    requires watched { IsWatched kernel.now image.now (turn * size kernel.now + 0) watch.old }
     requires at { IsAt kernel.now image.now turn 0 frame.old }
     requires row { row ≡ turn % 5 }
     requires turn { turn < 1000000 }
     requires outside { frame.old.outside ≤ 1024 * turn }
     ensures at { OnOk result (IsAt kernel.now image.now turn (size kernel.now) frame.new) }
     ensures outside { OnOk result (frame.new.outside ≤ 1024 * turn + 1024) }
+    ensures watched { OnOk result (IsWatched kernel.now image.now (turn * size kernel.now + size kernel.now) watch.new) }
 {
     let size = kernel.nodes().len();
     for place in 0..size {
-        step(kernel, image, place, turn, row, frame)?;
+        let word = step(kernel, image, place, turn, row, frame)?;
+        let access = Access {
+            node: place as u32,
+            turn,
+        };
+        watch_step(kernel, table, word, access, watch)?;
     }
     Ok(())
 }

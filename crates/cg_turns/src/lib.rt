@@ -3,8 +3,12 @@
 
 mod fault;
 mod frame;
+mod last;
+mod pair;
 mod turns;
+mod watch;
 mod window;
 
 pub use fault::TurnsFault;
+pub use pair::{Access, UnorderedPair};
 pub use turns::{TurnsDone, run_turns};

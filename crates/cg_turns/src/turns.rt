@@ -1,22 +1,27 @@
 //! Turns, one after the other.
 ghost use Rattle.std.specs.Prelude.{◌≡◌, ◌<◌, ◌≤◌, ◌↔◌, ℕ, Err, IfOk, length};
 ghost use Rattle.cg_model.specs.Turns.{turns_left};
-ghost use Rattle.cg_turns.specs.Done.{left_by, left_of};
+ghost use Rattle.cg_turns.specs.Done.{IsSmall, left_by, left_of};
+ghost use Rattle.cg_turns.specs.Pairs.{IsPairOf};
 
 use crate::fault::TurnsFault;
 use crate::frame::{Frame, one_turn, start};
+use crate::pair::UnorderedPair;
+use crate::watch::unwatched;
 use cg_kernel::Kernel;
+use cg_order::min_distance;
 use cg_pad::{Image, Streams};
 use std::alloc::{AllocError, Global};
 
 /// The greatest number of turns that are run.
 pub const MOST_TURNS: u32 = 1_000_000;
 
-/// What turns leave: the memory and the output streams, and how often accesses reached outside the memory.
+/// What turns leave: the memory and the output streams, how often accesses reached outside the memory, and the first two accesses that no edges order.
 #[derive(Drop)]
 pub struct TurnsDone {
     pub image: Image,
     pub outside: u64,
+    pub pair: Option<UnorderedPair>,
 }
 
 /// Runs `n` turns of a kernel from an image: its nodes in program order, one turn after the other.
@@ -29,6 +34,8 @@ pub fn run_turns(
     image: &Image,
 ) -> Result<TurnsDone, TurnsFault>
     ensures done { IfOk result (λ d. left_of d ≡ turns_left kernel.now n image.now) }
+    ensures pair { IfOk result (λ d. IsPairOf kernel.now n image.now d.pair) }
+    ensures small { IfOk result (λ d. IsSmall image.now n d.image) }
     ensures many { (t : ℕ) → (result ≡ Err (TurnsFault.TooManyTurns t)) ↔ ((t ≡ n) × (1000000 < n)) }
 {
     if n > MOST_TURNS {
@@ -39,21 +46,26 @@ pub fn run_turns(
 
 fn run(alloc: Global, kernel: &Kernel, n: u32, image: &Image) -> Result<TurnsDone, AllocError>
     requires { n ≤ 1000000 }
-    ensures { IfOk result (λ d. left_of d ≡ turns_left kernel.now n image.now) }
+    ensures done { IfOk result (λ d. left_of d ≡ turns_left kernel.now n image.now) }
+    ensures pair { IfOk result (λ d. IsPairOf kernel.now n image.now d.pair) }
+    ensures small { IfOk result (λ d. IsSmall image.now n d.image) }
 {
+    let table = min_distance(alloc, kernel)?;
+    let mut watch = unwatched(alloc, image.memory().len())?;
     let mut frame = start(alloc, kernel, image)?;
     let mut row = 0;
     for turn in 0..n {
-        one_turn(kernel, image, turn, row, &mut frame)?;
+        one_turn(kernel, image, turn, row, &mut frame, &table, &mut watch)?;
         row = if row == 4 { 0 } else { row + 1 };
     }
-    Ok(done(frame))
+    Ok(done(frame, watch.pair))
 }
 
 /// What the frame leaves.
-fn done(frame: Frame) -> TurnsDone
+fn done(frame: Frame, pair: Option<UnorderedPair>) -> TurnsDone
     requires { length frame.streams.items ≡ 16 }
-    ensures { left_of result ≡ left_by frame.memory frame.streams.items frame.outside }
+    ensures left { left_of result ≡ left_by frame.memory frame.streams.items frame.outside }
+    ensures pair { result.pair ≡ pair }
 {
     let Frame {
         memory,
@@ -67,5 +79,6 @@ fn done(frame: Frame) -> TurnsDone
             streams: Streams::new(streams),
         },
         outside,
+        pair,
     }
 }

@@ -1,6 +1,8 @@
 use Rattle.std.proofs.Common.{◌≤◌, ◌+◌, ◌*◌}
+use Rattle.cg_model.specs.Kernel.{size}
 use Rattle.cg_turns.specs.Frame.{IsAt}
+use Rattle.cg_turns.specs.Watched.{IsWatched}
 use Rattle.cg_turns.proofs.frame.one_turn.Given as goal
 
 abbrev pub invariant-loop-place : goal.invariant-loop-place
-invariant-loop-place l = record { at : IsAt l.kernel l.image l.turn l.place l.frame; outside : l.frame.outside ≤ 1024 * l.turn + l.place }
+invariant-loop-place l = record { at : IsAt l.kernel l.image l.turn l.place l.frame; outside : l.frame.outside ≤ 1024 * l.turn + l.place; watched : IsWatched l.kernel l.image (l.turn * size l.kernel + l.place) l.watch }

@@ -8,7 +8,8 @@ use Rattle.cg_model.specs.Work.{sent}
 use Rattle.cg_pad.proofs.Args.{on}
 use Rattle.cg_turns.specs.declared.frame.Frame.{Frame}
 use Rattle.cg_turns.specs.Step.{DoesWork}
-use Rattle.cg_turns.proofs.Worked.{worked, operands_of}
+use Rattle.cg_turns.proofs.Worked.{worked, reached_worked, operands_of}
+use Rattle.cg_turns.specs.Watched.{IsReached}
 use Rattle.cg_turns.proofs.frame.step.Goals as goal
 
 pub returns-clause-steps : goal.returns-clause-steps
@@ -27,3 +28,15 @@ returns-clause-steps c =
     let sent : (port : ℕ) → slice_index_or c.send.new.streams port [] ≡ slice_index_or f.streams.items port [] ++ sent port (on N.op N.port c.args.turn args) = λ port. c.in_ok-send.ensures port ∙ ap (λ (xs : List (List ℕ)). slice_index_or xs port [] ++ sent port (on N.op N.port c.args.turn args)) c.deref_mut.ensures.value in
     subst (λ (X : Node). DoesWork c.args.image.now (c.args.row * m + c.args.place) (on X.op X.port c.args.turn (operands_of X m c.args.turn c.args.row f)) f g) node_is
     (worked N m c.args.turn c.args.row f c.argument-a.result c.argument-b.result c.argument-c.result (search rules) (search rules) (search rules) c.args.image.now (c.args.row * m + c.args.place) c.value-value.result c.missed.result g (search rules) (search rules) (search rules) (ap length streams_is ∙ streams_long) (λ port. ap (λ (xs : List (List ℕ)). slice_index_or xs port []) streams_is ∙ sent port) (search rules) (search rules))
+
+pub returns-clause-reached : goal.returns-clause-reached
+returns-clause-reached c =
+    let K = c.args.kernel.now in
+    let f = c.args.frame.now in
+    let N = c.index-nodes-place.result in
+    let m = plain.size K in
+    let node_is : N ≡ plain.node K c.args.place = get_or_read_under K.nodes c.args.place m N plain.no_node (subst (λ (xs : List Node). N ≡ get_or xs c.args.place N) c.nodes-nodes.ensures.nodes c.index-nodes-place.is) c.requires.place refl in
+    let size_is : c.size.result ≡ length f.memory = search rules in
+    subst (λ (X : Node). IsReached (length f.memory) (on X.op X.port c.args.turn (operands_of X m c.args.turn c.args.row f)) c.reached-word.result) node_is
+    (reached_worked N m c.args.turn c.args.row f c.argument-a.result c.argument-b.result c.argument-c.result (search rules) (search rules) (search rules) (length f.memory) c.reached-word.result
+    (subst (λ (n : ℕ). IsReached n (on N.op N.port c.args.turn (c.argument-a.result ∷ c.argument-b.result ∷ c.argument-c.result ∷ [])) c.reached-word.result) size_is c.reached-word.ensures))

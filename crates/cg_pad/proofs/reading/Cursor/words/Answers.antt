@@ -1,4 +1,5 @@
 use Rattle.std.proofs.Common.{◌≡◌, ◌∙◌, ap, sym, suc, ◌-◌, ◌+◌, arith}
+use Rattle.std.proofs.lemmas.Grind.{common_steps}
 use Rattle.cg_pad.specs.Bytes.{take_words}
 use Rattle.cg_pad.proofs.Steps.{after, word_more, word_none}
 use Rattle.cg_pad.proofs.reading.Cursor.words.Goals as goal
@@ -14,5 +15,6 @@ loop-word-preserved c =
     let e : c.args.count - c.loop-word._word ≡ suc k = omega arith in
     record {
       taken = ap (λ xs. after xs (take_words k c.number.new.self.rest.now)) c.in_ok-push.ensures.items ∙ word_more c.loop-word.words.items (c.args.count - c.loop-word._word) k c.in-Some.word c.loop-word.self.rest.now c.number.new.self.rest.now e c.in-Some.ensures.taken ∙ c.loop-word.invariant.taken;
+      long = grind (arith, common_steps);
       size = c.number.ensures.size ∙ c.loop-word.invariant.size;
     }

@@ -1,0 +1,5 @@
+pub mod Best
+pub mod Chains
+pub mod Bound
+pub mod Stage
+pub mod Seen

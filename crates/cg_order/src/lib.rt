@@ -1,0 +1,9 @@
+//! The order of a kernel's nodes by its edges: the least total distances of chains of edges.
+#![tactic(auto)]
+
+mod distance;
+mod edges;
+mod entry;
+mod stages;
+
+pub use distance::{DistanceTable, min_distance};

@@ -1,0 +1,6 @@
+use Rattle.std.proofs.Common.{take}
+use Rattle.cg_turns.specs.Pairs.{IsLatest}
+use Rattle.cg_turns.proofs.pair.latest_unordered.Given as goal
+
+abbrev pub invariant-loop-place : goal.invariant-loop-place
+invariant-loop-place l = IsLatest l.kernel l.later (take l.place l.last) l.latest
