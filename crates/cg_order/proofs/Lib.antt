@@ -1,5 +1,6 @@
-pub mod Best
 pub mod Chains
 pub mod Bound
-pub mod Stage
+pub mod LinkLists
 pub mod Seen
+pub mod Found
+pub mod UnderWay

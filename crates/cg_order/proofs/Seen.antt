@@ -1,10 +1,9 @@
 -- The edges that were looked at.
-use Rattle.std.proofs.Common.{◌≡◌, ℕ, ◌+◌, ◌*◌, ◌<◌, ◌≤◌, ◌⊎◌, inl, inr, List, length, sym, ap, ◌∙◌, subst, arith, ⊎_elim, set, refl, get_or}
-use Rattle.std.specs.Prelude.{Option, Some, None, replicate, slice_get}
+use Rattle.std.proofs.Common.{◌≡◌, ℕ, ◌+◌, ◌<◌, ◌≤◌, ◌⊎◌, inl, inr, List, [], ◌∷◌, ◌++◌, length, sym, ap, ◌∙◌, subst, arith, ⊎_elim, set, refl, get_or}
+use Rattle.std.specs.Prelude.{Some, replicate, slice_get, Contains}
 use Rattle.std.proofs.lemmas.Bool.{cases_lt}
 use Rattle.std.proofs.lemmas.Option.{slice_get_within, slice_get_read}
 use Rattle.std.proofs.lemmas.List.{get_or-replicate, get_or_read_under}
-use Rattle.std.proofs.lemmas.Nat.{mul-add-lt}
 use Rattle.std.proofs.Math.ListN.{get_or-eq_default, length-replicate}
 use Rattle.cg_model.specs.declared.kernel.Node.{Node}
 use Rattle.cg_model.specs.declared.kernel.Operand.TheVariants.{Const as Constant, Edge}
@@ -12,23 +11,25 @@ use Rattle.cg_model.specs.declared.kernel.Operand.{Operand}
 use Rattle.cg_model.specs.declared.kernel.OrderEdge.{OrderEdge}
 use Rattle.cg_model.specs.Kernel.{Kernel, IsKernel, HasOperand, HasOrder, size, node, no_node}
 use Rattle.cg_model.specs.Order.{Links, by_data, by_order}
-use Rattle.cg_order.specs.Entry.{item, lowered}
-use Rattle.cg_order.specs.Table.{IsTable, Through, link, onward, Before, Seen, seen_data, seen_order}
-use Rattle.cg_order.proofs.Best.{table_same, table_lowered}
+use Rattle.cg_order.specs.declared.links.Link.{Link}
+use Rattle.cg_order.specs.Leaving.{HasLinks, Seen, seen_data, seen_order, link, leaving}
+use Rattle.cg_order.proofs.LinkLists.{links_same, links_added}
 
 -- nothing was looked at
 unseen : (K : Kernel) (u v d : ℕ) → Seen K 0 0 0 u v d → ⊥
 unseen K u v d (seen_data q init l h b) = ⊎_elim {C = ⊥} (λ z. omega arith) (λ z. let w : q < 0 = z.1 in omega arith) b
 unseen K u v d (seen_order f h b) = omega arith
 
-all_none : (n i : ℕ) (table : List (Option ℕ)) → table ≡ replicate n None → item table i ≡ None
-all_none n i table e = rw e (⊎_elim (λ h. get_or-replicate n i None None h) (λ h. get_or-eq_default (replicate n None) None (rw length-replicate h)) (cases_lt i n))
+all_empty : (n u : ℕ) (lists : List (List Link)) → lists ≡ replicate n [] → leaving lists u ≡ []
+all_empty n u lists e = rw e (⊎_elim (λ h. get_or-replicate n u [] [] h) (λ h. get_or-eq_default (replicate n []) [] (rw length-replicate h)) (cases_lt u n))
 
-pub none_seen : (K : Kernel) (n : ℕ) (table : List (Option ℕ)) → n ≡ size K → table ≡ replicate (n * n) None → IsTable (size K) (Seen K 0 0 0) table
-none_seen K n table en e =
+pub none_seen : (K : Kernel) (n : ℕ) (lists : List (List Link)) → n ≡ size K → lists ≡ replicate n [] → HasLinks (size K) (Seen K 0 0 0) lists
+none_seen K n lists en e =
     record {
-      long = ap (λ (xs : List (Option ℕ)). length xs) e ∙ length-replicate (n * n) None ∙ ap (λ z. z * z) en;
-      best = λ u v a b. rw (all_none (n * n) (u * size K + v) table e) (λ e s. unseen K u v e s);
+      long = ap (λ (xs : List (List Link)). length xs) e ∙ length-replicate n [] ∙ en;
+      sound = λ u v d h. let k : Contains [] (link v d) = subst (λ (xs : List Link). Contains xs (link v d)) (all_empty n u lists e) h in
+          let none : k.0 < length {A = Link} [] = k.1 in absurd (omega arith);
+      complete = λ u v d s. absurd (unseen K u v d s);
     }
 
 more_seen : (K : Kernel) (to p e to' p' e' u v d : ℕ) → ((x q : ℕ) → (x < to) ⊎ ((x ≡ to) × (q < p)) → (x < to') ⊎ ((x ≡ to') × (q < p'))) → e ≤ e' → Seen K to p e u v d → Seen K to' p' e' u v d
@@ -63,20 +64,20 @@ constant_last K to p c has u v e (seen_data q init' l g b) =
     absurd (cc))
     (operand_down to p v q b)
 
-pub edge_added : (K : Kernel) → IsKernel K → (to p x d : ℕ) (init : List ℕ) (table : List (Option ℕ)) → to < size K → HasOperand K to p (Edge x d init) → IsTable (size K) (Seen K to p 0) table →
-    IsTable (size K) (Seen K to (p + 1) 0) (set table (x * size K + to) (lowered (item table (x * size K + to)) d))
-edge_added K good to p x d init table l has t =
-    table_lowered (size K) (Seen K to p 0) (Seen K to (p + 1) 0) table x to d (good.wired.sources to p x d init l has) l
+pub edge_added : (K : Kernel) → IsKernel K → (to p x d : ℕ) (init : List ℕ) (lists : List (List Link)) → to < size K → HasOperand K to p (Edge x d init) → HasLinks (size K) (Seen K to p 0) lists →
+    HasLinks (size K) (Seen K to (p + 1) 0) (set lists x (leaving lists x ++ link to d ∷ []))
+edge_added K good to p x d init lists l has t =
+    links_added (size K) (Seen K to p 0) (Seen K to (p + 1) 0) lists x to d (good.wired.sources to p x d init l has)
     (seen_data p init l has (inr (refl, (let z : p < p + 1 = omega arith in z))))
     (λ u v e. more_seen K to p 0 to (p + 1) 0 u v e (λ y q. operand_up to p y q) (omega arith))
     (edge_last K to p x d init has)
     t
 
-pub constant_added : (K : Kernel) (to p c : ℕ) (table : List (Option ℕ)) → HasOperand K to p (Constant c) → IsTable (size K) (Seen K to p 0) table → IsTable (size K) (Seen K to (p + 1) 0) table
-constant_added K to p c table has t =
-    table_same (size K) (Seen K to p 0) (Seen K to (p + 1) 0) table
-    (λ u v e a b. more_seen K to p 0 to (p + 1) 0 u v e (λ y q. operand_up to p y q) (omega arith))
-    (λ u v e a b. constant_last K to p c has u v e)
+pub constant_added : (K : Kernel) (to p c : ℕ) (lists : List (List Link)) → HasOperand K to p (Constant c) → HasLinks (size K) (Seen K to p 0) lists → HasLinks (size K) (Seen K to (p + 1) 0) lists
+constant_added K to p c lists has t =
+    links_same (size K) (Seen K to p 0) (Seen K to (p + 1) 0) lists
+    (λ u v e. more_seen K to p 0 to (p + 1) 0 u v e (λ y q. operand_up to p y q) (omega arith))
+    (constant_last K to p c has)
     t
 
 node_last : (K : Kernel) (to u v e : ℕ) → Seen K (to + 1) 0 0 u v e → Seen K to (length (node K to).operands) 0 u v e
@@ -86,11 +87,11 @@ node_last K to u v e (seen_data q init l g b) =
     let within = slice_get_within (node K v).operands q (Edge u e init) g in
     seen_data q init l g (⊎_elim (λ z. inl z) (λ z. let s : v ≡ to = omega arith in inr (s, subst (λ y. q < length (node K y).operands) s within)) (cases_lt v to))
 
-pub node_added : (K : Kernel) (to : ℕ) (table : List (Option ℕ)) → IsTable (size K) (Seen K to (length (node K to).operands) 0) table → IsTable (size K) (Seen K (to + 1) 0 0) table
-node_added K to table t =
-    table_same (size K) (Seen K to (length (node K to).operands) 0) (Seen K (to + 1) 0 0) table
-    (λ u v e a b. more_seen K to (length (node K to).operands) 0 (to + 1) 0 0 u v e (λ y q. λ h. inl (⊎_elim (λ z. omega arith) (λ z. let w : y ≡ to = z.0 in omega arith) h)) (omega arith))
-    (λ u v e a b. node_last K to u v e)
+pub node_added : (K : Kernel) (to : ℕ) (lists : List (List Link)) → HasLinks (size K) (Seen K to (length (node K to).operands) 0) lists → HasLinks (size K) (Seen K (to + 1) 0 0) lists
+node_added K to lists t =
+    links_same (size K) (Seen K to (length (node K to).operands) 0) (Seen K (to + 1) 0 0) lists
+    (λ u v e. more_seen K to (length (node K to).operands) 0 (to + 1) 0 0 u v e (λ y q. λ h. inl (⊎_elim (λ z. omega arith) (λ z. let w : y ≡ to = z.0 in omega arith) h)) (omega arith))
+    (node_last K to)
     t
 
 abbrev edge : ℕ → ℕ → ℕ → OrderEdge
@@ -108,17 +109,16 @@ order_last K n x y d has u v e (seen_order f g b) =
     inr (ap (λ (z : OrderEdge). z.from) one, ap (λ (z : OrderEdge). z.to) one, ap (λ (z : OrderEdge). z.distance) one))
     (cases_lt f n)
 
-pub order_added : (K : Kernel) → IsKernel K → (n x y d : ℕ) (table : List (Option ℕ)) → HasOrder K n x y d → IsTable (size K) (Seen K (size K) 0 n) table →
-    IsTable (size K) (Seen K (size K) 0 (n + 1)) (set table (x * size K + y) (lowered (item table (x * size K + y)) d))
-order_added K good n x y d table has t =
+pub order_added : (K : Kernel) → IsKernel K → (n x y d : ℕ) (lists : List (List Link)) → HasOrder K n x y d → HasLinks (size K) (Seen K (size K) 0 n) lists →
+    HasLinks (size K) (Seen K (size K) 0 (n + 1)) (set lists x (leaving lists x ++ link y d ∷ []))
+order_added K good n x y d lists has t =
     let known = good.order.known n x y d has in
-    table_lowered (size K) (Seen K (size K) 0 n) (Seen K (size K) 0 (n + 1)) table x y d known.0 known.1
+    links_added (size K) (Seen K (size K) 0 n) (Seen K (size K) 0 (n + 1)) lists x y d known.0
     (seen_order n has (omega arith))
     (λ u v e. more_seen K (size K) 0 n (size K) 0 (n + 1) u v e (λ y q h. h) (omega arith))
     (order_last K n x y d has)
     t
 
--- the edges are the chains that pass through no node
 seen_link : (K : Kernel) (u v e : ℕ) → Links K u v e → Seen K (size K) 0 (length K.order) u v e
 seen_link K u v e (by_data p init l h) = seen_data p init l h (inl l)
 seen_link K u v e (by_order f h) = seen_order f h (slice_get_within K.order f _ h)
@@ -127,13 +127,8 @@ link_seen : (K : Kernel) (u v e : ℕ) → Seen K (size K) 0 (length K.order) u 
 link_seen K u v e (seen_data q init l h b) = by_data q init l h
 link_seen K u v e (seen_order f h b) = by_order f h
 
-seen_through : (K : Kernel) (u v e : ℕ) → Through K (Before 0) u v e → Seen K (size K) 0 (length K.order) u v e
-seen_through K u v e (link l) = seen_link K u v e l
-seen_through K u w x (onward l p c) = absurd (omega arith)
-
-pub all_seen : (K : Kernel) (table : List (Option ℕ)) → IsTable (size K) (Seen K (size K) 0 (length K.order)) table → IsTable (size K) (Through K (Before 0)) table
-all_seen K table t =
-    table_same (size K) (Seen K (size K) 0 (length K.order)) (Through K (Before 0)) table (λ u v e a b s. link (link_seen K u v e s)) (λ u v e a b. seen_through K u v e) t
+pub all_seen : (K : Kernel) (lists : List (List Link)) → HasLinks (size K) (Seen K (size K) 0 (length K.order)) lists → HasLinks (size K) (Links K) lists
+all_seen K lists t = links_same (size K) (Seen K (size K) 0 (length K.order)) (Links K) lists (link_seen K) (seen_link K) t
 
 -- operand number p of a node is what the code read
 pub operand_read : (K : Kernel) (N : Node) (nodes : List Node) (operands : List Operand) (o : Operand) (to p : ℕ) → nodes ≡ K.nodes → to < size K → N ≡ get_or nodes to N → operands ≡ N.operands → p < length operands → o ≡ get_or operands p o →
@@ -147,22 +142,3 @@ pub operands_read : (K : Kernel) (N : Node) (nodes : List Node) (operands : List
 operands_read K N nodes operands to en l is eo =
     let node_is : N ≡ node K to = get_or_read_under K.nodes to (size K) N no_node (subst (λ (xs : List Node). N ≡ get_or xs to N) en is) l refl in
     ap (λ (xs : List Operand). length xs) (eo ∙ ap (λ (z : Node). z.operands) node_is)
-
-pub place_within : (m n x y : ℕ) (table : List (Option ℕ)) → n ≡ m → x < m → y < m → length table ≡ m * m → x * n + y < length table
-place_within m n x y table e hx hy long = rw (e, long) (mul-add-lt x m y m hx hy)
-
--- the entry (x, y) of a table with rows of n entries was lowered to d
-abbrev pub Lowers : ℕ → ℕ → ℕ → ℕ → List (Option ℕ) → List (Option ℕ) → Type 0
-Lowers n x y d old new = new ≡ set old (x * n + y) (lowered (item old (x * n + y)) d)
-
-pub edge_looked_at : (K : Kernel) → IsKernel K → (to p x d n : ℕ) (init : List ℕ) (old new : List (Option ℕ)) → n ≡ size K → to < size K → HasOperand K to p (Edge x d init) → Lowers n x to d old new → IsTable (size K) (Seen K to p 0) old →
-    IsTable (size K) (Seen K to (p + 1) 0) new
-edge_looked_at K good to p x d n init old new en l has e t =
-    let e' : Lowers (size K) x to d old new = subst (λ z. Lowers z x to d old new) en e in
-    subst (λ z. IsTable (size K) (Seen K to (p + 1) 0) z) (sym e') (edge_added K good to p x d init old l has t)
-
-pub order_looked_at : (K : Kernel) → IsKernel K → (k x y d n : ℕ) (old new : List (Option ℕ)) → n ≡ size K → HasOrder K k x y d → Lowers n x y d old new → IsTable (size K) (Seen K (size K) 0 k) old →
-    IsTable (size K) (Seen K (size K) 0 (k + 1)) new
-order_looked_at K good k x y d n old new en has e t =
-    let e' : Lowers (size K) x y d old new = subst (λ z. Lowers z x y d old new) en e in
-    subst (λ z. IsTable (size K) (Seen K (size K) 0 (k + 1)) z) (sym e') (order_added K good k x y d old has t)

@@ -1,3 +1,4 @@
 pub mod Least
-pub mod Entry
+pub mod Leaving
+pub mod Found
 pub mod Table

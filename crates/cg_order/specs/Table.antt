@@ -1,32 +1,24 @@
--- The tables of the least distances that are known so far.
-use Rattle.std.specs.Prelude.{ℕ, ◌≡◌, ◌+◌, ◌*◌, ◌<◌, ◌≤◌, ◌⊎◌, List, length, Option}
-use Rattle.cg_model.specs.declared.kernel.Operand.TheVariants.{Edge}
-use Rattle.cg_model.specs.Kernel.{Kernel, HasOperand, HasOrder, size}
-use Rattle.cg_model.specs.Order.{Links}
-use Rattle.cg_order.specs.Entry.{item, IsBest}
+-- The table of least distances.
+use Rattle.std.specs.Prelude.{ℕ, ◌≡◌, ◌<◌, List, [], length, Option, Some, None, slice_index_or}
+use Rattle.cg_model.specs.Kernel.{Kernel, size}
+use Rattle.cg_order.specs.Least.{IsLeast, HasNoChain}
+use Rattle.cg_order.specs.Found.{total_of}
 
--- an edge into an earlier node than `to`, or into `to` at an operand below p, or an order edge with a number below e
-pub data Seen (K : Kernel) (to p e : ℕ) : ℕ → ℕ → ℕ → Type 0 where
-  seen_data : {u v d : ℕ} (q : ℕ) (init : List ℕ) → v < size K → HasOperand K v q (Edge u d init) →
-      (v < to) ⊎ ((v ≡ to) × (q < p)) → Seen K to p e u v d
-  seen_order : {u v d : ℕ} (f : ℕ) → HasOrder K f u v d → f < e → Seen K to p e u v d
+-- x is the least total distance of the chains from u to v, None where there is no chain
+abbrev pub IsBest : Kernel → ℕ → ℕ → Option ℕ → Type 0
+IsBest K u v None = HasNoChain K u v
+IsBest K u v (Some d) = IsLeast K u v d
 
--- a non-empty chain of edges whose inner nodes are all in P, with its total distance
-pub data Through (K : Kernel) (P : ℕ → Type 0) : ℕ → ℕ → ℕ → Type 0 where
-  link : {u v d : ℕ} → Links K u v d → Through K P u v d
-  onward : {u v w d e : ℕ} → Links K u v d → P v → Through K P v w e → Through K P u w (d + e)
+-- a row has the least total distances from u to each node
+pub record IsRow (K : Kernel) (u : ℕ) (row : List (Option ℕ)) : Type 0 where
+  pub long : length row ≡ size K
+  pub best : (v : ℕ) → v < size K → IsBest K u v (total_of row v)
 
--- the nodes before k
-abbrev pub Before : ℕ → ℕ → Type 0
-Before k v = v < k
+-- row u of a table
+abbrev pub row_of : List (List (Option ℕ)) → ℕ → List (Option ℕ)
+row_of rows u = slice_index_or rows u []
 
--- a table of m rows and columns has the least distances of a relation between its nodes
-pub record IsTable (m : ℕ) (L : ℕ → ℕ → ℕ → Type 0) (table : List (Option ℕ)) : Type 0 where
-  pub long : length table ≡ m * m
-  pub best : (u v : ℕ) → u < m → v < m → IsBest L u v (item table (u * m + v))
-
--- the rows before u have the distances of one relation, and the others those of another
-pub record IsAmid (m u : ℕ) (L' L : ℕ → ℕ → ℕ → Type 0) (table : List (Option ℕ)) : Type 0 where
-  pub long : length table ≡ m * m
-  pub done : (x v : ℕ) → x < u → x < m → v < m → IsBest L' x v (item table (x * m + v))
-  pub left : (x v : ℕ) → u ≤ x → x < m → v < m → IsBest L x v (item table (x * m + v))
+-- a table has a row for each node
+pub record IsTable (K : Kernel) (rows : List (List (Option ℕ))) : Type 0 where
+  pub long : length rows ≡ size K
+  pub each : (u : ℕ) → u < size K → IsRow K u (row_of rows u)

@@ -1,7 +1,8 @@
 //! Least total distances of chains of edges.
 
-use crate::stages::distances;
+use crate::totals::all_totals;
 use cg_kernel::Kernel;
+use cg_model::Items;
 use std::alloc::{AllocError, Global};
 use std::marker::Model;
 
@@ -9,19 +10,18 @@ use std::marker::Model;
 #[derive(Drop)]
 pub struct DistanceTable<'k> {
     kernel: &'k Kernel,
-    entries: Vec<Option<u32>>,
+    rows: Vec<Items<Option<u32>>>,
 }
 
 impl<'k> Model for DistanceTable<'k> {
     ghost use Rattle.cg_model.specs.Kernel as kernels;
-    ghost use Rattle.cg_model.specs.Order.{Chain};
     ghost use Rattle.cg_order.specs.Table.{IsTable};
 
     ghost Value = { kernels.Kernel };
 
     ghost view = { λ t. t.kernel.now };
 
-    ghost invariant = { λ t. IsTable (kernels.size t.kernel.now) (Chain t.kernel.now) t.entries.items };
+    ghost invariant = { λ t. IsTable t.kernel.now t.rows.items };
 }
 
 impl<'k> DistanceTable<'k> {
@@ -37,7 +37,8 @@ impl<'k> DistanceTable<'k> {
         if from as usize >= size || to as usize >= size {
             return None;
         }
-        self.entries[from as usize * size + to as usize]
+        let row = self.rows[from as usize].as_slice();
+        row[to as usize]
     }
 }
 
@@ -49,6 +50,6 @@ pub fn min_distance<'k>(alloc: Global, kernel: &'k Kernel) -> Result<DistanceTab
 {
     Ok(DistanceTable {
         kernel,
-        entries: distances(alloc, kernel)?,
+        rows: all_totals(alloc, kernel)?,
     })
 }

@@ -2,8 +2,8 @@
 #![tactic(auto)]
 
 mod distance;
-mod edges;
-mod entry;
-mod stages;
+mod links;
+mod reach;
+mod totals;
 
 pub use distance::{DistanceTable, min_distance};

@@ -2,7 +2,6 @@ use Rattle.std.proofs.Common.{◌≡◌, ◌<◌, length, arith, ap, sym, subst}
 use Rattle.cg_model.specs.Kernel.{Kernel, IsKernel, size}
 use Rattle.cg_model.specs.Order.{Chain}
 use Rattle.cg_order.proofs.Chains.{chain_nodes}
-use Rattle.cg_order.proofs.Stage.{answered_at}
 use Rattle.cg_order.proofs.distance.DistanceTable.get.Goals as goal
 use Rattle.cg_order.proofs.distance.DistanceTable.get.Goals.{then-from-size-via-then-from-size, then-from-size-via-else-from-size+then-to-size}
 
@@ -19,9 +18,3 @@ returns-then-from-size-clause-none c d chain =
       | then-from-size-via-then-from-size w ↦ omega arith
       | then-from-size-via-else-from-size+then-to-size w ↦ omega arith
     ]
-
-pub returns-clause-least : goal.returns-clause-least
-returns-clause-least c =
-    let K : Kernel = c.self.inside.kernel.now in
-    let long : length c.nodes-size.result.now ≡ size K = ap length c.nodes-size.ensures.nodes in
-    answered_at K c.args.self.now c.args.from c.args.to (length c.nodes-size.result.now) c.self.inside.entries.items c.index.result.now c.self.view_is long (omega arith) (omega arith) c.self.invariant c.index.ensures
