@@ -10,6 +10,8 @@ mod images;
 #[cfg(test)]
 mod kernels;
 #[cfg(test)]
+mod memory;
+#[cfg(test)]
 mod on_image;
 #[cfg(test)]
 mod printing;
