@@ -1,0 +1,35 @@
+-- What parts without early faults, and parts without faults, are.
+use Rattle.std.proofs.Common.{◌≡◌, ℕ, ◌≤◌, List, length, None, arith}
+use Rattle.cg_model.specs.Array.{IsArch}
+use Rattle.cg_level.specs.Rising.{IsRising, AreKnown}
+use Rattle.cg_level.proofs.Levels.{place_of, order_levels, order_no_loop}
+use Rattle.cg_parts.specs.declared.parts.Parts.{Parts}
+use Rattle.cg_parts.specs.Rules.{early_fault, unit_fault}
+use Rattle.cg_parts.proofs.Tests.{or_none}
+use Rattle.cg_arch.specs.Flat.{arch_of}
+use Rattle.cg_arch.specs.Hub.{hub_fault}
+use Rattle.cg_arch.specs.Answer.{late_fault, HasNoLoop}
+use Rattle.cg_arch.proofs.Clean.{clean}
+use Rattle.cg_arch.proofs.Resources.{size, known}
+use Rattle.cg_arch.proofs.Valid.{valid}
+
+pub few : (parts : Parts) → early_fault parts ≡ None → length (arch_of parts).resources ≤ 4096
+unfolding arch_of
+few parts early = let long = size parts in let most = (clean parts early).resources in omega (arith, long, most)
+
+pub drivers_known : (parts : Parts) → early_fault parts ≡ None → AreKnown (arch_of parts).resources
+unfolding arch_of
+drivers_known parts early = known parts (clean parts early)
+
+pub no_loop : (parts : Parts) (order : List ℕ) → IsRising (arch_of parts).resources order → HasNoLoop parts
+no_loop parts order rising = λ loop is. order_no_loop (arch_of parts).resources order loop rising is
+
+late_parts : (parts : Parts) → late_fault parts ≡ None → (unit_fault parts ≡ None) × (hub_fault parts (arch_of parts) ≡ None)
+unfolding late_fault
+late_parts parts late = or_none (unit_fault parts) (hub_fault parts (arch_of parts)) late
+
+pub valid_by : (parts : Parts) (order : List ℕ) → early_fault parts ≡ None → late_fault parts ≡ None → IsRising (arch_of parts).resources order → IsArch (arch_of parts)
+valid_by parts order early late rising =
+    let levels = order_levels (arch_of parts).resources order rising in
+    let none = late_parts parts late in
+    valid parts early none.0 none.1 (place_of order) levels.levels (λ q r driver at_once. levels.rising q r (record { driver = driver; at_once = at_once }))

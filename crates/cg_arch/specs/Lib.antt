@@ -1,0 +1,4 @@
+pub mod Flat
+pub mod Hub
+pub mod Kept
+pub mod Answer

@@ -1,0 +1,161 @@
+//! Valid architectures.
+ghost use Rattle.std.specs.Prelude.{◌≡◌, IfOk};
+ghost use Rattle.cg_flat.specs.Text.{text_of};
+
+use cg_flat::Flat;
+use cg_model::{Name, Resource, Unit, Words};
+use std::alloc::{AllocError, Global};
+use std::marker::Model;
+
+/// A valid architecture, which contracts see as the model's record. It keeps the digest of its text, an order in which
+/// its resources can be evaluated, and where the fields of a slot begin.
+#[derive(Drop)]
+pub struct Arch {
+    flat: Flat,
+    digest: [u8; 32],
+    order: Words,
+    select_starts: Words,
+    unit_starts: Words,
+}
+
+impl Model for Arch {
+    ghost use Rattle.cg_model.specs.Array as arrays;
+    ghost use Rattle.cg_arch.specs.Kept.{IsKept};
+
+    ghost Value = { arrays.Arch };
+
+    ghost view = { λ a. a.flat };
+
+    ghost invariant = { λ a. IsKept a.flat a.digest a.order a.select_starts a.unit_starts };
+}
+
+impl Arch {
+    ghost use Rattle.std.specs.Prelude.{◌≡◌, ◌<◌, length};
+    ghost use Rattle.cg_model.specs.Array as arrays;
+    ghost use Rattle.cg_level.specs.Rising.{IsRising};
+    ghost use Rattle.cg_flat.specs.Slots as slots;
+    ghost use Rattle.cg_arch.specs.Kept.{IsKept, digest_of};
+
+    /// An architecture with what is kept of it.
+    pub(crate) fn new(
+        flat: Flat,
+        digest: [u8; 32],
+        order: Words,
+        select_starts: Words,
+        unit_starts: Words,
+    ) -> Arch
+        requires { IsKept flat digest order select_starts unit_starts }
+        ensures { result ≡ flat }
+    {
+        Arch {
+            flat,
+            digest,
+            order,
+            select_starts,
+            unit_starts,
+        }
+    }
+
+    /// Its name.
+    pub fn name(&self) -> &Name
+        ensures name { result.now ≡ self.now.name }
+        ensures valid { arrays.IsArch self.now }
+    {
+        self.flat.name()
+    }
+
+    /// The slots that a configuration may have at most, 1 to 64.
+    pub fn contexts(&self) -> u32
+        ensures contexts { result ≡ self.now.contexts }
+        ensures valid { arrays.IsArch self.now }
+    {
+        self.flat.contexts()
+    }
+
+    /// The words of the scratchpad.
+    pub fn memory(&self) -> u32
+        ensures memory { result ≡ self.now.memory }
+        ensures valid { arrays.IsArch self.now }
+    {
+        self.flat.memory()
+    }
+
+    /// The resources by number.
+    pub fn resources(&self) -> &[Resource]
+        ensures resources { result.now ≡ self.now.resources }
+        ensures valid { arrays.IsArch self.now }
+    {
+        self.flat.resources()
+    }
+
+    /// The units by number.
+    pub fn units(&self) -> &[Unit]
+        ensures units { result.now ≡ self.now.units }
+        ensures valid { arrays.IsArch self.now }
+    {
+        self.flat.units()
+    }
+
+    /// The numbers of the hub's registers; empty where there is no hub.
+    pub fn hub(&self) -> &[u32]
+        ensures hub { result.now ≡ self.now.hub }
+        ensures valid { arrays.IsArch self.now }
+    {
+        self.flat.hub()
+    }
+
+    /// The SHA-256 of its text.
+    pub fn digest(&self) -> [u8; 32]
+        ensures { result ≡ digest_of self.now }
+    {
+        self.digest
+    }
+
+    /// The numbers of all resources, each after those from which it takes its word in the same cycle.
+    pub fn order(&self) -> &[u32]
+        ensures { IsRising self.now.resources result.now }
+    {
+        self.order.as_slice()
+    }
+
+    /// The width of a resource's select, in bits; 0 where it has no drivers.
+    pub fn select_bits(&self, resource: u32) -> u32
+        requires { resource < length self.now.resources }
+        ensures value { result ≡ slots.select_bits self.now resource }
+        ensures least { slots.IsWidth (length (arrays.resource self.now resource).drivers) result }
+    {
+        let resources = self.resources();
+        cg_flat::select_bits(resources[resource as usize].drivers.as_slice())
+    }
+
+    /// Where a resource's select begins in a slot, in bits.
+    pub fn select_at(&self, resource: u32) -> u32
+        requires { resource < length self.now.resources }
+        ensures { result ≡ slots.select_at self.now resource }
+    {
+        self.select_starts.as_slice()[resource as usize]
+    }
+
+    /// Where a unit's fields begin in a slot, in bits.
+    pub fn unit_at(&self, unit: u32) -> u32
+        requires { unit < length self.now.units }
+        ensures { result ≡ slots.unit_at self.now unit }
+    {
+        self.unit_starts.as_slice()[unit as usize]
+    }
+
+    /// The bits of a slot.
+    pub fn slot_bits(&self) -> u32
+        ensures { result ≡ slots.slot_bits self.now }
+    {
+        let units = self.units().len();
+        self.unit_starts.as_slice()[units]
+    }
+}
+
+/// The text of an architecture, in lines that end with LF.
+pub fn flat_text(alloc: Global, arch: &Arch) -> Result<Vec<u8>, AllocError>
+    ensures { IfOk result (λ text. text.items ≡ text_of arch.now) }
+{
+    cg_flat::flat_text(alloc, &arch.flat)
+}

@@ -1,0 +1,5 @@
+//! Tests of architectures that are made from their parts.
+#![tactic(auto)]
+
+#[cfg(test)]
+mod archs;

@@ -1,0 +1,12 @@
+//! Flat architectures, valid or not: their resources and units by number, their text, and where
+//! the fields of a slot lie.
+#![tactic(auto)]
+
+mod flat;
+mod slots;
+mod text;
+
+pub use cg_model::{Kind, Name, Resource, Unit, Words};
+pub use flat::Flat;
+pub use slots::{select_bits, select_starts, unit_starts};
+pub use text::flat_text;

@@ -1,0 +1,4 @@
+pub mod Rising
+pub mod Fault
+pub mod Ring
+pub mod Walk

@@ -1,0 +1,132 @@
+//! The names that elements claim.
+ghost use Rattle.std.specs.Prelude.{◌≡◌, ◌++◌, ℕ, List, Some, None, IfOk, OnOk, if◌then◌else◌};
+ghost use Rattle.std.specs.List.{list_any};
+ghost use Rattle.std.specs.Option.{option_or};
+ghost use Rattle.std.specs.Str.{bytes_eq};
+ghost use Rattle.cg_parts.specs.Parts as spec;
+ghost use Rattle.cg_parts.specs.Numbers.{found_in, claims, claimer_of, IsClaiming};
+ghost use Rattle.cg_parts.specs.Rules.{first_from, is_before, repeats_by, repeated_name};
+
+use crate::names::{copy_of, out_name, port_name_of};
+use crate::numbers::{Numbers, add_first, number_in};
+use crate::parts::{Element, Names};
+use cg_model::Name;
+use indexmap::IndexMap;
+use std::alloc::{AllocError, Global};
+
+/// The names that an element claims.
+fn claims_of(alloc: Global, element: &Element) -> Result<Vec<Name>, AllocError>
+    ensures { IfOk result (λ names. names.items ≡ spec.claims_of element.now) }
+{
+    let mut names = Vec::new(alloc);
+    match element {
+        Element::Wire { name, .. } | Element::Register { name, .. } => {
+            names.push(copy_of(alloc, name.as_str())?)?;
+        }
+        Element::Unit { name, ports, .. } => {
+            names.push(copy_of(alloc, name.as_str())?)?;
+            names.push(out_name(alloc, name.as_str())?)?;
+            add_port_names(alloc, &mut names, name.as_str(), ports.as_slice())?;
+        }
+    }
+    Ok(names)
+}
+
+/// Adds the names of the ports of a unit that have one.
+fn add_port_names(
+    alloc: Global,
+    names: &mut Vec<Name>,
+    unit: &str,
+    ports: &[Names],
+) -> Result<(), AllocError>
+    ensures { OnOk result (names.new.items ≡ names.old.items ++ spec.port_names unit.now 0 ports.now) }
+{
+    for port in 0..ports.len() {
+        match port_name_of(alloc, unit, port)? {
+            Some(name) => names.push(name)?,
+            None => return Ok(()),
+        }
+    }
+    Ok(())
+}
+
+/// The number of the first element that claims each name.
+fn claimers_of(alloc: Global, elements: &[Element]) -> Result<Numbers, AllocError>
+    ensures { IfOk result (λ numbers. IsClaiming numbers elements.now) }
+{
+    let mut numbers = IndexMap::new(alloc);
+    for (number, element) in elements.iter().enumerate() {
+        let names = claims_of(alloc, element)?;
+        add_claims(alloc, &mut numbers, &names, number)?;
+    }
+    Ok(numbers)
+}
+
+/// Gives each of the names that number, where it has none yet.
+fn add_claims(
+    alloc: Global,
+    numbers: &mut Numbers,
+    names: &[Name],
+    number: usize,
+) -> Result<(), AllocError>
+    ensures { OnOk result ((other : List ℕ) → found_in numbers.new other
+        ≡ option_or (found_in numbers.old other) (if list_any (λ claim. bytes_eq claim other) names.now then Some number else None)) }
+{
+    for name in names {
+        add_first(alloc, numbers, name.as_str(), number)?;
+    }
+    Ok(())
+}
+
+/// The number of the first element that claims a name of an earlier one.
+pub(crate) fn first_repeat(alloc: Global, elements: &[Element]) -> Result<Option<usize>, AllocError>
+    ensures { IfOk result (λ found. found ≡ repeated_name elements.now) }
+{
+    let claimers = claimers_of(alloc, elements)?;
+    first_repeat_by(alloc, &claimers, elements)
+}
+
+/// The number of the first element that claims a name which is claimed before it.
+fn first_repeat_by(
+    alloc: Global,
+    claimers: &Numbers,
+    elements: &[Element],
+) -> Result<Option<usize>, AllocError>
+    ensures { IfOk result (λ found. found ≡ first_from (repeats_by (found_in claimers.now)) 0 elements.now) }
+{
+    for (number, element) in elements.iter().enumerate() {
+        if repeats(alloc, claimers, number, element)? {
+            return Ok(Some(number));
+        }
+    }
+    Ok(None)
+}
+
+/// Whether a name that the element claims is claimed before that number.
+fn repeats(
+    alloc: Global,
+    claimers: &Numbers,
+    number: usize,
+    element: &Element,
+) -> Result<bool, AllocError>
+    ensures { IfOk result (λ found. found ≡ repeats_by (found_in claimers.now) number element.now) }
+{
+    let names = claims_of(alloc, element)?;
+    Ok(any_before(claimers, &names, number))
+}
+
+/// Whether one of the names is claimed before that number.
+fn any_before(claimers: &Numbers, names: &[Name], number: usize) -> bool
+    ensures { result ≡ list_any (λ claim. is_before (found_in claimers.now claim) number) names.now }
+{
+    names.iter().any(|name| is_before(number_in(claimers, name.as_str()), number))
+}
+
+fn is_before(found: Option<usize>, number: usize) -> bool
+    ensures { result ≡ is_before found number }
+{
+    match found {
+        Some(found) => found < number,
+        None => false,
+    }
+}

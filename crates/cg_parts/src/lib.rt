@@ -1,0 +1,23 @@
+//! Architectures as they are written: their elements, the resources and names that these stand for, and the faults A1 to
+//! A5, A7 and A8: of sizes, names, drivers, units and the number of contexts.
+#![tactic(auto)]
+
+mod claims;
+mod drivers;
+mod early;
+mod entries;
+mod entry;
+mod fault;
+mod names;
+mod numbers;
+mod parts;
+mod units;
+
+pub use drivers::Wrong;
+pub use early::early_fault;
+pub use entries::entries_of_all;
+pub use entry::Entry;
+pub use fault::{ArchFault, DriverPlace, HubPlace, NamePlace, TooLargePlace};
+pub use numbers::{Numbers, number_in, numbers_of};
+pub use parts::{Element, Names, Parts};
+pub use units::unit_fault;
