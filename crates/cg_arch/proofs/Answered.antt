@@ -1,11 +1,11 @@
 -- What parts without early faults, and parts without faults, are.
 use Rattle.std.proofs.Common.{◌≡◌, ℕ, ◌≤◌, List, length, None, arith}
 use Rattle.cg_model.specs.Array.{IsArch}
+use Rattle.cg_model.proofs.Options.{or_none}
 use Rattle.cg_level.specs.Rising.{IsRising, AreKnown}
 use Rattle.cg_level.proofs.Levels.{place_of, order_levels, order_no_loop}
 use Rattle.cg_parts.specs.declared.parts.Parts.{Parts}
 use Rattle.cg_parts.specs.Rules.{early_fault, unit_fault}
-use Rattle.cg_parts.proofs.Tests.{or_none}
 use Rattle.cg_arch.specs.Flat.{arch_of}
 use Rattle.cg_arch.specs.Hub.{hub_fault}
 use Rattle.cg_arch.specs.Answer.{late_fault, HasNoLoop}

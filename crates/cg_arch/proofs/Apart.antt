@@ -1,23 +1,24 @@
 -- The names of a flat architecture: each is the name that it should be, and no two are equal.
 use Rattle.std.proofs.Common.{⊎_elim, ◌≡◌, ◌≢◌, ℕ, ◌+◌, ◌<◌, ◌≤◌, ◌⊎◌, List, [], ◌∷◌, ◌++◌, length, inl, inr, cond, true, false, not, ◌&&◌, nat_lt, Some, None, refl, ap, sym, subst, ◌∙◌, arith, length-append}
-use Rattle.std.specs.Prelude.{slice_get, slice_index, unwrap_or}
+use Rattle.std.specs.Prelude.{slice_get, unwrap_or}
 use Rattle.std.specs.List.{list_any}
-use Rattle.std.proofs.lemmas.Option.{slice_get-get_or, slice_get_within}
+use Rattle.std.proofs.lemmas.Option.{slice_get_within}
 use Rattle.std.proofs.lemmas.Bool.Decides.{nat_tests}
+use Rattle.std.proofs.lemmas.Bool.{or_parts, not-false, ltb-false}
 use Rattle.cg_word.specs.declared.op.Op.{Op}
 use Rattle.cg_word.specs.Word.{arity, all_ops}
 use Rattle.cg_word.specs.Sets.{among}
-use Rattle.cg_model.specs.Names.{IsName, within_name}
+use Rattle.cg_model.specs.Names.{IsName}
 use Rattle.cg_model.specs.declared.array.Kind.TheVariants.{Wire, Register, Port, Out}
 use Rattle.cg_model.specs.Array.{HasNames, resource, unit, port}
+use Rattle.cg_model.proofs.Identifiers.{is_name-IsName}
 use Rattle.cg_parts.specs.declared.parts.Element.{Element}
 use Rattle.cg_parts.specs.declared.parts.Element.TheVariants as element
 use Rattle.cg_parts.specs.declared.parts.Parts.{Parts}
 use Rattle.cg_parts.specs.declared.entry.Entry.{Entry}
 use Rattle.cg_parts.specs.Parts.{entries_of, out_entry, out_name, port_name, port_name_of, name_of}
 use Rattle.cg_parts.specs.Numbers.{claimer_of}
-use Rattle.cg_parts.specs.Rules.{is_name, is_bad_unit}
-use Rattle.cg_parts.proofs.Tests.{or_false, and_true, not_false, lt_false, lt_true, le_true, all_true}
+use Rattle.cg_parts.specs.Rules.{is_bad_unit}
 use Rattle.cg_arch.proofs.Places.{start}
 use Rattle.cg_arch.proofs.Units.{units_before}
 use Rattle.cg_arch.proofs.Roles.{port_entry, own_role, unit_role}
@@ -25,18 +26,6 @@ use Rattle.cg_arch.proofs.Clean.{IsClean, HaveGoodUnits}
 use Rattle.cg_arch.proofs.Names.{own_claim, entry_claim, claimer, named_port}
 use Rattle.cg_arch.proofs.Resources.{built, IsResource, resource_at}
 use Rattle.cg_arch.proofs.Owners.{IsUnit, unit_by, IsPort, port_by, IsOut, out_by}
-
-pub is_name-IsName : (name : List ℕ) → is_name name ≡ true → IsName 40 name
-is_name-IsName name e =
-    let some = and_true _ _ e in
-    let short = and_true _ _ some.1 in
-    let first = and_true _ _ short.1 in
-    record {
-      some = lt_true 0 (length name) some.0;
-      short = le_true (length name) 40 short.0;
-      first = first.0;
-      rest = λ k h. all_true within_name name k (slice_index name k) (slice_get-get_or name k 0 h) first.1;
-    }
 
 -- ---- what a unit without fault is
 
@@ -48,14 +37,14 @@ pub record IsGoodUnit (ops : List Op) (latency : ℕ) (ports : List (List (List 
 
 pub good_unit : (name : List ℕ) (ops : List Op) (latency : ℕ) (ports : List (List (List ℕ))) → is_bad_unit (element.Unit name ops latency ports) ≡ false → IsGoodUnit ops latency ports
 good_unit name ops latency ports e =
-    let one = or_false (nat_lt latency 1) _ e in
-    let two = or_false (nat_lt 4 latency) _ one.1 in
-    let three = or_false (nat_lt 3 (length ports)) _ two.1 in
-    let four = or_false (not (list_any (among ops) all_ops)) _ three.1 in
+    let one = or_parts (nat_lt latency 1) _ e in
+    let two = or_parts (nat_lt 4 latency) _ one.1 in
+    let three = or_parts (nat_lt 3 (length ports)) _ two.1 in
+    let four = or_parts (not (list_any (among ops) all_ops)) _ three.1 in
     record {
-      on_time = (lt_false latency 1 one.0, lt_false 4 latency two.0);
-      few = lt_false 3 (length ports) three.0;
-      some = not_false _ four.0;
+      on_time = (ltb-false latency 1 one.0, ltb-false 4 latency two.0);
+      few = ltb-false 3 (length ports) three.0;
+      some = not-false _ four.0;
       enough = four.1;
     }
 
@@ -196,7 +185,7 @@ module _ (parts : Parts) (good : IsClean parts) (units : HaveGoodUnits parts) wh
   own_resource r p k =
       let name : Some (name_of p.e) ≡ Some (resource (built parts) r).name = sym (own_name p.e p.j p.x p.within k) ∙ named r p in
       let same : name_of p.e ≡ (resource (built parts) r).name = cc in
-      subst (IsName 40) same (is_name-IsName (name_of p.e) (good.names p.i p.e p.at))
+      subst (IsName 40) same (is_name-IsName 40 (name_of p.e) (good.names p.i p.e p.at))
 
   pub port_shown : (x p : ℕ) → IsPort parts x p → (resource (built parts) (port (built parts) x p)).name ≡ (unit (built parts) x).name ++ 95 ∷ (97 + p) ∷ []
   port_shown x p q =
@@ -210,8 +199,8 @@ module _ (parts : Parts) (good : IsClean parts) (units : HaveGoodUnits parts) wh
 
   pub has_names : HasNames (built parts)
   has_names = record {
-    own = is_name-IsName parts.name good.own_name;
-    units = λ x h. let u = unit_by parts x h in subst (IsName 40) (ap (λ w. w.name) (sym u.is)) (is_name-IsName u.name (good.names u.i (element.Unit u.name u.ops u.latency u.ports) u.at));
+    own = is_name-IsName 40 parts.name good.own_name;
+    units = λ x h. let u = unit_by parts x h in subst (IsName 40) (ap (λ w. w.name) (sym u.is)) (is_name-IsName 40 u.name (good.names u.i (element.Unit u.name u.ops u.latency u.ports) u.at));
     wires = λ r h k. let p = resource_at parts r h in own_resource r p (inl (ap (λ x. x.kind) (sym p.shown) ∙ k));
     registers = λ r h k. let p = resource_at parts r h in own_resource r p (inr (ap (λ x. x.kind) (sym p.shown) ∙ k));
     resources_apart = resources_apart;

@@ -1,7 +1,12 @@
 -- Where no fault was found, none applies anywhere.
-use Rattle.std.proofs.Common.{◌≡◌, ℕ, zero, suc, ◌+◌, ◌<◌, ◌≤◌, List, [], ◌∷◌, length, Some, None, Bool, true, false, not, ◌||◌, count_by, nat_lt, ap, sym, ◌∙◌, arith}
+use Rattle.std.proofs.Common.{◌≡◌, ℕ, zero, suc, ◌+◌, ◌<◌, ◌≤◌, List, [], ◌∷◌, length, Some, None, Bool, true, false, not, ◌||◌, count_by, nat_lt, ap, ◌∙◌, arith}
 use Rattle.std.specs.Prelude.{slice_get}
 use Rattle.std.specs.Option.{option_map, option_or}
+use Rattle.std.proofs.lemmas.Bool.{or_parts, not-false, ltb-false}
+use Rattle.cg_model.specs.Names.{is_name}
+use Rattle.cg_model.specs.First.{first_from, first_such}
+use Rattle.cg_model.proofs.Options.{cond_none, or_none, map_none}
+use Rattle.cg_model.proofs.Positions.{first_from_none, first_such_none}
 use Rattle.cg_parts.specs.declared.parts.Element.{Element}
 use Rattle.cg_parts.specs.declared.parts.Parts.{Parts}
 use Rattle.cg_parts.specs.declared.entry.Entry.{Entry}
@@ -11,18 +16,9 @@ use Rattle.cg_parts.specs.declared.fault.TooLargePlace.TheVariants as large
 use Rattle.cg_parts.specs.declared.drivers.Wrong.TheVariants.{Nothing, APort}
 use Rattle.cg_parts.specs.Parts.{entries, name_of, drivers_of}
 use Rattle.cg_parts.specs.Numbers.{claimer_of}
-use Rattle.cg_parts.specs.Rules.{first_from, first_such, first_driver, links, is_unit, is_name, has_bad_name, repeats_by, is_wrong, is_bad_unit, too_large, bad_name, repeated_name, wrong_driver, early_fault, bad_unit, bad_contexts, unit_fault}
-use Rattle.cg_parts.proofs.Tests.{or_false, not_false, lt_false, cond_none, or_none, map_none, first_from_none}
+use Rattle.cg_parts.specs.Rules.{first_driver, links, is_unit, has_bad_name, repeats_by, is_wrong, is_bad_unit, too_large, bad_name, repeated_name, wrong_driver, early_fault, bad_unit, bad_contexts, unit_fault}
 
 -- ---- drivers
-
-first_such_none : {X : Type 0} (t : X → Bool) (xs : List X) (k : ℕ) (x : X) → first_such t xs ≡ None → slice_get xs k ≡ Some x → t x ≡ false
-first_such_none t [] k x none at = let bad : None ≡ Some x = at in absurd (cc)
-first_such_none t (y ∷ ys) zero x none at = let same : y ≡ x = cc in ap t (sym same) ∙ (cond_none (t y) y (first_such t ys) none).0
-first_such_none t (y ∷ ys) (suc k) x none at = first_such_none t ys k x (cond_none (t y) y (first_such t ys) none).1 at
-
-pub first_such-none : {X : Type 0} (t : X → Bool) (xs : List X) (k : ℕ) (x : X) → first_such t xs ≡ None → slice_get xs k ≡ Some x → t x ≡ false
-first_such-none = first_such_none
 
 driver_none : (t : List ℕ → Bool) (v : ℕ) (es : List Element) (k m : ℕ) (e : Element) (d : List ℕ) → first_driver t v es ≡ None → slice_get es k ≡ Some e → slice_get (drivers_of e) m ≡ Some d → t d ≡ false
 driver_none t v [] k m e d none at at' = let bad : None ≡ Some e = at in absurd (cc)
@@ -42,8 +38,8 @@ pub record IsClean (parts : Parts) : Type 0 where
   pub links : links (entries parts.elements) ≤ 65536
   pub units : count_by is_unit parts.elements ≤ 1024
   pub memory : parts.memory ≤ 1048576
-  pub own_name : is_name parts.name ≡ true
-  pub names : (v : ℕ) (e : Element) → slice_get parts.elements v ≡ Some e → is_name (name_of e) ≡ true
+  pub own_name : is_name 40 parts.name ≡ true
+  pub names : (v : ℕ) (e : Element) → slice_get parts.elements v ≡ Some e → is_name 40 (name_of e) ≡ true
   pub claims : (v : ℕ) (e : Element) → slice_get parts.elements v ≡ Some e → repeats_by (claimer_of parts.elements) v e ≡ false
   pub drivers : (v m : ℕ) (e : Element) (d : List ℕ) → slice_get parts.elements v ≡ Some e → slice_get (drivers_of e) m ≡ Some d → is_wrong Nothing (entries parts.elements) d ≡ false
   pub no_ports : (v m : ℕ) (e : Element) (d : List ℕ) → slice_get parts.elements v ≡ Some e → slice_get (drivers_of e) m ≡ Some d → is_wrong APort (entries parts.elements) d ≡ false
@@ -66,23 +62,23 @@ small parts rs none =
     let three = cond_none (nat_lt 1024 (count_by is_unit parts.elements)) large.Units _ two.1 in
     let four = cond_none (nat_lt 1048576 parts.memory) large.Memory None three.1 in
     record {
-      resources = lt_false 4096 (length rs) one.0;
-      links = lt_false 65536 (links rs) two.0;
-      units = lt_false 1024 (count_by is_unit parts.elements) three.0;
-      memory = lt_false 1048576 parts.memory four.0;
+      resources = ltb-false 4096 (length rs) one.0;
+      links = ltb-false 65536 (links rs) two.0;
+      units = ltb-false 1024 (count_by is_unit parts.elements) three.0;
+      memory = ltb-false 1048576 parts.memory four.0;
     }
 
 -- A2
 record HaveNames (parts : Parts) : Type 0 where
-  own : is_name parts.name ≡ true
-  names : (v : ℕ) (e : Element) → slice_get parts.elements v ≡ Some e → is_name (name_of e) ≡ true
+  own : is_name 40 parts.name ≡ true
+  names : (v : ℕ) (e : Element) → slice_get parts.elements v ≡ Some e → is_name 40 (name_of e) ≡ true
 
 named : (parts : Parts) → bad_name parts ≡ None → HaveNames parts
 named parts none =
-    let parts_none = cond_none (not (is_name parts.name)) place.Architecture (option_map place.Element (first_from (λ number e. has_bad_name e) 0 parts.elements)) none in
+    let parts_none = cond_none (not (is_name 40 parts.name)) place.Architecture (option_map place.Element (first_from (λ number e. has_bad_name e) 0 parts.elements)) none in
     record {
-      own = not_false (is_name parts.name) parts_none.0;
-      names = λ v e at. not_false (is_name (name_of e)) (first_from_none (λ number e. has_bad_name e) 0 parts.elements v v e (map_none place.Element _ parts_none.1) at (omega arith));
+      own = not-false (is_name 40 parts.name) parts_none.0;
+      names = λ v e at. not-false (is_name 40 (name_of e)) (first_from_none (λ number e. has_bad_name e) 0 parts.elements v v e (map_none place.Element _ parts_none.1) at (omega arith));
     }
 
 pub clean : (parts : Parts) → early_fault parts ≡ None → IsClean parts
@@ -111,8 +107,8 @@ pub good_units : (parts : Parts) → unit_fault parts ≡ None → HaveGoodUnits
 unfolding unit_fault
 good_units parts late =
     let five = or_none (bad_unit parts) (bad_contexts parts) late in
-    let contexts = or_false (nat_lt parts.contexts 1) (nat_lt 64 parts.contexts) (cond_none (nat_lt parts.contexts 1 || nat_lt 64 parts.contexts) (fault.BadContexts parts.contexts) None five.1).0 in
+    let contexts = or_parts (nat_lt parts.contexts 1) (nat_lt 64 parts.contexts) (cond_none (nat_lt parts.contexts 1 || nat_lt 64 parts.contexts) (fault.BadContexts parts.contexts) None five.1).0 in
     record {
       good = λ v e at. first_from_none (λ number e. is_bad_unit e) 0 parts.elements v v e (map_none fault.BadUnit _ five.0) at (omega arith);
-      contexts = (lt_false parts.contexts 1 contexts.0, lt_false 64 parts.contexts contexts.1);
+      contexts = (ltb-false parts.contexts 1 contexts.0, ltb-false 64 parts.contexts contexts.1);
     }

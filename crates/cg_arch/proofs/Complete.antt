@@ -5,22 +5,23 @@ use Rattle.std.specs.Option.{option_map, option_map_or, option_or, is_none}
 use Rattle.std.specs.List.{list_any}
 use Rattle.std.proofs.lemmas.Option.{slice_get-get_or, slice_get_within, get_or_from_slice_get, slice_get-map}
 use Rattle.std.proofs.lemmas.List.{get_or-map, length-map}
-use Rattle.std.proofs.lemmas.Bool.{cases_lt}
+use Rattle.std.proofs.lemmas.Bool.{cases_lt, or_parts, not-false}
 use Rattle.std.proofs.lemmas.Slice.Eq.{bytes_eq-Decides}
 use Rattle.cg_model.specs.declared.array.Kind.{Kind}
 use Rattle.cg_model.specs.declared.array.Kind.TheVariants.{Wire, Register, Port, Out}
 use Rattle.cg_model.specs.Array.{Arch, HasHub, resource, unit, port, hub_register}
+use Rattle.cg_model.proofs.Options.{cond_none, or_none, map_none}
+use Rattle.cg_model.proofs.Elements.{any_false, any_true}
+use Rattle.cg_model.proofs.Positions.{first_such_none}
 use Rattle.cg_parts.specs.declared.parts.Parts.{Parts}
 use Rattle.cg_parts.specs.declared.entry.Entry.{Entry}
 use Rattle.cg_parts.specs.declared.fault.ArchFault.TheVariants as fault
 use Rattle.cg_parts.specs.declared.fault.HubPlace.TheVariants as place
 use Rattle.cg_parts.specs.Parts.{entries}
 use Rattle.cg_parts.specs.Numbers.{number_of}
-use Rattle.cg_parts.proofs.Tests.{or_false, not_false, cond_none, or_none, map_none, any_false, any_true}
 use Rattle.cg_arch.specs.Flat.{number_in}
 use Rattle.cg_arch.specs.Hub.{is_register, is_register_at, names_register, first_bad_entry, first_not_driving, first_missing, missing, outs, all_ports, hub_fault}
 use Rattle.cg_arch.proofs.Places.{start, get_left, get_right, get_at}
-use Rattle.cg_arch.proofs.Clean.{first_such-none}
 use Rattle.cg_arch.proofs.Resources.{built, IsNumbered, numbered, same_number, shown_at}
 
 -- ---- entries
@@ -34,7 +35,7 @@ good_entry rs before [] k n none at = let bad : None ≡ Some n = at in absurd (
 good_entry rs before (c ∷ cs) zero n none at =
     let same : c ≡ n = cc in
     let here = cond_none (not (names_register rs c) || list_any (bytes_eq c) before) c (first_bad_entry rs (before ++ c ∷ []) cs) none in
-    ap (names_register rs) (sym same) ∙ not_false (names_register rs c) (or_false _ _ here.0).0
+    ap (names_register rs) (sym same) ∙ not-false (names_register rs c) (or_parts _ _ here.0).0
 good_entry rs before (c ∷ cs) (suc k) n none at =
     let here = cond_none (not (names_register rs c) || list_any (bytes_eq c) before) c (first_bad_entry rs (before ++ c ∷ []) cs) none in
     good_entry rs (before ++ c ∷ []) cs k n here.1 at
@@ -45,7 +46,7 @@ not_before rs before [] k m n none at there = let bad : None ≡ Some n = at in 
 not_before rs before (c ∷ cs) zero m n none at there =
     let same : c ≡ n = cc in
     let here = cond_none (not (names_register rs c) || list_any (bytes_eq c) before) c (first_bad_entry rs (before ++ c ∷ []) cs) none in
-    let differs : bytes_eq c n ≡ false = any_false (bytes_eq c) before m n there (or_false _ _ here.0).1 in
+    let differs : bytes_eq c n ≡ false = any_false (bytes_eq c) before m n there (or_parts _ _ here.0).1 in
     let equal : bytes_eq c n ≡ true = (bytes_eq-Decides c n).1 same in
     let bad : true ≡ false = sym equal ∙ differs in
     cc
@@ -77,8 +78,8 @@ drives A sources [] k m q r none at at' = let bad : None ≡ Some r = at in absu
 drives A sources (t ∷ ts) zero m q r none at at' =
     let here = or_none (option_map (λ s. missing A s t) (first_not_driving A sources t)) (first_missing A sources ts) none in
     let same : t ≡ r = cc in
-    let free = first_such-none (λ s. not (list_any (eqb s) (resource A t).drivers)) sources m q (map_none (λ s. missing A s t) (first_not_driving A sources t) here.0) at' in
-    let found = any_true (eqb q) (resource A t).drivers (not_false _ free) in
+    let free = first_such_none (λ s. not (list_any (eqb s) (resource A t).drivers)) sources m q (map_none (λ s. missing A s t) (first_not_driving A sources t) here.0) at' in
+    let found = any_true (eqb q) (resource A t).drivers (not-false _ free) in
     let is : q ≡ found.1.0 = eqb-true q found.1.0 found.1.1.1 in
     let there : slice_get (resource A t).drivers found.0 ≡ Some q = found.1.1.0 ∙ ap Some (sym is) in
     subst (λ s. Contains (resource A s).drivers q) same (found.0, slice_get_within (resource A t).drivers found.0 q there, get_or_from_slice_get (resource A t).drivers found.0 q q there)

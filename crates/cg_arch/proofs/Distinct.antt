@@ -4,8 +4,8 @@ use Rattle.std.specs.Prelude.{slice_get}
 use Rattle.std.specs.List.{list_any}
 use Rattle.std.proofs.lemmas.Bool.{cases_lt}
 use Rattle.std.proofs.lemmas.Slice.Eq.{bytes_eq-Decides}
+use Rattle.cg_model.proofs.Elements.{any_false}
 use Rattle.cg_parts.specs.Parts.{with_name, distinct}
-use Rattle.cg_parts.proofs.Tests.{any_false}
 use Rattle.cg_arch.proofs.Places.{get_left}
 
 -- the item after a list

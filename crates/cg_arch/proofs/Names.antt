@@ -1,27 +1,27 @@
 -- The names that elements claim.
-use Rattle.std.proofs.Common.{◌≡◌, ℕ, zero, suc, ◌+◌, ◌<◌, ◌≤◌, List, [], ◌∷◌, Option, Some, None, Bool, true, false, ◌||◌, cond, nat_lt, bytes_eq, refl, ap, sym, ◌∙◌, arith, ⊎_elim}
+use Rattle.std.proofs.Common.{◌≡◌, ℕ, zero, suc, ◌+◌, ◌<◌, List, [], ◌∷◌, Some, None, Bool, true, false, ◌||◌, cond, nat_lt, bytes_eq, refl, ap, sym, ◌∙◌, arith, ⊎_elim}
 use Rattle.std.specs.Prelude.{slice_get}
 use Rattle.std.specs.List.{list_any}
 use Rattle.std.proofs.lemmas.Slice.Eq.{bytes_eq-Decides}
 use Rattle.std.proofs.lemmas.Bool.Decides.{nat_tests}
+use Rattle.std.proofs.lemmas.Bool.{ltb-true, or_right}
 use Rattle.cg_word.specs.declared.op.Op.{Op}
+use Rattle.cg_model.specs.First.{is_before}
+use Rattle.cg_model.proofs.Options.{some_cond}
+use Rattle.cg_model.proofs.Elements.{any_true, any_false}
+use Rattle.cg_model.proofs.Positions.{position_from-reached, not_before}
 use Rattle.cg_parts.specs.declared.parts.Element.{Element}
 use Rattle.cg_parts.specs.declared.parts.Element.TheVariants as element
 use Rattle.cg_parts.specs.declared.entry.Entry.{Entry}
 use Rattle.cg_parts.specs.Parts.{port_name, port_name_of, out_name, port_names, claims_of, name_of, entries_of}
 use Rattle.cg_parts.specs.Numbers.{claims, claimer_of}
-use Rattle.cg_parts.specs.Rules.{is_before, repeats_by}
-use Rattle.cg_parts.proofs.Tests.{any_true, any_false, lt_false, lt_true, position_from-reached}
+use Rattle.cg_parts.specs.Rules.{repeats_by}
 use Rattle.cg_arch.proofs.Roles.{own_role, unit_role, IsPortOf, IsOutOf}
-
-or_true : (b : Bool) → (b || true) ≡ true
-or_true true = refl
-or_true false = refl
 
 any_at : {X : Type 0} (t : X → Bool) (xs : List X) (i : ℕ) (x : X) → slice_get xs i ≡ Some x → t x ≡ true → list_any t xs ≡ true
 any_at t [] i x at passes = let bad : None ≡ Some x = at in absurd (cc)
 any_at t (y ∷ ys) zero x at passes = let same : y ≡ x = cc in ap (λ b. b || list_any t ys) (ap t same ∙ passes)
-any_at t (y ∷ ys) (suc i) x at passes = ap (λ b. t y || b) (any_at t ys i x at passes) ∙ or_true (t y)
+any_at t (y ∷ ys) (suc i) x at passes = ap (λ b. t y || b) (any_at t ys i x at passes) ∙ or_right (t y) true refl
 
 -- ---- an element claims the names of its resources, and its own
 
@@ -44,13 +44,8 @@ own_claim (element.Wire name drivers) = any_at (λ c. bytes_eq c name) (name ∷
 own_claim (element.Register name drivers) = any_at (λ c. bytes_eq c name) (name ∷ []) 0 name refl (same_bytes name)
 own_claim (element.Unit name ops latency ports) = any_at (λ c. bytes_eq c name) (name ∷ out_name name ∷ port_names name 0 ports) 0 name refl (same_bytes name)
 
--- a port that has a name is one of the first three
-some_port : (b : Bool) (x y : List ℕ) → cond b (Some x) None ≡ Some y → (b ≡ true) × (x ≡ y)
-some_port true x y e = (refl, cc)
-some_port false x y e = let bad : None ≡ Some y = e in absurd (cc)
-
 pub named_port : (unit : List ℕ) (p : ℕ) (n : List ℕ) → port_name_of unit p ≡ Some n → (p < 3) × (port_name unit p ≡ n)
-named_port unit p n e = let parts = some_port (nat_lt p 3) (port_name unit p) n e in (lt_true p 3 parts.0, parts.1)
+named_port unit p n e = let parts = some_cond (nat_lt p 3) (port_name unit p) n e in (ltb-true p 3 parts.0, parts.1)
 
 port_claim : (name : List ℕ) (ops : List Op) (latency : ℕ) (ports : List (List (List ℕ))) (j : ℕ) (x : Entry) (n : List ℕ) → IsPortOf name ports j x → x.name ≡ Some n → claims n (element.Unit name ops latency ports) ≡ true
 port_claim name ops latency ports j x n is named =
@@ -76,10 +71,6 @@ entry_claim (element.Unit name ops latency ports) j x n at named =
     ⊎_elim (λ is. port_claim name ops latency ports j x n is named) (λ is. out_claim name ops latency ports j x n is named) (unit_role name ops latency ports j x at)
 
 -- ---- a claimed name tells the element
-
-not_before : (o : Option ℕ) (u v : ℕ) → o ≡ Some u → is_before o v ≡ false → v ≤ u
-not_before None u v e h = let bad : None ≡ Some u = e in absurd (cc)
-not_before (Some w) u v e h = let same : w ≡ u = cc in let le = lt_false w v h in omega (arith, same, le)
 
 pub claimer : (es : List Element) (v : ℕ) (e : Element) (n : List ℕ) → slice_get es v ≡ Some e → repeats_by (claimer_of es) v e ≡ false → claims n e ≡ true → claimer_of es n ≡ Some v
 claimer es v e n at free claimed =

@@ -9,6 +9,8 @@ use Rattle.std.proofs.lemmas.Slice.Eq.{bytes_eq-Decides}
 use Rattle.cg_model.specs.declared.array.Kind.TheVariants.{Wire, Port}
 use Rattle.cg_model.specs.declared.array.Resource.{Resource}
 use Rattle.cg_model.specs.Array.{Arch, resource}
+use Rattle.cg_model.proofs.Options.{some_of}
+use Rattle.cg_model.proofs.Positions.{position_from-found}
 use Rattle.cg_parts.specs.declared.parts.Element.{Element}
 use Rattle.cg_parts.specs.declared.parts.Element.TheVariants as element
 use Rattle.cg_parts.specs.declared.parts.Parts.{Parts}
@@ -17,7 +19,6 @@ use Rattle.cg_parts.specs.declared.drivers.Wrong.TheVariants.{APort}
 use Rattle.cg_parts.specs.Parts.{entries, entries_of, drivers_of, distinct}
 use Rattle.cg_parts.specs.Numbers.{number_of, is_named}
 use Rattle.cg_parts.specs.Rules.{is_wrong, is_port, is_port_at}
-use Rattle.cg_parts.proofs.Tests.{some_of, position_from-found}
 use Rattle.cg_arch.specs.Flat.{number_in, resource_of, units_from}
 use Rattle.cg_arch.proofs.Places.{start, place, get_at}
 use Rattle.cg_arch.proofs.Roles.{own_role, unit_role}

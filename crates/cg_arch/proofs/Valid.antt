@@ -6,18 +6,19 @@ use Rattle.std.proofs.lemmas.Bool.Decides.{nat_tests}
 use Rattle.std.proofs.lemmas.Option.{slice_get-get_or}
 use Rattle.std.proofs.lemmas.List.{length-map}
 use Rattle.std.proofs.lemmas.List.FromFn.{length-range_with_len}
+use Rattle.std.proofs.lemmas.Bool.{ltb-false}
 use Rattle.cg_word.specs.declared.op.Op.{Op}
 use Rattle.cg_word.specs.declared.op.Op.TheVariants.{Const, Iter, Input, Add, Sub, Mul, And, Or, Xor, Shl, Shr, Sar, Eq, Ne, Lts, Ltu, Mins, Maxs, Select, Load, Store, Output, LoadIf, StoreIf, OutputIf}
 use Rattle.cg_word.specs.Word.{arity, code, all_ops}
 use Rattle.cg_word.specs.Sets.{among}
 use Rattle.cg_model.specs.Array.{Arch, IsArch, IsSmall, resource, unit, delay}
 use Rattle.cg_model.specs.Array as array
+use Rattle.cg_model.proofs.Elements.{any_false}
 use Rattle.cg_parts.specs.declared.parts.Element.TheVariants as element
 use Rattle.cg_parts.specs.declared.parts.Parts.{Parts}
 use Rattle.cg_parts.specs.declared.entry.Entry.{Entry}
 use Rattle.cg_parts.specs.Parts.{entries}
 use Rattle.cg_parts.specs.Rules as rules
-use Rattle.cg_parts.proofs.Tests.{lt_false, any_false}
 use Rattle.cg_arch.specs.Flat.{number_in, resource_of, arch_of}
 use Rattle.cg_arch.specs.Hub.{hub_fault}
 use Rattle.cg_arch.proofs.Units.{length-units_from}
@@ -142,7 +143,7 @@ module _ (parts : Parts) (own : HaveGoodUnits parts) where
       let at : slice_get (unit (built parts) x).ops c.0 ≡ Some op = slice_get-get_or (unit (built parts) x).ops c.0 op c.1 ∙ ap Some c.2 in
       let here = among_get u.ops c.0 op (ap (λ os. slice_get os c.0) (sym ops) ∙ at) in
       let free = any_false (λ o. among u.ops o && nat_lt (length u.ports) (arity o)) all_ops (code op - 1) op (all_get op) (good_at x u).enough in
-      let few = lt_false (length u.ports) (arity op) (not_more (among u.ops op) (nat_lt (length u.ports) (arity op)) free here) in
+      let few = ltb-false (length u.ports) (arity op) (not_more (among u.ops op) (nat_lt (length u.ports) (arity op)) free here) in
       omega (arith, long, few)
 
 -- the flat architecture is valid, where a level rises along each of its links of delay 0

@@ -6,11 +6,11 @@ use Rattle.std.specs.Str.{bytes_eq}
 use Rattle.cg_model.specs.Array.{Arch, resource}
 use Rattle.cg_model.specs.declared.array.Kind.{Kind}
 use Rattle.cg_model.specs.declared.array.Kind.TheVariants.{Wire, Register, Port, Out}
+use Rattle.cg_model.specs.First.{first_such}
 use Rattle.cg_parts.specs.declared.parts.Parts.{Parts}
 use Rattle.cg_parts.specs.declared.entry.Entry.{Entry}
 use Rattle.cg_parts.specs.Parts.{entries}
 use Rattle.cg_parts.specs.Numbers.{number_of}
-use Rattle.cg_parts.specs.Rules.{first_such}
 use Rattle.cg_parts.specs.declared.fault.ArchFault.{ArchFault}
 use Rattle.cg_parts.specs.declared.fault.ArchFault.TheVariants as fault
 use Rattle.cg_parts.specs.declared.fault.HubPlace.{HubPlace}

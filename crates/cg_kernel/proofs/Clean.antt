@@ -2,11 +2,13 @@
 use Rattle.std.proofs.Common.{◌≡◌, ℕ, zero, suc, subst, List, [], ◌∷◌, Some, None, false, cond, refl, arith}
 use Rattle.std.specs.Prelude.{slice_get}
 use Rattle.std.specs.Option.{option_map, option_or}
+use Rattle.cg_model.specs.First.{first_from}
+use Rattle.cg_model.proofs.Options.{cond_none, or_none, map_none}
+use Rattle.cg_model.proofs.Positions.{first_from_none}
 use Rattle.cg_kernel.specs.Written.{WrittenNode, WrittenEdge, WrittenKernel}
-use Rattle.cg_kernel.specs.Rules.{Rule, applies_to_file, applies_to_node, applies_to_edge, first_from, first_place, fault_at, first_fault, all_rules}
+use Rattle.cg_kernel.specs.Rules.{Rule, applies_to_file, applies_to_node, applies_to_edge, first_place, fault_at, first_fault, all_rules}
 use Rattle.cg_kernel.specs.declared.fault.Place.TheVariants as place
 use Rattle.cg_kernel.specs.declared.rule.Rule.TheVariants.{TooLarge, BadName, RepeatedName, UnknownOp, WrongOperandCount, UnknownNode, NoValue, BackEdgeWithoutDistance, BadDistance, InitCount, TwoConstants, BadPort, RepeatedOutputPort}
-use Rattle.cg_kernel.proofs.Tests.{cond_none, or_none, map_none, first_from_none}
 
 -- the fault applies nowhere
 pub record IsAbsent (rule : Rule) (w : WrittenKernel) : Type 0 where

@@ -1,6 +1,4 @@
 pub mod Clean
 pub mod ItemLists
-pub mod Positions
 pub mod Ranges
-pub mod Tests
 pub mod Valid

@@ -4,13 +4,13 @@ use Rattle.std.specs.Prelude.{nat_lt, slice_get, slice_index, codes, IfOk}
 use Rattle.std.specs.Option.{option_map, option_and_then, option_or}
 use Rattle.serde_json.specs.Data.{Data, Items, no_items, item}
 use Rattle.serde_json.specs.Find.{as_number, as_u64}
+use Rattle.std.proofs.lemmas.Bool.{ltb-true}
 use Rattle.cg_word.specs.Word.{words}
 use Rattle.cg_json.specs.Members.{fitting, word_in, all_of, all_or_first, and_rest, items_at, items_or_none, has_other_keys}
 use Rattle.cg_kernel.specs.Written.{Place, Format, WrittenArg, WrittenNode, WrittenEdge, WrittenKernel, arg_in, source_in, source_from, node_in, node_from, joined, written_from, format_in, written_of}
 use Rattle.cg_kernel.specs.declared.fault.Place.TheVariants as place
 use Rattle.cg_kernel.specs.declared.written.WrittenArg.TheVariants.{Number, Source}
 use Rattle.cg_kernel.specs.Words.{HasWords, HasAllWords}
-use Rattle.cg_kernel.proofs.Tests.{lt_true}
 
 -- ---- each item of a list was read
 
@@ -53,7 +53,7 @@ all_or_first-item read k (item d ds) xs (suc i) x all at =
 -- ---- words
 
 fitting_at : (b : Bool) (n w : ℕ) → nat_lt n (2 ^ 32) ≡ b → cond b (Some n) None ≡ Some w → w < words
-fitting_at true n w e is = let same : n ≡ w = cc in let below = lt_true n (2 ^ 32) e in omega (arith, same, below)
+fitting_at true n w e is = let same : n ≡ w = cc in let below = ltb-true n (2 ^ 32) e in omega (arith, same, below)
 fitting_at false n w e is = let bad : None ≡ Some w = is in absurd (cc)
 
 fits_or : (o : Option ℕ) (w : ℕ) → option_and_then fitting o ≡ Some w → w < words

@@ -1,44 +1,37 @@
 -- A kernel that is written without a fault is valid.
 use Rattle.std.proofs.Common.{◌≡◌, ℕ, ◌<◌, ◌≤◌, ◌==◌, ◌&&◌, not, map, take, List, [], length, Option, Some, None, Bool, true, false, cond, refl, ap, ◌∙◌, sym, arith, bytes_eq, get_or, subst}
-use Rattle.std.specs.Prelude.{slice_get, slice_index, unwrap_or, count_by}
+use Rattle.std.specs.Prelude.{slice_get, unwrap_or, count_by}
 use Rattle.std.specs.Option.{option_and_then, option_map_or}
 use Rattle.std.specs.List.{list_any}
 use Rattle.std.proofs.lemmas.Option.{slice_get-get_or}
 use Rattle.std.proofs.lemmas.List.{get_or-map, length-map}
 use Rattle.std.proofs.lemmas.Slice.Eq.{bytes_eq-Decides}
+use Rattle.std.proofs.lemmas.Bool.{or_parts, not-false, ltb-false, eqb-true, eq-eqb}
 use Rattle.cg_word.specs.declared.op.Op.{Op}
 use Rattle.cg_word.specs.declared.op.Op.TheVariants.{Const, Output, OutputIf}
 use Rattle.cg_word.specs.Word.{arity, has_value, has_port, is_output}
-use Rattle.cg_model.specs.Names.{IsName, within_name}
+use Rattle.cg_model.specs.Names.{IsName}
+use Rattle.cg_model.specs.First.{is_before}
 use Rattle.cg_model.specs.Kernel.{Kernel, size, node, no_node, HasOperand, HasOrder, IsKernel, IsNamed, IsWired, IsOrder}
 use Rattle.cg_model.specs.declared.kernel.Operand.TheVariants.{Const as Constant, Edge}
+use Rattle.cg_model.proofs.Identifiers.{is_name-IsName}
+use Rattle.cg_model.proofs.Options.{some_of}
+use Rattle.cg_model.proofs.Elements.{any_false, map_get, take_get}
+use Rattle.cg_model.proofs.Positions.{position_from-within, position_from-reached, before_at, not_before}
+use Rattle.cg_model.proofs.Counts.{count_by-two}
 use Rattle.cg_kernel.specs.Written.{WrittenArg, WrittenNode, WrittenEdge, WrittenKernel}
 use Rattle.cg_kernel.specs.declared.written.WrittenArg.TheVariants.{Number, Source}
-use Rattle.cg_kernel.specs.Rules.{is_name, number_of, is_before, op_of, source_op, applies_to_arg, is_number, is_bad_port, output_port, outputs_to}
+use Rattle.cg_kernel.specs.Rules.{number_of, op_of, source_op, applies_to_arg, is_number, is_bad_port, output_port, outputs_to}
 use Rattle.cg_kernel.specs.declared.rule.Rule.TheVariants.{UnknownNode, NoValue, BackEdgeWithoutDistance, BadDistance, InitCount}
 use Rattle.cg_kernel.specs.Answer.{node_number, operand_of, node_of, edge_of, kernel_of}
-use Rattle.cg_kernel.proofs.Positions.{position_from-within}
 use Rattle.cg_kernel.specs.Words.{HasAllWords}
 use Rattle.cg_kernel.proofs.Clean.{IsClean}
-use Rattle.cg_kernel.proofs.Tests.{or_false, and_true, not_false, lt_false, lt_true, le_true, eq_true, eq_same, some_of, any_false, all_true, map_get, position_from-reached, count_by-two, take_get}
 
 -- the kernel, laid open
 abbrev built : WrittenKernel → Kernel
 built w = record { nodes = map (node_of w) w.nodes; order = map (edge_of w) w.order }
 
 -- ---- names
-
-is_name-IsName : (name : List ℕ) → is_name name ≡ true → IsName 32 name
-is_name-IsName name e =
-    let some = and_true _ _ e in
-    let short = and_true _ _ some.1 in
-    let first = and_true _ _ short.1 in
-    record {
-      some = lt_true 0 (length name) some.0;
-      short = le_true (length name) 32 short.0;
-      first = first.0;
-      rest = λ k h. all_true within_name name k (slice_index name k) (slice_get-get_or name k 0 h) first.1;
-    }
 
 -- ---- nodes and their operands
 
@@ -111,14 +104,6 @@ numbered w name u e = let h = position_from-within (λ n. bytes_eq n.name name) 
 numbered_size : (w : WrittenKernel) (name : List ℕ) (u : ℕ) → number_of w.nodes name ≡ Some u → u < size (built w)
 numbered_size w name u e = omega (arith, numbered w name u e, length-map w.nodes (node_of w))
 
-before_at : (o : Option ℕ) (u v : ℕ) → o ≡ Some u → is_before o v ≡ true → u < v
-before_at None u v e h = let bad : None ≡ Some u = e in absurd (cc)
-before_at (Some u') u v e h = let same : u' ≡ u = cc in let lt = lt_true u' v h in omega (arith, same, lt)
-
-not_before_at : (o : Option ℕ) (u v : ℕ) → o ≡ Some u → is_before o v ≡ false → v ≤ u
-not_before_at None u v e h = let bad : None ≡ Some u = e in absurd (cc)
-not_before_at (Some u') u v e h = let same : u' ≡ u = cc in let le = lt_false u' v h in omega (arith, same, le)
-
 -- the operation is known
 known_op : (w : WrittenKernel) → IsClean w → (v : ℕ) (n : WrittenNode) → slice_get w.nodes v ≡ Some n → op_of w n ≡ Some (node_of w n).op
 known_op w clean v n at = some_of (op_of w n) Const (node_of w n).op (clean.unknown_op.nodes v n at) refl
@@ -127,7 +112,7 @@ known_op w clean v n at = some_of (op_of w n) Const (node_of w n).op (clean.unkn
 own_number : (w : WrittenKernel) → IsClean w → (v : ℕ) (n : WrittenNode) → slice_get w.nodes v ≡ Some n → number_of w.nodes n.name ≡ Some v
 own_number w clean v n at =
     let found = position_from-reached (λ m. bytes_eq m.name n.name) 0 w.nodes v v n at ((bytes_eq-Decides n.name n.name).1 refl) (omega arith) in
-    let least = not_before_at (number_of w.nodes n.name) found.0 v found.1.0 (clean.repeated_name.nodes v n at) in
+    let least = not_before (number_of w.nodes n.name) found.0 v found.1.0 (clean.repeated_name.nodes v n at) in
     let same : found.0 ≡ v = omega (arith, found.1.1, least) in
     found.1.0 ∙ ap Some same
 
@@ -136,7 +121,7 @@ own_number w clean v n at =
 named : (w : WrittenKernel) → IsClean w → IsNamed (built w)
 named w clean = record {
   names = λ v h. let n = node_at w v h in let P : List ℕ → Type 0 = IsName 32 in
-      subst P (ap (λ m. m.name) (sym n.1.is)) (is_name-IsName n.0.name (not_false _ (clean.bad_name.nodes v n.0 n.1.at)));
+      subst P (ap (λ m. m.name) (sym n.1.is)) (is_name-IsName 32 n.0.name (not-false _ (clean.bad_name.nodes v n.0 n.1.at)));
   apart = λ v u hv hu same.
       let n = node_at w v hv in
       let m = node_at w u hu in
@@ -151,7 +136,7 @@ wired w clean all = record {
   forward = λ v p u init h has.
       let s = source w v p u 0 init h has in
       let goes = any_false (applies_to_arg BackEdgeWithoutDistance w v) s.n.args p _ s.arg (clean.back_edge.nodes v s.n s.at) in
-      before_at (number_of w.nodes s.from) u v (known_source w clean v p u 0 init s) (not_false _ goes);
+      before_at (number_of w.nodes s.from) u v (known_source w clean v p u 0 init s) (not-false _ goes);
   constants = λ v p c h has.
       let n = node_at w v h in
       (all.at v p n.0 (Number c) n.1.at (constant w v p c n.0 n.1 has)).number c refl;
@@ -162,31 +147,31 @@ edge_at : (w : WrittenKernel) → IsClean w → (e u v d : ℕ) → HasOrder (bu
     → (x : WrittenEdge) × ((slice_get w.order e ≡ Some x) × (number_of w.nodes x.from ≡ Some u) × (number_of w.nodes x.to ≡ Some v) × (x.distance ≡ d))
 edge_at w clean e u v d has =
     let found = map_get (edge_of w) w.order e (record { from = u; to = v; distance = d }) has in
-    let known = or_false _ _ (clean.unknown_node.edges e found.0 found.1.0) in
+    let known = or_parts _ _ (clean.unknown_node.edges e found.0 found.1.0) in
     (found.0, (found.1.0, some_of _ 0 u known.0 (ap (λ o. o.from) found.1.1), some_of _ 0 v known.1 (ap (λ o. o.to) found.1.1), ap (λ o. o.distance) found.1.1))
 
 back_at : (o : Option ℕ) (from : Option ℕ) (b : Bool) (v : ℕ) → b ≡ true → o ≡ Some v → (b && option_map_or (λ v. not (is_before from v)) o false) ≡ false → is_before from v ≡ true
 back_at o from false v here to e = let bad : false ≡ true = here in absurd (cc)
 back_at None from true v here to e = let bad : None ≡ Some v = to in absurd (cc)
-back_at (Some u) from true v here to e = let same : u ≡ v = cc in ap (is_before from) (sym same) ∙ not_false _ e
+back_at (Some u) from true v here to e = let same : u ≡ v = cc in ap (is_before from) (sym same) ∙ not-false _ e
 
 ordered : (w : WrittenKernel) → IsClean w → IsOrder (built w)
 ordered w clean = record {
-  few = let few : length w.order ≤ 4096 = lt_false 4096 (length w.order) (or_false _ _ clean.too_large.file).1 in omega (arith, few, length-map w.order (edge_of w));
+  few = let few : length w.order ≤ 4096 = ltb-false 4096 (length w.order) (or_parts _ _ clean.too_large.file).1 in omega (arith, few, length-map w.order (edge_of w));
   known = λ e u v d has. let x = edge_at w clean e u v d has in (numbered_size w x.0.from u x.1.1, numbered_size w x.0.to v x.1.2);
   forward = λ e u v has.
       let x = edge_at w clean e u v 0 has in
-      before_at (number_of w.nodes x.0.from) u v x.1.1 (back_at (number_of w.nodes x.0.to) (number_of w.nodes x.0.from) (x.0.distance == 0) v (ap (λ d. d == 0) x.1.3 ∙ eq_same 0) x.1.2 (clean.back_edge.edges e x.0 x.1.0));
-  near = λ e u v d has. let x = edge_at w clean e u v d has in let near = lt_false 255 x.0.distance (clean.bad_distance.edges e x.0 x.1.0) in omega (arith, near, x.1.3);
+      before_at (number_of w.nodes x.0.from) u v x.1.1 (back_at (number_of w.nodes x.0.to) (number_of w.nodes x.0.from) (x.0.distance == 0) v (ap (λ d. d == 0) x.1.3 ∙ eq-eqb 0 0 refl) x.1.2 (clean.back_edge.edges e x.0 x.1.0));
+  near = λ e u v d has. let x = edge_at w clean e u v d has in let near = ltb-false 255 x.0.distance (clean.bad_distance.edges e x.0 x.1.0) in omega (arith, near, x.1.3);
 }
 
 arity_at : (o : Option Op) (op : Op) (n : ℕ) → o ≡ Some op → option_map_or (λ x. not (arity x == n)) o false ≡ false → n ≡ arity op
 arity_at None op n e h = let bad : None ≡ Some op = e in absurd (cc)
-arity_at (Some x) op n e h = let same : x ≡ op = cc in sym (eq_true (arity x) n (not_false _ h)) ∙ ap arity same
+arity_at (Some x) op n e h = let same : x ≡ op = cc in sym (eqb-true (arity x) n (not-false _ h)) ∙ ap arity same
 
 value_at : (o : Option Op) (op : Op) → o ≡ Some op → option_map_or (λ x. not (has_value x)) o false ≡ false → has_value op ≡ true
 value_at None op e h = let bad : None ≡ Some op = e in absurd (cc)
-value_at (Some x) op e h = let same : x ≡ op = cc in ap has_value (sym same) ∙ not_false _ h
+value_at (Some x) op e h = let same : x ≡ op = cc in ap has_value (sym same) ∙ not-false _ h
 
 port_at : (o : Option Op) (op : Op) (port : Option ℕ) → o ≡ Some op → option_map_or (λ x. is_bad_port x port) o false ≡ false → is_bad_port op port ≡ false
 port_at None op port e h = let bad : None ≡ Some op = e in absurd (cc)
@@ -194,11 +179,11 @@ port_at (Some x) op port e h = let same : x ≡ op = cc in ap (λ y. is_bad_port
 
 port_few : (op : Op) (port : Option ℕ) → is_bad_port op port ≡ false → unwrap_or port 0 ≤ 15
 port_few op None h = omega arith
-port_few op (Some p) h = lt_false 15 p (or_false _ _ h).1
+port_few op (Some p) h = ltb-false 15 p (or_parts _ _ h).1
 
 port_none : (op : Op) (port : Option ℕ) → is_bad_port op port ≡ false → has_port op ≡ false → unwrap_or port 0 ≡ 0
 port_none op None h none = refl
-port_none op (Some p) h none = let bad : true ≡ false = sym (not_false _ (or_false _ _ h).0) ∙ none in absurd (cc)
+port_none op (Some p) h none = let bad : true ≡ false = sym (not-false _ (or_parts _ _ h).0) ∙ none in absurd (cc)
 
 port_some : (op : Op) (port : Option ℕ) → is_bad_port op port ≡ false → has_port op ≡ true → port ≡ Some (unwrap_or port 0)
 port_some op None h some = let bad : true ≡ false = sym some ∙ h in absurd (cc)
@@ -228,11 +213,11 @@ apart_ports : (w : WrittenKernel) → IsClean w → (v u q : ℕ) (n m : Written
 apart_ports w clean v u q n m at at' port port' lt =
     let none = at_some (output_port w m) q (λ q. list_any (outputs_to w q) (take u w.nodes)) port' (clean.repeated_port.nodes u m at') in
     let not_here = any_false (outputs_to w q) (take u w.nodes) v n (take_get w.nodes u v n at lt) none in
-    let bad : true ≡ false = sym (eq_same q) ∙ at_some (output_port w n) q (λ other. other == q) port not_here in cc
+    let bad : true ≡ false = sym (eq-eqb q q refl) ∙ at_some (output_port w n) q (λ other. other == q) port not_here in cc
 
 valid_built : (w : WrittenKernel) → IsClean w → HasAllWords w → IsKernel (built w)
 valid_built w clean all = record {
-  few = let few = lt_false 1024 (length w.nodes) (or_false _ _ clean.too_large.file).0 in omega (arith, few, length-map w.nodes (node_of w));
+  few = let few = ltb-false 1024 (length w.nodes) (or_parts _ _ clean.too_large.file).0 in omega (arith, few, length-map w.nodes (node_of w));
   named = named w clean;
   wired = wired w clean all;
   order = ordered w clean;
@@ -245,13 +230,13 @@ valid_built w clean all = record {
       let of : source_op w s.from ≡ Some (node_of w m.0).op =
       ap (option_and_then (λ u. option_and_then (op_of w) (slice_get w.nodes u))) (known_source w clean v p u d init s) ∙ ap (option_and_then (op_of w)) m.1.at ∙ known_op w clean u m.0 m.1.at in
       ap (λ x. has_value x.op) m.1.is ∙ value_at (source_op w s.from) (node_of w m.0).op of (any_false (applies_to_arg NoValue w v) s.n.args p _ s.arg (clean.no_value.nodes v s.n s.at));
-  near = λ v p u d init h has. let s = source w v p u d init h has in lt_false 4 d (any_false (applies_to_arg BadDistance w v) s.n.args p _ s.arg (clean.bad_distance.nodes v s.n s.at));
+  near = λ v p u d init h has. let s = source w v p u d init h has in ltb-false 4 d (any_false (applies_to_arg BadDistance w v) s.n.args p _ s.arg (clean.bad_distance.nodes v s.n s.at));
   inits = λ v p u d init h has. let s = source w v p u d init h has in
-      eq_true (length init) d (not_false _ (any_false (applies_to_arg InitCount w v) s.n.args p _ s.arg (clean.init_count.nodes v s.n s.at)));
+      eqb-true (length init) d (not-false _ (any_false (applies_to_arg InitCount w v) s.n.args p _ s.arg (clean.init_count.nodes v s.n s.at)));
   init_words = λ v p u d k init h has. let s = source w v p u d init h has in (all.at v p s.n _ s.at s.arg).init s.from d k init s.other refl;
   one_constant = λ v p q a b h has has'.
       let n = node_at w v h in
-      let one = lt_false 1 (count_by is_number n.0.args) (clean.two_constants.nodes v n.0 n.1.at) in
+      let one = ltb-false 1 (count_by is_number n.0.args) (clean.two_constants.nodes v n.0 n.1.at) in
       let first = constant w v p a n.0 n.1 has in
       let second = constant w v q b n.0 n.1 has' in
       same_place p q

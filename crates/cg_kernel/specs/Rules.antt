@@ -1,11 +1,12 @@
 -- Where each of the faults K3 to K16 applies: at the file, at node v, at an order edge.
-use Rattle.std.specs.Prelude.{ℕ, ◌+◌, ◌==◌, ◌&&◌, ◌||◌, Bool, true, false, not, List, [], ◌∷◌, length, take, Option, Some, None, nat_lt, nat_le, count_by, slice_get, slice_index, option_map, option_and_then, if◌then◌else◌}
+use Rattle.std.specs.Prelude.{ℕ, ◌==◌, ◌&&◌, ◌||◌, Bool, true, false, not, List, [], ◌∷◌, length, take, Option, Some, None, nat_lt, nat_le, count_by, slice_get, option_map, option_and_then, if◌then◌else◌}
 use Rattle.std.specs.Option.{option_or, option_map_or, is_none}
-use Rattle.std.specs.List.{list_all, list_any, position_from}
+use Rattle.std.specs.List.{list_any, position_from}
 use Rattle.std.specs.Str.{bytes_eq}
 use Rattle.cg_word.specs.declared.op.Op.{Op}
 use Rattle.cg_word.specs.Word.{arity, code, has_value, has_port, is_output, op_named}
-use Rattle.cg_model.specs.Names.{begins_name, within_name}
+use Rattle.cg_model.specs.Names.{is_name}
+use Rattle.cg_model.specs.First.{first_from, is_before}
 use Rattle.cg_kernel.specs.Written.{Place, Format, WrittenArg, WrittenNode, WrittenEdge, WrittenKernel}
 use Rattle.cg_kernel.specs.declared.fault.KernelFault.{KernelFault}
 use Rattle.cg_kernel.specs.declared.fault.KernelFault.TheVariants as fault
@@ -17,18 +18,9 @@ use Rattle.cg_kernel.specs.declared.rule.Rule.TheVariants.{UnknownKey, TooLarge,
 
 -- ---- names and operations
 
--- a letter or `_`, then letters, digits or `_`, 1 to 32 characters
-abbrev pub is_name : List ℕ → Bool
-is_name name = nat_lt 0 (length name) && (nat_le (length name) 32 && (begins_name (slice_index name 0) && list_all within_name name))
-
 -- the number of the first node of that name
 abbrev pub number_of : List WrittenNode → List ℕ → Option ℕ
 number_of nodes name = position_from (λ n. bytes_eq n.name name) 0 nodes
-
--- it is the number of a node before node v
-abbrev pub is_before : Option ℕ → ℕ → Bool
-is_before None v = false
-is_before (Some u) v = nat_lt u v
 
 -- the first format knows the operations of codes 1 to 22, the second one all
 abbrev pub knows : Format → Op → Bool
@@ -57,9 +49,9 @@ arg_has_other_keys (Source from distance init other) = other
 abbrev pub is_too_large : WrittenKernel → Bool
 is_too_large w = nat_lt 1024 (length w.nodes) || nat_lt 4096 (length w.order)
 
--- K5 BadName: the node's name breaks the rule
+-- K5 BadName: the node's name breaks the rule: a letter or `_`, then letters, digits or `_`, 1 to 32 characters
 abbrev pub has_bad_name : WrittenNode → Bool
-has_bad_name n = not (is_name n.name)
+has_bad_name n = not (is_name 32 n.name)
 
 -- K6 RepeatedName: an earlier node has the name
 abbrev pub repeats_name : WrittenKernel → ℕ → WrittenNode → Bool
@@ -167,11 +159,6 @@ abbrev pub applies_to_file : Rule → WrittenKernel → Bool
 applies_to_file UnknownKey w = w.other_keys
 applies_to_file TooLarge w = is_too_large w
 applies_to_file _ w = false
-
--- the first place from v on at which a test of place and item holds
-abbrev pub first_from : {T : Type 0} → (ℕ → T → Bool) → ℕ → List T → Option ℕ
-first_from test v [] = None
-first_from test v (x ∷ xs) = if test v x then Some v else first_from test (v + 1) xs
 
 -- the first place where it applies: the file, then the nodes in order, then the order edges
 unfoldable pub first_place : Rule → WrittenKernel → Option Place

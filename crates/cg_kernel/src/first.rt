@@ -1,5 +1,6 @@
 //! The lowest fault that applies anywhere, at its first place.
 ghost use Rattle.std.specs.Prelude.{◌≡◌};
+ghost use Rattle.cg_model.specs.First.{first_from};
 ghost use Rattle.cg_kernel.specs.Numbers.{IsIndex};
 ghost use Rattle.cg_kernel.specs.Rules as spec;
 
@@ -82,7 +83,7 @@ fn first_place(rule: Rule, numbers: &Numbers, written: &WrittenKernel) -> Option
 
 fn first_node(rule: Rule, numbers: &Numbers, written: &WrittenKernel) -> Option<usize>
     requires { IsIndex numbers.now written.now.nodes }
-    ensures { result ≡ spec.first_from (spec.applies_to_node rule written.now) 0 written.now.nodes }
+    ensures { result ≡ first_from (spec.applies_to_node rule written.now) 0 written.now.nodes }
 {
     let nodes = written.nodes.as_slice();
     for (number, node) in nodes.iter().enumerate() {
@@ -95,7 +96,7 @@ fn first_node(rule: Rule, numbers: &Numbers, written: &WrittenKernel) -> Option<
 
 fn first_edge(rule: Rule, numbers: &Numbers, written: &WrittenKernel) -> Option<usize>
     requires { IsIndex numbers.now written.now.nodes }
-    ensures { result ≡ spec.first_from (λ e edge. spec.applies_to_edge rule written.now edge) 0 written.now.order }
+    ensures { result ≡ first_from (λ e edge. spec.applies_to_edge rule written.now edge) 0 written.now.order }
 {
     let order = written.order.as_slice();
     for (number, edge) in order.iter().enumerate() {

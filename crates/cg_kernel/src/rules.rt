@@ -1,14 +1,15 @@
 //! Whether a fault applies to an argument, a node, an order edge or the whole file.
 ghost use Rattle.std.specs.Prelude.{◌≡◌, ◌≤◌, length};
-ghost use Rattle.std.specs.List.{list_all, list_any};
+ghost use Rattle.std.specs.List.{list_any};
 ghost use Rattle.cg_word.specs.Word as word;
-ghost use Rattle.cg_model.specs.Names as names;
+ghost use Rattle.cg_model.specs.First.{is_before};
 ghost use Rattle.cg_kernel.specs.Numbers.{IsIndex};
 ghost use Rattle.cg_kernel.specs.Rules as spec;
 
 use crate::numbers::{Numbers, number_in};
 use crate::rule::Rule;
 use crate::written::{Format, WrittenArg, WrittenEdge, WrittenKernel, WrittenNode};
+use cg_model::is_name;
 use cg_word::Op;
 
 /// The operation of a node, where the format knows one of that name.
@@ -50,40 +51,12 @@ fn source_op(written: &WrittenKernel, numbers: &Numbers, name: &str) -> Option<O
 }
 
 fn is_before(number: Option<usize>, node: usize) -> bool
-    ensures { result ≡ spec.is_before number node }
+    ensures { result ≡ is_before number node }
 {
     match number {
         Some(number) => number < node,
         None => false,
     }
-}
-
-fn is_name(name: &str) -> bool
-    ensures { result ≡ spec.is_name name.now }
-{
-    let bytes = name.as_bytes();
-    match bytes {
-        [first, ..] => bytes.len() <= 32 && begins_name(*first) && are_within_name(bytes),
-        [] => false,
-    }
-}
-
-fn are_within_name(bytes: &[u8]) -> bool
-    ensures { result ≡ list_all names.within_name bytes.now }
-{
-    bytes.iter().all(|byte| within_name(*byte))
-}
-
-fn begins_name(byte: u8) -> bool
-    ensures { result ≡ names.begins_name byte }
-{
-    matches!(byte, b'A'..=b'Z' | b'a'..=b'z' | b'_')
-}
-
-fn within_name(byte: u8) -> bool
-    ensures { result ≡ names.within_name byte }
-{
-    begins_name(byte) || byte.is_ascii_digit()
 }
 
 fn repeats_name(
@@ -328,7 +301,7 @@ pub fn applies_to_node(
 {
     match rule {
         Rule::TooLarge => false,
-        Rule::BadName => !is_name(node.name.as_str()),
+        Rule::BadName => !is_name(node.name.as_str(), 32),
         Rule::RepeatedName => repeats_name(numbers, written, number, node),
         Rule::UnknownOp => op_of(written, node).is_none(),
         Rule::WrongOperandCount => has_wrong_count(written, node),

@@ -3,57 +3,42 @@ use Rattle.std.proofs.Common.{◌≡◌, ℕ, zero, suc, ◌<◌, ◌≤◌, ◌
 use Rattle.std.specs.Prelude.{nat_lt, slice_get, unwrap_or, count_by}
 use Rattle.std.specs.Option.{is_none, option_map, option_and_then, option_map_or, option_or}
 use Rattle.std.specs.List.{list_any}
-use Rattle.std.proofs.lemmas.Bool.{lt-ltb, le-leb, eq-eqb}
-use Rattle.std.proofs.lemmas.Bool.Decides.{nat_tests}
-use Rattle.std.proofs.lemmas.Option.{slice_get-get_or, slice_get_within, get_or_from_slice_get}
+use Rattle.std.proofs.lemmas.Bool.{lt-ltb, eq-eqb, eqb-true, le-ltb, not_from_true, ne_eqb}
+use Rattle.std.proofs.lemmas.Option.{slice_get-get_or}
 use Rattle.std.proofs.lemmas.List.{length-map}
 use Rattle.std.proofs.lemmas.Slice.Eq.{bytes_eq-Decides}
 use Rattle.cg_word.specs.declared.op.Op.{Op}
 use Rattle.cg_word.specs.declared.op.Op.TheVariants as op
 use Rattle.cg_word.specs.Word as word
 use Rattle.cg_word.proofs.Codes.{op_named_again}
-use Rattle.cg_model.specs.Names.{IsName, within_name}
+use Rattle.cg_model.specs.Names.{IsName}
+use Rattle.cg_model.specs.First.{first_from, is_before}
 use Rattle.cg_model.specs.Kernel.{Kernel, size, node, no_node, IsKernel}
 use Rattle.cg_model.specs.declared.kernel.Node.{Node}
 use Rattle.cg_model.specs.declared.kernel.Operand.{Operand}
 use Rattle.cg_model.specs.declared.kernel.Operand.TheVariants.{Const, Edge}
 use Rattle.cg_model.specs.declared.kernel.OrderEdge.{OrderEdge}
+use Rattle.cg_model.proofs.Identifiers.{is_name-back}
+use Rattle.cg_model.proofs.Elements.{map_get}
+use Rattle.cg_model.proofs.Positions.{position_from-reached, position_from-found}
+use Rattle.cg_model.proofs.Counts.{count_by-one}
 use Rattle.cg_kernel.specs.declared.written.WrittenNode.{WrittenNode}
 use Rattle.cg_kernel.specs.declared.rule.Rule.{Rule}
 use Rattle.cg_kernel.specs.declared.rule.Rule.TheVariants.{UnknownKey, TooLarge, BadName, RepeatedName, UnknownOp, WrongOperandCount, UnknownNode, NoValue, BackEdgeWithoutDistance, BadDistance, InitCount, TwoConstants, BadPort, RepeatedOutputPort}
 use Rattle.cg_kernel.specs.declared.fault.Place.TheVariants as place
-use Rattle.cg_kernel.specs.Rules.{is_name, number_of, is_before, op_of, source_op, applies_to_arg, applies_to_node, applies_to_edge, applies_to_file, is_number, is_bad_port, output_port, outputs_to, first_from, first_place, fault_at, first_fault, all_rules}
+use Rattle.cg_kernel.specs.Rules.{number_of, op_of, source_op, applies_to_arg, applies_to_node, applies_to_edge, applies_to_file, is_number, is_bad_port, output_port, outputs_to, first_place, fault_at, first_fault, all_rules}
 use Rattle.cg_kernel.specs.Answer.{node_number, operand_of, node_of, edge_of, kernel_of, judged, unless, answer_of, answer_in, answer_written}
-use Rattle.cg_kernel.proofs.Tests.{map_get, eq_true, position_from-reached}
 use Rattle.serde_json.specs.Read.{read}
 use Rattle.cg_json.proofs.Reading.{value_of-read}
 use Rattle.cg_kernel_text.specs.Printed.{name_at, data_of}
-use Rattle.cg_kernel_text.proofs.Elements.{list_any-none, list_all-each, first_from-none, position_from-at, take_get-back, count_by-one, map-back}
+use Rattle.cg_kernel_text.proofs.Elements.{list_any-none, first_from-none, take_get-back, map-back}
 use Rattle.cg_kernel_text.proofs.Back.{written_arg, written_node, written_edge, written, node_is, has, below, written_of-data_of}
 
 -- ---- tests
 
-not_lt : (a b : ℕ) → b ≤ a → nat_lt a b ≡ false
-not_lt a b h = grind (arith, nat_tests)
-
-is_lt : (a b : ℕ) → a < b → nat_lt a b ≡ true
-is_lt a b h = lt-ltb a b h
-
-not_of : (b : Bool) → b ≡ true → not b ≡ false
-not_of b h = ap not h
-
 and_false : (a b : Bool) → (a ≡ true → b ≡ false) → (a && b) ≡ false
 and_false true b h = h refl
 and_false false b h = refl
-
-and_both : (a b : Bool) → a ≡ true → b ≡ true → (a && b) ≡ true
-and_both a b h k = ap (λ x. x && b) h ∙ k
-
-not_eq : (a b : ℕ) → (a ≡ b → ⊥) → (a == b) ≡ false
-not_eq a b h = no (a == b) (λ e. h (eq_true a b e)) where
-  no : (x : Bool) → (x ≡ true → ⊥) → x ≡ false
-  no false h = refl
-  no true h = absurd (h refl)
 
 -- ---- names and operations
 
@@ -70,9 +55,9 @@ number_back : (K : Kernel) → IsKernel K → (v : ℕ) (n : Node) → slice_get
 number_back K valid v n at =
     let test = λ (m : WrittenNode). bytes_eq m.name n.name in
     let reached = position_from-reached test 0 (map (written_node K.nodes) K.nodes) v v (written_node K.nodes n) (get_map (written_node K.nodes) K.nodes v n at) ((bytes_eq-Decides n.name n.name).1 refl) (omega arith) in
-    let found = position_from-at test 0 (map (written_node K.nodes) K.nodes) reached.0 reached.1.0 in
-    let m = map_get (written_node K.nodes) K.nodes found.0 found.1.0 found.1.1.1 in
-    let names : m.0.name ≡ n.name = ap (λ x. x.name) m.1.1 ∙ (bytes_eq-Decides found.1.0.name n.name).0 found.1.1.2 in
+    let found = position_from-found test 0 (map (written_node K.nodes) K.nodes) reached.0 reached.1.0 in
+    let m = map_get (written_node K.nodes) K.nodes found.0 found.1.0 found.1.1.1.0 in
+    let names : m.0.name ≡ n.name = ap (λ x. x.name) m.1.1 ∙ (bytes_eq-Decides found.1.0.name n.name).0 found.1.1.1.1 in
     let same = valid.named.apart found.0 v (below K found.0 m.0 m.1.0) (below K v n at) (named_at K found.0 m.0 m.1.0 ∙ names ∙ sym (named_at K v n at)) in
     let here : reached.0 ≡ v = omega (arith, found.1.1.0, same) in
     reached.1.0 ∙ ap Some here
@@ -86,11 +71,6 @@ number_of_node K valid u h = number_back K valid u (node K u) (node_there K u h)
 
 op_back : (K : Kernel) (n : Node) → op_of (written K) (written_node K.nodes n) ≡ Some n.op
 op_back K n = ap (option_and_then (λ o. Some o)) (op_named_again n.op)
-
-is_name-back : (name : List ℕ) → IsName 32 name → is_name name ≡ true
-is_name-back name h =
-    and_both _ _ (lt-ltb 0 (length name) h.some) (and_both _ _ (le-leb (length name) 32 h.short) (and_both _ _ h.first
-    (list_all-each within_name name (λ i x at. ap within_name (sym (get_or_from_slice_get name i x 0 at)) ∙ h.rest i (slice_get_within name i x at)))))
 
 -- ---- each fault is absent
 
@@ -121,24 +101,24 @@ no_value_arg : (K : Kernel) → IsKernel K → (v p : ℕ) (n : Node) (o : Opera
 no_value_arg K valid v p n (Const c) at arg = refl
 no_value_arg K valid v p n (Edge u d init) at arg =
     ap (λ o. option_map_or (λ op. not (word.has_value op)) o false) (source_op_back K valid u (source_there K valid v p n u d init at arg))
-    ∙ not_of _ (valid.valued v p u d init (below K v n at) (has K v p n (Edge u d init) at arg))
+    ∙ not_from_true _ (valid.valued v p u d init (below K v n at) (has K v p n (Edge u d init) at arg))
 
 before_back : (o : Option ℕ) (u v : ℕ) → o ≡ Some u → u < v → not (is_before o v) ≡ false
-before_back o u v e h = ap (λ x. not (is_before x v)) e ∙ not_of _ (is_lt u v h)
+before_back o u v e h = ap (λ x. not (is_before x v)) e ∙ not_from_true _ (lt-ltb u v h)
 
 back_edge_arg : (K : Kernel) → IsKernel K → (v p : ℕ) (n : Node) (o : Operand) → slice_get K.nodes v ≡ Some n → slice_get n.operands p ≡ Some o → applies_to_arg BackEdgeWithoutDistance (written K) v (written_arg K.nodes o) ≡ false
 back_edge_arg K valid v p n (Const c) at arg = refl
 back_edge_arg K valid v p n (Edge u d init) at arg = and_false (d == 0) _
     (λ none. before_back _ u v (number_of_node K valid u (source_there K valid v p n u d init at arg))
-    (valid.wired.forward v p u init (below K v n at) (ap (λ m. slice_get m.operands p) (node_is K v n at) ∙ arg ∙ ap (λ x. Some (Edge u x init)) (eq_true d 0 none))))
+    (valid.wired.forward v p u init (below K v n at) (ap (λ m. slice_get m.operands p) (node_is K v n at) ∙ arg ∙ ap (λ x. Some (Edge u x init)) (eqb-true d 0 none))))
 
 too_far_arg : (K : Kernel) → IsKernel K → (v p : ℕ) (n : Node) (o : Operand) → slice_get K.nodes v ≡ Some n → slice_get n.operands p ≡ Some o → applies_to_arg BadDistance (written K) v (written_arg K.nodes o) ≡ false
 too_far_arg K valid v p n (Const c) at arg = refl
-too_far_arg K valid v p n (Edge u d init) at arg = not_lt 4 d (valid.near v p u d init (below K v n at) (has K v p n (Edge u d init) at arg))
+too_far_arg K valid v p n (Edge u d init) at arg = le-ltb 4 d (valid.near v p u d init (below K v n at) (has K v p n (Edge u d init) at arg))
 
 init_arg : (K : Kernel) → IsKernel K → (v p : ℕ) (n : Node) (o : Operand) → slice_get K.nodes v ≡ Some n → slice_get n.operands p ≡ Some o → applies_to_arg InitCount (written K) v (written_arg K.nodes o) ≡ false
 init_arg K valid v p n (Const c) at arg = refl
-init_arg K valid v p n (Edge u d init) at arg = not_of _ (eq-eqb (length init) d (valid.inits v p u d init (below K v n at) (has K v p n (Edge u d init) at arg)))
+init_arg K valid v p n (Edge u d init) at arg = not_from_true _ (eq-eqb (length init) d (valid.inits v p u d init (below K v n at) (has K v p n (Edge u d init) at arg)))
 
 number_there : (K : Kernel) (o : Operand) → is_number (written_arg K.nodes o) ≡ true → (c : ℕ) × (o ≡ Const c)
 number_there K (Const c) e = (c, refl)
@@ -154,7 +134,7 @@ one_constant K valid v n at = count_by-one is_number (map (written_arg K.nodes) 
     valid.one_constant v p q c.0 d.0 (below K v n at) (has K v p n (Const c.0) at (x.1.0 ∙ ap Some c.1)) (has K v q n (Const d.0) at (y.1.0 ∙ ap Some d.1)))
 
 port_clear : (b : Bool) (o : Op) (p : ℕ) → word.has_port o ≡ b → p ≤ 15 → is_bad_port o (cond b (Some p) None) ≡ false
-port_clear true o p e h = ap (λ b. not b || nat_lt 15 p) e ∙ not_lt 15 p h
+port_clear true o p e h = ap (λ b. not b || nat_lt 15 p) e ∙ le-ltb 15 p h
 port_clear false o p e h = e
 
 outputs_have_ports : (o : Op) → word.is_output o ≡ true → word.has_port o ≡ true
@@ -176,7 +156,7 @@ other_port : (K : Kernel) → IsKernel K → (v u : ℕ) (n m : Node) (b : Bool)
 other_port K valid v u n m false at at' out lt e = ap (λ o. option_map_or (λ other. other == n.port) o false) (output_port_back K m false e)
 other_port K valid v u n m true at at' out lt e =
     ap (λ o. option_map_or (λ other. other == n.port) o false) (output_port_back K m true e)
-    ∙ not_eq m.port n.port (λ same.
+    ∙ ne_eqb m.port n.port (λ same.
     let one = valid.one_output u v (below K u m at') (below K v n at) (ap (λ x. word.is_output x.op) (node_is K u m at') ∙ e) (ap (λ x. word.is_output x.op) (node_is K v n at) ∙ out)
     (ap (λ x. x.port) (node_is K u m at') ∙ same ∙ ap (λ x. x.port) (sym (node_is K v n at))) in
     omega (arith, one, lt))
@@ -199,19 +179,19 @@ node_clear K valid UnknownKey v n at = args_clear K UnknownKey v n (λ p o arg. 
 node_clear K valid TooLarge v n at = refl
 node_clear K valid BadName v n at =
     let P : List ℕ → Type 0 = IsName 32 in
-    not_of _ (is_name-back n.name (subst P (named_at K v n at) (valid.named.names v (below K v n at))))
-node_clear K valid RepeatedName v n at = ap (λ o. is_before o v) (number_back K valid v n at) ∙ not_lt v v (omega arith)
+    not_from_true _ (is_name-back 32 n.name (subst P (named_at K v n at) (valid.named.names v (below K v n at))))
+node_clear K valid RepeatedName v n at = ap (λ o. is_before o v) (number_back K valid v n at) ∙ le-ltb v v (omega arith)
 node_clear K valid UnknownOp v n at = ap is_none (op_back K n)
 node_clear K valid WrongOperandCount v n at =
     let count : word.arity n.op ≡ length (map (written_arg K.nodes) n.operands) =
     sym (length-map n.operands (written_arg K.nodes) ∙ ap (λ m. length m.operands) (sym (node_is K v n at)) ∙ valid.arities v (below K v n at) ∙ ap (λ m. word.arity m.op) (node_is K v n at)) in
-    ap (λ o. option_map_or (λ op. not (word.arity op == length (map (written_arg K.nodes) n.operands))) o false) (op_back K n) ∙ not_of _ (eq-eqb _ _ count)
+    ap (λ o. option_map_or (λ op. not (word.arity op == length (map (written_arg K.nodes) n.operands))) o false) (op_back K n) ∙ not_from_true _ (eq-eqb _ _ count)
 node_clear K valid UnknownNode v n at = args_clear K UnknownNode v n (λ p o arg. unknown_node_arg K valid v p n o at arg)
 node_clear K valid NoValue v n at = args_clear K NoValue v n (λ p o arg. no_value_arg K valid v p n o at arg)
 node_clear K valid BackEdgeWithoutDistance v n at = args_clear K BackEdgeWithoutDistance v n (λ p o arg. back_edge_arg K valid v p n o at arg)
 node_clear K valid BadDistance v n at = args_clear K BadDistance v n (λ p o arg. too_far_arg K valid v p n o at arg)
 node_clear K valid InitCount v n at = args_clear K InitCount v n (λ p o arg. init_arg K valid v p n o at arg)
-node_clear K valid TwoConstants v n at = not_lt 1 _ (one_constant K valid v n at)
+node_clear K valid TwoConstants v n at = le-ltb 1 _ (one_constant K valid v n at)
 node_clear K valid BadPort v n at =
     let few = valid.ports v (below K v n at) in
     let is = ap (λ m. m.port) (node_is K v n at) in
@@ -229,14 +209,14 @@ edge_clear K valid BackEdgeWithoutDistance i e at =
     and_false (e.distance == 0) _ (λ none.
     ap (λ o. option_map_or (λ v. not (is_before (number_of (map (written_node K.nodes) K.nodes) (name_at K.nodes e.from)) v)) o false) (number_of_node K valid e.to known.1)
     ∙ before_back _ e.from e.to (number_of_node K valid e.from known.0)
-    (valid.order.forward i e.from e.to (at ∙ ap (λ d. Some (record { from = e.from; to = e.to; distance = d })) (eq_true e.distance 0 none))))
-edge_clear K valid BadDistance i e at = not_lt 255 e.distance (valid.order.near i e.from e.to e.distance at)
+    (valid.order.forward i e.from e.to (at ∙ ap (λ d. Some (record { from = e.from; to = e.to; distance = d })) (eqb-true e.distance 0 none))))
+edge_clear K valid BadDistance i e at = le-ltb 255 e.distance (valid.order.near i e.from e.to e.distance at)
 edge_clear K valid _ i e at = refl
 
 file_clear : (K : Kernel) → IsKernel K → (rule : Rule) → applies_to_file rule (written K) ≡ false
 file_clear K valid TooLarge =
-    ap (λ b. b || nat_lt 4096 (length (map (written_edge K.nodes) K.order))) (not_lt 1024 _ (omega (arith, valid.few, length-map K.nodes (written_node K.nodes))))
-    ∙ not_lt 4096 _ (omega (arith, valid.order.few, length-map K.order (written_edge K.nodes)))
+    ap (λ b. b || nat_lt 4096 (length (map (written_edge K.nodes) K.order))) (le-ltb 1024 _ (omega (arith, valid.few, length-map K.nodes (written_node K.nodes))))
+    ∙ le-ltb 4096 _ (omega (arith, valid.order.few, length-map K.order (written_edge K.nodes)))
 file_clear K valid _ = refl
 
 place_clear : (K : Kernel) → IsKernel K → (rule : Rule) → first_place rule (written K) ≡ None

@@ -1,4 +1,5 @@
 pub mod Names
+pub mod First
 pub mod Work
 pub mod Kernel
 pub mod Turns

@@ -1,5 +1,6 @@
 -- Names of nodes, units, resources and architectures, as the bytes of their text.
-use Rattle.std.specs.Prelude.{◌≡◌, ℕ, ◌<◌, ◌≤◌, nat_le, eqb, Bool, true, ◌&&◌, ◌||◌, List, length, slice_index}
+use Rattle.std.specs.Prelude.{◌≡◌, ℕ, ◌<◌, ◌≤◌, nat_lt, nat_le, eqb, Bool, true, ◌&&◌, ◌||◌, List, length, slice_index}
+use Rattle.std.specs.List.{list_all}
 
 -- the byte is one of low, .., high
 abbrev pub between : ℕ → ℕ → ℕ → Bool
@@ -12,6 +13,14 @@ begins_name byte = between 65 90 byte || (between 97 122 byte || eqb byte 95)
 -- a letter of ASCII, `_` or a digit
 abbrev pub within_name : ℕ → Bool
 within_name byte = begins_name byte || between 48 57 byte
+
+-- an identifier: a letter or `_`, then letters, digits or `_`
+abbrev pub is_identifier : List ℕ → Bool
+is_identifier name = nat_lt 0 (length name) && (begins_name (slice_index name 0) && list_all within_name name)
+
+-- an identifier of at most `most` characters
+abbrev pub is_name : ℕ → List ℕ → Bool
+is_name most name = is_identifier name && nat_le (length name) most
 
 -- a name begins with a letter or `_`, goes on with letters, digits or `_`, and has at most `most`
 -- characters

@@ -8,9 +8,11 @@ mod config;
 mod kernel;
 mod lists;
 mod mapping;
+mod names;
 
 pub use array::{Kind, Resource, Unit};
 pub use config::{ArgFields, UnitFields};
 pub use kernel::{Node, Operand, OrderEdge};
 pub use lists::{Items, Name, Operands, Words};
 pub use mapping::{Place, Route};
+pub use names::{is_identifier, is_name};

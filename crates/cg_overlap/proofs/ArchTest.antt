@@ -9,8 +9,10 @@ use Rattle.cg_word.specs.Word.{arity}
 use Rattle.cg_model.specs.declared.array.Kind.TheVariants.{Wire, Register, Port, Out}
 use Rattle.cg_model.specs.Array.{Arch, IsArch, IsSmall, HasNames, HasHub, resource, unit, port, hub_register, owner, links, delay}
 use Rattle.cg_model.specs.Canonical.{any_below}
+use Rattle.cg_model.specs.Names.{is_name}
+use Rattle.cg_model.proofs.Identifiers.{is_name-IsName}
 use Rattle.cg_overlap.proofs.Wires.{driven_within, out_within}
-use Rattle.cg_overlap.proofs.Tests.{all_true, part, every, every_it, has, has_it, all_below, all_below_it, any_below_it, given, given_it, fails_it, is_kind, kind_is, is_named, named_by}
+use Rattle.cg_overlap.proofs.Tests.{all_true, part, every, every_it, has, has_it, all_below, all_below_it, any_below_it, given, given_it, fails_it, is_kind, kind_is}
 
 abbrev each_resource : Arch → (ℕ → Bool) → Bool
 each_resource A f = all_below f (length A.resources)
@@ -59,10 +61,10 @@ small_by A h =
 
 abbrev name_tests : Arch → List Bool
 name_tests A =
-    is_named 40 A.name
-    ∷ each_unit A (λ x. is_named 40 (unit A x).name)
-    ∷ each_resource A (λ r. given (is_kind (resource A r).kind Wire) (is_named 40 (resource A r).name))
-    ∷ each_resource A (λ r. given (is_kind (resource A r).kind Register) (is_named 40 (resource A r).name))
+    is_name 40 A.name
+    ∷ each_unit A (λ x. is_name 40 (unit A x).name)
+    ∷ each_resource A (λ r. given (is_kind (resource A r).kind Wire) (is_name 40 (resource A r).name))
+    ∷ each_resource A (λ r. given (is_kind (resource A r).kind Register) (is_name 40 (resource A r).name))
     ∷ each_resource A (λ r. each_resource A (λ s. given (bytes_eq (resource A r).name (resource A s).name) (eqb r s)))
     ∷ each_unit A (λ x. each_unit A (λ y. given (bytes_eq (unit A x).name (unit A y).name) (eqb x y)))
     ∷ each_resource A (λ r. each_unit A (λ x. not (bytes_eq (resource A r).name (unit A x).name)))
@@ -73,10 +75,10 @@ name_tests A =
 names_by : (A : Arch) → all_true (name_tests A) ≡ true → HasNames A
 names_by A h =
     record {
-      own = named_by _ _ (part _ 0 h);
-      units = λ x l. named_by _ _ (all_below_it _ _ x (part _ 1 h) l);
-      wires = λ r l e. named_by _ _ (given_it _ _ (all_below_it _ _ r (part _ 2 h) l) (ap (λ z. is_kind z Wire) e));
-      registers = λ r l e. named_by _ _ (given_it _ _ (all_below_it _ _ r (part _ 3 h) l) (ap (λ z. is_kind z Register) e));
+      own = is_name-IsName _ _ (part _ 0 h);
+      units = λ x l. is_name-IsName _ _ (all_below_it _ _ x (part _ 1 h) l);
+      wires = λ r l e. is_name-IsName _ _ (given_it _ _ (all_below_it _ _ r (part _ 2 h) l) (ap (λ z. is_kind z Wire) e));
+      registers = λ r l e. is_name-IsName _ _ (given_it _ _ (all_below_it _ _ r (part _ 3 h) l) (ap (λ z. is_kind z Register) e));
       resources_apart = λ r s lr ls e. eqb-true _ _ (given_it _ _ (all_below_it _ _ s (all_below_it _ _ r (part _ 4 h) lr) ls) ((bytes_eq-Decides _ _).1 e));
       units_apart = λ x y lx ly e. eqb-true _ _ (given_it _ _ (all_below_it _ _ y (all_below_it _ _ x (part _ 5 h) lx) ly) ((bytes_eq-Decides _ _).1 e));
       both_apart = λ r x lr lx e. fails_it _ (all_below_it _ _ x (all_below_it _ _ r (part _ 6 h) lr) lx) ((bytes_eq-Decides _ _).1 e);

@@ -11,9 +11,10 @@ use Rattle.cg_model.specs.declared.mapping.Place.{Place}
 use Rattle.cg_model.specs.Mapping.{Mapping, place, IsLegal}
 use Rattle.cg_model.specs.Config.{configuration_of, stages_of}
 use Rattle.cg_model.specs.Machine.{at_cycle, machine, cycles}
+use Rattle.cg_model.proofs.Lengths.{memory_stays}
 use Rattle.cg_overlap.proofs.Sequence.{turn_below}
 use Rattle.cg_overlap.proofs.Latest.{latest, agree}
-use Rattle.cg_overlap.proofs.Memory.{length-before, length-at_cycle}
+use Rattle.cg_overlap.proofs.Memory.{length-at_cycle}
 use Rattle.cg_overlap.proofs.Induction.{begin, Stores, put_at, moves_turns, moves_array, right, stores_rise}
 
 stage_within : (ii : ℕ) (places : List Place) (v : ℕ) → (get_or places v (record { unit = 0; time = 0 })).time / ii + 1 ≤ stages_of ii places
@@ -55,5 +56,5 @@ module _ (A : Arch) (K : Kernel) (M : Mapping) (n : ℕ) (image : Image) (is : I
   pub memory_left : (machine A (configuration_of A K M) n image).memory ≡ (turns K n image).memory
   memory_left =
       let e = length-at_cycle A (configuration_of A K M) n image (cycles (configuration_of A K M) n) in
-      ext_get_or 0 (machine A (configuration_of A K M) n image).memory (turns K n image).memory (e ∙ sym (length-before K image (n * size K)))
+      ext_get_or 0 (machine A (configuration_of A K M) n image).memory (turns K n image).memory (e ∙ sym (memory_stays K image (n * size K)))
       (λ a l. word_left a (omega (arith, e)))

@@ -13,11 +13,12 @@ use Rattle.cg_model.specs.Array.{Arch, IsArch}
 use Rattle.cg_model.specs.Mapping.{Mapping, place, IsLegal}
 use Rattle.cg_model.specs.Config.{configuration_of}
 use Rattle.cg_model.specs.Machine.{at_cycle, begins, result, result_of}
+use Rattle.cg_model.proofs.Lengths.{memory_stays}
 use Rattle.cg_overlap.proofs.Sequence.{step_node, step_turn, step_within, step_of, turn_below, positive_from, work_is}
 use Rattle.cg_overlap.proofs.Starts.{starts, started}
 use Rattle.cg_overlap.proofs.Orders.{source_before, ordered_rises}
 use Rattle.cg_overlap.proofs.Latest.{Moves, latest, agree}
-use Rattle.cg_overlap.proofs.Memory.{reaches, put, written, written_units, value_same, length-before, length-at_cycle}
+use Rattle.cg_overlap.proofs.Memory.{reaches, put, written, written_units, value_same, length-at_cycle}
 
 -- the cycle in which step k begins
 abbrev pub begin : Kernel → Mapping → ℕ → ℕ
@@ -38,7 +39,7 @@ moves_turns K n image a l k b =
     ⊎_elim
     (λ h. inl (k, (b, h.0), refl, h.1))
     (λ h. inr (h.0, λ j w e. h.1 (subst (λ i. Writes (work K image i) a) e w.1)))
-    (written (before K image k).memory (work K image k) a (omega (arith, length-before K image k)))
+    (written (before K image k).memory (work K image k) a (omega (arith, memory_stays K image k)))
 
 module _ (A : Arch) (K : Kernel) (M : Mapping) (n : ℕ) (image : Image) (is : IsArch A) (good : IsKernel K) (legal : IsLegal A K M) where
   pub begin_at : (i v : ℕ) → v < size K → begin K M (i * size K + v) ≡ (place M v).time + i * M.ii
@@ -120,7 +121,7 @@ module _ (A : Arch) (K : Kernel) (M : Mapping) (n : ℕ) (image : Image) (is : I
         ∙ value_same image memory (before K image k).memory (work K image k)
         (λ a reads.
         ⊎_elim (λ la. let e = begin_at i v lv in rw e at (load_right a k la lk (rw e right) reads))
-        (λ la. get_or_past memory a 0 (omega (arith, length-at_cycle A (configuration_of A K M) n image c)) ∙ sym (get_or_past (before K image k).memory a 0 (omega (arith, length-before K image k))))
+        (λ la. get_or_past memory a 0 (omega (arith, length-at_cycle A (configuration_of A K M) n image c)) ∙ sym (get_or_past (before K image k).memory a 0 (omega (arith, memory_stays K image k))))
         (cases_lt a (length image.memory)))
 
     pub right : (c : ℕ) → Right c

@@ -9,7 +9,9 @@ use Rattle.cg_word.specs.Word.{arity, words, has_value, has_port, is_output}
 use Rattle.cg_model.specs.declared.kernel.Operand.{Operand}
 use Rattle.cg_model.specs.declared.kernel.Operand.TheVariants.{Const as Constant, Edge}
 use Rattle.cg_model.specs.Kernel.{Kernel, HasOperand, IsKernel, IsWired, IsOrder, IsNamed, node, size}
-use Rattle.cg_overlap.proofs.Tests.{all_true, part, every, every_it, every_at, all_below, all_below_it, given, given_it, is_named, named_by}
+use Rattle.cg_model.specs.Names.{is_name}
+use Rattle.cg_model.proofs.Identifiers.{is_name-IsName}
+use Rattle.cg_overlap.proofs.Tests.{all_true, part, every, every_it, every_at, all_below, all_below_it, given, given_it}
 
 abbrev each_node : Kernel → (ℕ → Bool) → Bool
 each_node K f = all_below f (size K)
@@ -30,7 +32,7 @@ is_constant (Some (Edge u d init)) = false
 abbrev kernel_tests : Kernel → List Bool
 kernel_tests K =
     nat_le (size K) 1024
-    ∷ each_node K (λ v. is_named 32 (node K v).name)
+    ∷ each_node K (λ v. is_name 32 (node K v).name)
     ∷ each_node K (λ v. each_node K (λ w. given (bytes_eq (node K v).name (node K w).name) (eqb v w)))
     ∷ each_node K (λ v. every (λ o. all_true (operand_tests K v o)) (node K v).operands)
     ∷ each_node K (λ v. all_below (λ p. all_below (λ q. given (is_constant (slice_get (node K v).operands p) && is_constant (slice_get (node K v).operands q)) (eqb p q)) (length (node K v).operands)) (length (node K v).operands))
@@ -78,7 +80,7 @@ module _ (K : Kernel) (h : is_kernel K ≡ true) where
   named : IsNamed K
   named =
       record {
-        names = λ v l. named_by _ _ (all_below_it _ _ v (part _ 1 h) l);
+        names = λ v l. is_name-IsName _ _ (all_below_it _ _ v (part _ 1 h) l);
         apart = λ v w lv lw e. eqb-true _ _ (given_it _ _ (all_below_it _ _ w (all_below_it _ _ v (part _ 2 h) lv) lw) ((bytes_eq-Decides _ _).1 e));
       }
 

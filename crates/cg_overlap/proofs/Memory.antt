@@ -2,21 +2,15 @@
 use Rattle.std.proofs.Common.{true, subst, ◌≡◌, ℕ, zero, suc, ◌<◌, List, length, Option, Some, None, refl, sym, ap, ◌∙◌, arith, ⊎_elim, inl, inr}
 use Rattle.std.specs.Prelude.{◌⊎◌, slice_index, slice_set, nat_lt}
 use Rattle.std.proofs.lemmas.Bool.{cases_lt, cases_eq, cases_Bool, cond-true, cond-false, and_parts, and_from, true≢false}
-use Rattle.std.proofs.lemmas.List.{length-set, get_or-set_same, get_or-set_other}
+use Rattle.std.proofs.lemmas.List.{get_or-set_same, get_or-set_other}
 use Rattle.cg_word.specs.declared.op.Op.{Op}
 use Rattle.cg_word.specs.declared.op.Op.TheVariants.{Iter, Input, Load, Store, LoadIf, StoreIf}
 use Rattle.cg_word.specs.Word.{is_access, is_store}
 use Rattle.cg_model.specs.Work.{Image, Work, address, last_operand, stores, value, value_by, stored, Writes, Reaches}
-use Rattle.cg_model.specs.Kernel.{Kernel}
-use Rattle.cg_model.specs.Turns.{before}
 use Rattle.cg_model.specs.Array.{Arch}
 use Rattle.cg_model.specs.Config.{Config}
 use Rattle.cg_model.specs.Machine.{memory_after, memory_by, at_cycle}
-
-pub length-stored : (memory : List ℕ) (w : Work) → length (stored memory w) ≡ length memory
-unfolding stored
-length-stored memory w =
-    ⊎_elim (λ t. ap length (cond-true (stores w) _ memory t) ∙ length-set memory _ _) (λ t. ap length (cond-false (stores w) _ memory t)) (cases_Bool (stores w))
+use Rattle.cg_model.proofs.Lengths.{memory_kept}
 
 -- what an operation that writes puts there
 abbrev pub put : Work → ℕ
@@ -66,7 +60,7 @@ value_same image memory memory' w h = value_by_same image memory memory' w.port 
 -- the units of one cycle
 length-memory_after : (memory : List ℕ) (o : Option Work) → length (memory_after memory o) ≡ length memory
 length-memory_after memory None = refl
-length-memory_after memory (Some w) = length-stored memory w
+length-memory_after memory (Some w) = memory_kept memory w
 
 pub length-memory_by : (works : ℕ → Option Work) (memory : List ℕ) (x : ℕ) → length (memory_by works memory x) ≡ length memory
 unfolding memory_by
@@ -98,11 +92,6 @@ written_units works memory a (suc x) l =
     (written_after (memory_by works memory x) (works x) a (omega (arith, length-memory_by works memory x)))
 
 -- lengths
-pub length-before : (K : Kernel) (image : Image) (k : ℕ) → length (before K image k).memory ≡ length image.memory
-unfolding before
-length-before K image zero = refl
-length-before K image (suc k) = length-stored (before K image k).memory _ ∙ length-before K image k
-
 pub length-at_cycle : (A : Arch) (C : Config) (n : ℕ) (image : Image) (c : ℕ) → length (at_cycle A C n image c).memory ≡ length image.memory
 unfolding at_cycle
 length-at_cycle A C n image zero = refl

@@ -10,10 +10,11 @@ use Rattle.cg_model.specs.Array.{Arch, IsArch}
 use Rattle.cg_model.specs.Mapping.{Mapping, place, IsLegal}
 use Rattle.cg_model.specs.Config.{Config, configuration_of}
 use Rattle.cg_model.specs.Machine.{missed_after, missed_by_units, at_cycle, begins, machine, cycles}
+use Rattle.cg_model.proofs.Lengths.{memory_stays}
 use Rattle.cg_overlap.proofs.Single.{one_start}
 use Rattle.cg_overlap.proofs.Sequence.{step_node, step_of, step_within, turn_below, positive_from}
 use Rattle.cg_overlap.proofs.Starts.{started}
-use Rattle.cg_overlap.proofs.Memory.{length-before, length-at_cycle}
+use Rattle.cg_overlap.proofs.Memory.{length-at_cycle}
 use Rattle.cg_overlap.proofs.Induction.{begin, begin_at, right, begun_step}
 use Rattle.cg_overlap.proofs.Ends.{within_run}
 use Rattle.cg_overlap.proofs.Sums.{total, recounted}
@@ -21,7 +22,7 @@ use Rattle.cg_overlap.proofs.Sums.{total, recounted}
 missed_turns : (K : Kernel) (image : Image) (k : ℕ) → (before K image k).outside ≡ total k (λ j. missed (length image.memory) (work K image j))
 unfolding before
 missed_turns K image zero = refl
-missed_turns K image (suc k) = ap (λ z. z + missed (length (before K image k).memory) (work K image k)) (missed_turns K image k) ∙ ap (λ z. total k (λ j. missed (length image.memory) (work K image j)) + missed z (work K image k)) (length-before K image k)
+missed_turns K image (suc k) = ap (λ z. z + missed (length (before K image k).memory) (work K image k)) (missed_turns K image k) ∙ ap (λ z. total k (λ j. missed (length image.memory) (work K image j)) + missed z (work K image k)) (memory_stays K image k)
 
 missed_units : (works : ℕ → Option Work) (room x : ℕ) → missed_by_units works room x ≡ total x (λ u. missed_after room (works u))
 unfolding missed_by_units

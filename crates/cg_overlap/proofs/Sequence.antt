@@ -1,6 +1,6 @@
 -- The steps of the sequential run: what each does, in terms of the values of nodes in turns.
-use Rattle.std.proofs.Common.{◌≡◌, ℕ, zero, suc, ◌+◌, ◌-◌, ◌*◌, ◌/◌, ◌%◌, ◌<◌, ◌≤◌, List, [], ◌∷◌, length, Some, refl, sym, ap, ◌∙◌, subst, arith, ⊎_elim, mul-le-mul_right}
-use Rattle.std.specs.Prelude.{slice_get, slice_index, map}
+use Rattle.std.proofs.Common.{◌≡◌, ℕ, zero, suc, ◌+◌, ◌-◌, ◌*◌, ◌/◌, ◌%◌, ◌<◌, ◌≤◌, length, refl, sym, ap, ◌∙◌, subst, arith, ⊎_elim, mul-le-mul_right}
+use Rattle.std.specs.Prelude.{slice_index}
 use Rattle.std.proofs.lemmas.List.{length_push, get_or_push, get_or_append_left, get_or_past}
 use Rattle.std.proofs.lemmas.Bool.{cases_lt, le-ltb, lt-ltb}
 use Rattle.std.proofs.lemmas.Nat.{div-mul-add, mod-mul-add, div-add-mod', mul-add-lt}
@@ -9,6 +9,7 @@ use Rattle.cg_model.specs.declared.kernel.Operand.{Operand}
 use Rattle.cg_model.specs.declared.kernel.Operand.TheVariants.{Const as Constant, Edge}
 use Rattle.cg_model.specs.Kernel.{Kernel, HasOperand, IsWired, no_node, node, size}
 use Rattle.cg_model.specs.Turns.{operand, work_of, before, work, val}
+use Rattle.cg_model.proofs.Elements.{map_same}
 
 -- steps and turns
 pub step_node : (i m v : ℕ) → v < m → (i * m + v) % m ≡ v
@@ -36,10 +37,6 @@ turn_below k n m h =
 earlier_step : (j d m u v : ℕ) → u < m → (d ≡ 0 → u < v) → j * m + u < (j + d) * m + v
 earlier_step j zero m u v l h = let h' : u < v = h refl in omega arith
 earlier_step j (suc d) m u v l h = omega arith
-
-map_same : {X Y : Type 0} (f g : X → Y) (xs : List X) → ((p : ℕ) (x : X) → slice_get xs p ≡ Some x → f x ≡ g x) → map f xs ≡ map g xs
-map_same f g [] h = refl
-map_same f g (x ∷ xs) h = rw (h 0 x refl, map_same f g xs (λ p y. h (suc p) y)) refl
 
 -- no operand stands past the last node
 pub operand_within : (K : Kernel) (v p : ℕ) (o : Operand) → HasOperand K v p o → v < size K

@@ -1,8 +1,7 @@
 -- Tests over finite ranges and lists, each with what it shows: the parts of the tests that decide worked rows.
 use Rattle.std.proofs.Common.{◌≡◌, ℕ, zero, suc, ◌<◌, Bool, true, false, List, [], ◌∷◌, length, Option, Some, None, Contains, refl, sym, ap, ◌∙◌, subst, arith, ⊎_elim, eqb-true, eq-eqb}
-use Rattle.std.specs.Prelude.{◌&&◌, ◌||◌, eqb, if◌then◌else◌, nat_lt, nat_le, not, slice_index, slice_index_or}
-use Rattle.std.proofs.lemmas.Bool.{and_parts, cond-true, cases_lt, or_cases, or_left, or_right, ltb-true, leb-true}
-use Rattle.cg_model.specs.Names.{IsName, begins_name, within_name}
+use Rattle.std.specs.Prelude.{◌&&◌, ◌||◌, eqb, if◌then◌else◌, not, slice_index, slice_index_or}
+use Rattle.std.proofs.lemmas.Bool.{and_parts, cond-true, cases_lt, or_cases, or_left, or_right}
 use Rattle.cg_model.specs.Canonical.{any_below}
 use Rattle.cg_model.specs.declared.array.Kind.{Kind}
 use Rattle.cg_model.specs.declared.array.Kind.TheVariants.{Wire, Register, Port, Out}
@@ -115,18 +114,6 @@ from_is None None h = refl
 from_is (Some a) (Some b) h = ap Some (eqb-true _ _ h)
 from_is None (Some b) h = absurd (cc)
 from_is (Some a) None h = absurd (cc)
-
--- ---- names
-
-abbrev pub is_named : ℕ → List ℕ → Bool
-is_named most name = nat_lt 0 (length name) && (nat_le (length name) most && (begins_name (slice_index name 0) && every within_name name))
-
-pub named_by : (most : ℕ) (name : List ℕ) → is_named most name ≡ true → IsName most name
-named_by most name h =
-    let (a, h2) = and_parts _ _ h in
-    let (b, h3) = and_parts _ _ h2 in
-    let (c, d) = and_parts _ _ h3 in
-    record { some = ltb-true _ _ a; short = leb-true _ _ b; first = c; rest = λ k l. every_at within_name name k d l }
 
 -- what isn't found isn't there
 pub has_of : (xs : List ℕ) (q : ℕ) → Contains xs q → has xs q ≡ true

@@ -1,3 +1,1 @@
-pub mod Positions
 pub mod Lists
-pub mod Tests

@@ -3,8 +3,9 @@ use Rattle.std.proofs.Common.{◌≡◌, ℕ, suc, ◌+◌, ◌<◌, List, [], �
 use Rattle.std.specs.Option.{option_or}
 use Rattle.std.specs.List.{list_any}
 use Rattle.std.proofs.Math.Seq.{drop-cons}
+use Rattle.cg_model.specs.First.{first_such}
+use Rattle.cg_model.proofs.Options.{cond_none, some_cond}
 use Rattle.cg_parts.specs.Parts.{texts, port_name, port_name_of, port_names}
-use Rattle.cg_parts.specs.Rules.{first_such}
 
 -- the rest of a list at a place that it has
 pub rest_at : {X : Type 0} (xs : List X) (k : ℕ) (d : X) → k < length xs → drop k xs ≡ get_or xs k d ∷ drop (k + 1) xs
@@ -35,17 +36,9 @@ list_any-texts p (k ∷ ks) = ap (λ b. p k.now || b) (list_any-texts p ks)
 
 -- ---- the names of ports
 
-none_cond : {X : Type 0} (b : Bool) (x : X) → cond b (Some x) None ≡ None → b ≡ false
-none_cond true x e = let bad : Some x ≡ None = e in absurd (cc)
-none_cond false x e = refl
-
-some_cond : {X : Type 0} (b : Bool) (x y : X) → cond b (Some x) None ≡ Some y → (b ≡ true) × (x ≡ y)
-some_cond true x y e = (refl, cc)
-some_cond false x y e = let bad : None ≡ Some y = e in absurd (cc)
-
 pub no_more_names : (unit : List ℕ) (p : ℕ) (ports : List (List (List ℕ))) → p < length ports → port_name_of unit p ≡ None → port_names unit p (drop p ports) ≡ []
 no_more_names unit p ports h e =
-    ap (port_names unit p) (rest_at ports p [] h) ∙ ap (λ b. cond b (port_name unit p ∷ port_names unit (p + 1) (drop (p + 1) ports)) []) (none_cond (nat_lt p 3) (port_name unit p) e)
+    ap (port_names unit p) (rest_at ports p [] h) ∙ ap (λ b. cond b (port_name unit p ∷ port_names unit (p + 1) (drop (p + 1) ports)) []) (cond_none (nat_lt p 3) (port_name unit p) None e).0
 
 pub one_more_name : (unit : List ℕ) (p : ℕ) (ports : List (List (List ℕ))) (name : List ℕ) → p < length ports → port_name_of unit p ≡ Some name
     → port_names unit p (drop p ports) ≡ name ∷ port_names unit (p + 1) (drop (p + 1) ports)

@@ -1,10 +1,12 @@
 -- Where each of the faults A1 to A5, A7 and A8 applies first.
-use Rattle.std.specs.Prelude.{ℕ, ◌+◌, ◌&&◌, ◌||◌, Bool, true, false, not, List, [], ◌∷◌, length, Option, Some, None, nat_lt, nat_le, count_by, slice_index, slice_get, option_map, if◌then◌else◌}
+use Rattle.std.specs.Prelude.{ℕ, ◌+◌, ◌&&◌, ◌||◌, Bool, true, false, not, List, [], ◌∷◌, length, Option, Some, None, nat_lt, count_by, slice_get, option_map, if◌then◌else◌}
 use Rattle.std.specs.Option.{option_or, option_map_or, is_none}
-use Rattle.std.specs.List.{list_all, list_any}
+use Rattle.std.specs.List.{list_any}
 use Rattle.cg_word.specs.Word.{arity, all_ops}
 use Rattle.cg_word.specs.Sets.{among}
-use Rattle.cg_model.specs.Names.{begins_name, within_name}
+use Rattle.cg_model.specs.Names.{is_name}
+pub use Rattle.cg_model.specs.First.{first_from, first_such}
+use Rattle.cg_model.specs.First.{is_before}
 use Rattle.cg_model.specs.declared.array.Kind.{Kind}
 use Rattle.cg_model.specs.declared.array.Kind.TheVariants.{Wire, Register, Port, Out}
 use Rattle.cg_parts.specs.Parts.{Element, Parts, Entry, entries, name_of, drivers_of, claims_of}
@@ -19,11 +21,6 @@ pub use Rattle.cg_parts.specs.declared.fault.NamePlace.{NamePlace}
 use Rattle.cg_parts.specs.declared.fault.NamePlace.TheVariants as place
 pub use Rattle.cg_parts.specs.declared.drivers.Wrong.{Wrong}
 use Rattle.cg_parts.specs.declared.drivers.Wrong.TheVariants.{Nothing, APort}
-
--- the first place from v on at which a test of place and item holds
-abbrev pub first_from : {T : Type 0} → (ℕ → T → Bool) → ℕ → List T → Option ℕ
-first_from test v [] = None
-first_from test v (x ∷ xs) = if test v x then Some v else first_from test (v + 1) xs
 
 -- ---- A1 TooLarge: too many resources, links, units or words of memory
 
@@ -47,22 +44,14 @@ too_large parts resources =
 
 -- ---- A2 BadName: the architecture's or an element's name breaks the rule
 
--- a letter or `_`, then letters, digits or `_`, 1 to 40 characters
-abbrev pub is_name : List ℕ → Bool
-is_name name = nat_lt 0 (length name) && (nat_le (length name) 40 && (begins_name (slice_index name 0) && list_all within_name name))
-
+-- the rule: a letter or `_`, then letters, digits or `_`, 1 to 40 characters
 abbrev pub has_bad_name : Element → Bool
-has_bad_name e = not (is_name (name_of e))
+has_bad_name e = not (is_name 40 (name_of e))
 
 abbrev pub bad_name : Parts → Option NamePlace
-bad_name parts = if not (is_name parts.name) then Some place.Architecture else option_map place.Element (first_from (λ number e. has_bad_name e) 0 parts.elements)
+bad_name parts = if not (is_name 40 parts.name) then Some place.Architecture else option_map place.Element (first_from (λ number e. has_bad_name e) 0 parts.elements)
 
 -- ---- A3 RepeatedName: an earlier element claims one of the element's names
-
--- it is the number of something before number v
-abbrev pub is_before : Option ℕ → ℕ → Bool
-is_before None v = false
-is_before (Some u) v = nat_lt u v
 
 -- by the numbers that some function gives for claimed names
 abbrev pub repeats_by : (List ℕ → Option ℕ) → ℕ → Element → Bool
@@ -86,11 +75,6 @@ is_port_at resources q = option_map_or (λ r. is_port r.kind) (slice_get resourc
 abbrev pub is_wrong : Wrong → List Entry → List ℕ → Bool
 is_wrong Nothing resources name = is_none (number_of resources name)
 is_wrong APort resources name = option_map_or (is_port_at resources) (number_of resources name) false
-
--- the first item that passes a test
-abbrev pub first_such : {T : Type 0} → (T → Bool) → List T → Option T
-first_such test [] = None
-first_such test (x ∷ xs) = if test x then Some x else first_such test xs
 
 -- the first driver that passes a test, in the lists of the elements from number v on
 abbrev pub first_driver : (List ℕ → Bool) → ℕ → List Element → Option DriverPlace

@@ -3,9 +3,10 @@ ghost use Rattle.std.specs.Prelude.{◌≡◌, ◌++◌, ℕ, List, Some, None, 
 ghost use Rattle.std.specs.List.{list_any};
 ghost use Rattle.std.specs.Option.{option_or};
 ghost use Rattle.std.specs.Str.{bytes_eq};
+ghost use Rattle.cg_model.specs.First.{first_from, is_before};
 ghost use Rattle.cg_parts.specs.Parts as spec;
 ghost use Rattle.cg_parts.specs.Numbers.{found_in, claims, claimer_of, IsClaiming};
-ghost use Rattle.cg_parts.specs.Rules.{first_from, is_before, repeats_by, repeated_name};
+ghost use Rattle.cg_parts.specs.Rules.{repeats_by, repeated_name};
 
 use crate::names::{copy_of, out_name, port_name_of};
 use crate::numbers::{Numbers, add_first, number_in};

@@ -1,7 +1,6 @@
 //! The faults A1 to A5: of sizes, names and drivers.
 ghost use Rattle.std.specs.Prelude.{◌≡◌, IfOk, count_by, nat_lt};
-ghost use Rattle.std.specs.List.{list_all};
-ghost use Rattle.cg_model.specs.Names as names;
+ghost use Rattle.cg_model.specs.First.{first_from};
 ghost use Rattle.cg_parts.specs.Parts.{entries, name_of};
 ghost use Rattle.cg_parts.specs.Numbers.{IsNumbering};
 ghost use Rattle.cg_parts.specs.Rules as spec;
@@ -12,6 +11,7 @@ use crate::entry::Entry;
 use crate::fault::{ArchFault, NamePlace, TooLargePlace};
 use crate::numbers::Numbers;
 use crate::parts::{Element, Parts};
+use cg_model::is_name;
 use std::alloc::{AllocError, Global};
 
 /// The lowest of A1 to A5 that applies, at its first place. The resources are those of the parts, with their numbers.
@@ -110,17 +110,17 @@ fn is_unit(element: &Element) -> bool
 fn bad_name(parts: &Parts) -> Option<NamePlace>
     ensures { result ≡ spec.bad_name parts.now }
 {
-    if !is_name(parts.name.as_str()) {
+    if !is_name(parts.name.as_str(), 40) {
         return Some(NamePlace::Architecture);
     }
     first_bad_name(parts.elements.as_slice()).map(NamePlace::Element)
 }
 
 fn first_bad_name(elements: &[Element]) -> Option<usize>
-    ensures { result ≡ spec.first_from (λ number e. spec.has_bad_name e) 0 elements.now }
+    ensures { result ≡ first_from (λ number e. spec.has_bad_name e) 0 elements.now }
 {
     for (number, element) in elements.iter().enumerate() {
-        if !is_name(name_of(element)) {
+        if !is_name(name_of(element), 40) {
             return Some(number);
         }
     }
@@ -134,32 +134,4 @@ fn name_of(element: &Element) -> &str
         Element::Wire { name, .. } | Element::Register { name, .. } | Element::Unit { name, .. } =>
             name.as_str(),
     }
-}
-
-fn is_name(name: &str) -> bool
-    ensures { result ≡ spec.is_name name.now }
-{
-    let bytes = name.as_bytes();
-    match bytes {
-        [first, ..] => bytes.len() <= 40 && begins_name(*first) && are_within_name(bytes),
-        [] => false,
-    }
-}
-
-fn are_within_name(bytes: &[u8]) -> bool
-    ensures { result ≡ list_all names.within_name bytes.now }
-{
-    bytes.iter().all(|byte| within_name(*byte))
-}
-
-fn begins_name(byte: u8) -> bool
-    ensures { result ≡ names.begins_name byte }
-{
-    matches!(byte, b'A'..=b'Z' | b'a'..=b'z' | b'_')
-}
-
-fn within_name(byte: u8) -> bool
-    ensures { result ≡ names.within_name byte }
-{
-    begins_name(byte) || byte.is_ascii_digit()
 }

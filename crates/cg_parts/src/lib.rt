@@ -18,6 +18,7 @@ pub use early::early_fault;
 pub use entries::entries_of_all;
 pub use entry::Entry;
 pub use fault::{ArchFault, DriverPlace, HubPlace, NamePlace, TooLargePlace};
+pub use names::distinct;
 pub use numbers::{Numbers, number_in, numbers_of};
 pub use parts::{Element, Names, Parts};
 pub use units::unit_fault;

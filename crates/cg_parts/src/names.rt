@@ -40,7 +40,7 @@ pub(crate) fn out_name(alloc: Global, unit: &str) -> Result<Name, AllocError>
 
 /// The names, each where it stands first.
 #[tactic(auto, unfolding(crate::specs::Parts::distinct))]
-pub(crate) fn distinct(alloc: Global, names: &[Name]) -> Result<Names, AllocError>
+pub fn distinct(alloc: Global, names: &[Name]) -> Result<Names, AllocError>
     ensures { IfOk result (λ list. list ≡ spec.distinct names.now) }
 {
     let mut seen = IndexSet::new(alloc);

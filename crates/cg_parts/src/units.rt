@@ -3,6 +3,7 @@ ghost use Rattle.std.specs.Prelude.{◌≡◌, ◌&&◌, nat_lt};
 ghost use Rattle.std.specs.List.{list_any};
 ghost use Rattle.cg_word.specs.Word.{arity, all_ops};
 ghost use Rattle.cg_word.specs.Sets.{among};
+ghost use Rattle.cg_model.specs.First.{first_from};
 ghost use Rattle.cg_parts.specs.Rules as spec;
 
 use crate::fault::ArchFault;
@@ -25,7 +26,7 @@ pub fn unit_fault(parts: &Parts) -> Option<ArchFault>
 }
 
 fn first_bad_unit(elements: &[Element]) -> Option<usize>
-    ensures { result ≡ spec.first_from (λ number e. spec.is_bad_unit e) 0 elements.now }
+    ensures { result ≡ first_from (λ number e. spec.is_bad_unit e) 0 elements.now }
 {
     for (number, element) in elements.iter().enumerate() {
         if is_bad_unit(element) {

@@ -1,19 +1,19 @@
 -- Looking at the last access of each node suffices.
-use Rattle.std.proofs.Common.{◌≡◌, ℕ, zero, suc, ◌+◌, ◌*◌, ◌/◌, ◌%◌, ◌<◌, ◌≤◌, ◌⊎◌, inl, inr, List, length, sym, ap, ◌∙◌, subst, arith, ⊎_elim, refl, mul-le-mul_right, ◌≢◌, ◌∷◌, [], ◌++◌, take, set, get_or, length-set}
+use Rattle.std.proofs.Common.{◌≡◌, ℕ, suc, ◌+◌, ◌*◌, ◌/◌, ◌%◌, ◌<◌, ◌≤◌, ◌⊎◌, inl, inr, List, length, sym, ap, ◌∙◌, subst, arith, ⊎_elim, refl, mul-le-mul_right, ◌≢◌, ◌∷◌, [], ◌++◌, take, set, get_or, length-set}
 use Rattle.std.specs.Prelude.{Contains, Option, Some, None, IfSome, replicate, slice_index_or}
-use Rattle.std.proofs.lemmas.Bool.{cases_lt, cases_eq, cases_Bool, lt-ltb, le-ltb}
+use Rattle.std.proofs.lemmas.Bool.{cases_lt, cases_eq, lt-ltb, le-ltb}
 use Rattle.std.proofs.lemmas.List.{get_or-set_same, get_or-set_other, take_more, get_or_default, get_or_read_under, get_or-replicate, length-replicate}
 use Rattle.std.proofs.lemmas.List.Elements.{Contains-push, Contains-push_cases, Contains-append_left}
 use Rattle.std.proofs.lemmas.Nat.{div-mul-add, mod-mul-add, div-add-mod'}
 use Rattle.cg_word.specs.declared.op.Op.{Op}
 use Rattle.cg_word.specs.declared.op.Op.TheVariants.{LoadIf, StoreIf}
+use Rattle.cg_model.specs.Kernel.{Kernel, size}
+use Rattle.cg_model.specs.Work.{Image, Work, Reaches, address, acts}
+use Rattle.cg_model.specs.Turns.{work, before}
+use Rattle.cg_model.specs.Order.{IsOrdered}
 use Rattle.cg_pad.proofs.Args.{three, on}
 use Rattle.cg_turns.specs.declared.watch.Watch.{Watch}
 use Rattle.cg_turns.specs.Watched.{word_of, IsWatched, Watches, WatchesStep, IsReached}
-use Rattle.cg_model.specs.Kernel.{Kernel, size}
-use Rattle.cg_model.specs.Work.{Image, Work, Reaches, address, acts, last_operand, stored, stores}
-use Rattle.cg_model.specs.Turns.{work, work_at, before}
-use Rattle.cg_model.specs.Order.{IsOrdered}
 use Rattle.cg_turns.specs.declared.pair.Access.{Access}
 use Rattle.cg_turns.specs.declared.pair.UnorderedPair.{UnorderedPair}
 use Rattle.cg_turns.specs.Pairs.{step_of, IsRival, IsConflict, AreOrdered, IsPair, IsPairOf, IsPairSoFar, IsTrace, Takes, IsLatest, IsCompared, no_access, later_access, paired}
@@ -293,16 +293,6 @@ three_reach op port turn a args r = record { is = r.is; acting = r.acting; there
 pub reached-three : (n : ℕ) (op : Op) (port turn : ℕ) (args : List ℕ) (o : Option ℕ) → IsReached n (on op port turn (three args)) o → IsReached n (on op port turn args) o
 reached-three n op port turn args None r = λ a l q. r a l (reach_three op port turn a args q)
 reached-three n op port turn args (Some a) r = (r.0, three_reach op port turn a args r.1)
-
--- the memory keeps its number of words
-length-stored : (memory : List ℕ) (w : Work) → length (stored memory w) ≡ length memory
-unfolding stored
-length-stored memory w = ⊎_elim (λ t. rw t (length-set memory (address w.op w.args) (last_operand w.op w.args))) (λ f. rw f refl) (cases_Bool (stores w))
-
-pub length-memory : (K : Kernel) (image : Image) (s : ℕ) → length (before K image s).memory ≡ length image.memory
-unfolding before
-length-memory K image zero = refl
-length-memory K image (suc s) = length-stored (before K image s).memory (work_at K s (before K image s).values) ∙ length-memory K image s
 
 pub takes_read : (x y : Access) (old now : List Access) (p : ℕ) → now ≡ old → p < length now → y ≡ get_or now p y → y.node ≡ x.node → Takes x old (set now p x)
 takes_read x y old now p e h r n =

@@ -1,28 +1,17 @@
 -- What n turns leave is small: the memory keeps its length, and each output stream has at most n
 -- words.
-use Rattle.std.proofs.Common.{◌≡◌, ℕ, zero, suc, ◌+◌, ◌*◌, ◌<◌, ◌≤◌, ◌⊎◌, inl, inr, true, List, [], ◌∷◌, length, refl, sym, ap, ◌∙◌, subst, arith, ⊎_elim, eqb-true, length-append}
+use Rattle.std.proofs.Common.{◌≡◌, ℕ, zero, suc, ◌+◌, ◌*◌, ◌<◌, ◌≤◌, ◌⊎◌, inl, inr, true, [], ◌∷◌, length, sym, ap, ◌∙◌, subst, arith, ⊎_elim, eqb-true, length-append}
 use Rattle.std.specs.Prelude.{slice_index_or, map}
 use Rattle.std.specs.List.{range_with_len}
-use Rattle.std.proofs.lemmas.Bool.{cases_lt, cases_Bool, cond-true, cond-false, cond_both, and_parts}
-use Rattle.std.proofs.lemmas.List.{length-set, get_or_past}
+use Rattle.std.proofs.lemmas.Bool.{cases_lt, cases_Bool, cond-false, cond_both, and_parts}
+use Rattle.std.proofs.lemmas.List.{get_or_past}
 use Rattle.std.proofs.lemmas.List.FromFn.{get_or-map-range_with_len, length-map-range_with_len}
 use Rattle.std.proofs.lemmas.Nat.{mod-mul-add}
 use Rattle.cg_word.specs.Word.{is_output}
 use Rattle.cg_model.specs.Kernel.{Kernel, IsKernel, size, node}
-use Rattle.cg_model.specs.Work.{Image, Work, last_operand, stores, stored, sends, sent}
+use Rattle.cg_model.specs.Work.{Image, Work, last_operand, sends, sent}
 use Rattle.cg_model.specs.Turns.{before, work, turns, turns_left}
-
--- one operation leaves the memory as long as it was
-pub memory_kept : (memory : List ℕ) (w : Work) → length (stored memory w) ≡ length memory
-unfolding stored
-memory_kept memory w =
-    ⊎_elim (λ t. ap length (cond-true (stores w) _ memory t) ∙ length-set memory _ _) (λ f. ap length (cond-false (stores w) _ memory f)) (cases_Bool (stores w))
-
--- the memory is as long before each step as in the image
-pub memory_stays : (K : Kernel) (image : Image) (k : ℕ) → length (before K image k).memory ≡ length image.memory
-unfolding before
-memory_stays K image zero = refl
-memory_stays K image (suc k) = memory_kept (before K image k).memory _ ∙ memory_stays K image k
+use Rattle.cg_model.proofs.Lengths.{memory_stays}
 
 -- an operation appends at most one word to a stream
 sent_short : (port : ℕ) (w : Work) → length (sent port w) ≤ 1

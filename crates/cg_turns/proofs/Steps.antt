@@ -1,6 +1,6 @@
 -- A step of the code is a step of the turns.
 use Rattle.std.proofs.Common.{◌≡◌, ℕ, suc, ◌+◌, ◌-◌, ◌*◌, ◌%◌, ◌<◌, ◌≤◌, ◌⊎◌, inl, inr, List, [], ◌∷◌, ◌++◌, length, refl, sym, ap, ◌∙◌, subst, arith, ⊎_elim, set}
-use Rattle.std.specs.Prelude.{slice_get, slice_index, slice_index_or, map, Some, replicate}
+use Rattle.std.specs.Prelude.{slice_index, slice_index_or, replicate}
 use Rattle.std.proofs.lemmas.Bool.{cases_lt, le-ltb, lt-ltb}
 use Rattle.std.proofs.lemmas.List.{length_push, get_or-replicate}
 use Rattle.std.proofs.lemmas.List.FromFn.{fill_by_all}
@@ -10,17 +10,13 @@ use Rattle.cg_model.specs.declared.kernel.Operand.TheVariants.{Const as Constant
 use Rattle.cg_model.specs.Kernel.{Kernel, IsKernel, HasOperand, size, node}
 use Rattle.cg_model.specs.Work.{Image, Work, value, stored, sent, missed}
 use Rattle.cg_model.specs.Turns.{operand, before, after, work, turns, turns_left}
+use Rattle.cg_model.proofs.Elements.{map_same}
 use Rattle.cg_turns.specs.Window.{IsWindow, operand_in, row_before}
 use Rattle.cg_turns.specs.Done.{left_by}
 use Rattle.cg_turns.specs.Step.{Steps, DoesWork, work_in}
 use Rattle.cg_turns.specs.Frame.{IsProgress, IsAt}
 use Rattle.cg_turns.specs.declared.frame.Frame.{Frame}
 use Rattle.cg_turns.proofs.Rows.{row_before_is, window_step, window_turn}
-
--- two functions that agree on the items of a list map it alike
-map_same : {X Y : Type 0} (f g : X → Y) (xs : List X) → ((p : ℕ) (x : X) → slice_get xs p ≡ Some x → f x ≡ g x) → map f xs ≡ map g xs
-map_same f g [] h = refl
-map_same f g (x ∷ xs) h = rw (h 0 x refl, map_same f g xs (λ p y. h (suc p) y)) refl
 
 module _ (K : Kernel) (image : Image) (good : IsKernel K) (i v : ℕ) (f : Frame) (l : v < size K) (at : IsAt K image i v f) where
   operand_right : (p : ℕ) (o : Operand) → HasOperand K v p o →

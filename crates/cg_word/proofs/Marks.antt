@@ -1,12 +1,13 @@
 -- Sets of operations: marks by code, and the test of membership.
-use Rattle.std.proofs.Common.{◌≡◌, ℕ, zero, suc, cond, [], ◌∷◌, Contains, ◌-◌, ◌<◌, ◌≤◌, Bool, true, false, ◌||◌, eqb, List, length, sym, ap, ◌∙◌, subst, arith, eqb-true, eq-eqb, ⊎_elim}
-use Rattle.std.specs.Prelude.{slice_set, slice_index_or}
+use Rattle.std.proofs.Common.{◌≡◌, ℕ, zero, suc, cond, [], ◌∷◌, Contains, ◌-◌, ◌<◌, ◌≤◌, Bool, true, false, ◌||◌, eqb, List, length, refl, sym, ap, ◌∙◌, subst, arith, eqb-true, eq-eqb, ⊎_elim}
+use Rattle.std.specs.Prelude.{slice_set, slice_index_or, filter}
 use Rattle.std.proofs.lemmas.Bool.{cases_Bool, true≢false}
 use Rattle.std.proofs.lemmas.List.{get_or-set_same, get_or-set_other}
+use mathlib.Core.Path.{fun_ext}
 use Rattle.cg_word.specs.declared.op.Op.{Op}
 use Rattle.cg_word.specs.declared.op.Op.TheVariants.{Const, Iter, Input, Add, Sub, Mul, And, Or, Xor, Shl, Shr, Sar, Eq, Ne, Lts, Ltu, Mins, Maxs, Select, Load, Store, Output, LoadIf, StoreIf, OutputIf}
-use Rattle.cg_word.specs.Word.{code}
-use Rattle.cg_word.specs.Sets.{among, is_marked}
+use Rattle.cg_word.specs.Word.{code, all_ops}
+use Rattle.cg_word.specs.Sets.{among, is_marked, marked, ops_with}
 use Rattle.cg_word.proofs.Codes.{same_code}
 
 -- a code is one of 1 to 25
@@ -65,3 +66,12 @@ among_it [] op h = absurd (let l = h.1 in omega arith)
 among_it (o ∷ os) op (zero, l, e) = ap (λ b. cond b true (among os op)) (eq-eqb _ _ (ap code e))
 among_it (o ∷ os) op (suc k, l, e) =
     ⊎_elim (λ t. ap (λ b. cond b true (among os op)) t) (λ t. ap (λ b. cond b true (among os op)) t ∙ among_it os op (k, omega (arith, l), e)) (cases_Bool (eqb (code o) (code op)))
+
+marked-filter : (marks : List Bool) (ops : List Op) → marked marks ops ≡ filter (is_marked marks) ops
+marked-filter marks [] = refl
+marked-filter marks (o ∷ os) = ap (λ z. cond (is_marked marks o) (o ∷ z) z) (marked-filter marks os)
+
+-- the set of these marks has the operations that pass a test, where the marks are set just there
+pub ops_with-marked : (marks : List Bool) (test : Op → Bool) → ((op : Op) → is_marked marks op ≡ test op) → ops_with marks ≡ filter test all_ops
+unfolding ops_with
+ops_with-marked marks test h = marked-filter marks all_ops ∙ ap (λ f. filter f all_ops) (fun_ext h)

@@ -1,6 +1,6 @@
 -- Sets of operations, as lists and as marks by code.
 use Rattle.std.proofs.Common.{◌≡◌, ◌-◌, Bool, true, false, eqb, List, [], ◌∷◌, length, map, refl, sym, ap, ◌∙◌, eqb-true}
-use Rattle.std.specs.Prelude.{slice_index_or, if◌then◌else◌}
+use Rattle.std.specs.Prelude.{◌||◌, filter, slice_index_or, if◌then◌else◌}
 use Rattle.std.proofs.lemmas.Bool.{cond_both, true≢false}
 use Rattle.std.proofs.lemmas.List.FromFn.{fill_by_all}
 use mathlib.Core.Path.{fun_ext}
@@ -10,6 +10,10 @@ use Rattle.cg_word.specs.Word.{Op, Const, Iter, Input, Add, Sub, Mul, And, Or, X
 abbrev pub among : List Op → Op → Bool
 among [] op = false
 among (o ∷ os) op = if eqb (code o) (code op) then true else among os op
+
+-- a set with one operation more, in the order of their codes
+abbrev pub with_op : List Op → Op → List Op
+with_op ops op = filter (λ o. eqb (code op) (code o) || among ops o) all_ops
 
 -- whether the mark of an operation, by its code, is set
 abbrev pub is_marked : List Bool → Op → Bool

@@ -29,7 +29,7 @@ impl Model for OpSet {
 impl OpSet {
     ghost use Rattle.std.specs.Prelude.{◌≡◌, ◌||◌, [], eqb};
     ghost use Rattle.cg_word.specs.Word.{code};
-    ghost use Rattle.cg_word.specs.Sets.{among};
+    ghost use Rattle.cg_word.specs.Sets.{among, with_op};
     ghost use Rattle.cg_word.specs.declared.op.Op as ops;
 
     /// The set without operations.
@@ -41,7 +41,8 @@ impl OpSet {
 
     /// The set with one operation more.
     pub fn with(self, op: Op) -> OpSet
-        ensures { (o : ops.Op) → among result o ≡ (eqb (code op) (code o) || among self o) }
+        ensures value { result ≡ with_op self op }
+        ensures has { (o : ops.Op) → among result o ≡ (eqb (code op) (code o) || among self o) }
     {
         let mut marks = self.marks;
         let place = op.code() as usize - 1;

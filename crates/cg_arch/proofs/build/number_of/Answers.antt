@@ -1,6 +1,6 @@
 use Rattle.std.proofs.Common.{◌∙◌, sym, arith}
+use Rattle.cg_model.proofs.Positions.{position_from-within}
 use Rattle.cg_parts.specs.Numbers.{is_named}
-use Rattle.cg_parts.proofs.Positions.{position_from-within}
 use Rattle.cg_arch.proofs.build.number_of.Goals as goal
 
 pub prove-unreachable-requires : goal.prove-unreachable-requires

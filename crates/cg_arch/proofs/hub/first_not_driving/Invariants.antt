@@ -1,6 +1,6 @@
 use Rattle.std.proofs.Common.{◌≡◌, drop, not, eqb}
 use Rattle.std.specs.List.{list_any}
-use Rattle.cg_parts.specs.Rules.{first_such}
+use Rattle.cg_model.specs.First.{first_such}
 use Rattle.cg_arch.proofs.hub.first_not_driving.Given as goal
 
 abbrev pub invariant-loop-source : goal.invariant-loop-source

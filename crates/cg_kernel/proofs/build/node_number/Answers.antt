@@ -1,5 +1,5 @@
 use Rattle.std.proofs.Common.{◌∙◌, ap, sym, arith, length, bytes_eq}
-use Rattle.cg_kernel.proofs.Positions.{position_from-within}
+use Rattle.cg_model.proofs.Positions.{position_from-within}
 use Rattle.cg_kernel.proofs.build.node_number.Goals as goal
 
 pub prove-unreachable-requires : goal.prove-unreachable-requires

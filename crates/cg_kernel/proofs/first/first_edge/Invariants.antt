@@ -1,5 +1,6 @@
 use Rattle.std.proofs.Common.{◌≡◌, drop}
-use Rattle.cg_kernel.specs.Rules.{first_from, applies_to_edge}
+use Rattle.cg_model.specs.First.{first_from}
+use Rattle.cg_kernel.specs.Rules.{applies_to_edge}
 use Rattle.cg_kernel.proofs.first.first_edge.Given as goal
 
 abbrev pub invariant-loop-number : goal.invariant-loop-number

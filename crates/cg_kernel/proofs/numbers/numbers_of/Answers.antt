@@ -1,5 +1,5 @@
 use Rattle.std.proofs.Common.{arith, ◌≡◌, ◌+◌, bytes_eq}
-use Rattle.cg_kernel.proofs.Positions.{position_from-more}
+use Rattle.cg_model.proofs.Positions.{position_from-more}
 use Rattle.cg_kernel.proofs.numbers.numbers_of.Goals as goal
 
 pub loop-number-preserved : goal.loop-number-preserved

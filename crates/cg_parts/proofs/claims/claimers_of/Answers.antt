@@ -1,9 +1,9 @@
 use Rattle.std.proofs.Common.{arith, ◌≡◌, ◌+◌, ◌∙◌, ap, sym, take, get_or, bytes_eq, cond, Some, None}
 use Rattle.std.specs.List.{list_any}
 use Rattle.std.specs.Option.{option_or}
+use Rattle.cg_model.proofs.Positions.{position_from-more}
 use Rattle.cg_parts.specs.Parts.{claims_of}
 use Rattle.cg_parts.specs.Numbers.{claims, claimer_of}
-use Rattle.cg_parts.proofs.Positions.{position_from-more}
 use Rattle.cg_parts.proofs.claims.claimers_of.Goals as goal
 
 pub loop-number-preserved : goal.loop-number-preserved

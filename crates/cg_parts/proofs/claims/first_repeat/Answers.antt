@@ -1,6 +1,7 @@
 use Rattle.std.proofs.Common.{◌≡◌, ℕ, List, Option, IfOk, subst}
 use mathlib.Core.Path.{fun_ext}
-use Rattle.cg_parts.specs.Rules.{first_from, repeats_by}
+use Rattle.cg_model.specs.First.{first_from}
+use Rattle.cg_parts.specs.Rules.{repeats_by}
 use Rattle.cg_parts.proofs.claims.first_repeat.Goals as goal
 
 pub returns : goal.returns

@@ -1,6 +1,7 @@
 use Rattle.std.proofs.Common.{◌∙◌, ◌+◌, ap, sym, drop, flat_map}
 use Rattle.std.specs.Option.{option_or, option_copied}
-use Rattle.cg_parts.specs.Rules.{first_such, is_wrong}
+use Rattle.cg_model.specs.First.{first_such}
+use Rattle.cg_parts.specs.Rules.{is_wrong}
 use Rattle.cg_parts.proofs.Lists.{first_such-at}
 use Rattle.cg_parts.proofs.drivers.wrong_in_ports.Goals as goal
 

@@ -1,5 +1,6 @@
 use Rattle.std.proofs.Common.{◌≡◌, drop}
-use Rattle.cg_parts.specs.Rules.{first_from, has_bad_name}
+use Rattle.cg_model.specs.First.{first_from}
+use Rattle.cg_parts.specs.Rules.{has_bad_name}
 use Rattle.cg_parts.proofs.early.first_bad_name.Given as goal
 
 abbrev pub invariant-loop-number : goal.invariant-loop-number

@@ -1,6 +1,6 @@
 use Rattle.std.proofs.Common.{arith, ◌≡◌, ◌+◌}
+use Rattle.cg_model.proofs.Positions.{position_from-more}
 use Rattle.cg_parts.specs.Numbers.{is_named}
-use Rattle.cg_parts.proofs.Positions.{position_from-more}
 use Rattle.cg_parts.proofs.numbers.numbers_of.Goals as goal
 
 pub loop-number-preserved : goal.loop-number-preserved

@@ -1,11 +1,12 @@
 use Rattle.std.proofs.Common.{ℕ, arith, rules, subst, ◌%◌, ◌<◌, ◌≡◌, ◌+◌, ◌*◌, length, ap, ◌∙◌, sym}
 use Rattle.cg_model.specs.Turns.{work}
+use Rattle.cg_model.specs.Kernel as plain
+use Rattle.cg_model.specs.Kernel.{IsKernel}
+use Rattle.cg_model.proofs.Lengths.{memory_stays}
 use Rattle.cg_turns.specs.declared.pair.Access.{Access}
 use Rattle.cg_turns.specs.Pairs.{step_of}
 use Rattle.cg_turns.specs.Watched.{IsWatched}
-use Rattle.cg_turns.proofs.Pairs.{watched_step, length-memory, reached_within, reached_nodes}
-use Rattle.cg_model.specs.Kernel as plain
-use Rattle.cg_model.specs.Kernel.{IsKernel}
+use Rattle.cg_turns.proofs.Pairs.{watched_step, reached_within, reached_nodes}
 use Rattle.cg_turns.specs.Step.{Steps, work_in}
 use Rattle.cg_turns.proofs.Steps.{stepped, work_right}
 use Rattle.cg_turns.proofs.frame.one_turn.Goals as goal
@@ -21,7 +22,7 @@ loop-place-preserved c =
     let done' : Steps K c.args.image.now c.loop-place.place c.args.turn (c.args.turn % 5) f g = subst (λ (row : ℕ). Steps K c.args.image.now c.loop-place.place c.args.turn row f g) c.requires.row done in
     let access : Access = record { node = c.loop-place.place; turn = c.args.turn } in
     let progress = c.loop-place.invariant.at in
-    let long : length f.memory ≡ length c.args.image.now.memory = ap length progress.memory ∙ length-memory K c.args.image.now (c.args.turn * plain.size K + c.loop-place.place) in
+    let long : length f.memory ≡ length c.args.image.now.memory = ap length progress.memory ∙ memory_stays K c.args.image.now (c.args.turn * plain.size K + c.loop-place.place) in
     let right : work_in K c.loop-place.place c.args.turn c.args.row f ≡ work K c.args.image.now (step_of (plain.size K) access) =
     subst (λ (row : ℕ). work_in K c.loop-place.place c.args.turn row f ≡ work K c.args.image.now (step_of (plain.size K) access)) (sym c.requires.row) (work_right K c.args.image.now good c.args.turn c.loop-place.place f within progress) in
     let next : step_of (plain.size K) access + 1 ≡ c.args.turn * plain.size K + (c.loop-place.place + 1) = omega arith in
@@ -37,7 +38,7 @@ watch_step-requires-clause-address c =
     let K = c.args.kernel.now in
     let f = c.loop-place.frame in
     let w = work_in K c.loop-place.place c.args.turn c.args.row f in
-    let long : length f.memory ≡ length c.args.image.now.memory = ap length c.loop-place.invariant.at.memory ∙ length-memory K c.args.image.now (c.args.turn * plain.size K + c.loop-place.place) in
+    let long : length f.memory ≡ length c.args.image.now.memory = ap length c.loop-place.invariant.at.memory ∙ memory_stays K c.args.image.now (c.args.turn * plain.size K + c.loop-place.place) in
     reached_within (length f.memory) (length c.loop-place.watch.words.items) w c.in_ok-word.word c.in_ok-word.ensures.reached (long ∙ sym c.loop-place.invariant.watched.long)
 
 pub watch_step-requires-clause-nodes : goal.watch_step-requires-clause-nodes
@@ -45,7 +46,7 @@ watch_step-requires-clause-nodes c =
     let K = c.args.kernel.now in
     let f = c.loop-place.frame in
     let w = work_in K c.loop-place.place c.args.turn c.args.row f in
-    let long : length f.memory ≡ length c.args.image.now.memory = ap length c.loop-place.invariant.at.memory ∙ length-memory K c.args.image.now (c.args.turn * plain.size K + c.loop-place.place) in
+    let long : length f.memory ≡ length c.args.image.now.memory = ap length c.loop-place.invariant.at.memory ∙ memory_stays K c.args.image.now (c.args.turn * plain.size K + c.loop-place.place) in
     reached_nodes K c.args.image.now (c.args.turn * plain.size K + c.loop-place.place) (length f.memory) w c.in_ok-word.word c.loop-place.watch c.in_ok-word.ensures.reached long c.loop-place.invariant.watched
 
 pub returns-clause-watched : goal.returns-clause-watched
