@@ -1,0 +1,5 @@
+pub mod Fronts
+pub mod ItemLists
+pub mod Never
+pub mod NotBoth
+pub mod Places

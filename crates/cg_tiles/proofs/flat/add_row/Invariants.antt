@@ -1,0 +1,6 @@
+use Rattle.std.proofs.Common.{◌≡◌, ◌++◌, drop}
+use Rattle.cg_tiles.specs.Flat.{row_elements}
+use Rattle.cg_tiles.proofs.flat.add_row.Given as goal
+
+abbrev pub invariant-loop-column : goal.invariant-loop-column
+invariant-loop-column l = l.elements.items ++ row_elements l.written l.grid l.row l.column (drop l.column l.cells) ≡ l.fn.elements.items ++ row_elements l.written l.grid l.row 0 l.cells

@@ -1,0 +1,6 @@
+use Rattle.std.proofs.Common.{◌≡◌, ◌++◌, drop}
+use Rattle.cg_tiles.specs.Flat.{grid_elements, grid_of}
+use Rattle.cg_tiles.proofs.flat.elements_of.Given as goal
+
+abbrev pub invariant-loop-row : goal.invariant-loop-row
+invariant-loop-row l = l.elements.items ++ grid_elements l.written (grid_of l.written) l.row (drop l.row l.written.sheet.grid) ≡ grid_elements l.written (grid_of l.written) 0 l.written.sheet.grid

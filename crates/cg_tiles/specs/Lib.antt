@@ -1,0 +1,4 @@
+pub mod Answer
+pub mod Flat
+pub mod Rules
+pub mod Written

@@ -1,0 +1,36 @@
+//! TOML texts: the table that bytes stand for, and what readers of formats ask of values.
+#![tactic(auto)]
+
+ghost use Rattle.std.specs.Prelude.{◌≡◌, Some, None, IfOk, IsErrOf};
+ghost use Rattle.toml.specs.View.{view};
+ghost use Rattle.cg_toml.specs.Bytes.{table_of};
+
+mod members;
+
+pub use members::{
+    flag_or, has_other_keys, items, list_at, list_or_none, table_at, text_at, word_at, word_or,
+};
+use std::alloc::Global;
+use toml::Value;
+
+/// Why bytes gave no table.
+#[derive(Clone, Copy, Debug, PartialEq, Eq)]
+pub enum TomlFault {
+    Memory,
+    NotToml,
+}
+
+/// The TOML table that the bytes stand for.
+pub fn toml_table(alloc: Global, bytes: &[u8]) -> Result<Value, TomlFault>
+    ensures ok { IfOk result (λ value. table_of bytes.now ≡ Some (view value)) }
+    ensures not_toml { IsErrOf result TomlFault.NotToml → table_of bytes.now ≡ None }
+{
+    match toml::table_from_slice(alloc, bytes) {
+        Ok(table) => Ok(Value::Table(table)),
+        Err(error) => if error.is_memory() {
+            Err(TomlFault::Memory)
+        } else {
+            Err(TomlFault::NotToml)
+        },
+    }
+}
