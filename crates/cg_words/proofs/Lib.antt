@@ -1,0 +1,6 @@
+pub mod Digits
+pub mod Failures
+pub mod Uses
+pub mod Walk
+pub mod Parts
+pub mod Judged

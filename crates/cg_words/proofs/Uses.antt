@@ -1,0 +1,48 @@
+-- How `clap` reads words: plain words, and options with their values.
+use Rattle.std.proofs.Common.{◌∷◌, [], List, Bool, true, false, Option, Some, None, option_map, find, if◌then◌else◌}
+use Rattle.std.specs.Str.{bytes_eq}
+use Rattle.clap.specs.Lexer.{long_of, short_of}
+use Rattle.cg_words.specs.Words.{Text, Part, plain, named}
+
+-- a part, and those after it
+abbrev pub before : Part → Option (List Part) → Option (List Part)
+before part rest = option_map (λ parts. part ∷ parts) rest
+
+-- `--`
+abbrev pub is_dashes : Text → Bool
+is_dashes word = bytes_eq word (45 ∷ 45 ∷ [])
+
+-- the option of this name
+abbrev pub known : List Text → Text → Option Text
+known os name = find (λ o. bytes_eq o name) os
+
+-- `--name` waits for its value, and `--name=value` has it
+abbrev pub option_said : Option Text → Option Text → Option (List Part) → (Text → Option (List Part)) → Option (List Part)
+option_said None value rest waiting = None
+option_said (Some o) (Some value) rest waiting = before (named o value) rest
+option_said (Some o) None rest waiting = waiting o
+
+-- a word with a hyphen in front is no plain word, but `-` is
+abbrev pub word_said : List Text → Option (Text × Option Text) → Option Text → Text → Option (List Part) → (Text → Option (List Part)) → Option (List Part)
+word_said os (Some p) flags word rest waiting = option_said (known os p.0) p.1 rest waiting
+word_said os None (Some flags) word rest waiting = None
+word_said os None None word rest waiting = before (plain word) rest
+
+-- the word after `--name` is its value, where it is plain
+abbrev pub value_said : Text → Option (Text × Option Text) → Option Text → Text → Option (List Part) → Option (List Part)
+value_said o (Some p) flags word rest = None
+value_said o None (Some flags) word rest = None
+value_said o None None word rest = before (named o word) rest
+
+-- the parts of the words, after `--` or before, where an option may wait for its value
+abbrev pub uses : List Text → Bool → Option Text → List Text → Option (List Part)
+uses os ended None [] = Some []
+uses os ended (Some o) [] = None
+uses os true None (word ∷ words) = before (plain word) (uses os true None words)
+uses os true (Some o) (word ∷ words) = None
+uses os false None (word ∷ words) =
+    if is_dashes word then uses os true None words
+    else word_said os (long_of word) (short_of word) word (uses os false None words) (λ o. uses os false (Some o) words)
+uses os false (Some o) (word ∷ words) =
+    if is_dashes word then None
+    else value_said o (long_of word) (short_of word) word (uses os false None words)

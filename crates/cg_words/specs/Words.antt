@@ -1,0 +1,211 @@
+-- What the words of a command line ask.
+use Rattle.std.specs.Prelude.{◌≡◌, ◌≤◌, ◌==◌, ℕ, Bool, false, not, ◌&&◌, ◌||◌, List, [], ◌∷◌, length, take, drop, find, map, Option, Some, None, is_some, option_map, option_and_then, if◌then◌else◌, nat_lt, nat_le, codes, string_bytes}
+use Rattle.std.specs.Char.{is_ascii_digit}
+use Rattle.std.specs.List.{list_all, list_any, before_first, after_first}
+use Rattle.std.specs.Str.{bytes_eq}
+use Rattle.std.specs.Str.Parse.{digits_value}
+use Rattle.cg_words.specs.declared.plans.Command.{Command}
+use Rattle.cg_words.specs.declared.plans.Command.TheVariants.{Turns, TurnsOnImage, Flat}
+use Rattle.cg_words.specs.declared.plans.Plan.{Plan as PlanValue}
+use Rattle.cg_words.specs.declared.options.Said.{Said as SaidValue}
+
+-- the bytes of a word
+abbrev pub Text : Type 0
+Text = List ℕ
+
+-- ---- numbers
+
+-- a word is a number where it has 1 to 20 digits
+abbrev pub is_number : Text → Bool
+is_number word = nat_lt 0 (length word) && (nat_le (length word) 20 && list_all is_ascii_digit word)
+
+-- the number of a word, where it is in its range
+abbrev pub number_up_to : ℕ → Text → Option ℕ
+number_up_to most word = if is_number word && nat_le (digits_value 10 word) most then Some (digits_value 10 word) else None
+
+-- the number, where it isn't 0
+abbrev pub positive : ℕ → Option ℕ
+positive n = if nat_lt 0 n then Some n else None
+
+-- TURNS: 0 to 1,000,000
+abbrev pub turns_of : Text → Option ℕ
+turns_of word = number_up_to 1000000 word
+
+-- `--ii`: 1 to 64
+abbrev pub interval_of : Text → Option ℕ
+interval_of word = option_and_then positive (number_up_to 64 word)
+
+-- `--seed`: 0 to 18,446,744,073,709,551,615
+abbrev pub seed_of : Text → Option ℕ
+seed_of word = number_up_to 18446744073709551615 word
+
+-- `--moves`: 0 to 1,000,000
+abbrev pub moves_of : Text → Option ℕ
+moves_of word = number_up_to 1000000 word
+
+-- ---- plain words and options
+
+-- a word may name a file where it isn't empty and doesn't begin with `-`
+abbrev pub is_file : Text → Bool
+is_file [] = false
+is_file (b ∷ bs) = not (b == 45)
+
+-- a plain word, or an option of this name with its value
+pub data Part : Type 0 where
+  plain : Text → Part
+  named : Text → Text → Part
+
+-- the word, or the value
+abbrev pub text_of : Part → Text
+text_of (plain word) = word
+text_of (named name value) = value
+
+-- a part and those after it; a plain word or a value that is empty or begins with `-` is refused
+abbrev pub and_then : Part → Option (List Part) → Option (List Part)
+and_then part rest = if is_file (text_of part) then option_map (λ parts. part ∷ parts) rest else None
+
+-- the names of the options
+abbrev pub options : List Text
+options = codes "ii" ∷ codes "seed" ∷ codes "moves" ∷ codes "mapping" ∷ []
+
+-- the option of this name
+abbrev pub option_named : Text → Option Text
+option_named name = find (λ option. bytes_eq option name) options
+
+-- a word begins with `--`
+abbrev pub is_option : Text → Bool
+is_option word = bytes_eq (take 2 word) (codes "--")
+
+-- `=`
+abbrev pub is_equals_sign : ℕ → Bool
+is_equals_sign b = b == 61
+
+-- the name in `--name` or `--name=value`, which ends at the first `=`
+abbrev pub name_in : Text → Text
+name_in word = before_first is_equals_sign (drop 2 word)
+
+-- the value in `--name=value`, none in `--name`
+abbrev pub value_in : Text → Option Text
+value_in word = if list_any is_equals_sign (drop 2 word) then Some (after_first is_equals_sign (drop 2 word)) else None
+
+-- an option with the value behind its `=`, or waiting for the next word; another name is refused
+abbrev pub option_parts : Option Text → Option Text → Option (List Part) → (Text → Option (List Part)) → Option (List Part)
+option_parts None value rest waiting = None
+option_parts (Some name) (Some value) rest waiting = and_then (named name value) rest
+option_parts (Some name) None rest waiting = waiting name
+
+-- the parts of the words after `--`, each of them plain
+abbrev pub plain_parts : List Text → Option (List Part)
+plain_parts [] = Some []
+plain_parts (word ∷ words) = and_then (plain word) (plain_parts words)
+
+-- the parts of the words, where an option may wait for the next word as its value; `--` ends the options
+abbrev pub parts_of : Option Text → List Text → Option (List Part)
+parts_of None [] = Some []
+parts_of (Some name) [] = None
+parts_of (Some name) (word ∷ words) = and_then (named name word) (parts_of None words)
+parts_of None (word ∷ words) =
+    if bytes_eq word (codes "--") then plain_parts words
+    else (if is_option word
+    then option_parts (option_named (name_in word)) (value_in word) (parts_of None words) (λ name. parts_of (Some name) words)
+    else and_then (plain word) (parts_of None words))
+
+-- ---- what was said
+
+-- the plain words, and the value of each option
+pub record Said : Type 0 where
+  pub words : List Text
+  pub interval : Option ℕ
+  pub seed : Option ℕ
+  pub moves : Option ℕ
+  pub mapping : Option Text
+
+-- what a value of the program says
+abbrev pub heard : SaidValue → Said
+heard s = record { words = map (λ word. word.now) s.words.items; interval = s.interval; seed = s.seed; moves = s.moves; mapping = option_map (λ word. word.now) s.mapping }
+
+-- the plain words, in order
+abbrev pub plain_words : List Part → List Text
+plain_words [] = []
+plain_words (plain word ∷ parts) = word ∷ plain_words parts
+plain_words (named name value ∷ parts) = plain_words parts
+
+-- the values of an option, in order
+abbrev pub values_of : Text → List Part → List Text
+values_of name [] = []
+values_of name (plain word ∷ parts) = values_of name parts
+values_of name (named other value ∷ parts) = if bytes_eq other name then value ∷ values_of name parts else values_of name parts
+
+-- what the value of an option reads as, where it comes at most once and reads
+abbrev pub at_most_once : {T : Type 0} → (Text → Option T) → List Text → Option (Option T)
+at_most_once read [] = Some None
+at_most_once read (value ∷ []) = option_map Some (read value)
+at_most_once read (value ∷ other ∷ more) = None
+
+-- all of it, where each option fits
+abbrev pub all_said : List Text → Option (Option ℕ) → Option (Option ℕ) → Option (Option ℕ) → Option (Option Text) → Option Said
+all_said words (Some interval) (Some seed) (Some moves) (Some mapping) = Some (record { words = words; interval = interval; seed = seed; moves = moves; mapping = mapping })
+all_said words _ _ _ _ = None
+
+-- what the parts say
+abbrev pub said_by : List Part → Option Said
+said_by parts = all_said (plain_words parts)
+    (at_most_once interval_of (values_of (codes "ii") parts))
+    (at_most_once seed_of (values_of (codes "seed") parts))
+    (at_most_once moves_of (values_of (codes "moves") parts))
+    (at_most_once Some (values_of (codes "mapping") parts))
+
+-- what the words after a command's name say, None where they fit no command
+unfoldable pub said_of : List Text → Option Said
+said_of words = option_and_then said_by (parts_of None words)
+
+-- ---- commands
+
+-- a command with its numbers, and the names of its files: inputs in the order of reading, outputs in that of writing
+pub record Plan : Type 0 where
+  pub command : Command
+  pub inputs : List Text
+  pub outputs : List Text
+
+-- the plan that a value of the program is
+abbrev pub planned : PlanValue → Plan
+planned p = record { command = p.command; inputs = map string_bytes p.inputs.items; outputs = map string_bytes p.outputs.items }
+
+-- turns KERNEL TURNS, and turns KERNEL TURNS IN OUT
+abbrev pub turns_plan : List Text → Option Plan
+turns_plan (kernel ∷ turns ∷ []) =
+    option_map (λ n. record { command = Turns n; inputs = kernel ∷ []; outputs = [] }) (turns_of turns)
+turns_plan (kernel ∷ turns ∷ input ∷ output ∷ []) =
+    option_map (λ n. record { command = TurnsOnImage n; inputs = kernel ∷ input ∷ []; outputs = output ∷ [] }) (turns_of turns)
+turns_plan _ = None
+
+-- flat ARCH OUT
+abbrev pub flat_plan : List Text → Option Plan
+flat_plan (arch ∷ out ∷ []) = Some (record { command = Flat; inputs = arch ∷ []; outputs = out ∷ [] })
+flat_plan _ = None
+
+-- an option was given
+abbrev pub has_options : Said → Bool
+has_options said = is_some said.interval || (is_some said.seed || (is_some said.moves || is_some said.mapping))
+
+-- the plan of a command that takes no option
+abbrev pub without_options : (List Text → Option Plan) → Said → Option Plan
+without_options plan said = if has_options said then None else plan said.words
+
+-- the plan of the command of this name
+abbrev pub command_plan : Text → Said → Option Plan
+command_plan name said =
+    if bytes_eq name (codes "turns") then without_options turns_plan said
+    else (if bytes_eq name (codes "flat") then without_options flat_plan said
+    else None)
+
+-- what the words ask, None where they fit no command
+unfoldable pub plan_of : List Text → Option Plan
+plan_of [] = None
+plan_of (name ∷ words) = option_and_then (command_plan name) (said_of words)
+
+-- how many files a command reads and writes, and the range of its number
+abbrev pub HasShape : Command → ℕ → ℕ → Type 0
+HasShape (Turns turns) inputs outputs = (inputs ≡ 1) × (outputs ≡ 0) × (turns ≤ 1000000)
+HasShape (TurnsOnImage turns) inputs outputs = (inputs ≡ 2) × (outputs ≡ 1) × (turns ≤ 1000000)
+HasShape Flat inputs outputs = (inputs ≡ 1) × (outputs ≡ 1)

@@ -1,0 +1,89 @@
+//! Numbers and names of files in words.
+ghost use Rattle.std.specs.Prelude.{◌≡◌, ◌≤◌, IfSome};
+ghost use Rattle.std.specs.Char.{is_ascii_digit};
+ghost use Rattle.std.specs.List.{list_all};
+ghost use Rattle.cg_words.specs.Words as spec;
+
+/// The greatest interval that may be asked for.
+const MOST_INTERVAL: u64 = 64;
+
+/// The greatest number of turns that may be asked for.
+const MOST_TURNS: u64 = 1_000_000;
+
+/// The greatest number of moves that may be asked for.
+const MOST_MOVES: u64 = 1_000_000;
+
+/// The interval that a word writes.
+pub fn interval_of(word: &str) -> Option<u32>
+    ensures { result ≡ spec.interval_of word.now }
+{
+    match number_up_to(word, MOST_INTERVAL) {
+        Some(interval) if interval > 0 => Some(interval as u32),
+        _ => None,
+    }
+}
+
+/// The seed that a word writes.
+pub fn seed_of(word: &str) -> Option<u64>
+    ensures { result ≡ spec.seed_of word.now }
+{
+    number_up_to(word, u64::MAX)
+}
+
+/// The number of moves that a word writes.
+pub fn moves_of(word: &str) -> Option<u32>
+    ensures { result ≡ spec.moves_of word.now }
+{
+    match number_up_to(word, MOST_MOVES) {
+        Some(moves) => Some(moves as u32),
+        None => None,
+    }
+}
+
+/// The number of turns that a word writes.
+pub fn turns_of(word: &str) -> Option<u32>
+    ensures value { result ≡ spec.turns_of word.now }
+    ensures within { IfSome result (λ turns. turns ≤ 1000000) }
+{
+    match number_up_to(word, MOST_TURNS) {
+        Some(turns) => Some(turns as u32),
+        None => None,
+    }
+}
+
+/// Whether the word may name a file.
+pub fn is_file(word: &str) -> bool
+    ensures { result ≡ spec.is_file word.now }
+{
+    match word.as_bytes() {
+        [] => false,
+        [first, ..] => *first != b'-',
+    }
+}
+
+/// The number that a word writes, where it is one of 1 to 20 digits and at most `most`.
+fn number_up_to(word: &str, most: u64) -> Option<u64>
+    ensures value { result ≡ spec.number_up_to most word.now }
+    ensures within { IfSome result (λ n. n ≤ most) }
+{
+    if !is_number(word) {
+        return None;
+    }
+    match word.parse::<u64>() {
+        Ok(number) if number <= most => Some(number),
+        _ => None,
+    }
+}
+
+/// Whether the word is one of 1 to 20 digits.
+fn is_number(word: &str) -> bool
+    ensures { result ≡ spec.is_number word.now }
+{
+    !word.is_empty() && word.len() <= 20 && are_digits(word)
+}
+
+fn are_digits(word: &str) -> bool
+    ensures { result ≡ list_all is_ascii_digit word.now }
+{
+    word.bytes().all(|byte| byte.is_ascii_digit())
+}

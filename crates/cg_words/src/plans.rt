@@ -1,0 +1,114 @@
+//! Commands, each with its files and its numbers.
+ghost use Rattle.std.specs.Prelude.{◌≡◌, IfOk, IfSome, map, option_map, string_bytes, vec_len};
+ghost use Rattle.cg_words.specs.Words as spec;
+ghost use Rattle.cg_words.specs.Words.{HasShape};
+
+use crate::numbers::turns_of;
+use crate::options::{Said, said_of};
+use std::alloc::{AllocError, Global};
+
+/// A command, with its numbers.
+#[derive(Clone, Copy, Debug, PartialEq, Eq)]
+pub enum Command {
+    /// `turns KERNEL TURNS`: so many turns of the kernel.
+    Turns { turns: u32 },
+    /// `turns KERNEL TURNS IN OUT`: the same from an image, and the result image.
+    TurnsOnImage { turns: u32 },
+    /// `flat ARCH OUT`: the flat text of an architecture.
+    Flat,
+}
+
+/// A command with the names of its files: the inputs in the order of reading, the outputs in
+/// that of writing.
+#[derive(Drop)]
+pub struct Plan {
+    pub command: Command,
+    pub inputs: Vec<String>,
+    pub outputs: Vec<String>,
+}
+
+/// What the words ask, None where they fit no command.
+#[tactic(auto, unfolding(crate::specs::Words::plan_of))]
+pub fn plan_words(alloc: Global, words: &[String]) -> Result<Option<Plan>, AllocError>
+    ensures plan { IfOk result
+        (λ p. option_map spec.planned p ≡ spec.plan_of (map string_bytes words.now)) }
+    ensures shape { IfOk result (λ p. IfSome p
+        (λ plan. HasShape plan.command (vec_len plan.inputs) (vec_len plan.outputs))) }
+{
+    let Some((name, rest)) = words.split_first() else {
+        return Ok(None);
+    };
+    match said_of(alloc, rest)? {
+        Some(said) => command_plan(alloc, name.as_str(), &said),
+        None => Ok(None),
+    }
+}
+
+fn command_plan(alloc: Global, name: &str, said: &Said) -> Result<Option<Plan>, AllocError>
+    ensures plan { IfOk result
+        (λ p. option_map spec.planned p ≡ spec.command_plan name.now (spec.heard said.now)) }
+    ensures shape { IfOk result (λ p. IfSome p
+        (λ plan. HasShape plan.command (vec_len plan.inputs) (vec_len plan.outputs))) }
+{
+    match name {
+        "turns" if !has_options(said) => turns_plan(alloc, said.words.as_slice()),
+        "flat" if !has_options(said) => flat_plan(alloc, said.words.as_slice()),
+        _ => Ok(None),
+    }
+}
+
+fn has_options(said: &Said) -> bool
+    ensures { result ≡ spec.has_options (spec.heard said.now) }
+{
+    said.interval.is_some() || said.seed.is_some() || said.moves.is_some() || said.mapping.is_some()
+}
+
+fn turns_plan(alloc: Global, words: &[&str]) -> Result<Option<Plan>, AllocError>
+    ensures plan { IfOk result
+        (λ p. option_map spec.planned p ≡ spec.turns_plan (map (λ word. word.now) words.now)) }
+    ensures shape { IfOk result (λ p. IfSome p
+        (λ plan. HasShape plan.command (vec_len plan.inputs) (vec_len plan.outputs))) }
+{
+    match words {
+        [kernel, turns] => {
+            let Some(turns) = turns_of(turns) else {
+                return Ok(None);
+            };
+            Ok(Some(Plan {
+                command: Command::Turns { turns },
+                inputs: vec![in alloc; String::from_str(alloc, kernel)?]?,
+                outputs: Vec::new(alloc),
+            }))
+        }
+        [kernel, turns, input, output] => {
+            let Some(turns) = turns_of(turns) else {
+                return Ok(None);
+            };
+            Ok(Some(Plan {
+                command: Command::TurnsOnImage { turns },
+                inputs: vec![in alloc;
+                    String::from_str(alloc, kernel)?,
+                    String::from_str(alloc, input)?,
+                ]?,
+                outputs: vec![in alloc; String::from_str(alloc, output)?]?,
+            }))
+        }
+        _ => Ok(None),
+    }
+}
+
+fn flat_plan(alloc: Global, words: &[&str]) -> Result<Option<Plan>, AllocError>
+    ensures plan { IfOk result
+        (λ p. option_map spec.planned p ≡ spec.flat_plan (map (λ word. word.now) words.now)) }
+    ensures shape { IfOk result (λ p. IfSome p
+        (λ plan. HasShape plan.command (vec_len plan.inputs) (vec_len plan.outputs))) }
+{
+    match words {
+        [arch, out] => Ok(Some(Plan {
+            command: Command::Flat,
+            inputs: vec![in alloc; String::from_str(alloc, arch)?]?,
+            outputs: vec![in alloc; String::from_str(alloc, out)?]?,
+        })),
+        _ => Ok(None),
+    }
+}
