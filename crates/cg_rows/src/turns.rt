@@ -29,7 +29,7 @@ fn sends(rt: HostRuntime) -> Result<(), AllocError> {
     let alloc = rt.alloc();
     for (name, text, turns, report) in [
         ("running_sum_of_turns", SUM, "5", "out 0: 0 1 3 6 10\n"),
-        ("leading_zeros", SUM, "00005", "out 0: 0 1 3 6 10\n"),
+        ("leading_zeros", SUM, "000005", "out 0: 0 1 3 6 10\n"),
         ("no_turn", SUM, "0", "out 0:\n"),
         (
             "own_value_of_two_turns_ago",

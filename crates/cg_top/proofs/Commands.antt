@@ -1,13 +1,13 @@
 -- Facts of the commands' definitions. A command is a case of each.
-use Rattle.std.proofs.Common.{◌≡◌, ℕ, Bool, true, false, List, [], ◌∷◌, Option, Some, None, Result, Ok, Err, refl, sym, ◌∙◌, ap}
+use Rattle.std.proofs.Common.{◌≡◌, ◌≢◌, ℕ, Bool, true, false, List, [], ◌∷◌, Option, Some, None, Result, Ok, Err, refl, sym, ◌∙◌, ap}
 use Rattle.cg_model.specs.Kernel.{Kernel}
 use Rattle.cg_ending.specs.declared.outcome.Status.{Status}
 use Rattle.cg_ending.specs.declared.outcome.Status.TheVariants.{Done, Malformed, Impossible, BudgetSpent, No}
 use Rattle.cg_ending.specs.Outcome.{Name, File, Outcome}
 use Rattle.cg_kernel.specs.declared.fault.KernelFault.{KernelFault}
 use Rattle.cg_kernel.specs.Answer.{answer_of}
-use Rattle.cg_top.specs.declared.words.Command.{Command}
-use Rattle.cg_top.specs.declared.words.Command.TheVariants.{Turns, TurnsOnImage}
+use Rattle.cg_words.specs.declared.plans.Command.{Command}
+use Rattle.cg_words.specs.declared.plans.Command.TheVariants.{Turns, TurnsOnImage, Flat}
 use Rattle.cg_model.specs.Work.{Image}
 use Rattle.cg_model.specs.Order.{IsUnaliased}
 use Rattle.cg_pad.specs.declared.fault.ImageFault.{ImageFault}
@@ -15,7 +15,14 @@ use Rattle.cg_pad.specs.Bytes as images
 use Rattle.cg_turns.specs.declared.pair.UnorderedPair.{UnorderedPair}
 use Rattle.cg_turns.specs.Pairs.{IsPairOf}
 use Rattle.cg_top.specs.Turns.{turns_by, turns_of}
-use Rattle.cg_top.specs.TurnsOnImage.{IsTurnsOnImage, IsOnKernel, IsOnImage, IsImaged, imaged, pair_status}
+use Rattle.cg_top.specs.TurnsOnImage.{IsTurnsOnImage, IsOnKernel, IsOnImage, imaged, pair_status}
+use Rattle.cg_model.specs.Array.{Arch}
+use Rattle.cg_tiles.specs.declared.fault.TilesFault.{TilesFault}
+use Rattle.cg_tiles.specs.declared.fault.TilesFault.TheVariants as fault
+use Rattle.cg_tiles.specs.Answer as tiles
+use Rattle.cg_tiles.specs.Answer.{AreValidBytes}
+use Rattle.cg_tiles.proofs.NotBoth.{not_both}
+use Rattle.cg_top.specs.Flat.{flat_by}
 use Rattle.cg_top.specs.Commands.{IsAnswer, Accepts}
 use Rattle.cg_top.specs.TopCall.{leaves_all}
 
@@ -44,10 +51,19 @@ pub on_image_is : (n : ℕ) (file input : File) (out : Name) (o : Outcome) → I
 unfolding IsTurnsOnImage
 on_image_is n file input out o p = p
 
+-- what a file gives decides between an architecture and a fault
+same_flat : (file : File) (out : Name) (a b : Outcome) (r q : Result Arch TilesFault) → tiles.IsAnswer file.bytes r → tiles.IsAnswer file.bytes q → r ≢ Err fault.Memory → q ≢ Err fault.Memory
+    → a ≡ flat_by file out r → b ≡ flat_by file out q → a.status ≡ b.status
+same_flat file out a b (Ok A) (Ok B) x y n m d e = ap (λ o. o.status) d ∙ sym (ap (λ o. o.status) e)
+same_flat file out a b (Ok A) (Err f) x y n m d e = absurd (not_both file.bytes A f x (y (λ s. m (ap Err s))))
+same_flat file out a b (Err f) (Ok A) x y n m d e = absurd (not_both file.bytes A f y (x (λ s. n (ap Err s))))
+same_flat file out a b (Err f) (Err g) x y n m d e = ap (λ o. o.status) d ∙ sym (ap (λ o. o.status) e)
+
 -- where the outcome may be chosen, its status may not
 pub same_status : (c : Command) (files : List File) (outputs : List Name) (a b : Outcome) → IsAnswer c files outputs a → IsAnswer c files outputs b → a.status ≡ b.status
 same_status (Turns n) (f ∷ []) [] a b p q = ap (λ o. o.status) (p ∙ sym q)
 same_status (TurnsOnImage n) (f ∷ g ∷ []) (out ∷ []) a b p q = same_on_kernel n f g out (answer_of f.bytes) a b (on_image_is n f g out a p) (on_image_is n f g out b q)
+same_status Flat (f ∷ []) (out ∷ []) a b p q = same_flat f out a b p.given q.given p.is_given q.is_given p.no_memory q.no_memory p.outcome q.outcome
 same_status _ _ _ a b p q = absurd p
 
 -- a command's own statuses
@@ -85,9 +101,14 @@ sound_on_kernel : (n : ℕ) (file input : File) (out : Name) (r : Result Kernel 
 sound_on_kernel n file input out (Ok K) o p = sound_on_image n K input out (images.answer_of input.bytes) o p
 sound_on_kernel n file input out (Err f) o p = rw p (record { own = refl; quiet = λ h. refl })
 
+sound_flat : (file : File) (out : Name) (r : Result Arch TilesFault) → IsSound (flat_by file out r)
+sound_flat file out (Ok A) = record { own = refl; quiet = λ h. cc }
+sound_flat file out (Err f) = record { own = refl; quiet = λ h. refl }
+
 pub sound : (c : Command) (files : List File) (outputs : List Name) (o : Outcome) → IsAnswer c files outputs o → IsSound o
 sound (Turns n) (f ∷ []) [] o p = rw (turns_is n f o p) (sound_turns n f (answer_of f.bytes))
 sound (TurnsOnImage n) (f ∷ g ∷ []) (out ∷ []) o p = sound_on_kernel n f g out (answer_of f.bytes) o (on_image_is n f g out o p)
+sound Flat (f ∷ []) (out ∷ []) o p = rw p.outcome (sound_flat f out p.given)
 sound _ _ _ o p = absurd p
 
 accepted_pair : (n : ℕ) (K : Kernel) (image : Image) (p : Option UnorderedPair) → IsUnaliased K n image → IsPairOf K n image p → pair_status p ≡ Done
@@ -107,8 +128,13 @@ accepted_kernel n K image file input out (Ok k) o e i u p =
     accepted_image n k image input out (images.answer_of input.bytes) o i (rw same u) p
 accepted_kernel n K image file input out (Err f) o e i u p = cc
 
+accepted_flat : (file : File) (out : Name) (A : Arch) (r : Result Arch TilesFault) (o : Outcome) → AreValidBytes file.bytes A → tiles.IsAnswer file.bytes r → r ≢ Err fault.Memory → o ≡ flat_by file out r → o.status ≡ Done
+accepted_flat file out A (Ok B) o a x n e = ap (λ y. y.status) e
+accepted_flat file out A (Err f) o a x n e = absurd (not_both file.bytes A f a (x (λ s. n (ap Err s))))
+
 -- what a command accepts it does
 pub accepted : (c : Command) (files : List File) (outputs : List Name) (o : Outcome) → Accepts c files → IsAnswer c files outputs o → o.status ≡ Done
 accepted (Turns n) (f ∷ []) [] o a p = ap (λ x. x.status) (turns_is n f o p) ∙ ap (λ r. (turns_by n f r).status) a.1
 accepted (TurnsOnImage n) (f ∷ g ∷ []) (out ∷ []) o a p = accepted_kernel n a.kernel a.image f g out (answer_of f.bytes) o a.kernel_is a.image_is a.unaliased (on_image_is n f g out o p)
+accepted Flat (f ∷ []) (out ∷ []) o a p = accepted_flat f out a.0 p.given o a.1 p.is_given p.no_memory p.outcome
 accepted _ _ _ o a p = absurd p

@@ -12,8 +12,8 @@ use Rattle.cg_ending.specs.Reads.{AreRead, IsRead, read_fault_of, too_long_of}
 use Rattle.cg_ending.specs.Ends.{Moment, Finished}
 use Rattle.cg_kernel.specs.declared.fault.KernelFault.{KernelFault}
 use Rattle.cg_kernel.specs.Answer.{answer_of}
-use Rattle.cg_top.specs.declared.words.Command.TheVariants.{Turns}
-use Rattle.cg_top.specs.Words.{Plan}
+use Rattle.cg_words.specs.declared.plans.Command.TheVariants.{Turns}
+use Rattle.cg_words.specs.Words.{Plan}
 use Rattle.cg_top.specs.Commands.{IsAnswer}
 use Rattle.cg_top.specs.Turns.{blank, streams_report, turns_by}
 use Rattle.cg_top.specs.TopCall.{IsPlanned, Ends, TurnedBy, IsTurned}

@@ -9,9 +9,9 @@ use Rattle.cg_ending.specs.Reads.{read_fault_of, too_long_of}
 use Rattle.cg_ending.specs.Ends.{Moment, Finished, Wrote}
 use Rattle.cg_kernel.specs.declared.fault.KernelFault.{KernelFault}
 use Rattle.cg_kernel.specs.Answer.{answer_of}
-use Rattle.cg_top.specs.declared.words.Command.{Command}
-use Rattle.cg_top.specs.declared.words.Command.TheVariants.{Turns, TurnsOnImage}
-use Rattle.cg_top.specs.Words.{Plan, plan_of}
+use Rattle.cg_words.specs.declared.plans.Command.{Command}
+use Rattle.cg_words.specs.declared.plans.Command.TheVariants.{Turns, TurnsOnImage, Flat}
+use Rattle.cg_words.specs.Words.{Plan, plan_of}
 use Rattle.cg_top.specs.Turns.{turns_by}
 use Rattle.cg_top.specs.Commands.{IsAnswer}
 use Rattle.cg_top.specs.TopCall.{IsPlanned, Ends, WritesNothing, IsKept}
@@ -31,6 +31,9 @@ quiet (TurnsOnImage n) [] o p = absurd p
 quiet (TurnsOnImage n) (f ∷ []) o p = absurd p
 quiet (TurnsOnImage n) (f ∷ g ∷ []) o p = absurd p
 quiet (TurnsOnImage n) (f ∷ g ∷ h ∷ fs) o p = absurd p
+quiet Flat [] o p = absurd p
+quiet Flat (f ∷ []) o p = absurd p
+quiet Flat (f ∷ g ∷ fs) o p = absurd p
 
 quiet_plan : (held : Held) (rose : Type 0) (plan : Option Plan) (o : Outcome) → WritesNothing plan → IsPlanned held rose plan o → o.writes ≡ []
 quiet_plan held rose None o w p = ap (λ x. x.writes) p

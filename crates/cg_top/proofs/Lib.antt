@@ -1,5 +1,4 @@
 pub mod Reports
-pub mod Numbers
 pub mod Turned
 pub mod Shapes
 pub mod Commands
@@ -9,3 +8,4 @@ pub mod Complete
 pub mod Finished
 pub mod Kept
 pub mod Imaged
+pub mod Flattened

@@ -9,8 +9,8 @@ use Rattle.cg_ending.specs.declared.outcome.Status.TheVariants.{Done, Memory, Us
 use Rattle.cg_ending.specs.Outcome.{Name, File, Outcome}
 use Rattle.cg_ending.specs.Reads.{StopsAt, read_fault_of, too_long_of}
 use Rattle.cg_ending.specs.Ends.{Moment, Finished, Wrote}
-use Rattle.cg_top.specs.Words.{Plan, plan_of}
-use Rattle.cg_top.specs.Refusals.{usage_outcome}
+use Rattle.cg_words.specs.Words.{Plan, plan_of}
+use Rattle.cg_refusals.specs.Refusals.{usage_outcome}
 use Rattle.cg_top.specs.TopCall.{IsPlanned, Ends, IsByTable, leaves_all}
 use Rattle.cg_top.proofs.Commands.{sound, is_own}
 

@@ -3,18 +3,22 @@ use Rattle.std.specs.Prelude.{◌≡◌, ℕ, List, [], ◌∷◌, Ok}
 use Rattle.cg_model.specs.Kernel.{Kernel}
 use Rattle.cg_ending.specs.Outcome.{Name, File, Outcome}
 use Rattle.cg_kernel.specs.Answer.{answer_of}
-use Rattle.cg_top.specs.declared.words.Command.{Command}
-use Rattle.cg_top.specs.declared.words.Command.TheVariants.{Turns, TurnsOnImage}
+use Rattle.cg_words.specs.declared.plans.Command.{Command}
+use Rattle.cg_words.specs.declared.plans.Command.TheVariants.{Turns, TurnsOnImage, Flat}
 use Rattle.cg_pad.specs.Bytes as images
 use Rattle.cg_model.specs.Work.{Image}
+use Rattle.cg_model.specs.Array.{Arch}
+use Rattle.cg_tiles.specs.Answer.{AreValidBytes}
 use Rattle.cg_model.specs.Order.{IsUnaliased}
 use Rattle.cg_top.specs.Turns.{turns_of}
 use Rattle.cg_top.specs.TurnsOnImage.{IsTurnsOnImage}
+use Rattle.cg_top.specs.Flat.{IsFlat}
 
 -- the outcomes that the command allows
 abbrev pub IsAnswer : Command → List File → List Name → Outcome → Type 0
 IsAnswer (Turns n) (file ∷ []) [] o = o ≡ turns_of n file
 IsAnswer (TurnsOnImage n) (file ∷ input ∷ []) (out ∷ []) o = IsTurnsOnImage n file input out o
+IsAnswer Flat (file ∷ []) (out ∷ []) o = IsFlat file out o
 IsAnswer _ _ _ o = ⊥
 
 -- the bytes spell a kernel
@@ -29,8 +33,13 @@ pub record IsUnaliasedRun (n : ℕ) (file input : File) : Type 0 where
   pub image_is : images.answer_of input.bytes ≡ Ok image
   pub unaliased : IsUnaliased kernel n image
 
+-- the bytes give an architecture
+abbrev pub GivesArch : File → Type 0
+GivesArch file = (A : Arch) × AreValidBytes file.bytes A
+
 -- the input files that the command takes to its end
 abbrev pub Accepts : Command → List File → Type 0
 Accepts (Turns n) (file ∷ []) = SpellsKernel file
 Accepts (TurnsOnImage n) (file ∷ input ∷ []) = IsUnaliasedRun n file input
+Accepts Flat (file ∷ []) = GivesArch file
 Accepts _ _ = ⊥

@@ -1,6 +1,6 @@
-pub mod Words
-pub mod Refusals
+pub mod Lines
 pub mod Turns
 pub mod TurnsOnImage
+pub mod Flat
 pub mod Commands
 pub mod TopCall

@@ -7,14 +7,18 @@ use Rattle.cg_ending.specs.declared.outcome.Status.TheVariants.{Done, Memory, Us
 use Rattle.cg_ending.specs.Outcome.{Name, Bytes, File, Outcome}
 use Rattle.cg_ending.specs.Reads.{AreRead, StopsAt}
 use Rattle.cg_ending.specs.Ends.{Moment, Finished, Wrote}
-use Rattle.cg_top.specs.Words.{Plan, plan_of}
-use Rattle.cg_top.specs.Refusals.{usage_outcome}
+use Rattle.cg_words.specs.Words.{Plan, plan_of}
+use Rattle.cg_refusals.specs.Refusals.{usage_outcome}
 use Rattle.cg_top.specs.Commands.{IsAnswer, Accepts}
 use Rattle.cg_model.specs.Kernel.{Kernel}
 use Rattle.cg_model.specs.Turns.{turns_left}
 use Rattle.cg_kernel.specs.Answer.{answer_of}
 use Rattle.cg_top.specs.Turns.{blank, streams_report}
-use Rattle.cg_top.specs.declared.words.Command.TheVariants.{Turns}
+use Rattle.cg_words.specs.declared.plans.Command.TheVariants.{Turns, Flat}
+use Rattle.cg_model.specs.Array.{Arch}
+use Rattle.cg_flat.specs.Text.{text_of}
+use Rattle.cg_tiles.specs.Answer.{AreValidBytes}
+use Rattle.cg_top.specs.Flat.{flat_report}
 
 -- all input files were read, and the command allows it
 pub record Answers (held : Held) (plan : Plan) (o : Outcome) : Type 0 where
@@ -94,6 +98,20 @@ pub record TurnedBy (file : Name) (n : ℕ) (before after : Moment) : Type 0 whe
 abbrev pub IsTurned : List Name → Moment → Moment → Status → Type 0
 IsTurned words before after status = (file : Name) (n : ℕ) → status ≡ Done → plan_of words ≡ Some (record { command = Turns n; inputs = file ∷ []; outputs = [] })
     → TurnedBy file n before after
+
+-- an architecture was read, its text is held under the other name, and its counts and its digest were put
+pub record FlattenedBy (file out : Name) (before after : Moment) : Type 0 where
+  pub bytes : Bytes
+  pub held : Holds before.held file bytes
+  pub arch : Arch
+  pub given : AreValidBytes bytes arch
+  pub written : Holds after.held out (text_of arch)
+  pub put : Appends before.taken (flat_report arch) after.taken
+
+-- `flat ARCH OUT` that is done
+abbrev pub IsFlattened : List Name → Moment → Moment → Status → Type 0
+IsFlattened words before after status = (file out : Name) → status ≡ Done → plan_of words ≡ Some (record { command = Flat; inputs = file ∷ []; outputs = out ∷ [] })
+    → FlattenedBy file out before after
 
 -- the words ask for no output file
 abbrev pub WritesNothing : Option Plan → Type 0

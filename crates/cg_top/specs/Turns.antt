@@ -9,7 +9,8 @@ use Rattle.cg_ending.specs.declared.outcome.Status.TheVariants.{Done}
 use Rattle.cg_ending.specs.Outcome.{Bytes, File, Outcome}
 use Rattle.cg_kernel.specs.declared.fault.KernelFault.{KernelFault}
 use Rattle.cg_kernel.specs.Answer.{answer_of}
-use Rattle.cg_top.specs.Refusals.{reports, malformed_of, kernel_fault_text}
+use Rattle.cg_refusals.specs.Refusals.{reports, malformed_of}
+use Rattle.cg_refusals.specs.Kernels.{kernel_fault_text}
 
 -- some node gives output to the port
 abbrev pub outputs_to : Kernel → ℕ → Bool

@@ -1,5 +1,5 @@
 -- `turns KERNEL TURNS IN OUT`.
-use Rattle.std.specs.Prelude.{◌≡◌, ℕ, List, [], ◌∷◌, ◌++◌, Option, Some, None, Result, Ok, Err, codes, decimal}
+use Rattle.std.specs.Prelude.{◌≡◌, ℕ, [], ◌∷◌, Option, Some, None, Result, Ok, Err, codes, decimal}
 use Rattle.cg_model.specs.Kernel.{Kernel, node}
 use Rattle.cg_model.specs.Work.{Image}
 use Rattle.cg_model.specs.Turns.{turns_left}
@@ -12,12 +12,10 @@ use Rattle.cg_pad.specs.declared.fault.ImageFault.{ImageFault}
 use Rattle.cg_pad.specs.Bytes as images
 use Rattle.cg_turns.specs.declared.pair.UnorderedPair.{UnorderedPair}
 use Rattle.cg_turns.specs.Pairs.{IsPairOf}
-use Rattle.cg_top.specs.Refusals.{malformed_of, kernel_fault_text, image_fault_text}
-
--- a line of these pieces, and what comes after it
-abbrev pub line_then : List Bytes → Bytes → Bytes
-line_then [] rest = 10 ∷ rest
-line_then (piece ∷ pieces) rest = piece ++ line_then pieces rest
+use Rattle.cg_refusals.specs.Refusals.{malformed_of}
+use Rattle.cg_refusals.specs.Kernels.{kernel_fault_text}
+use Rattle.cg_refusals.specs.Images.{image_fault_text}
+use Rattle.cg_top.specs.Lines.{line_then}
 
 -- the pair that no edges order: node and turn of the earlier access, and then of the later
 abbrev pub pair_line : Kernel → Option UnorderedPair → Bytes

@@ -1,13 +1,14 @@
 //! What the planned command answers.
 ghost use Rattle.std.specs.Prelude.{◌≡◌, IfOk, length, map, string_bytes};
 ghost use Rattle.cg_ending.specs.Outcome.{file_of, outcome_of};
-ghost use Rattle.cg_top.specs.Words.{HasShape};
+ghost use Rattle.cg_words.specs.Words.{HasShape};
 ghost use Rattle.cg_top.specs.Commands.{IsAnswer};
 
+use crate::flattening::flat;
 use crate::imaging::turns_on_image;
 use crate::turning::turns;
-use crate::words::{Command, Plan};
 use cg_ending::{File, Outcome};
+use cg_words::{Command, Plan};
 use std::alloc::{AllocError, Global};
 
 /// The command's outcome over its input files.
@@ -24,5 +25,6 @@ pub(crate) fn answer(alloc: Global, plan: &Plan, files: &[File]) -> Result<Outco
             &files[1],
             plan.outputs[0].as_str(),
         ),
+        Command::Flat => flat(alloc, &files[0], plan.outputs[0].as_str()),
     }
 }

@@ -5,10 +5,10 @@ ghost use Rattle.cg_ending.specs.Outcome.{file_of, outcome_of};
 ghost use Rattle.cg_top.specs.TurnsOnImage.{IsImaged, IsOnImage, IsTurnsOnImage, image_report, pair_status};
 ghost use Rattle.cg_pad.specs.Bytes as images;
 
-use crate::refusing::{no_image, no_kernel};
 use cg_ending::{File, Outcome, Status};
 use cg_kernel::{Kernel, KernelFault, read_kernel};
 use cg_pad::{Image, ImageFault, read_image, write_image};
+use cg_refusals::{no_image, no_kernel};
 use cg_turns::{UnorderedPair, run_turns};
 use std::alloc::{AllocError, Global};
 

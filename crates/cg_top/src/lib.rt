@@ -5,23 +5,22 @@ ghost use Rattle.std.specs.Prelude.{◌≡◌, ◌≤◌, [], None, IfOk, map, s
 ghost use Rattle.cg_files.specs.Causes.{Rose};
 ghost use Rattle.cg_ending.specs.Outcome.{outcome_of};
 ghost use Rattle.cg_ending.specs.Ends.{moment};
-ghost use Rattle.cg_top.specs.Words.{plan_of};
-ghost use Rattle.cg_top.specs.TopCall.{IsOutcome, Ends, IsExact, IsByTable, IsComplete, IsTurned, IsKept};
+ghost use Rattle.cg_words.specs.Words.{plan_of};
+ghost use Rattle.cg_top.specs.TopCall.{IsOutcome, Ends, IsExact, IsByTable, IsComplete, IsTurned, IsFlattened, IsKept};
 
 mod answering;
+mod flattening;
 mod imaging;
-mod refusing;
 mod streams;
 mod turning;
-mod words;
 
 use answering::answer;
 pub use cg_ending::Status;
 use cg_ending::{Outcome, Stop, finish, read_all};
 use cg_files::{Sink, Store};
-use refusing::usage;
+use cg_refusals::usage;
+pub use cg_words::{Command, Plan, plan_words};
 use std::alloc::{AllocError, Global};
-pub use words::{Command, Plan, plan_words};
 
 /// Does what the words ask: reads the input files out of the store, writes the output files into it, and puts the
 /// report into the sink by one call.
@@ -39,6 +38,10 @@ pub fn run_line<S: Store, O: Sink>(
         result }
     // What follows from it.
     ensures turned { IsTurned (map string_bytes words.now)
+        (moment (S.held store.old) (S.read_faults store.old) (S.write_faults store.old) (O.taken out.old) (O.faults out.old))
+        (moment (S.held store.new) (S.read_faults store.new) (S.write_faults store.new) (O.taken out.new) (O.faults out.new))
+        result }
+    ensures flattened { IsFlattened (map string_bytes words.now)
         (moment (S.held store.old) (S.read_faults store.old) (S.write_faults store.old) (O.taken out.old) (O.faults out.old))
         (moment (S.held store.new) (S.read_faults store.new) (S.write_faults store.new) (O.taken out.new) (O.faults out.new))
         result }

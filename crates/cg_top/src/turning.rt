@@ -3,11 +3,11 @@ ghost use Rattle.std.specs.Prelude.{◌≡◌, ◌≤◌, IfOk};
 ghost use Rattle.cg_ending.specs.Outcome.{file_of, outcome_of};
 ghost use Rattle.cg_top.specs.Turns.{turned, turns_of};
 
-use crate::refusing::no_kernel;
 use crate::streams::streams_report;
 use cg_ending::{File, Outcome, Status};
 use cg_kernel::{Kernel, KernelFault, read_kernel};
 use cg_pad::Image;
+use cg_refusals::no_kernel;
 use cg_turns::run_turns;
 use std::alloc::{AllocError, Global};
 

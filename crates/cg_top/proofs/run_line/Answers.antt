@@ -4,6 +4,7 @@ use Rattle.cg_top.proofs.Exact.{exact}
 use Rattle.cg_top.proofs.Kept.{kept}
 use Rattle.cg_top.proofs.Table.{table}
 use Rattle.cg_top.proofs.Finished.{turned}
+use Rattle.cg_top.proofs.Flattened.{flattened}
 use Rattle.cg_top.proofs.run_line.Goals as goal
 
 pub returns-clause-exact : goal.returns-clause-exact
@@ -20,3 +21,6 @@ returns-clause-turned g c = turned _ _ _ _ c.carry_out.ensures.ends
 
 pub returns-clause-kept : goal.returns-clause-kept
 returns-clause-kept g c = kept _ _ _ _ c.carry_out.ensures.ends
+
+pub returns-clause-flattened : goal.returns-clause-flattened
+returns-clause-flattened g c = flattened _ _ _ _ c.carry_out.ensures.ends

@@ -1,4 +1,4 @@
-use Rattle.std.proofs.Common.{rules, ◌≡◌, IfOk, length, map, string_bytes, ℕ, List, [], ◌∷◌, sym, get_or}
+use Rattle.std.proofs.Common.{rules, ◌≡◌, string_bytes, [], ◌∷◌}
 use Rattle.cg_top.proofs.Shapes.{one_of, two_of}
 use Rattle.cg_top.proofs.answering.answer.Goals as goal
 

@@ -1,5 +1,5 @@
-use Rattle.std.proofs.Common.{◌≡◌, ◌∙◌, ◌∷◌, rules, [], ap, map, string_bytes, List}
-use Rattle.cg_ending.specs.Outcome.{File, file_of, outcome_of}
+use Rattle.std.proofs.Common.{◌≡◌, ◌∙◌, rules, ap, map, string_bytes}
+use Rattle.cg_ending.specs.Outcome.{file_of}
 use Rattle.cg_turns.specs.Done.{left_of}
 use Rattle.cg_top.proofs.Imaged.{file_with, imaged_by}
 use Rattle.cg_top.proofs.imaging.imaged.Goals as goal

@@ -1,32 +1,15 @@
-//! The reports of refusals.
-ghost use Rattle.std.specs.Prelude.{◌≡◌, ◌∷◌, [], IfOk, string_bytes};
+//! Files that spell no kernel.
+ghost use Rattle.std.specs.Prelude.{◌≡◌, IfOk, string_bytes};
 ghost use Rattle.cg_ending.specs.Outcome.{file_of, outcome_of};
-ghost use Rattle.cg_top.specs.Refusals.{usage_outcome, malformed_of, kernel_fault_text, kernel_fault_name, kernel_fault_place, place_text, image_fault_text};
+ghost use Rattle.cg_refusals.specs.Refusals.{malformed_of};
+ghost use Rattle.cg_refusals.specs.Kernels.{kernel_fault_text, kernel_fault_name, kernel_fault_place, place_text};
 
 use cg_ending::{File, Outcome, Status};
 use cg_kernel::{KernelFault, Place};
-use cg_pad::ImageFault;
 use std::alloc::{AllocError, Global};
 
-/// The words fit no command.
-pub(crate) fn usage(alloc: Global) -> Result<Outcome, AllocError>
-    ensures outcome { IfOk result (λ o. outcome_of o ≡ usage_outcome) }
-    ensures no_write { IfOk result (λ o. o.writes.items ≡ []) }
-{
-    let report = String::from_str(alloc, "usage: cgra COMMAND ARGUMENTS\n")?;
-    Ok(Outcome {
-        status: Status::Usage,
-        report: report.into_bytes(),
-        writes: Vec::new(alloc),
-    })
-}
-
 /// The bytes of the file spell no kernel.
-pub(crate) fn no_kernel(
-    alloc: Global,
-    file: &File,
-    fault: &KernelFault,
-) -> Result<Outcome, AllocError>
+pub fn no_kernel(alloc: Global, file: &File, fault: &KernelFault) -> Result<Outcome, AllocError>
     ensures { IfOk result (λ o. outcome_of o ≡ malformed_of (file_of file.now) (kernel_fault_text fault.now)) }
 {
     let name = file.name.as_str();
@@ -93,34 +76,5 @@ fn fault_name(fault: &KernelFault) -> &'static str
         KernelFault::TwoConstants(_) => "K14 TwoConstants",
         KernelFault::BadPort(_) => "K15 BadPort",
         KernelFault::RepeatedOutputPort(_) => "K16 RepeatedOutputPort",
-    }
-}
-
-/// The bytes of the file spell no image.
-pub(crate) fn no_image(alloc: Global, file: &File, fault: ImageFault) -> Result<Outcome, AllocError>
-    ensures { IfOk result (λ o. outcome_of o ≡ malformed_of (file_of file.now) (image_fault_text fault ∷ [])) }
-{
-    let name = file.name.as_str();
-    let text = image_fault_text(alloc, fault)?;
-    let report = format!(in alloc; "malformed {name}: {text}\n")?;
-    Ok(Outcome {
-        status: Status::Malformed,
-        report: report.into_bytes(),
-        writes: Vec::new(alloc),
-    })
-}
-
-fn image_fault_text(alloc: Global, fault: ImageFault) -> Result<String, AllocError>
-    ensures { IfOk result (λ s. string_bytes s ≡ image_fault_text fault) }
-{
-    match fault {
-        ImageFault::Memory => Ok(String::new(alloc)),
-        ImageFault::Magic => String::from_str(alloc, "I1 Magic byte 0"),
-        ImageFault::Truncated(length) => format!(in alloc; "I2 Truncated length {length}"),
-        ImageFault::MemoryTooLarge(count) => format!(in alloc; "I3 TooLarge memory {count}"),
-        ImageFault::StreamTooLarge(port, count) => {
-            format!(in alloc; "I3 TooLarge stream {port} {count}")
-        }
-        ImageFault::Trailing(byte) => format!(in alloc; "I4 Trailing byte {byte}"),
     }
 }

@@ -1,28 +1,10 @@
--- The reports of refusals.
+-- What reports say of the faults of kernels.
 use Rattle.std.specs.Prelude.{List, [], ◌∷◌, ◌++◌, codes, decimal}
-use Rattle.cg_ending.specs.declared.outcome.Status.{Status}
-use Rattle.cg_ending.specs.declared.outcome.Status.TheVariants.{Usage, Malformed}
-use Rattle.cg_ending.specs.Outcome.{Bytes, File, Outcome, line_of}
+use Rattle.cg_ending.specs.Outcome.{Bytes}
 use Rattle.cg_kernel.specs.declared.fault.Place.{Place}
 use Rattle.cg_kernel.specs.declared.fault.Place.TheVariants as place
 use Rattle.cg_kernel.specs.declared.fault.KernelFault.{KernelFault}
 use Rattle.cg_kernel.specs.declared.fault.KernelFault.TheVariants as fault
-use Rattle.cg_pad.specs.declared.fault.ImageFault.{ImageFault}
-use Rattle.cg_pad.specs.declared.fault.ImageFault.TheVariants as image
-
--- a status with a report, and nothing written
-abbrev pub reports : Status → Bytes → Outcome
-reports status report = record { status = status; report = report; writes = [] }
-
--- the words fit no command
-abbrev pub usage_outcome : Outcome
-usage_outcome = reports Usage (line_of (codes "usage: cgra COMMAND ARGUMENTS" ∷ []))
-
--- a reader refuses the file: code, name and place of the fault
-abbrev pub malformed_of : File → List Bytes → Outcome
-malformed_of file text = reports Malformed (line_of (codes "malformed " ∷ file.name ∷ codes ": " ∷ text))
-
--- ---- faults of kernels
 
 abbrev pub place_text : Place → Bytes
 place_text place.File = codes "file"
@@ -71,14 +53,3 @@ kernel_fault_place (fault.RepeatedOutputPort p) = p
 
 abbrev pub kernel_fault_text : KernelFault → List Bytes
 kernel_fault_text f = kernel_fault_name f ∷ codes " " ∷ place_text (kernel_fault_place f) ∷ []
-
--- ---- faults of images
-
--- code, name and place
-abbrev pub image_fault_text : ImageFault → Bytes
-image_fault_text image.Memory = []
-image_fault_text image.Magic = codes "I1 Magic byte 0"
-image_fault_text (image.Truncated n) = codes "I2 Truncated length " ++ decimal n
-image_fault_text (image.MemoryTooLarge n) = codes "I3 TooLarge memory " ++ decimal n
-image_fault_text (image.StreamTooLarge port n) = codes "I3 TooLarge stream " ++ (decimal port ++ (codes " " ++ decimal n))
-image_fault_text (image.Trailing n) = codes "I4 Trailing byte " ++ decimal n

@@ -1,0 +1,4 @@
+pub mod Archs
+pub mod Images
+pub mod Kernels
+pub mod Refusals
