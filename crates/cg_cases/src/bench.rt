@@ -1,0 +1,95 @@
+//! A store and a sink in memory, and the calls made over them.
+
+use cg_files::{MemSink, MemStore};
+use cg_top::run_line;
+use std::alloc::{AllocError, Global};
+
+/// A file that is held in each case.
+#[derive(Drop)]
+struct Shared {
+    name: String,
+    bytes: Vec<u8>,
+}
+
+/// What the calls of a case work on.
+#[derive(Drop)]
+pub(crate) struct Bench {
+    store: MemStore,
+    sink: MemSink,
+    shared: Vec<Shared>,
+    /// How many bytes were put before the last call.
+    put_before: usize,
+}
+
+impl Bench {
+    /// Nothing is held.
+    pub(crate) fn new(alloc: Global) -> Bench {
+        Bench {
+            store: MemStore::new(alloc),
+            sink: MemSink::new(alloc),
+            shared: Vec::new(alloc),
+            put_before: 0,
+        }
+    }
+
+    /// Begins a case: the shared files are held, and nothing was put.
+    pub(crate) fn clear(&mut self, alloc: Global) -> Result<(), AllocError> {
+        let mut store = MemStore::new(alloc);
+        for file in &self.shared {
+            store.hold(alloc, file.name.as_str(), file.bytes.as_slice())?;
+        }
+        self.store = store;
+        self.sink = MemSink::new(alloc);
+        self.put_before = 0;
+        Ok(())
+    }
+
+    /// Holds a file in each case from now on.
+    pub(crate) fn share(
+        &mut self,
+        alloc: Global,
+        name: &str,
+        bytes: &[u8],
+    ) -> Result<(), AllocError> {
+        let name = String::from_str(alloc, name)?;
+        let bytes = Vec::from_slice(alloc, bytes)?;
+        self.shared.push(Shared { name, bytes })?;
+        Ok(())
+    }
+
+    /// Holds a file in this case.
+    pub(crate) fn hold(
+        &mut self,
+        alloc: Global,
+        name: &str,
+        bytes: &[u8],
+    ) -> Result<(), AllocError> {
+        self.store.hold(alloc, name, bytes)
+    }
+
+    /// What is held under a name.
+    pub(crate) fn held(&self, name: &str) -> Option<&[u8]> {
+        self.store.held(name)
+    }
+
+    /// Lets the store's call of this number fail.
+    pub(crate) fn fail_store(&mut self, number: u32) -> Result<(), AllocError> {
+        self.store.fail_at(&[number])
+    }
+
+    /// Lets the sink's call of this number fail.
+    pub(crate) fn fail_sink(&mut self, number: u32) -> Result<(), AllocError> {
+        self.sink.fail_at(&[number])
+    }
+
+    /// Calls the program with these words. Gives the exit status.
+    pub(crate) fn run(&mut self, alloc: Global, words: &[String]) -> u8 {
+        self.put_before = self.sink.taken().len();
+        run_line(alloc, words, &mut self.store, &mut self.sink).number()
+    }
+
+    /// What the last call put.
+    pub(crate) fn report(&self) -> &[u8] {
+        self.sink.taken().get(self.put_before..).unwrap_or(&[])
+    }
+}

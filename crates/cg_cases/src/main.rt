@@ -1,0 +1,31 @@
+//! Runs the transcripts that its arguments name: worked cases as data, each a call of `run_line` over files in memory
+//! and what it must leave. Prints a line a transcript, and before it what differs.
+#![tactic(auto)]
+
+mod bench;
+mod content;
+mod transcript;
+
+use std::rt::Files;
+use std::{env, fs, io};
+use transcript::Transcript;
+
+fn main(rt: HostRuntime) -> io::Result<()> {
+    for name in env::args(&rt)?.skip(1) {
+        run_file(&rt, name.as_str())?;
+    }
+    Ok(())
+}
+
+/// Runs the transcript that a file holds.
+fn run_file(rt: &(impl Files + Print + AllocGlobal), name: &str) -> io::Result<()> {
+    let alloc = rt.alloc();
+    let text = fs::read_to_string(rt, name)?;
+    let title = name.strip_suffix(".cases").unwrap_or(name);
+    let mut transcript = Transcript::new(alloc, title)?;
+    for line in text.as_str().lines() {
+        transcript.follow(alloc, line)?;
+    }
+    let report = transcript.finish(alloc)?;
+    rt.print(report.as_str())
+}

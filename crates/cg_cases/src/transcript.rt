@@ -1,0 +1,245 @@
+//! Follows a transcript line by line, and tells what differs.
+
+use crate::bench::Bench;
+use crate::content::add_line;
+use std::alloc::{AllocError, Global};
+
+/// What the content lines that come next say.
+#[derive(Drop)]
+enum Purpose {
+    /// Nothing: they have no place here.
+    None,
+    /// The bytes of a file.
+    File(String),
+    /// What the last call puts.
+    Report,
+    /// What is held under a name after it.
+    Held(String),
+}
+
+/// A transcript that is being followed.
+#[derive(Drop)]
+pub(crate) struct Transcript {
+    title: String,
+    bench: Bench,
+    case: Option<String>,
+    purpose: Purpose,
+    /// The bytes that the content lines said so far.
+    bytes: Vec<u8>,
+    /// The status of the last call, until the line comes that says which one it must be.
+    open_status: Option<u8>,
+    /// Whether a difference was met in this case.
+    differs: bool,
+    cases: u64,
+    differing: u64,
+    /// What is printed.
+    text: String,
+}
+
+impl Transcript {
+    /// None of its lines was followed.
+    pub(crate) fn new(alloc: Global, title: &str) -> Result<Transcript, AllocError> {
+        Ok(Transcript {
+            title: String::from_str(alloc, title)?,
+            bench: Bench::new(alloc),
+            case: None,
+            purpose: Purpose::None,
+            bytes: Vec::new(alloc),
+            open_status: None,
+            differs: false,
+            cases: 0,
+            differing: 0,
+            text: String::new(alloc),
+        })
+    }
+
+    /// Follows one line.
+    pub(crate) fn follow(&mut self, alloc: Global, line: &str) -> Result<(), AllocError> {
+        if line.is_empty() || line.starts_with('#') {
+            return Ok(());
+        }
+        if self.has_content() && add_line(alloc, &mut self.bytes, line)? {
+            return Ok(());
+        }
+        self.settle(alloc)?;
+        let (word, rest) = line.split_once(' ').unwrap_or((line, ""));
+        match word {
+            "case" => self.begin(alloc, rest),
+            "file" => self.expect(alloc, Purpose::File(String::from_str(alloc, rest)?)),
+            "fail-store" => self.fail_store(alloc, rest),
+            "fail-sink" => self.fail_sink(alloc, rest),
+            "run" => self.run(alloc, rest),
+            "status" => self.judge_status(alloc, rest),
+            "held" => self.expect(alloc, Purpose::Held(String::from_str(alloc, rest)?)),
+            "missing" => self.judge_missing(alloc, rest),
+            _ => self.differ(alloc, "no such line", line),
+        }
+    }
+
+    /// Ends the transcript, and gives all that is printed.
+    pub(crate) fn finish(mut self, alloc: Global) -> Result<String, AllocError> {
+        self.settle(alloc)?;
+        self.end_case(alloc)?;
+        let title = self.title.as_str();
+        let cases = self.cases;
+        let differing = self.differing;
+        let line = format!(in alloc; "{title}: {cases} cases, {differing} differ\n")?;
+        self.text.push_str(line.as_str())?;
+        Ok(self.text)
+    }
+
+    /// Whether content lines have a place here.
+    fn has_content(&self) -> bool {
+        !matches!(self.purpose, Purpose::None)
+    }
+
+    /// From now on content lines have this purpose.
+    fn expect(&mut self, alloc: Global, purpose: Purpose) -> Result<(), AllocError> {
+        self.purpose = purpose;
+        self.bytes = Vec::new(alloc);
+        Ok(())
+    }
+
+    /// Does with the content lines what they are for.
+    fn settle(&mut self, alloc: Global) -> Result<(), AllocError> {
+        let purpose = std::mem::replace(&mut self.purpose, Purpose::None);
+        let bytes = std::mem::replace(&mut self.bytes, Vec::new(alloc));
+        match purpose {
+            Purpose::None => Ok(()),
+            Purpose::File(name) => if self.case.is_some() {
+                self.bench.hold(alloc, name.as_str(), bytes.as_slice())
+            } else {
+                self.bench.share(alloc, name.as_str(), bytes.as_slice())
+            },
+            Purpose::Report => self.judge_report(alloc, bytes.as_slice()),
+            Purpose::Held(name) => self.judge_held(alloc, name.as_str(), bytes.as_slice()),
+        }
+    }
+
+    /// Begins the case of this name.
+    fn begin(&mut self, alloc: Global, name: &str) -> Result<(), AllocError> {
+        self.end_case(alloc)?;
+        self.case = Some(String::from_str(alloc, name)?);
+        self.bench.clear(alloc)
+    }
+
+    /// Counts the case, where there is one.
+    fn end_case(&mut self, alloc: Global) -> Result<(), AllocError> {
+        self.end_call(alloc)?;
+        if self.case.is_some() {
+            self.cases = self.cases.saturating_add(1);
+        }
+        if self.differs {
+            self.differing = self.differing.saturating_add(1);
+        }
+        self.differs = false;
+        Ok(())
+    }
+
+    /// A call whose status no line says differs.
+    fn end_call(&mut self, alloc: Global) -> Result<(), AllocError> {
+        match self.open_status.take() {
+            None => Ok(()),
+            Some(_) => self.differ(alloc, "no status said", "of the last call"),
+        }
+    }
+
+    fn fail_store(&mut self, alloc: Global, numbers: &str) -> Result<(), AllocError> {
+        for word in numbers.split(' ') {
+            match word.parse::<u32>() {
+                Ok(number) => self.bench.fail_store(number)?,
+                Err(_) => self.differ(alloc, "no number", word)?,
+            }
+        }
+        Ok(())
+    }
+
+    fn fail_sink(&mut self, alloc: Global, numbers: &str) -> Result<(), AllocError> {
+        for word in numbers.split(' ') {
+            match word.parse::<u32>() {
+                Ok(number) => self.bench.fail_sink(number)?,
+                Err(_) => self.differ(alloc, "no number", word)?,
+            }
+        }
+        Ok(())
+    }
+
+    /// Makes the call with the words of a line, parted by single blanks; `""` is an empty one.
+    fn run(&mut self, alloc: Global, line: &str) -> Result<(), AllocError> {
+        self.end_call(alloc)?;
+        let mut words = Vec::new(alloc);
+        if !line.is_empty() {
+            for word in line.split(' ') {
+                let word = if word == "\"\"" { "" } else { word };
+                words.push(String::from_str(alloc, word)?)?;
+            }
+        }
+        self.open_status = Some(self.bench.run(alloc, words.as_slice()));
+        Ok(())
+    }
+
+    /// The last call ended with this status. What it put comes next.
+    fn judge_status(&mut self, alloc: Global, wanted: &str) -> Result<(), AllocError> {
+        let Some(got) = self.open_status.take() else {
+            return self.differ(alloc, "no call before status", wanted);
+        };
+        let text = format!(in alloc; "{got}")?;
+        if text.as_str() != wanted {
+            let line = format!(in alloc; "{got}, not {wanted}")?;
+            self.differ(alloc, "status", line.as_str())?;
+        }
+        self.expect(alloc, Purpose::Report)
+    }
+
+    fn judge_report(&mut self, alloc: Global, wanted: &[u8]) -> Result<(), AllocError> {
+        if self.bench.report() == wanted {
+            return Ok(());
+        }
+        let got = shown(alloc, self.bench.report())?;
+        self.differ(alloc, "put", got.as_str())
+    }
+
+    fn judge_held(&mut self, alloc: Global, name: &str, wanted: &[u8]) -> Result<(), AllocError> {
+        let what = match self.bench.held(name) {
+            Some(bytes) => if bytes == wanted {
+                return Ok(());
+            } else {
+                shown(alloc, bytes)?
+            },
+            None => String::from_str(alloc, "nothing")?,
+        };
+        let line = format!(in alloc; "{name}: {what}")?;
+        self.differ(alloc, "held under", line.as_str())
+    }
+
+    fn judge_missing(&mut self, alloc: Global, name: &str) -> Result<(), AllocError> {
+        match self.bench.held(name) {
+            None => Ok(()),
+            Some(_) => self.differ(alloc, "not missing:", name),
+        }
+    }
+
+    /// Notes a difference in this case.
+    fn differ(&mut self, alloc: Global, what: &str, text: &str) -> Result<(), AllocError> {
+        self.differs = true;
+        let title = self.title.as_str();
+        let case = match &self.case {
+            Some(name) => name.as_str(),
+            None => "before the first case",
+        };
+        let line = format!(in alloc; "{title}: {case}: {what} {text}\n")?;
+        self.text.push_str(line.as_str())
+    }
+}
+
+/// The most bytes that are shown of a report or a file.
+const SHOWN: usize = 400;
+
+/// Bytes as they are printed: a text in quotes where they are short and one, else their number.
+fn shown(alloc: Global, bytes: &[u8]) -> Result<String, AllocError> {
+    let count = bytes.len();
+    match std::str::from_utf8(bytes) {
+        Ok(text) if count <= SHOWN => format!(in alloc; "{text:?}"),
+        _ => format!(in alloc; "{count} bytes"),
+    }
+}
