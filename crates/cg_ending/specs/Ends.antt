@@ -61,23 +61,28 @@ pub record FailedAt (old : Held) (files : List File) (new : Held) : Type 0 where
   pub parts : files ≡ done ++ failed ∷ rest
   pub wrote : WroteBut failed.name old done new
 
--- the call ends as its outcome says; a refusal's report may be put in part, where its put failed
-pub record Did (outcome : Outcome) (before after : Moment) (status : Status) : Type 0 where
+-- the report was put; that of a refusal maybe in part, where its put failed
+abbrev pub IsPut : Status → Bytes → Moment → Moment → Type 0
+IsPut status report before after = Appends before.taken report after.taken
+    ⊎ ((status ≢ Done) × Rose before.faults after.faults × AppendsSome before.taken report after.taken)
+
+-- the call ends as its outcome says
+pub record Completed (outcome : Outcome) (before after : Moment) (status : Status) : Type 0 where
   pub status_is : status ≡ outcome.status
   pub held : Wrote before.held outcome.writes after.held
-  pub put : Appends before.taken outcome.report after.taken
-      ⊎ ((outcome.status ≢ Done) × Rose before.faults after.faults
-      × AppendsSome before.taken outcome.report after.taken)
+  pub put : IsPut outcome.status outcome.report before after
+  -- where it writes nothing, no write call failed, for none was made
+  pub no_write : outcome.writes ≡ [] → after.write_faults ≡ before.write_faults
 
 -- a write failed, and nothing was put
-pub record StoreFailed (outcome : Outcome) (before after : Moment) (status : Status) : Type 0 where
+pub record WriteFailed (outcome : Outcome) (before after : Moment) (status : Status) : Type 0 where
   pub status_is : status ≡ WriteFault
   pub cause : Rose before.write_faults after.write_faults
   pub held : FailedAt before.held outcome.writes after.held
   pub put : after.taken ≡ before.taken
 
 -- all was written, and the put of the report failed
-pub record SinkFailed (outcome : Outcome) (before after : Moment) (status : Status) : Type 0 where
+pub record PutFailed (outcome : Outcome) (before after : Moment) (status : Status) : Type 0 where
   pub status_is : status ≡ WriteFault
   pub was : outcome.status ≡ Done
   pub report : outcome.report ≢ []
@@ -86,16 +91,16 @@ pub record SinkFailed (outcome : Outcome) (before after : Moment) (status : Stat
   pub put : AppendsSome before.taken outcome.report after.taken
 
 -- memory was wanting: some first ones of the writes were made, and nothing was put
-pub record Wanted (outcome : Outcome) (before after : Moment) (status : Status) : Type 0 where
+pub record RanOutOfMemory (outcome : Outcome) (before after : Moment) (status : Status) : Type 0 where
   pub status_is : status ≡ Memory
   pub held : WrotePart before.held outcome.writes after.held
   pub put : after.taken ≡ before.taken
 
 -- the ways in which a call with this outcome ends
 abbrev pub Finished : Outcome → Moment → Moment → Status → Type 0
-Finished outcome before after status = Did outcome before after status
-    ⊎ (StoreFailed outcome before after status
-    ⊎ (SinkFailed outcome before after status ⊎ Wanted outcome before after status))
+Finished outcome before after status = Completed outcome before after status
+    ⊎ (WriteFailed outcome before after status
+    ⊎ (PutFailed outcome before after status ⊎ RanOutOfMemory outcome before after status))
 
 -- the ways in which the put of a report ends that comes with this status
 abbrev pub Reported : Status → Bytes → Option Bytes → ℕ → Option Bytes → ℕ → Status → Type 0

@@ -1,5 +1,5 @@
 -- How a call ended, as a number.
-use Rattle.std.specs.Prelude.{ℕ}
+use Rattle.std.specs.Prelude.{ℕ, Bool, true, false}
 use Rattle.cg_ending.specs.declared.outcome.Status.{Status}
 use Rattle.cg_ending.specs.declared.outcome.Status.TheVariants.{Done, Memory, Usage, Malformed, Impossible, ReadFault, WriteFault, BudgetSpent, No}
 
@@ -14,3 +14,12 @@ number_of ReadFault = 5
 number_of WriteFault = 6
 number_of BudgetSpent = 7
 number_of No = 8
+
+-- the statuses after which no write call was made, but for No of a command that writes
+abbrev pub leaves_all : Status → Bool
+leaves_all Usage = true
+leaves_all Malformed = true
+leaves_all Impossible = true
+leaves_all ReadFault = true
+leaves_all BudgetSpent = true
+leaves_all _ = false

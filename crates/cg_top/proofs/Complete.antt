@@ -7,7 +7,7 @@ use Rattle.cg_ending.specs.Outcome.{Name}
 use Rattle.cg_ending.specs.Ends.{Moment, Finished}
 use Rattle.cg_ending.proofs.Reading.{all, reads_all}
 use Rattle.cg_top.specs.TopCall.{Ends, IsComplete}
-use Rattle.cg_top.proofs.Commands.{accepted}
+use Rattle.cg_answers.proofs.Commands.{accepted}
 use Rattle.cg_top.proofs.Exact.{IsOf, told}
 
 pub complete : (words : List Name) (before after : Moment) (status : Status) → Ends words before after status → IsComplete words before after status

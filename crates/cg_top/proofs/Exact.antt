@@ -8,9 +8,9 @@ use Rattle.cg_ending.specs.Reads.{read_fault_of, too_long_of}
 use Rattle.cg_ending.specs.Ends.{Moment, Finished}
 use Rattle.cg_ending.proofs.Reading.{Reading, all, missing, longer, reading, reads_all, stops}
 use Rattle.cg_words.specs.Words.{Plan, plan_of}
-use Rattle.cg_top.specs.Commands.{IsAnswer}
+use Rattle.cg_answers.specs.Commands.{IsAnswer}
 use Rattle.cg_top.specs.TopCall.{IsPlanned, Ends, IsExact}
-use Rattle.cg_top.proofs.Commands.{same_status}
+use Rattle.cg_answers.proofs.Commands.{same_status}
 
 -- what the told reading leads to
 abbrev pub IsOf : Plan → Reading → Outcome → Type 0

@@ -1,11 +1,6 @@
-pub mod Reports
-pub mod Turned
-pub mod Shapes
-pub mod Commands
 pub mod Exact
+pub mod Kept
 pub mod Table
 pub mod Complete
-pub mod Finished
-pub mod Kept
-pub mod Imaged
-pub mod Flattened
+pub mod Left
+pub mod Call

@@ -1,18 +1,56 @@
 -- The rows of the table of statuses.
-use Rattle.std.proofs.Common.{◌≡◌, true, false, List, [], ◌∷◌, ◌++◌, Contains, Option, Some, None, refl, sym, ◌∙◌, ap, ◌⊎◌, inl, inr, length, arith}
+use Rattle.std.proofs.Common.{◌≡◌, Bool, true, false, List, [], ◌∷◌, ◌++◌, Contains, Option, Some, None, refl, sym, ◌∙◌, ap, subst, ◌⊎◌, inl, inr, length, arith}
 use Rattle.std.proofs.lemmas.Grind.{common_steps}
 use Rattle.std.proofs.Math.Seq.{get_or-append_seam}
 use Rattle.cg_files.specs.Causes.{Rose}
 use Rattle.cg_files.specs.Held.{Held, IsMissing, IsLonger}
 use Rattle.cg_ending.specs.declared.outcome.Status.{Status}
-use Rattle.cg_ending.specs.declared.outcome.Status.TheVariants.{Done, Memory, Usage, Malformed, ReadFault, WriteFault}
-use Rattle.cg_ending.specs.Outcome.{Name, File, Outcome}
+use Rattle.cg_ending.specs.declared.outcome.Status.TheVariants.{Done, Memory, Usage, Malformed, ReadFault, WriteFault, No}
+use Rattle.cg_ending.specs.Outcome.{Name, Outcome}
 use Rattle.cg_ending.specs.Reads.{StopsAt, read_fault_of, too_long_of}
-use Rattle.cg_ending.specs.Ends.{Moment, Finished, Wrote}
+use Rattle.cg_ending.specs.Ends.{Moment, Finished}
+use Rattle.cg_ending.specs.Status.{leaves_all}
 use Rattle.cg_words.specs.Words.{Plan, plan_of}
 use Rattle.cg_refusals.specs.Refusals.{usage_outcome}
-use Rattle.cg_top.specs.TopCall.{IsPlanned, Ends, IsByTable, leaves_all}
-use Rattle.cg_top.proofs.Commands.{sound, is_own}
+use Rattle.cg_top.specs.TopCall.{IsPlanned, Ends, IsAnswered, IsStopped, IsByTable}
+use Rattle.cg_top.proofs.Kept.{kept, no_part}
+use Rattle.cg_answers.proofs.Commands.{sound, is_own}
+
+-- ---- where an outcome comes from
+
+-- no command was asked, or it is what the command answers, or what the reading of its input files ended with
+abbrev Origin : List Name → Held → Type 0 → Outcome → Type 0
+Origin words held rose o = (o ≡ usage_outcome) ⊎ (IsAnswered words held o.status ⊎ IsStopped words held rose o.status)
+
+origin : (words : List Name) (held : Held) (rose : Type 0) (o : Outcome) (p : Option Plan) → plan_of words ≡ p → IsPlanned held rose p o → Origin words held rose o
+origin words held rose o None e h = inl h
+origin words held rose o (Some plan) e (inl a) = inr (inl (record { plan = plan; planned = e; outcome = o; answers = a; status_is = refl }))
+origin words held rose o (Some plan) e (inr s) = inr (inr (record { plan = plan; planned = e; outcome = o; stops = s; status_is = refl }))
+
+stop_status : (held : Held) (rose : Type 0) (names : List Name) (o : Outcome) → StopsAt held rose names o → (o.status ≡ ReadFault) ⊎ (o.status ≡ Malformed)
+stop_status held rose names o s = elim s.cause [ inl p ↦ inl (ap (λ x. x.status) p.0) | inr p ↦ inr (ap (λ x. x.status) p.0) ]
+
+-- the statuses that only a command's answer has
+abbrev answer_alone : Status → Bool
+answer_alone Done = true
+answer_alone No = true
+answer_alone _ = false
+
+not_alone : (s t : Status) → answer_alone s ≡ true → answer_alone t ≡ false → s ≡ t → ⊥
+not_alone s t a b e = cc
+
+answered : (words : List Name) (held : Held) (rose : Type 0) (o : Outcome) (s : Status) → answer_alone s ≡ true → s ≡ o.status → Origin words held rose o → IsAnswered words held s
+answered words held rose o s t e (inl u) = absurd (not_alone s Usage t refl (e ∙ ap (λ x. x.status) u))
+answered words held rose o s t e (inr (inl a)) = subst (λ z. IsAnswered words held z) (sym e) a
+answered words held rose o s t e (inr (inr a)) = absurd (elim (stop_status held rose a.plan.inputs a.outcome a.stops) [
+  | inl r ↦ not_alone s ReadFault t refl (e ∙ sym a.status_is ∙ r)
+  | inr m ↦ not_alone s Malformed t refl (e ∙ sym a.status_is ∙ m)
+])
+
+refused : (words : List Name) (held : Held) (rose : Type 0) (o : Outcome) (s : Status) → s ≡ Malformed → s ≡ o.status → Origin words held rose o → IsAnswered words held Malformed ⊎ IsStopped words held rose Malformed
+refused words held rose o s m e (inl u) = absurd (let z : Usage ≡ Malformed = sym (ap (λ x. x.status) u) ∙ sym e ∙ m in cc)
+refused words held rose o s m e (inr (inl a)) = inl (subst (λ z. IsAnswered words held z) (sym e ∙ m) a)
+refused words held rose o s m e (inr (inr a)) = inr (subst (λ z. IsStopped words held rose z) (sym e ∙ m) a)
 
 -- what is known of an outcome by its status
 record Known (words : List Name) (before after : Moment) (o : Outcome) : Type 0 where
@@ -117,78 +155,73 @@ loud s e h = cc
 loud_memory : (s : Status) → s ≡ Memory → leaves_all s ≡ true → ⊥
 loud_memory s e h = cc
 
-pub stays : (h : Held) → Wrote h [] h
-stays (Some files) = λ q. refl
-stays None = tt
-
-pub no_part : (xs : List File) (x : File) (ys : List File) → [] ≡ xs ++ x ∷ ys → ⊥
-no_part [] x ys e = cc
-no_part (z ∷ zs) x ys e = cc
-
 not_done : Usage ≡ Done → ⊥
 not_done e = cc
 
--- a fault of a write or a put
+-- what a status that no outcome of a command has tells: nothing of most rows
 faulty : (words : List Name) (before after : Moment) (status : Status) → status ≡ WriteFault
-    → Rose before.write_faults after.write_faults ⊎ Rose before.faults after.faults → (plan_of words ≡ None → ⊥) → IsByTable words before after status
-faulty words before after status e cause fits = record {
-  usage = λ u. absurd (differ (sym e ∙ u));
+    → Rose before.write_faults after.write_faults ⊎ Rose before.faults after.faults → (plan_of words ≡ None → ⊥) → Ends words before after status → IsByTable words before after status
+faulty words before after status e cause fits ends = record {
+  done = λ u. absurd (let z : WriteFault ≡ Done = sym e ∙ u in cc);
+  malformed = λ u. absurd (let z : WriteFault ≡ Malformed = sym e ∙ u in cc);
+  refused = λ u. absurd (let z : WriteFault ≡ No = sym e ∙ u in cc);
+  silent = λ u. absurd (let z : WriteFault ≡ Memory = sym e ∙ u in cc);
+  usage = λ u. absurd (let z : WriteFault ≡ Usage = sym e ∙ u in cc);
   unfit = λ n. absurd (fits n);
-  read_fault = λ u. absurd (differ_read (sym e ∙ u));
+  read_fault = λ u. absurd (let z : WriteFault ≡ ReadFault = sym e ∙ u in cc);
   write_fault = λ _. cause;
-  left = λ h. absurd (loud status e h);
-  silent = λ u. absurd (differ_memory (sym e ∙ u));
+  kept = λ h. absurd (loud status e h);
+  no_write = λ h. absurd (loud status e h);
+  nothing_asked = kept words before after status ends;
 }
-  where
-    differ : WriteFault ≡ Usage → ⊥
-    differ u = cc
 
-    differ_read : WriteFault ≡ ReadFault → ⊥
-    differ_read u = cc
-
-    differ_memory : WriteFault ≡ Memory → ⊥
-    differ_memory u = cc
-
-wanting : (words : List Name) (before after : Moment) (status : Status) → status ≡ Memory → after.taken ≡ before.taken → IsByTable words before after status
-wanting words before after status e put = record {
-  usage = λ u. absurd (differ (sym e ∙ u));
-  unfit = λ _. inr e;
-  read_fault = λ u. absurd (differ_read (sym e ∙ u));
-  write_fault = λ u. absurd (differ_write (sym e ∙ u));
-  left = λ h. absurd (loud_memory status e h);
+wanting : (words : List Name) (before after : Moment) (status : Status) → status ≡ Memory → after.taken ≡ before.taken → Ends words before after status → IsByTable words before after status
+wanting words before after status e put ends = record {
+  done = λ u. absurd (let z : Memory ≡ Done = sym e ∙ u in cc);
+  malformed = λ u. absurd (let z : Memory ≡ Malformed = sym e ∙ u in cc);
+  refused = λ u. absurd (let z : Memory ≡ No = sym e ∙ u in cc);
   silent = λ _. put;
+  usage = λ u. absurd (let z : Memory ≡ Usage = sym e ∙ u in cc);
+  unfit = λ _. inr e;
+  read_fault = λ u. absurd (let z : Memory ≡ ReadFault = sym e ∙ u in cc);
+  write_fault = λ u. absurd (let z : Memory ≡ WriteFault = sym e ∙ u in cc);
+  kept = λ h. absurd (loud_memory status e h);
+  no_write = λ h. absurd (loud_memory status e h);
+  nothing_asked = kept words before after status ends;
 }
-  where
-    differ : Memory ≡ Usage → ⊥
-    differ u = cc
-
-    differ_read : Memory ≡ ReadFault → ⊥
-    differ_read u = cc
-
-    differ_write : Memory ≡ WriteFault → ⊥
-    differ_write u = cc
 
 pub table : (words : List Name) (before after : Moment) (status : Status) → Ends words before after status → IsByTable words before after status
-table words before after status (inr g) = wanting words before after status g.status_is g.put
+table words before after status (inr g) = wanting words before after status g.status_is g.put (inr g)
 table words before after status (inl e) = by_way e.finished
   where
     o : Outcome
     o = e.outcome
 
+    rose : Type 0
+    rose = Rose before.read_faults after.read_faults
+
     k : Known words before after o
     k = known words before after o (plan_of words) refl e.is_outcome
 
+    from : Origin words before.held rose o
+    from = origin words before.held rose o (plan_of words) refl e.is_outcome
+
     by_way : Finished o before after status → IsByTable words before after status
     by_way (inl d) = record {
+      done = λ u. subst (λ z. IsAnswered words before.held z) u (answered words before.held rose o status (ap answer_alone u) d.status_is from);
+      malformed = λ u. refused words before.held rose o status u d.status_is from;
+      refused = λ u. subst (λ z. IsAnswered words before.held z) u (answered words before.held rose o status (ap answer_alone u) d.status_is from);
+      silent = λ m. absurd (k.no_memory (sym d.status_is ∙ m));
       usage = λ u. k.usage (sym d.status_is ∙ u);
       unfit = λ n. inl (d.status_is ∙ ap (λ x. x.status) (k.unfit n));
       read_fault = λ u. k.read_fault (sym d.status_is ∙ u);
       write_fault = λ u. absurd (k.no_fault (sym d.status_is ∙ u));
-      left = λ h. let q : o.writes ≡ [] = k.quiet (rw d.status_is at h) in rw q at d.held;
-      silent = λ m. absurd (k.no_memory (sym d.status_is ∙ m));
+      kept = λ h. let q : o.writes ≡ [] = k.quiet (rw d.status_is at h) in rw q at d.held;
+      no_write = λ h. d.no_write (k.quiet (rw d.status_is at h));
+      nothing_asked = kept words before after status (inl e);
     }
     by_way (inr (inl y)) = faulty words before after status y.status_is (inl y.cause)
-        (λ n. no_part y.held.done y.held.failed y.held.rest (sym (ap (λ x. x.writes) (k.unfit n)) ∙ y.held.parts))
+        (λ n. no_part y.held.done y.held.failed y.held.rest (sym (ap (λ x. x.writes) (k.unfit n)) ∙ y.held.parts)) (inl e)
     by_way (inr (inr (inl y))) = faulty words before after status y.status_is (inr y.cause)
-        (λ n. not_done (sym (ap (λ x. x.status) (k.unfit n)) ∙ y.was))
-    by_way (inr (inr (inr y))) = wanting words before after status y.status_is y.put
+        (λ n. not_done (sym (ap (λ x. x.status) (k.unfit n)) ∙ y.was)) (inl e)
+    by_way (inr (inr (inr y))) = wanting words before after status y.status_is y.put (inl e)

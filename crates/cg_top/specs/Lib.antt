@@ -1,6 +1,1 @@
-pub mod Lines
-pub mod Turns
-pub mod TurnsOnImage
-pub mod Flat
-pub mod Commands
 pub mod TopCall

@@ -6,15 +6,9 @@ ghost use Rattle.cg_files.specs.Causes.{Rose};
 ghost use Rattle.cg_ending.specs.Outcome.{outcome_of};
 ghost use Rattle.cg_ending.specs.Ends.{moment};
 ghost use Rattle.cg_words.specs.Words.{plan_of};
-ghost use Rattle.cg_top.specs.TopCall.{IsOutcome, Ends, IsExact, IsByTable, IsComplete, IsTurned, IsFlattened, IsKept};
+ghost use Rattle.cg_top.specs.TopCall.{IsOutcome, Ends, IsCall};
 
-mod answering;
-mod flattening;
-mod imaging;
-mod streams;
-mod turning;
-
-use answering::answer;
+use cg_answers::answer;
 pub use cg_ending::Status;
 use cg_ending::{Outcome, Stop, finish, read_all};
 use cg_files::{Sink, Store};
@@ -32,39 +26,12 @@ pub fn run_line<S: Store, O: Sink>(
     store: &mut S,
     out: &mut O,
 ) -> Status
-    ensures ends { Ends (map string_bytes words.now)
+    ensures call { IsCall (map string_bytes words.now)
         (moment (S.held store.old) (S.read_faults store.old) (S.write_faults store.old) (O.taken out.old) (O.faults out.old))
         (moment (S.held store.new) (S.read_faults store.new) (S.write_faults store.new) (O.taken out.new) (O.faults out.new))
         result }
-    // What follows from it.
-    ensures turned { IsTurned (map string_bytes words.now)
-        (moment (S.held store.old) (S.read_faults store.old) (S.write_faults store.old) (O.taken out.old) (O.faults out.old))
-        (moment (S.held store.new) (S.read_faults store.new) (S.write_faults store.new) (O.taken out.new) (O.faults out.new))
-        result }
-    ensures flattened { IsFlattened (map string_bytes words.now)
-        (moment (S.held store.old) (S.read_faults store.old) (S.write_faults store.old) (O.taken out.old) (O.faults out.old))
-        (moment (S.held store.new) (S.read_faults store.new) (S.write_faults store.new) (O.taken out.new) (O.faults out.new))
-        result }
-    ensures exact { IsExact (map string_bytes words.now)
-        (moment (S.held store.old) (S.read_faults store.old) (S.write_faults store.old) (O.taken out.old) (O.faults out.old))
-        (moment (S.held store.new) (S.read_faults store.new) (S.write_faults store.new) (O.taken out.new) (O.faults out.new))
-        result }
-    ensures table { IsByTable (map string_bytes words.now)
-        (moment (S.held store.old) (S.read_faults store.old) (S.write_faults store.old) (O.taken out.old) (O.faults out.old))
-        (moment (S.held store.new) (S.read_faults store.new) (S.write_faults store.new) (O.taken out.new) (O.faults out.new))
-        result }
-    ensures complete { IsComplete (map string_bytes words.now)
-        (moment (S.held store.old) (S.read_faults store.old) (S.write_faults store.old) (O.taken out.old) (O.faults out.old))
-        (moment (S.held store.new) (S.read_faults store.new) (S.write_faults store.new) (O.taken out.new) (O.faults out.new))
-        result }
-    ensures kept { IsKept (map string_bytes words.now)
-        (moment (S.held store.old) (S.read_faults store.old) (S.write_faults store.old) (O.taken out.old) (O.faults out.old))
-        (moment (S.held store.new) (S.read_faults store.new) (S.write_faults store.new) (O.taken out.new) (O.faults out.new)) }
     // Where the words fit no command, the store is not called.
     ensures no_call { plan_of (map string_bytes words.now) ≡ None → store.new ≡ store.old }
-    ensures reads { S.read_faults store.old ≤ S.read_faults store.new }
-    ensures writes { S.write_faults store.old ≤ S.write_faults store.new }
-    ensures faults { O.faults out.old ≤ O.faults out.new }
 {
     carry_out(alloc, words, store, out)
 }

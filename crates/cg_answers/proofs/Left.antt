@@ -1,0 +1,200 @@
+-- What commands leave where their outcome came.
+use Rattle.std.proofs.Common.{◌≡◌, ℕ, List, [], ◌∷◌, cond, Option, Some, None, Result, Ok, Err, Bool, true, false, refl, sym, ◌∙◌, ap, subst, inl, inr}
+use Rattle.std.proofs.lemmas.List.Elements.{All-head, All-tail}
+use Rattle.std.proofs.lemmas.Slice.Eq.{bytes_eq-Decides}
+use Rattle.cg_files.specs.Held.{Held, Holds, Appends}
+use Rattle.cg_model.specs.Kernel.{Kernel}
+use Rattle.cg_model.specs.Work.{Image}
+use Rattle.cg_model.specs.Turns.{turns_left}
+use Rattle.cg_model.specs.Array.{Arch}
+use Rattle.cg_flat.specs.Text.{text_of}
+use Rattle.cg_ending.specs.declared.outcome.Status.{Status}
+use Rattle.cg_ending.specs.declared.outcome.Status.TheVariants.{Done, Memory, Usage, Malformed, Impossible, ReadFault, WriteFault, BudgetSpent, No}
+use Rattle.cg_ending.specs.Outcome.{Name, Bytes, File, Outcome}
+use Rattle.cg_ending.specs.Reads.{AreRead, IsRead}
+use Rattle.cg_ending.specs.Ends.{Moment, Completed, Wrote, IsPut}
+use Rattle.cg_kernel.specs.declared.fault.KernelFault.{KernelFault}
+use Rattle.cg_kernel.specs.Answer.{answer_of}
+use Rattle.cg_pad.specs.declared.fault.ImageFault.{ImageFault}
+use Rattle.cg_pad.specs.Bytes as images
+use Rattle.cg_turns.specs.declared.pair.UnorderedPair.{UnorderedPair}
+use Rattle.cg_turns.specs.Pairs.{IsPairOf}
+use Rattle.cg_tiles.specs.declared.fault.TilesFault.{TilesFault}
+use Rattle.cg_tiles.specs.Answer as tiles
+use Rattle.cg_words.specs.declared.plans.Command.{Command}
+use Rattle.cg_words.specs.declared.plans.Command.TheVariants.{Turns, TurnsOnImage, Flat}
+use Rattle.cg_answers.specs.Turns.{turns_by, IsTurned}
+use Rattle.cg_answers.specs.TurnsOnImage.{IsOnKernel, IsOnImage, imaged, IsRunOnImage, IsOrderedRun, IsUnorderedRun}
+use Rattle.cg_answers.specs.Flat.{flat_by, IsFlattened}
+use Rattle.cg_answers.specs.Commands.{IsAnswer, Leaves}
+use Rattle.cg_answers.proofs.Commands.{turns_is, on_image_is}
+
+-- ---- what was put and written
+
+-- where the outcome is Done its report was put whole
+whole : (status : Status) (report : Bytes) (before after : Moment) → status ≡ Done → IsPut status report before after → Appends before.taken report after.taken
+whole status report before after d (inl put) = put
+whole status report before after d (inr x) = absurd (x.0 d)
+
+-- after one write its bytes are held
+one_write : (old new : Held) (name : Name) (bytes : Bytes) → Wrote old (record { name = name; bytes = bytes } ∷ []) new → Holds new name bytes
+one_write (Some old) (Some new) name bytes w = w name ∙ ap (λ b. cond b (Some bytes) (old name)) ((bytes_eq-Decides name name).1 refl)
+one_write (Some old) None name bytes w = absurd w
+one_write None (Some new) name bytes w = absurd w
+one_write None None name bytes w = tt
+
+-- ---- the files that were read
+
+one_read : (held : Held) (name : Name) (f : File) → AreRead held (name ∷ []) (f ∷ []) → Holds held name f.bytes
+one_read held name f r =
+    let names : f.name ∷ [] ≡ name ∷ [] = r.names_are in
+    let same : f.name ≡ name = cc in
+    subst (λ n. Holds held n f.bytes) same (All-head (IsRead held) f [] r.each).0
+
+first_read : (held : Held) (name other : Name) (f g : File) → AreRead held (name ∷ other ∷ []) (f ∷ g ∷ []) → Holds held name f.bytes
+first_read held name other f g r =
+    let names : f.name ∷ g.name ∷ [] ≡ name ∷ other ∷ [] = r.names_are in
+    let same : f.name ≡ name = cc in
+    subst (λ n. Holds held n f.bytes) same (All-head (IsRead held) f (g ∷ []) r.each).0
+
+second_read : (held : Held) (name other : Name) (f g : File) → AreRead held (name ∷ other ∷ []) (f ∷ g ∷ []) → Holds held other g.bytes
+second_read held name other f g r =
+    let names : f.name ∷ g.name ∷ [] ≡ name ∷ other ∷ [] = r.names_are in
+    let same : g.name ≡ other = cc in
+    subst (λ n. Holds held n g.bytes) same (All-head (IsRead held) g [] (All-tail (IsRead held) f (g ∷ []) r.each)).0
+
+differ : (o : Outcome) (s : Status) → o.status ≡ Malformed → o.status ≡ s → Malformed ≡ s
+differ o s a b = sym a ∙ b
+
+-- ---- `turns KERNEL TURNS`
+
+turned_by : (n : ℕ) (file : Name) (f : File) (r : Result Kernel KernelFault) (o : Outcome) (before after : Moment) → Holds before.held file f.bytes → answer_of f.bytes ≡ r → o ≡ turns_by n f r → o.status ≡ Done
+    → Completed o before after Done → IsTurned n file before after
+turned_by n file f (Ok K) o before after held spelled is done c = record {
+  bytes = f.bytes;
+  held = held;
+  kernel = K;
+  spelled = spelled;
+  put = subst (λ report. Appends before.taken report after.taken) (ap (λ x. x.report) is) (whole o.status o.report before after done c.put);
+}
+turned_by n file f (Err g) o before after held spelled is done c = absurd (let z : Malformed ≡ Done = differ o Done (ap (λ x. x.status) is) done in cc)
+
+-- ---- `turns KERNEL TURNS IN OUT`
+
+run_by : (n : ℕ) (file input out : Name) (f g : File) (K : Kernel) (image : Image) (pair : Option UnorderedPair) (o : Outcome) (before after : Moment) (status : Status)
+    → Holds before.held file f.bytes → Holds before.held input g.bytes → answer_of f.bytes ≡ Ok K → images.answer_of g.bytes ≡ Ok image → o ≡ imaged n K image out pair
+    → Completed o before after status → IsRunOnImage n file input out before after
+run_by n file input out f g K image pair o before after status held other spelled given is c = record {
+  bytes = f.bytes;
+  held = held;
+  kernel = K;
+  spelled = spelled;
+  image_bytes = g.bytes;
+  image_held = other;
+  image = image;
+  image_spelled = given;
+  written = one_write before.held after.held out (images.image_bytes (turns_left K n image).image) (subst (λ fs. Wrote before.held fs after.held) (ap (λ x. x.writes) is) c.held);
+}
+
+ordered_by : (n : ℕ) (file input out : Name) (f g : File) (K : Kernel) (image : Image) (pair : Option UnorderedPair) (o : Outcome) (before after : Moment)
+    → Holds before.held file f.bytes → Holds before.held input g.bytes → answer_of f.bytes ≡ Ok K → images.answer_of g.bytes ≡ Ok image → IsPairOf K n image pair → o ≡ imaged n K image out pair → o.status ≡ Done
+    → Completed o before after Done → IsOrderedRun n file input out before after
+unfolding run_by
+ordered_by n file input out f g K image None o before after held other spelled given first is done c = record {
+  run = run_by n file input out f g K image None o before after Done held other spelled given is c;
+  unaliased = first;
+  put = subst (λ report. Appends before.taken report after.taken) (ap (λ x. x.report) is) (whole o.status o.report before after done c.put);
+}
+ordered_by n file input out f g K image (Some p) o before after held other spelled given first is done c = absurd (let z : No ≡ Done = sym (ap (λ x. x.status) is) ∙ done in cc)
+
+unordered_by : (n : ℕ) (file input out : Name) (f g : File) (K : Kernel) (image : Image) (pair : Option UnorderedPair) (o : Outcome) (before after : Moment)
+    → Holds before.held file f.bytes → Holds before.held input g.bytes → answer_of f.bytes ≡ Ok K → images.answer_of g.bytes ≡ Ok image → IsPairOf K n image pair → o ≡ imaged n K image out pair → o.status ≡ No
+    → Completed o before after No → IsUnorderedRun n file input out before after
+unfolding run_by
+unordered_by n file input out f g K image None o before after held other spelled given first is refused c = absurd (let z : Done ≡ No = sym (ap (λ x. x.status) is) ∙ refused in cc)
+unordered_by n file input out f g K image (Some p) o before after held other spelled given first is refused c = record {
+  run = run_by n file input out f g K image (Some p) o before after No held other spelled given is c;
+  pair = p;
+  first = first;
+  put = subst (λ x. IsPut x.status x.report before after) is c.put;
+}
+
+ordered_on_image : (n : ℕ) (file input out : Name) (f g : File) (K : Kernel) (r : Result Image ImageFault) (o : Outcome) (before after : Moment)
+    → Holds before.held file f.bytes → Holds before.held input g.bytes → answer_of f.bytes ≡ Ok K → images.answer_of g.bytes ≡ r → IsOnImage n K g out r o → o.status ≡ Done
+    → Completed o before after Done → IsOrderedRun n file input out before after
+ordered_on_image n file input out f g K (Ok image) o before after held other spelled given is done c = ordered_by n file input out f g K image is.pair o before after held other spelled given is.first is.outcome done c
+ordered_on_image n file input out f g K (Err e) o before after held other spelled given is done c = absurd (let z : Malformed ≡ Done = differ o Done (ap (λ x. x.status) is) done in cc)
+
+ordered_on_kernel : (n : ℕ) (file input out : Name) (f g : File) (r : Result Kernel KernelFault) (o : Outcome) (before after : Moment)
+    → Holds before.held file f.bytes → Holds before.held input g.bytes → answer_of f.bytes ≡ r → IsOnKernel n f g out r o → o.status ≡ Done
+    → Completed o before after Done → IsOrderedRun n file input out before after
+ordered_on_kernel n file input out f g (Ok K) o before after held other spelled is done c = ordered_on_image n file input out f g K (images.answer_of g.bytes) o before after held other spelled refl is done c
+ordered_on_kernel n file input out f g (Err e) o before after held other spelled is done c = absurd (let z : Malformed ≡ Done = differ o Done (ap (λ x. x.status) is) done in cc)
+
+unordered_on_image : (n : ℕ) (file input out : Name) (f g : File) (K : Kernel) (r : Result Image ImageFault) (o : Outcome) (before after : Moment)
+    → Holds before.held file f.bytes → Holds before.held input g.bytes → answer_of f.bytes ≡ Ok K → images.answer_of g.bytes ≡ r → IsOnImage n K g out r o → o.status ≡ No
+    → Completed o before after No → IsUnorderedRun n file input out before after
+unordered_on_image n file input out f g K (Ok image) o before after held other spelled given is refused c = unordered_by n file input out f g K image is.pair o before after held other spelled given is.first is.outcome refused c
+unordered_on_image n file input out f g K (Err e) o before after held other spelled given is refused c = absurd (let z : Malformed ≡ No = differ o No (ap (λ x. x.status) is) refused in cc)
+
+unordered_on_kernel : (n : ℕ) (file input out : Name) (f g : File) (r : Result Kernel KernelFault) (o : Outcome) (before after : Moment)
+    → Holds before.held file f.bytes → Holds before.held input g.bytes → answer_of f.bytes ≡ r → IsOnKernel n f g out r o → o.status ≡ No
+    → Completed o before after No → IsUnorderedRun n file input out before after
+unordered_on_kernel n file input out f g (Ok K) o before after held other spelled is refused c = unordered_on_image n file input out f g K (images.answer_of g.bytes) o before after held other spelled refl is refused c
+unordered_on_kernel n file input out f g (Err e) o before after held other spelled is refused c = absurd (let z : Malformed ≡ No = differ o No (ap (λ x. x.status) is) refused in cc)
+
+-- ---- `flat ARCH OUT`
+
+flattened_by : (file out : Name) (f : File) (r : Result Arch TilesFault) (o : Outcome) (before after : Moment) → Holds before.held file f.bytes → tiles.IsAnswer f.bytes r → o ≡ flat_by f out r → o.status ≡ Done
+    → Completed o before after Done → IsFlattened file out before after
+flattened_by file out f (Ok A) o before after held given is done c = record {
+  bytes = f.bytes;
+  held = held;
+  arch = A;
+  given = given;
+  written = one_write before.held after.held out (text_of A) (subst (λ fs. Wrote before.held fs after.held) (ap (λ x. x.writes) is) c.held);
+  put = subst (λ report. Appends before.taken report after.taken) (ap (λ x. x.report) is) (whole o.status o.report before after done c.put);
+}
+flattened_by file out f (Err e) o before after held given is done c = absurd (let z : Malformed ≡ Done = differ o Done (ap (λ x. x.status) is) done in cc)
+
+-- ---- all commands
+
+-- nothing is said of what a command leaves at a status that isn't its own
+abbrev pub is_silent : Status → Bool
+is_silent Memory = true
+is_silent Usage = true
+is_silent Malformed = true
+is_silent Impossible = true
+is_silent ReadFault = true
+is_silent WriteFault = true
+is_silent BudgetSpent = true
+is_silent _ = false
+
+pub silent : (command : Command) (inputs outputs : List Name) (status : Status) (before after : Moment) → is_silent status ≡ true → Leaves command inputs outputs status before after
+silent (Turns n) (file ∷ []) [] Done before after h = cc
+silent (TurnsOnImage n) (file ∷ input ∷ []) (out ∷ []) Done before after h = cc
+silent (TurnsOnImage n) (file ∷ input ∷ []) (out ∷ []) No before after h = cc
+silent Flat (file ∷ []) (out ∷ []) Done before after h = cc
+silent _ _ _ _ before after h = tt
+
+pub left : (command : Command) (inputs outputs : List Name) (files : List File) (o : Outcome) (status : Status) (before after : Moment)
+    → AreRead before.held inputs files → IsAnswer command files outputs o → o.status ≡ status → Completed o before after status → Leaves command inputs outputs status before after
+left (Turns n) (file ∷ []) [] (f ∷ []) o Done before after read answer is c =
+    turned_by n file f (answer_of f.bytes) o before after (one_read before.held file f read) refl (turns_is n f o answer) is c
+left (TurnsOnImage n) (file ∷ input ∷ []) (out ∷ []) (f ∷ g ∷ []) o Done before after read answer is c =
+    ordered_on_kernel n file input out f g (answer_of f.bytes) o before after (first_read before.held file input f g read) (second_read before.held file input f g read) refl (on_image_is n f g out o answer) is c
+left (TurnsOnImage n) (file ∷ input ∷ []) (out ∷ []) (f ∷ g ∷ []) o No before after read answer is c =
+    unordered_on_kernel n file input out f g (answer_of f.bytes) o before after (first_read before.held file input f g read) (second_read before.held file input f g read) refl (on_image_is n f g out o answer) is c
+left Flat (file ∷ []) (out ∷ []) (f ∷ []) o Done before after read answer is c =
+    flattened_by file out f answer.given o before after (one_read before.held file f read) answer.is_given answer.outcome is c
+left (Turns n) (file ∷ []) [] [] o Done before after read answer is c = absurd answer
+left (Turns n) (file ∷ []) [] (f ∷ g ∷ fs) o Done before after read answer is c = absurd answer
+left (TurnsOnImage n) (file ∷ input ∷ []) (out ∷ []) [] o Done before after read answer is c = absurd answer
+left (TurnsOnImage n) (file ∷ input ∷ []) (out ∷ []) (f ∷ []) o Done before after read answer is c = absurd answer
+left (TurnsOnImage n) (file ∷ input ∷ []) (out ∷ []) (f ∷ g ∷ h ∷ fs) o Done before after read answer is c = absurd answer
+left (TurnsOnImage n) (file ∷ input ∷ []) (out ∷ []) [] o No before after read answer is c = absurd answer
+left (TurnsOnImage n) (file ∷ input ∷ []) (out ∷ []) (f ∷ []) o No before after read answer is c = absurd answer
+left (TurnsOnImage n) (file ∷ input ∷ []) (out ∷ []) (f ∷ g ∷ h ∷ fs) o No before after read answer is c = absurd answer
+left Flat (file ∷ []) (out ∷ []) [] o Done before after read answer is c = absurd answer
+left Flat (file ∷ []) (out ∷ []) (f ∷ g ∷ fs) o Done before after read answer is c = absurd answer
+left _ _ _ _ o _ before after read answer is c = tt

@@ -1,0 +1,57 @@
+-- What each command answers for its input files. A command is a case of each definition.
+use Rattle.std.specs.Prelude.{◌≡◌, ℕ, List, [], ◌∷◌, Ok}
+use Rattle.cg_model.specs.Kernel.{Kernel}
+use Rattle.cg_ending.specs.declared.outcome.Status.{Status}
+use Rattle.cg_ending.specs.declared.outcome.Status.TheVariants.{Done, No}
+use Rattle.cg_ending.specs.Outcome.{Name, File, Outcome}
+use Rattle.cg_ending.specs.Ends.{Moment}
+use Rattle.cg_kernel.specs.Answer.{answer_of}
+use Rattle.cg_words.specs.declared.plans.Command.{Command}
+use Rattle.cg_words.specs.declared.plans.Command.TheVariants.{Turns, TurnsOnImage, Flat}
+use Rattle.cg_pad.specs.Bytes as images
+use Rattle.cg_model.specs.Work.{Image}
+use Rattle.cg_model.specs.Array.{Arch}
+use Rattle.cg_tiles.specs.Answer.{AreValidBytes}
+use Rattle.cg_model.specs.Order.{IsUnaliased}
+use Rattle.cg_answers.specs.Turns.{turns_of, IsTurned}
+use Rattle.cg_answers.specs.TurnsOnImage.{IsTurnsOnImage, IsOrderedRun, IsUnorderedRun}
+use Rattle.cg_answers.specs.Flat.{IsFlat, IsFlattened}
+
+-- the outcomes that the command allows
+abbrev pub IsAnswer : Command → List File → List Name → Outcome → Type 0
+IsAnswer (Turns n) (file ∷ []) [] o = o ≡ turns_of n file
+IsAnswer (TurnsOnImage n) (file ∷ input ∷ []) (out ∷ []) o = IsTurnsOnImage n file input out o
+IsAnswer Flat (file ∷ []) (out ∷ []) o = IsFlat file out o
+IsAnswer _ _ _ o = ⊥
+
+-- the bytes spell a kernel
+abbrev pub SpellsKernel : File → Type 0
+SpellsKernel file = (K : Kernel) × (answer_of file.bytes ≡ Ok K)
+
+-- kernel and image are spelled, and of the n turns all accesses that matter are ordered
+pub record IsUnaliasedRun (n : ℕ) (file input : File) : Type 0 where
+  pub kernel : Kernel
+  pub image : Image
+  pub kernel_is : answer_of file.bytes ≡ Ok kernel
+  pub image_is : images.answer_of input.bytes ≡ Ok image
+  pub unaliased : IsUnaliased kernel n image
+
+-- the bytes give an architecture
+abbrev pub GivesArch : File → Type 0
+GivesArch file = (A : Arch) × AreValidBytes file.bytes A
+
+-- the input files that the command takes to its end
+abbrev pub Accepts : Command → List File → Type 0
+Accepts (Turns n) (file ∷ []) = SpellsKernel file
+Accepts (TurnsOnImage n) (file ∷ input ∷ []) = IsUnaliasedRun n file input
+Accepts Flat (file ∷ []) = GivesArch file
+Accepts _ _ = ⊥
+
+-- what a command whose input and output files have these names leaves where it ends with this status: what is held, and what
+-- was put
+abbrev pub Leaves : Command → List Name → List Name → Status → Moment → Moment → Type 0
+Leaves (Turns n) (file ∷ []) [] Done before after = IsTurned n file before after
+Leaves (TurnsOnImage n) (file ∷ input ∷ []) (out ∷ []) Done before after = IsOrderedRun n file input out before after
+Leaves (TurnsOnImage n) (file ∷ input ∷ []) (out ∷ []) No before after = IsUnorderedRun n file input out before after
+Leaves Flat (file ∷ []) (out ∷ []) Done before after = IsFlattened file out before after
+Leaves _ _ _ _ before after = Unit {0}

@@ -1,0 +1,5 @@
+pub mod Lines
+pub mod Turns
+pub mod TurnsOnImage
+pub mod Flat
+pub mod Commands

@@ -1,0 +1,60 @@
+-- `turns KERNEL TURNS`.
+use Rattle.std.specs.Prelude.{◌≡◌, ℕ, ◌&&◌, Bool, eqb, List, [], ◌∷◌, ◌++◌, Result, Ok, Err, slice_index_or, replicate, flat_map, if◌then◌else◌, codes, decimal}
+use Rattle.std.specs.List.{list_any, range_with_len}
+use Rattle.cg_word.specs.Word.{is_output}
+use Rattle.cg_model.specs.Kernel.{Kernel}
+use Rattle.cg_model.specs.Work.{Image}
+use Rattle.cg_model.specs.Turns.{turns_left}
+use Rattle.cg_ending.specs.declared.outcome.Status.TheVariants.{Done}
+use Rattle.cg_files.specs.Held.{Holds, Appends}
+use Rattle.cg_ending.specs.Outcome.{Name, Bytes, File, Outcome}
+use Rattle.cg_ending.specs.Ends.{Moment}
+use Rattle.cg_kernel.specs.declared.fault.KernelFault.{KernelFault}
+use Rattle.cg_kernel.specs.Answer.{answer_of}
+use Rattle.cg_refusals.specs.Refusals.{reports, malformed_of}
+use Rattle.cg_refusals.specs.Kernels.{kernel_fault_text}
+
+-- some node gives output to the port
+abbrev pub outputs_to : Kernel → ℕ → Bool
+outputs_to K port = list_any (λ v. is_output v.op && eqb v.port port) K.nodes
+
+-- the words, each after a blank
+abbrev pub spaced : List ℕ → Bytes
+spaced [] = []
+spaced (w ∷ ws) = (32 ∷ decimal w) ++ spaced ws
+
+-- the line of a stream: `out P:` and its words
+abbrev pub stream_line : ℕ → List ℕ → Bytes
+stream_line port words = codes "out " ++ (decimal port ++ (codes ":" ++ (spaced words ++ 10 ∷ [])))
+
+-- it stands where some node gives output to the port
+abbrev pub port_report : Kernel → List (List ℕ) → ℕ → Bytes
+port_report K streams port = if outputs_to K port then stream_line port (slice_index_or streams port []) else []
+
+-- the ports in ascending order
+abbrev pub streams_report : Kernel → List (List ℕ) → Bytes
+streams_report K streams = flat_map (port_report K streams) (range_with_len 0 16)
+
+-- an image without words
+abbrev pub blank : Image
+blank = record { memory = []; streams = replicate 16 [] }
+
+-- the turns of the kernel were run on it
+abbrev pub turned : ℕ → Kernel → Outcome
+turned n K = reports Done (streams_report K (turns_left K n blank).image.streams)
+
+abbrev pub turns_by : ℕ → File → Result Kernel KernelFault → Outcome
+turns_by n file (Ok K) = turned n K
+turns_by n file (Err f) = malformed_of file (kernel_fault_text f)
+
+-- what the command defines for the file
+unfoldable pub turns_of : ℕ → File → Outcome
+turns_of n file = turns_by n file (answer_of file.bytes)
+
+-- Done: a kernel was read, and what its turns send to each of its output ports was put
+pub record IsTurned (n : ℕ) (file : Name) (before after : Moment) : Type 0 where
+  pub bytes : Bytes
+  pub held : Holds before.held file bytes
+  pub kernel : Kernel
+  pub spelled : answer_of bytes ≡ Ok kernel
+  pub put : Appends before.taken (streams_report kernel (turns_left kernel n blank).image.streams) after.taken

@@ -1,0 +1,30 @@
+//! What the planned command answers.
+ghost use Rattle.std.specs.Prelude.{◌≡◌, IfOk, length, map, string_bytes};
+ghost use Rattle.cg_ending.specs.Outcome.{file_of, outcome_of};
+ghost use Rattle.cg_words.specs.Words.{HasShape};
+ghost use Rattle.cg_answers.specs.Commands.{IsAnswer};
+
+use crate::flattening::flat;
+use crate::imaging::turns_on_image;
+use crate::turning::turns;
+use cg_ending::{File, Outcome};
+use cg_words::{Command, Plan};
+use std::alloc::{AllocError, Global};
+
+/// The command's outcome over its input files.
+pub fn answer(alloc: Global, plan: &Plan, files: &[File]) -> Result<Outcome, AllocError>
+    requires { HasShape plan.now.command (length files.now) (length plan.now.outputs.items) }
+    ensures { IfOk result (λ o. IsAnswer plan.now.command (map file_of files.now) (map string_bytes plan.now.outputs.items) (outcome_of o)) }
+{
+    match plan.command {
+        Command::Turns { turns: count } => turns(alloc, count, &files[0]),
+        Command::TurnsOnImage { turns: count } => turns_on_image(
+            alloc,
+            count,
+            &files[0],
+            &files[1],
+            plan.outputs[0].as_str(),
+        ),
+        Command::Flat => flat(alloc, &files[0], plan.outputs[0].as_str()),
+    }
+}

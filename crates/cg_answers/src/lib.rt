@@ -1,0 +1,10 @@
+//! What commands answer: from a plan and the bytes of its input files to an outcome. No store and no sink is known here.
+#![tactic(auto)]
+
+mod answering;
+mod flattening;
+mod imaging;
+mod streams;
+mod turning;
+
+pub use answering::answer;

@@ -1,0 +1,40 @@
+//! `turns KERNEL TURNS`.
+ghost use Rattle.std.specs.Prelude.{◌≡◌, ◌≤◌, IfOk};
+ghost use Rattle.cg_ending.specs.Outcome.{file_of, outcome_of};
+ghost use Rattle.cg_answers.specs.Turns.{turned, turns_of};
+
+use crate::streams::streams_report;
+use cg_ending::{File, Outcome, Status};
+use cg_kernel::{Kernel, KernelFault, read_kernel};
+use cg_pad::Image;
+use cg_refusals::no_kernel;
+use cg_turns::run_turns;
+use std::alloc::{AllocError, Global};
+
+#[tactic(auto, unfolding(crate::specs::Turns::turns_of))]
+pub(crate) fn turns(alloc: Global, turns: u32, file: &File) -> Result<Outcome, AllocError>
+    requires { turns ≤ 1000000 }
+    ensures { IfOk result (λ o. outcome_of o ≡ turns_of turns (file_of file.now)) }
+{
+    match read_kernel(alloc, file.bytes.as_slice()) {
+        Ok(kernel) => turned(alloc, turns, &kernel),
+        Err(KernelFault::Memory) => Err(AllocError),
+        Err(fault) => no_kernel(alloc, file, &fault),
+    }
+}
+
+/// The turns were run, on an image without words.
+fn turned(alloc: Global, turns: u32, kernel: &Kernel) -> Result<Outcome, AllocError>
+    requires { turns ≤ 1000000 }
+    ensures { IfOk result (λ o. outcome_of o ≡ turned turns kernel.now) }
+{
+    let image = Image::empty(alloc)?;
+    let Ok(done) = run_turns(alloc, kernel, turns, &image) else {
+        return Err(AllocError);
+    };
+    Ok(Outcome {
+        status: Status::Done,
+        report: streams_report(alloc, kernel, done.image.streams())?,
+        writes: Vec::new(alloc),
+    })
+}

@@ -1,0 +1,34 @@
+-- What the command that was asked leaves.
+use Rattle.std.proofs.Common.{◌≡◌, List, Some, refl, sym, ◌∙◌, ap, subst, inl, inr}
+use Rattle.cg_files.specs.Causes.{Rose}
+use Rattle.cg_ending.specs.declared.outcome.Status.{Status}
+use Rattle.cg_ending.specs.declared.outcome.Status.TheVariants.{Memory, Malformed, ReadFault, WriteFault}
+use Rattle.cg_ending.specs.Outcome.{Name, Outcome}
+use Rattle.cg_ending.specs.Reads.{StopsAt}
+use Rattle.cg_ending.specs.Ends.{Moment, Finished, Completed}
+use Rattle.cg_answers.specs.Commands.{Leaves}
+use Rattle.cg_answers.proofs.Left as commands
+use Rattle.cg_top.specs.TopCall.{IsPlanned, Ends, IsLeft}
+
+pub left : (words : List Name) (before after : Moment) (status : Status) → Ends words before after status → IsLeft words before after status
+left words before after status (inr g) plan p = subst (λ s. Leaves plan.command plan.inputs plan.outputs s before after) (sym g.status_is) (commands.silent plan.command plan.inputs plan.outputs Memory before after refl)
+left words before after status (inl e) plan p = by_way e.finished
+  where
+    at : (s : Status) → status ≡ s → commands.is_silent s ≡ commands.is_silent Memory → Leaves plan.command plan.inputs plan.outputs status before after
+    at s is quiet = subst (λ z. Leaves plan.command plan.inputs plan.outputs z before after) (sym is) (commands.silent plan.command plan.inputs plan.outputs s before after quiet)
+
+    by_cause : (o : Outcome) (names : List Name) → StopsAt before.held (Rose before.read_faults after.read_faults) names o → status ≡ o.status → Leaves plan.command plan.inputs plan.outputs status before after
+    by_cause o names s is = elim s.cause [
+      | inl c ↦ at ReadFault (is ∙ ap (λ x. x.status) c.0) refl
+      | inr c ↦ at Malformed (is ∙ ap (λ x. x.status) c.0) refl
+    ]
+
+    by_origin : IsPlanned before.held (Rose before.read_faults after.read_faults) (Some plan) e.outcome → Completed e.outcome before after status → Leaves plan.command plan.inputs plan.outputs status before after
+    by_origin (inl a) c = commands.left plan.command plan.inputs plan.outputs a.files e.outcome status before after a.read a.answer (sym c.status_is) c
+    by_origin (inr s) c = by_cause e.outcome plan.inputs s c.status_is
+
+    by_way : Finished e.outcome before after status → Leaves plan.command plan.inputs plan.outputs status before after
+    by_way (inl c) = by_origin (rw p at e.is_outcome) c
+    by_way (inr (inl y)) = at WriteFault y.status_is refl
+    by_way (inr (inr (inl y))) = at WriteFault y.status_is refl
+    by_way (inr (inr (inr y))) = at Memory y.status_is refl
