@@ -2,13 +2,20 @@
 use Rattle.std.proofs.Common.{◌≡◌, ℕ, not, List, [], ◌∷◌, refl}
 use Rattle.std.specs.Prelude.{filter, map, replicate, codes}
 use Rattle.cg_word.specs.declared.op.Op.TheVariants.{Const, Iter, Input, Add, Sub, Mul, And, Or, Xor, Shl, Shr, Sar, Eq, Ne, Lts, Ltu, Mins, Maxs, Select, Load, Store, Output, LoadIf, StoreIf, OutputIf}
-use Rattle.cg_word.specs.Word.{all_ops, code, arity, is_guarded, is_access, is_store, is_output, has_value, has_port, address_arg, last_arg, apply_of}
+use Rattle.cg_word.specs.Word.{all_ops, code, name_of, arity, is_guarded, is_access, is_store, is_output, has_value, has_port, address_arg, last_arg, apply_of}
 use Rattle.cg_model.specs.Work.{Image, Left, value, value_by, stored, sent, missed}
 use Rattle.cg_model.specs.declared.kernel.Operand.TheVariants.{Const as Constant, Edge}
 use Rattle.cg_model.specs.Kernel.{Kernel}
 use Rattle.cg_model.specs.Turns.{before, turns_left}
 
 -- ---- the tables of operations, each as a list over all of them in the order of their codes
+
+-- each operation by itself, so that no two can be exchanged
+names_of_all : map name_of (Const ∷ Iter ∷ Input ∷ Add ∷ Sub ∷ Mul ∷ And ∷ Or ∷ Xor ∷ Shl ∷ Shr ∷ Sar ∷ Eq ∷ Ne ∷ Lts ∷ Ltu ∷ Mins ∷ Maxs ∷ Select ∷ Load ∷ Store ∷ Output ∷ LoadIf ∷ StoreIf ∷ OutputIf ∷ []) ≡ codes "const" ∷ codes "iter" ∷ codes "input" ∷ codes "add" ∷ codes "sub" ∷ codes "mul" ∷ codes "and" ∷ codes "or" ∷ codes "xor" ∷ codes "shl" ∷ codes "shr" ∷ codes "sar" ∷ codes "eq" ∷ codes "ne" ∷ codes "lts" ∷ codes "ltu" ∷ codes "mins" ∷ codes "maxs" ∷ codes "select" ∷ codes "load" ∷ codes "store" ∷ codes "output" ∷ codes "loadif" ∷ codes "storeif" ∷ codes "outputif" ∷ []
+names_of_all = refl
+
+codes_of_all : map code (Const ∷ Iter ∷ Input ∷ Add ∷ Sub ∷ Mul ∷ And ∷ Or ∷ Xor ∷ Shl ∷ Shr ∷ Sar ∷ Eq ∷ Ne ∷ Lts ∷ Ltu ∷ Mins ∷ Maxs ∷ Select ∷ Load ∷ Store ∷ Output ∷ LoadIf ∷ StoreIf ∷ OutputIf ∷ []) ≡ 1 ∷ 2 ∷ 3 ∷ 4 ∷ 5 ∷ 6 ∷ 7 ∷ 8 ∷ 9 ∷ 10 ∷ 11 ∷ 12 ∷ 13 ∷ 14 ∷ 15 ∷ 16 ∷ 17 ∷ 18 ∷ 19 ∷ 20 ∷ 21 ∷ 22 ∷ 23 ∷ 24 ∷ 25 ∷ []
+codes_of_all = refl
 
 codes_in_order : map code all_ops ≡ 1 ∷ 2 ∷ 3 ∷ 4 ∷ 5 ∷ 6 ∷ 7 ∷ 8 ∷ 9 ∷ 10 ∷ 11 ∷ 12 ∷ 13 ∷ 14 ∷ 15 ∷ 16 ∷ 17 ∷ 18 ∷ 19 ∷ 20 ∷ 21 ∷ 22 ∷ 23 ∷ 24 ∷ 25 ∷ []
 codes_in_order = refl
