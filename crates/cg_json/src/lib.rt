@@ -6,11 +6,14 @@ ghost use Rattle.serde_json.specs.View.{view};
 ghost use Rattle.cg_json.specs.Bytes.{value_of};
 
 mod members;
+mod size;
 
 pub use members::{
     has_other_keys, list_at, list_or_none, optional_word_at, text_at, word_of, word_or, words_of,
 };
 use serde_json::Value;
+pub use size::MOST_MEMORY;
+use size::memory_for;
 use std::alloc::Global;
 
 /// Why bytes gave no value.
@@ -21,10 +24,15 @@ pub enum JsonFault {
 }
 
 /// The JSON value that the bytes stand for.
+///
+/// A text whose values may take more than [`MOST_MEMORY`] bytes is answered by `Memory` before it is parsed.
 pub fn json_value(alloc: Global, bytes: &[u8]) -> Result<Value, JsonFault>
     ensures ok { IfOk result (λ value. value_of bytes.now ≡ Some (view value)) }
     ensures not_json { IsErrOf result JsonFault.NotJson → value_of bytes.now ≡ None }
 {
+    if memory_for(bytes) > MOST_MEMORY {
+        return Err(JsonFault::Memory);
+    }
     match Value::from_slice(alloc, bytes) {
         Ok(value) => Ok(value),
         Err(error) => if error.is_memory() {
