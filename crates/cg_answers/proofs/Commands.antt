@@ -6,8 +6,8 @@ use Rattle.cg_ending.specs.declared.outcome.Status.TheVariants.{Done, Malformed,
 use Rattle.cg_ending.specs.Outcome.{Name, File, Outcome}
 use Rattle.cg_kernel.specs.declared.fault.KernelFault.{KernelFault}
 use Rattle.cg_kernel.specs.Answer.{answer_of}
-use Rattle.cg_words.specs.declared.plans.Command.{Command}
-use Rattle.cg_words.specs.declared.plans.Command.TheVariants.{Turns, TurnsOnImage, Flat}
+use Rattle.cg_command.specs.declared.plans.Command.{Command}
+use Rattle.cg_command.specs.declared.plans.Command.TheVariants.{Turns, TurnsOnImage, Flat}
 use Rattle.cg_model.specs.Work.{Image}
 use Rattle.cg_model.specs.Order.{IsUnaliased}
 use Rattle.cg_pad.specs.declared.fault.ImageFault.{ImageFault}

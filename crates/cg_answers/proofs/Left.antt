@@ -21,8 +21,8 @@ use Rattle.cg_turns.specs.declared.pair.UnorderedPair.{UnorderedPair}
 use Rattle.cg_turns.specs.Pairs.{IsPairOf}
 use Rattle.cg_tiles.specs.declared.fault.TilesFault.{TilesFault}
 use Rattle.cg_tiles.specs.Answer as tiles
-use Rattle.cg_words.specs.declared.plans.Command.{Command}
-use Rattle.cg_words.specs.declared.plans.Command.TheVariants.{Turns, TurnsOnImage, Flat}
+use Rattle.cg_command.specs.declared.plans.Command.{Command}
+use Rattle.cg_command.specs.declared.plans.Command.TheVariants.{Turns, TurnsOnImage, Flat}
 use Rattle.cg_answers.specs.Turns.{turns_by, IsTurned}
 use Rattle.cg_answers.specs.TurnsOnImage.{IsOnKernel, IsOnImage, imaged, IsRunOnImage, IsOrderedRun, IsUnorderedRun}
 use Rattle.cg_answers.specs.Flat.{flat_by, IsFlattened}

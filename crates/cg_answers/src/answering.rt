@@ -1,14 +1,14 @@
 //! What the planned command answers.
 ghost use Rattle.std.specs.Prelude.{◌≡◌, IfOk, length, map, string_bytes};
 ghost use Rattle.cg_ending.specs.Outcome.{file_of, outcome_of};
-ghost use Rattle.cg_words.specs.Words.{HasShape};
+ghost use Rattle.cg_command.specs.Words.{HasShape};
 ghost use Rattle.cg_answers.specs.Commands.{IsAnswer};
 
 use crate::flattening::flat;
 use crate::imaging::turns_on_image;
 use crate::turning::turns;
 use cg_ending::{File, Outcome};
-use cg_words::{Command, Plan};
+use cg_command::{Command, Plan};
 use std::alloc::{AllocError, Global};
 
 /// The command's outcome over its input files.

@@ -4,7 +4,6 @@ ghost use Rattle.cg_answers.specs.Turns.{outputs_to, stream_line, port_report, s
 
 use cg_kernel::Kernel;
 use cg_model::Words;
-use cg_word::Op;
 use std::alloc::{AllocError, Global};
 
 /// A line for each port that the kernel's outputs name, ascending.
@@ -45,8 +44,7 @@ fn push_port(
 fn outputs_to(kernel: &Kernel, port: u32) -> bool
     ensures { result ≡ outputs_to kernel.now port }
 {
-    kernel.nodes().iter().any(|node| matches!(node.op, Op::Output | Op::OutputIf)
-        && node.port == port)
+    kernel.nodes().iter().any(|node| node.op.is_output() && node.port == port)
 }
 
 /// Adds the line of a stream: its port, and its words, each after a blank.

@@ -105,28 +105,10 @@ fn has_no_value(numbers: &Numbers, written: &WrittenKernel, arg: &WrittenArg) ->
     match arg {
         WrittenArg::Number(_) => false,
         WrittenArg::Source { from, .. } => match source_op(written, numbers, from.as_str()) {
-            Some(op) => !has_value(op),
+            Some(op) => !op.has_value(),
             None => false,
         },
     }
-}
-
-fn has_value(op: Op) -> bool
-    ensures { result ≡ word.has_value op }
-{
-    !matches!(op, Op::Store | Op::Output | Op::StoreIf | Op::OutputIf)
-}
-
-fn has_port(op: Op) -> bool
-    ensures { result ≡ word.has_port op }
-{
-    matches!(op, Op::Input | Op::Output | Op::OutputIf)
-}
-
-fn is_output(op: Op) -> bool
-    ensures { result ≡ word.is_output op }
-{
-    matches!(op, Op::Output | Op::OutputIf)
 }
 
 fn arg_goes_back(
@@ -204,8 +186,8 @@ fn is_bad_port(op: Op, port: Option<u32>) -> bool
     ensures { result ≡ spec.is_bad_port op port }
 {
     match port {
-        Some(port) => !has_port(op) || port > 15,
-        None => has_port(op),
+        Some(port) => !op.has_port() || port > 15,
+        None => op.has_port(),
     }
 }
 
@@ -213,7 +195,7 @@ fn output_port(written: &WrittenKernel, node: &WrittenNode) -> Option<u32>
     ensures { result ≡ spec.output_port written.now node.now }
 {
     match op_of(written, node) {
-        Some(op) => if is_output(op) { node.port } else { None },
+        Some(op) => if op.is_output() { node.port } else { None },
         None => None,
     }
 }

@@ -8,7 +8,7 @@ ghost use Rattle.cg_kernel.specs.Answer.{answer_of};
 ghost use Rattle.cg_word.specs.Word as word;
 ghost use Rattle.cg_kernel_text.specs.Printed as spec;
 
-use cg_kernel::{Kernel, Node, Op, Operand, OrderEdge};
+use cg_kernel::{Kernel, Node, Operand, OrderEdge};
 use serde_json::{Value, json};
 use std::alloc::{AllocError, Global};
 
@@ -53,17 +53,11 @@ fn node_value(alloc: Global, nodes: &[Node], node: &Node) -> Result<Value, Alloc
     ensures { IfOk result (λ value. view value ≡ spec.node_data nodes.now node.now) }
 {
     let args = args_value(alloc, nodes, node.operands.as_slice())?;
-    if has_port(node.op) {
+    if node.op.has_port() {
         json!(in alloc; {"args": args, "name": node.name.as_str(), "op": node.op.name(), "port": node.port})
     } else {
         json!(in alloc; {"args": args, "name": node.name.as_str(), "op": node.op.name()})
     }
-}
-
-fn has_port(op: Op) -> bool
-    ensures { result ≡ word.has_port op }
-{
-    matches!(op, Op::Input | Op::Output | Op::OutputIf)
 }
 
 fn args_value(alloc: Global, nodes: &[Node], operands: &[Operand]) -> Result<Value, AllocError>

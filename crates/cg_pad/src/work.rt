@@ -18,7 +18,7 @@ pub struct Work {
 }
 
 impl Work {
-    ghost use Rattle.std.specs.Prelude.{◌≡◌, ◌<◌, ◌≤◌, ◌++◌, ℕ, [], OnOk, length, slice_index, slice_index_or};
+    ghost use Rattle.std.specs.Prelude.{◌≡◌, ◌<◌, ◌≤◌, ◌++◌, ℕ, [], OnOk, OnErr, length, slice_index, slice_index_or};
     ghost use Rattle.cg_model.specs.Work.{acts, address, last_operand, value, stored, sent, missed};
     ghost use Rattle.cg_pad.specs.Work.{work_of};
 
@@ -26,31 +26,21 @@ impl Work {
     pub fn acts(self) -> bool
         ensures { result ≡ acts self.op self.args }
     {
-        match self.op {
-            Op::LoadIf | Op::StoreIf | Op::OutputIf => self.args[0] != 0,
-            _ => true,
-        }
+        !self.op.is_guarded() || self.args[0] != 0
     }
 
     /// The word of the scratchpad that an access reaches.
     pub fn address(self) -> u32
         ensures { result ≡ address self.op self.args }
     {
-        match self.op {
-            Op::LoadIf | Op::StoreIf => self.args[1],
-            _ => self.args[0],
-        }
+        self.args[self.op.address_arg()]
     }
 
     /// What is stored or sent.
     pub fn last_operand(self) -> u32
         ensures { result ≡ last_operand self.op self.args }
     {
-        match self.op {
-            Op::Output => self.args[0],
-            Op::StoreIf => self.args[2],
-            _ => self.args[1],
-        }
+        self.args[self.op.last_arg()]
     }
 
     /// Its value over the streams of an image and the memory that it finds.
@@ -75,7 +65,7 @@ impl Work {
     pub fn store(self, memory: &mut Scratchpad)
         ensures { memory.new ≡ stored memory.old (work_of self) }
     {
-        if matches!(self.op, Op::Store | Op::StoreIf) && self.acts() {
+        if self.op.is_store() && self.acts() {
             memory.store(self.address(), self.last_operand());
         }
     }
@@ -84,10 +74,11 @@ impl Work {
     #[tactic(auto, unfolding(cg_model::specs::Work::sent))]
     pub fn send(self, streams: &mut [Words]) -> Result<(), AllocError>
         requires { self.port < length streams.old }
-        ensures { OnOk result ((port : ℕ) → slice_index_or streams.new port []
+        ensures ok { OnOk result ((port : ℕ) → slice_index_or streams.new port []
             ≡ slice_index_or streams.old port [] ++ sent port (work_of self)) }
+        ensures err { OnErr result (streams.new ≡ streams.old) }
     {
-        if matches!(self.op, Op::Output | Op::OutputIf) && self.acts() {
+        if self.op.is_output() && self.acts() {
             streams[self.port as usize].push(self.last_operand())?;
         }
         Ok(())
@@ -99,8 +90,7 @@ impl Work {
         ensures count { result ≡ missed size (work_of self) }
         ensures few { result ≤ 1 }
     {
-        let is_access = matches!(self.op, Op::Load | Op::Store | Op::LoadIf | Op::StoreIf);
-        u64::from(is_access && self.acts() && size <= self.address() as usize)
+        u64::from(self.op.is_access() && self.acts() && size <= self.address() as usize)
     }
 }
 

@@ -7,7 +7,7 @@ use Rattle.cg_ending.specs.Outcome.{Name, Bytes, Outcome}
 use Rattle.cg_ending.specs.Reads.{read_fault_of, too_long_of}
 use Rattle.cg_ending.specs.Ends.{Moment, Finished}
 use Rattle.cg_ending.proofs.Reading.{Reading, all, missing, longer, reading, reads_all, stops}
-use Rattle.cg_words.specs.Words.{Plan, plan_of}
+use Rattle.cg_command.specs.Words.{Plan, plan_of}
 use Rattle.cg_answers.specs.Commands.{IsAnswer}
 use Rattle.cg_top.specs.TopCall.{IsPlanned, Ends, IsExact}
 use Rattle.cg_answers.proofs.Commands.{same_status}

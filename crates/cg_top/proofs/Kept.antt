@@ -6,7 +6,7 @@ use Rattle.cg_ending.specs.declared.outcome.Status.{Status}
 use Rattle.cg_ending.specs.Outcome.{Name, File, Outcome}
 use Rattle.cg_ending.specs.Reads.{read_fault_of, too_long_of}
 use Rattle.cg_ending.specs.Ends.{Moment, Finished, Wrote}
-use Rattle.cg_words.specs.Words.{Plan, plan_of}
+use Rattle.cg_command.specs.Words.{Plan, plan_of}
 use Rattle.cg_answers.specs.Commands.{IsAnswer}
 use Rattle.cg_top.specs.TopCall.{IsPlanned, Ends, WritesNothing}
 use Rattle.cg_answers.proofs.Commands.{quiet}

@@ -10,7 +10,7 @@ use Rattle.cg_ending.specs.Outcome.{Name, Outcome}
 use Rattle.cg_ending.specs.Reads.{StopsAt, read_fault_of, too_long_of}
 use Rattle.cg_ending.specs.Ends.{Moment, Finished}
 use Rattle.cg_ending.specs.Status.{leaves_all}
-use Rattle.cg_words.specs.Words.{Plan, plan_of}
+use Rattle.cg_command.specs.Words.{Plan, plan_of}
 use Rattle.cg_refusals.specs.Refusals.{usage_outcome}
 use Rattle.cg_top.specs.TopCall.{IsPlanned, Ends, IsAnswered, IsStopped, IsByTable}
 use Rattle.cg_top.proofs.Kept.{kept, no_part}

@@ -5,7 +5,7 @@ ghost use Rattle.std.specs.Prelude.{◌≡◌, ◌≤◌, [], None, IfOk, map, s
 ghost use Rattle.cg_files.specs.Causes.{Rose};
 ghost use Rattle.cg_ending.specs.Outcome.{outcome_of};
 ghost use Rattle.cg_ending.specs.Ends.{moment};
-ghost use Rattle.cg_words.specs.Words.{plan_of};
+ghost use Rattle.cg_command.specs.Words.{plan_of};
 ghost use Rattle.cg_top.specs.TopCall.{IsOutcome, Ends, IsCall};
 
 use cg_answers::answer;
@@ -13,7 +13,7 @@ pub use cg_ending::Status;
 use cg_ending::{Outcome, Stop, finish, read_all};
 use cg_files::{Sink, Store};
 use cg_refusals::usage;
-pub use cg_words::{Command, Plan, plan_words};
+pub use cg_command::{Command, Plan, plan_words};
 use std::alloc::{AllocError, Global};
 
 /// Does what the words ask: reads the input files out of the store, writes the output files into it, and puts the

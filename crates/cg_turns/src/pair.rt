@@ -6,7 +6,7 @@ ghost use Rattle.cg_model.specs.Order.{IsOrdered};
 ghost use Rattle.cg_turns.specs.Pairs.{step_of, later_access, IsRival, IsLatest, IsCompared};
 ghost use Rattle.cg_turns.specs.declared.pair.Access.{Access as AccessOf};
 
-use cg_kernel::{Kernel, Op};
+use cg_kernel::Kernel;
 use cg_order::DistanceTable;
 
 /// A node in a turn that accesses a word of the memory.
@@ -36,13 +36,6 @@ fn is_ordered(table: &DistanceTable, earlier: Access, later: Access) -> bool
     }
 }
 
-/// Whether an operation is a store, guarded or not.
-fn is_store(op: Op) -> bool
-    ensures { result ≡ word.is_store op }
-{
-    matches!(op, Op::Store | Op::StoreIf)
-}
-
 /// Whether one of two nodes is a store.
 fn is_rival(kernel: &Kernel, earlier: u32, later: u32) -> bool
     requires earlier { earlier < size kernel.now }
@@ -52,7 +45,7 @@ fn is_rival(kernel: &Kernel, earlier: u32, later: u32) -> bool
     let nodes = kernel.nodes();
     let first = &nodes[earlier as usize];
     let second = &nodes[later as usize];
-    is_store(first.op) || is_store(second.op)
+    first.op.is_store() || second.op.is_store()
 }
 
 /// The number of an access's step.

@@ -8,7 +8,7 @@ ghost use Rattle.cg_pad.specs.Work.{work_of};
 
 use crate::last::LastAccesses;
 use crate::pair::{Access, UnorderedPair, compared};
-use cg_kernel::{Kernel, Op};
+use cg_kernel::Kernel;
 use cg_order::DistanceTable;
 use cg_pad::Work;
 use std::alloc::{AllocError, Global};
@@ -84,19 +84,12 @@ pub(crate) fn watch_step(
     }
 }
 
-/// Whether an operation is a load or store, guarded or not.
-fn is_access(op: Op) -> bool
-    ensures { result ≡ word.is_access op }
-{
-    matches!(op, Op::Load | Op::Store | Op::LoadIf | Op::StoreIf)
-}
-
 /// The word that an operation reaches in a memory of that many words.
 pub(crate) fn reached(work: Work, size: usize) -> Option<u32>
     ensures { IsReached size (work_of work) result }
 {
     let address = work.address();
-    if is_access(work.op) && work.acts() && (address as usize) < size {
+    if work.op.is_access() && work.acts() && (address as usize) < size {
         Some(address)
     } else {
         None

@@ -33,8 +33,8 @@ pub enum Op {
 }
 
 impl Op {
-    ghost use Rattle.std.specs.Prelude.{◌≡◌, ◌≤◌, ◌↔◌, Some};
-    ghost use Rattle.cg_word.specs.Word.{code, name_of, arity, op_of, op_named};
+    ghost use Rattle.std.specs.Prelude.{◌≡◌, ◌<◌, ◌≤◌, ◌↔◌, Some};
+    ghost use Rattle.cg_word.specs.Word.{code, name_of, arity, is_guarded, is_access, is_store, is_output, has_value, has_port, address_arg, last_arg, op_of, op_named};
     ghost use Rattle.cg_word.specs.declared.op.Op as ops;
 
     /// All operations, in the order of their codes.
@@ -159,6 +159,71 @@ impl Op {
             | Op::LoadIf
             | Op::OutputIf => 2,
             Op::Select | Op::StoreIf => 3,
+        }
+    }
+
+    /// Whether it acts only where its first operand, the guard, isn't 0.
+    pub fn is_guarded(self) -> bool
+        ensures { result ≡ is_guarded self }
+    {
+        matches!(self, Op::LoadIf | Op::StoreIf | Op::OutputIf)
+    }
+
+    /// Whether it reaches a word of the scratchpad.
+    pub fn is_access(self) -> bool
+        ensures { result ≡ is_access self }
+    {
+        matches!(self, Op::Load | Op::Store | Op::LoadIf | Op::StoreIf)
+    }
+
+    /// Whether it is an access that writes.
+    pub fn is_store(self) -> bool
+        ensures { result ≡ is_store self }
+    {
+        matches!(self, Op::Store | Op::StoreIf)
+    }
+
+    /// Whether it appends to an output stream.
+    pub fn is_output(self) -> bool
+        ensures { result ≡ is_output self }
+    {
+        matches!(self, Op::Output | Op::OutputIf)
+    }
+
+    /// Whether it has a value that data edges may carry.
+    pub fn has_value(self) -> bool
+        ensures { result ≡ has_value self }
+    {
+        !matches!(self, Op::Store | Op::Output | Op::StoreIf | Op::OutputIf)
+    }
+
+    /// Whether it names the port of a stream.
+    pub fn has_port(self) -> bool
+        ensures { result ≡ has_port self }
+    {
+        matches!(self, Op::Input | Op::Output | Op::OutputIf)
+    }
+
+    /// Which of its operands is the address, for an access.
+    pub fn address_arg(self) -> usize
+        ensures place { result ≡ address_arg self }
+        ensures few { result < 3 }
+    {
+        match self {
+            Op::LoadIf | Op::StoreIf => 1,
+            _ => 0,
+        }
+    }
+
+    /// Which of its operands is stored or sent, for a store or an output: the last one.
+    pub fn last_arg(self) -> usize
+        ensures place { result ≡ last_arg self }
+        ensures few { result < 3 }
+    {
+        match self {
+            Op::Output => 0,
+            Op::StoreIf => 2,
+            _ => 1,
         }
     }
 

@@ -1,7 +1,7 @@
 use Rattle.std.proofs.Common.{rules, ◌≡◌, length, string_bytes, sym, ◌∙◌, vec_len}
 use Rattle.std.proofs.lemmas.List.{length-map}
 use Rattle.cg_ending.specs.Outcome.{file_of}
-use Rattle.cg_words.specs.Words.{HasShape}
+use Rattle.cg_command.specs.Words.{HasShape}
 use Rattle.cg_answers.proofs.Shapes.{as_many}
 use Rattle.cg_top.proofs.outcome.Goals as goal
 

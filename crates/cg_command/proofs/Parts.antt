@@ -3,8 +3,8 @@ use Rattle.std.proofs.Common.{◌≡◌, ℕ, List, [], ◌∷◌, Bool, true, f
 use Rattle.std.specs.List.{list_all}
 use Rattle.std.specs.Str.{bytes_eq}
 use Rattle.clap.specs.Lexer.{strip_byte, long_of, long_of_rest, short_of, short_of_rest}
-use Rattle.cg_words.specs.Words.{Text, Part, plain, named, text_of, and_then, options, option_named, is_option, name_in, value_in, option_parts, plain_parts, parts_of, is_file}
-use Rattle.cg_words.proofs.Uses.{before, is_dashes, option_said, word_said, value_said, uses}
+use Rattle.cg_command.specs.Words.{Text, Part, plain, named, text_of, and_then, options, option_named, is_option, name_in, value_in, option_parts, plain_parts, parts_of, is_file}
+use Rattle.cg_command.proofs.Uses.{before, is_dashes, option_said, word_said, value_said, uses}
 
 abbrev pub are_files : List Part → Bool
 are_files parts = list_all (λ part. is_file (text_of part)) parts

@@ -2,8 +2,8 @@
 ghost use Rattle.std.specs.Prelude.{◌≡◌, false, [], IfOk, IfErr, map, option_map, string_bytes, codes, if◌then◌else◌};
 ghost use Rattle.std.specs.List.{list_all};
 ghost use Rattle.clap.specs.Words.{app_of, rule_of, fault_of, matches_of, rows_of, found_of, HasKind};
-ghost use Rattle.cg_words.specs.Words as spec;
-ghost use Rattle.cg_words.specs.Matches.{words_app, words_rule, named_rule, row_texts, at_most_one, file_of, said_in_rows};
+ghost use Rattle.cg_command.specs.Words as spec;
+ghost use Rattle.cg_command.specs.Matches.{words_app, words_rule, named_rule, row_texts, at_most_one, file_of, said_in_rows};
 
 use crate::numbers::{interval_of, is_file, moves_of, seed_of};
 use clap::error::ErrorKind;

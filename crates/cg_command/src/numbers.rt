@@ -2,7 +2,7 @@
 ghost use Rattle.std.specs.Prelude.{◌≡◌, ◌≤◌, IfSome};
 ghost use Rattle.std.specs.Char.{is_ascii_digit};
 ghost use Rattle.std.specs.List.{list_all};
-ghost use Rattle.cg_words.specs.Words as spec;
+ghost use Rattle.cg_command.specs.Words as spec;
 
 /// The greatest interval that may be asked for.
 const MOST_INTERVAL: u64 = 64;

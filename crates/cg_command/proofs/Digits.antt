@@ -8,7 +8,7 @@ use Rattle.std.proofs.lemmas.Bool.{cases_lt, lt-leb}
 use borrow.Author.Tests.{ltb-true}
 use Rattle.std.proofs.lemmas.Str.Parse.{IsNumeralModel, numerals_by_fold, parse_digits}
 use Rattle.std.proofs.Common.{rules}
-use Rattle.cg_words.specs.Words.{is_number, number_up_to}
+use Rattle.cg_command.specs.Words.{is_number, number_up_to}
 
 own : IsNumeralModel (λ ds. list_all is_ascii_digit ds ≡ true) (digits_value_after 10 0)
 own = numerals_by_fold _ (search rules) (digits_value_after 10) (search rules)

@@ -11,11 +11,11 @@ use Rattle.clap.specs.Lexer.{long_of, short_of}
 use Rattle.clap.specs.Words.{Kinds, Row, HasKind, kind_of, fault_of, matches_of}
 use Rattle.clap.specs.declared.error.Error.{Error}
 use Rattle.clap.specs.declared.error.kind.ErrorKind.TheVariants as kind
-use Rattle.cg_words.specs.Words.{Text, Part, plain, named, options, is_file, is_number, number_up_to, positive, interval_of, seed_of, moves_of, plain_words, values_of, at_most_once, Said, all_said, said_by, said_of}
-use Rattle.cg_words.specs.Matches.{row_texts, file_of, judged, said_in_rows, words_app}
-use Rattle.cg_words.proofs.Uses.{before, is_dashes, known, option_said, word_said, value_said, uses}
-use Rattle.cg_words.proofs.Parts.{are_files, checked, Checked, parts-uses, left_true}
-use Rattle.cg_words.proofs.Walk.{known-true, same-text, texts_for, texts-made, made, run, run-none, unless, taken, strings-refuse, refused-unless}
+use Rattle.cg_command.specs.Words.{Text, Part, plain, named, options, is_file, is_number, number_up_to, positive, interval_of, seed_of, moves_of, plain_words, values_of, at_most_once, Said, all_said, said_by, said_of}
+use Rattle.cg_command.specs.Matches.{row_texts, file_of, judged, said_in_rows, words_app}
+use Rattle.cg_command.proofs.Uses.{before, is_dashes, known, option_said, word_said, value_said, uses}
+use Rattle.cg_command.proofs.Parts.{are_files, checked, Checked, parts-uses, left_true}
+use Rattle.cg_command.proofs.Walk.{known-true, same-text, texts_for, texts-made, made, run, run-none, unless, taken, strings-refuse, refused-unless}
 
 -- ---- the names that are read are those of options
 

@@ -4,7 +4,7 @@ use Rattle.std.specs.List.{list_all}
 use Rattle.clap.specs.Words.{App, Row, Rule, Text, new_rule, all_of}
 use Rattle.clap.specs.Simple.{Shape, new_shape}
 use Rattle.clap.specs.declared.builder.ArgAction.TheVariants.{Append}
-use Rattle.cg_words.specs.Words.{Said, options, is_file, at_most_once, interval_of, seed_of, moves_of, all_said}
+use Rattle.cg_command.specs.Words.{Said, options, is_file, at_most_once, interval_of, seed_of, moves_of, all_said}
 
 -- the positional that takes each plain word
 abbrev pub words_rule : Rule

@@ -4,10 +4,10 @@ use Rattle.std.specs.Char.{is_ascii_digit}
 use Rattle.std.specs.List.{list_all, list_any, before_first, after_first}
 use Rattle.std.specs.Str.{bytes_eq}
 use Rattle.std.specs.Str.Parse.{digits_value}
-use Rattle.cg_words.specs.declared.plans.Command.{Command}
-use Rattle.cg_words.specs.declared.plans.Command.TheVariants.{Turns, TurnsOnImage, Flat}
-use Rattle.cg_words.specs.declared.plans.Plan.{Plan as PlanValue}
-use Rattle.cg_words.specs.declared.options.Said.{Said as SaidValue}
+use Rattle.cg_command.specs.declared.plans.Command.{Command}
+use Rattle.cg_command.specs.declared.plans.Command.TheVariants.{Turns, TurnsOnImage, Flat}
+use Rattle.cg_command.specs.declared.plans.Plan.{Plan as PlanValue}
+use Rattle.cg_command.specs.declared.options.Said.{Said as SaidValue}
 
 -- the bytes of a word
 abbrev pub Text : Type 0

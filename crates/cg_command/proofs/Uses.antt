@@ -2,7 +2,7 @@
 use Rattle.std.proofs.Common.{◌∷◌, [], List, Bool, true, false, Option, Some, None, option_map, find, if◌then◌else◌}
 use Rattle.std.specs.Str.{bytes_eq}
 use Rattle.clap.specs.Lexer.{long_of, short_of}
-use Rattle.cg_words.specs.Words.{Text, Part, plain, named}
+use Rattle.cg_command.specs.Words.{Text, Part, plain, named}
 
 -- a part, and those after it
 abbrev pub before : Part → Option (List Part) → Option (List Part)

@@ -3,9 +3,9 @@ use Rattle.std.proofs.lemmas.Result.{IfOk-weaker}
 use Rattle.clap.specs.Words.{App, fault_of, is_simple, is_simple_and_free, matches_of}
 use Rattle.clap.proofs.OnLiterals.{clap_on_literals}
 use Rattle.clap.proofs.WalkLemmas.{IfOk-both}
-use Rattle.cg_words.specs.Matches.{words_app}
-use Rattle.cg_words.proofs.Failures.{FailsBy-ok, FailsBy-err}
-use Rattle.cg_words.proofs.options.matches_of.Goals as goal
+use Rattle.cg_command.specs.Matches.{words_app}
+use Rattle.cg_command.proofs.Failures.{FailsBy-ok, FailsBy-err}
+use Rattle.cg_command.proofs.options.matches_of.Goals as goal
 
 simple : is_simple words_app ≡ true
 unfolding words_app clap_on_literals

@@ -1,8 +1,8 @@
 use Rattle.std.proofs.Common.{sym, ◌∙◌}
 use Rattle.std.proofs.lemmas.Result.{IfOk-weaker}
 use Rattle.clap.specs.Words.{found_of, rows_of}
-use Rattle.cg_words.proofs.Judged.{said_of-rows, said_of-refused}
-use Rattle.cg_words.proofs.options.said_of.Goals as goal
+use Rattle.cg_command.proofs.Judged.{said_of-rows, said_of-refused}
+use Rattle.cg_command.proofs.options.said_of.Goals as goal
 
 pub returns-in-Ok : goal.returns-in-Ok
 returns-in-Ok c =

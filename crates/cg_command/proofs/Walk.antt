@@ -24,9 +24,9 @@ use Rattle.clap.specs.declared.error.kind.ErrorKind.TheVariants as kind
 use Rattle.clap.specs.Simple.{Shape, new_shape, entered, names_of, filled, filled_from, with_index}
 use Rattle.clap.specs.Walk.{Held, reading_by, stronger, with_values, nothing_held, rows_after, walk, has_row, with_default, after_flag, long_met, next, option_word, Step, Waiting, idle, option, positional, Walk, after_step, arg_by_id, arg_by_long, arg_by_short, long_or_other, short_or_plain, settled, trailing, used, used_by_id, pushed, is_pending, walked, long_word, short_word, plain_word}
 use Rattle.clap.specs.Faults.{bundle_fault, bundle_step_fault, flags_fault, short_fault, built_fault, check_fault, entered_fault, level_fault, defaults_fault, given_default_fault, flag_word_fault, long_fault, settle_fault, step_fault, turn_fault, use_fault, walk_fault}
-use Rattle.cg_words.specs.Words.{Part, plain, named, text_of}
-use Rattle.cg_words.specs.Matches.{words_rule, named_rule, asked_app, row_texts}
-use Rattle.cg_words.proofs.Uses.{before, is_dashes, known, option_said, word_said, value_said, uses}
+use Rattle.cg_command.specs.Words.{Part, plain, named, text_of}
+use Rattle.cg_command.specs.Matches.{words_rule, named_rule, asked_app, row_texts}
+use Rattle.cg_command.proofs.Uses.{before, is_dashes, known, option_said, word_said, value_said, uses}
 
 abbrev pub words' : Rule
 words' = with_index 1 (filled words_rule)

@@ -1,7 +1,7 @@
 //! Commands, each with its files and its numbers.
 ghost use Rattle.std.specs.Prelude.{◌≡◌, IfOk, IfSome, map, option_map, string_bytes, vec_len};
-ghost use Rattle.cg_words.specs.Words as spec;
-ghost use Rattle.cg_words.specs.Words.{HasShape};
+ghost use Rattle.cg_command.specs.Words as spec;
+ghost use Rattle.cg_command.specs.Words.{HasShape};
 
 use crate::numbers::turns_of;
 use crate::options::{Said, said_of};
