@@ -7,8 +7,8 @@ ghost use Rattle.cg_answers.specs.Commands.{IsAnswer};
 use crate::flattening::flat;
 use crate::imaging::turns_on_image;
 use crate::turning::turns;
-use cg_ending::{File, Outcome};
 use cg_command::{Command, Plan};
+use cg_ending::{File, Outcome};
 use std::alloc::{AllocError, Global};
 
 /// The command's outcome over its input files.

@@ -44,7 +44,10 @@ fn push_port(
 fn outputs_to(kernel: &Kernel, port: u32) -> bool
     ensures { result ≡ outputs_to kernel.now port }
 {
-    kernel.nodes().iter().any(|node| node.op.is_output() && node.port == port)
+    kernel
+        .nodes()
+        .iter()
+        .any(|node| node.op.is_output() && node.port == port)
 }
 
 /// Adds the line of a stream: its port, and its words, each after a blank.

@@ -9,11 +9,11 @@ ghost use Rattle.cg_command.specs.Words.{plan_of};
 ghost use Rattle.cg_top.specs.TopCall.{IsOutcome, Ends, IsCall};
 
 use cg_answers::answer;
+pub use cg_command::{Command, Plan, plan_words};
 pub use cg_ending::Status;
 use cg_ending::{Outcome, Stop, finish, read_all};
 use cg_files::{Sink, Store};
 use cg_refusals::usage;
-pub use cg_command::{Command, Plan, plan_words};
 use std::alloc::{AllocError, Global};
 
 /// Does what the words ask: reads the input files out of the store, writes the output files into it, and puts the

@@ -25,7 +25,7 @@ returns-clause-steps c =
     let streams_long : length c.send.new.streams ≡ length f.streams.items = search rules in
     let streams_is : g.streams.items ≡ c.send.new.streams = with_items_is f.streams c.send.new.streams (search rules) in
     let args = c.argument-a.result ∷ c.argument-b.result ∷ c.argument-c.result ∷ [] in
-    let sent : (port : ℕ) → slice_index_or c.send.new.streams port [] ≡ slice_index_or f.streams.items port [] ++ sent port (on N.op N.port c.args.turn args) = λ port. c.in_ok-send.ensures port ∙ ap (λ (xs : List (List ℕ)). slice_index_or xs port [] ++ sent port (on N.op N.port c.args.turn args)) c.deref_mut.ensures.value in
+    let sent : (port : ℕ) → slice_index_or c.send.new.streams port [] ≡ slice_index_or f.streams.items port [] ++ sent port (on N.op N.port c.args.turn args) = λ port. c.in_ok-send.ensures.ok port ∙ ap (λ (xs : List (List ℕ)). slice_index_or xs port [] ++ sent port (on N.op N.port c.args.turn args)) c.deref_mut.ensures.value in
     subst (λ (X : Node). DoesWork c.args.image.now (c.args.row * m + c.args.place) (on X.op X.port c.args.turn (operands_of X m c.args.turn c.args.row f)) f g) node_is
     (worked N m c.args.turn c.args.row f c.argument-a.result c.argument-b.result c.argument-c.result (search rules) (search rules) (search rules) c.args.image.now (c.args.row * m + c.args.place) c.value-value.result c.missed.result g (search rules) (search rules) (search rules) (ap length streams_is ∙ streams_long) (λ port. ap (λ (xs : List (List ℕ)). slice_index_or xs port []) streams_is ∙ sent port) (search rules) (search rules))
 
