@@ -1,5 +1,5 @@
 //! The system's files and its standard output. They tell nothing of content.
-ghost use Rattle.std.specs.Prelude.{◌≡◌, ◌<◌, ◌≤◌, ℕ, Err, IfOk, IfSome, OnOk, length};
+ghost use Rattle.std.specs.Prelude.{◌≡◌, ◌+◌, ◌-◌, ◌^◌, ◌<◌, ◌≤◌, ℕ, Err, IfOk, IfSome, IsErrOf, OnOk, length, min};
 
 use crate::fail::{SinkFail, StoreFail};
 use crate::sink::Sink;
@@ -8,6 +8,9 @@ use std::alloc::Global;
 use std::io::{Read, Write};
 use std::rt::Files;
 use std::{fs, io};
+
+#[cfg(test)]
+mod tests;
 
 /// The files of the system. Each error of the system raises a count, and a missing file is one.
 #[derive(Drop)]
@@ -29,6 +32,37 @@ impl<'a, R: Files> DiskStore<'a, R> {
             write_faults: 0,
         }
     }
+
+    /// How many writes failed.
+    pub fn write_faults(&self) -> u64
+        ensures { result ≡ ⟦<DiskStore<'a, R> as Store>⟧.write_faults self.now }
+    {
+        self.write_faults
+    }
+
+    /// The bytes of the file, where they are at most `limit`.
+    fn read_file(&mut self, alloc: Global, name: &str, limit: u64) -> Result<Vec<u8>, StoreFail>
+        ensures ok { IfOk result (λ bytes. length bytes.items ≤ limit) }
+        ensures too_long { (got : ℕ) → result ≡ Err (StoreFail.TooLong got)
+            → (limit < got) × (got ≤ limit + 4096) }
+
+        // The count rises where the answer is `Failed`, by one, and nowhere else.
+        ensures raised { IsErrOf result StoreFail.Failed
+            → self.new.read_faults ≡ min (self.old.read_faults + 1) (2 ^ 64 - 1) }
+        ensures still { ¬ IsErrOf result StoreFail.Failed
+            → self.new.read_faults ≡ self.old.read_faults }
+        ensures reads { self.old.read_faults ≤ self.new.read_faults }
+        ensures writes { self.new.write_faults ≡ self.old.write_faults }
+    {
+        let answer = match fs::open(self.rt, name) {
+            Ok(file) => read_up_to(alloc, file, limit),
+            Err(_) => Err(StoreFail::Failed),
+        };
+        if let Err(StoreFail::Failed) = answer {
+            self.read_faults = self.read_faults.saturating_add(1);
+        }
+        answer
+    }
 }
 
 impl<'a, R: Files> Store for DiskStore<'a, R> {
@@ -41,14 +75,7 @@ impl<'a, R: Files> Store for DiskStore<'a, R> {
     ghost write_faults = { λ s. s.write_faults };
 
     fn read(&mut self, alloc: Global, name: &str, limit: u64) -> Result<Vec<u8>, StoreFail> {
-        let answer = match fs::open(self.rt, name) {
-            Ok(file) => read_up_to(alloc, file, limit),
-            Err(_) => Err(StoreFail::Failed),
-        };
-        if let Err(StoreFail::Failed) = answer {
-            self.read_faults = self.read_faults.saturating_add(1);
-        }
-        answer
+        self.read_file(alloc, name, limit)
     }
 
     fn write(&mut self, _alloc: Global, name: &str, bytes: &[u8]) -> Result<(), StoreFail> {
@@ -65,7 +92,8 @@ impl<'a, R: Files> Store for DiskStore<'a, R> {
 /// The bytes up to the file's end. It stops at the first piece that goes past the limit.
 fn read_up_to<F: Read + Drop>(alloc: Global, mut file: F, limit: u64) -> Result<Vec<u8>, StoreFail>
     ensures short { IfOk result (λ v. length v.items ≤ limit) }
-    ensures too_long { (got : ℕ) → result ≡ Err (StoreFail.TooLong got) → limit < got }
+    ensures too_long { (got : ℕ) → result ≡ Err (StoreFail.TooLong got)
+        → (limit < got) × (got ≤ limit + 4096) }
 
     // Where the reader tells what it has left, this is what was read.
     ensures whole { IfSome (F.remaining file) (λ bytes. IfOk result (λ v. v.items ≡ bytes)) }
@@ -104,6 +132,13 @@ impl<'a, R: Print> StdSink<'a, R> {
     {
         StdSink { rt, faults: 0 }
     }
+
+    /// How many puts failed.
+    pub fn faults(&self) -> u64
+        ensures { result ≡ ⟦<StdSink<'a, R> as Sink>⟧.faults self.now }
+    {
+        self.faults
+    }
 }
 
 impl<'a, R: Print> Sink for StdSink<'a, R> {
@@ -121,39 +156,5 @@ impl<'a, R: Print> Sink for StdSink<'a, R> {
                 Err(SinkFail::Failed)
             }
         }
-    }
-}
-
-#[cfg(test)]
-mod tests {
-    use super::*;
-    use std::test::Fail;
-
-    #[test]
-    fn reads_back_what_it_wrote(rt: HostRuntime) -> Result<(), Fail> {
-        let mut store = DiskStore::new(&rt);
-        store.write(rt.alloc(), "words.txt", b"seven words")?;
-        store.write(rt.alloc(), "words.txt", b"one two")?;
-        let bytes = store.read(rt.alloc(), "words.txt", 7)?;
-        assert_eq!(rt; bytes.as_slice(), b"one two".as_slice());
-        let shorter = store.read(rt.alloc(), "words.txt", 6);
-        assert_eq!(rt; shorter.err(), Some(StoreFail::TooLong(7)));
-        assert_eq!(rt; store.read_faults, 0);
-        let missing = store.read(rt.alloc(), "missing.txt", 7);
-        assert_eq!(rt; missing.err(), Some(StoreFail::Failed));
-        assert_eq!(rt; store.read_faults, 1);
-        let nowhere = store.write(rt.alloc(), "missing/words.txt", b"one");
-        assert_eq!(rt; nowhere.err(), Some(StoreFail::Failed));
-        assert_eq!(rt; store.write_faults, 1);
-        fs::remove_file(&rt, "words.txt")?;
-        Ok(())
-    }
-
-    #[test]
-    fn puts_to_standard_output(rt: HostRuntime) -> Result<(), Fail> {
-        let mut sink = StdSink::new(&rt);
-        assert_eq!(rt; sink.put(rt.alloc(), b"one two\n"), Ok(()));
-        assert_eq!(rt; sink.faults, 0);
-        Ok(())
     }
 }
