@@ -1,8 +1,18 @@
 //! `cgra`: hands its words to the top call, over the files of the system and the standard output.
 #![tactic(auto)]
 
+ghost use Rattle.std.specs.Prelude.{◌≡◌};
+ghost use Rattle.std.specs.Process.{exit_status};
+ghost use Rattle.cg_ending.specs.Status.{number_of};
+
+mod commands;
+mod notices;
+#[cfg(test)]
+mod tests;
+
 use cg_files::{DiskStore, StdSink};
-use cg_top::run_line;
+use cg_top::{Status, run_line};
+use notices::notice;
 use std::io::ErrorKind;
 use std::process::ExitCode;
 use std::rt::Env;
@@ -19,6 +29,13 @@ fn arguments<R: Env + AllocGlobal>(rt: &R) -> io::Result<Vec<String>> {
     Ok(env::args(rt)?.skip(1).collect(rt.alloc())?)
 }
 
+/// What the program ends with.
+fn exit_code(status: Status) -> ExitCode
+    ensures { exit_status result ≡ number_of status }
+{
+    ExitCode::from(status.number())
+}
+
 fn main(rt: HostRuntime) -> ExitCode {
     let words = match arguments(&rt) {
         Ok(words) => words,
@@ -30,5 +47,10 @@ fn main(rt: HostRuntime) -> ExitCode {
     let mut store = DiskStore::new(&rt);
     let mut out = StdSink::new(&rt);
     let status = run_line(rt.alloc(), words.as_slice(), &mut store, &mut out);
-    ExitCode::from(status.number())
+    let said = notice(status, store.write_faults(), out.faults());
+    if !said.is_empty() {
+        // The call ends alike where this can't be written.
+        let _ = rt.eprint(said);
+    }
+    exit_code(status)
 }

@@ -1,0 +1,34 @@
+//! What is said on the standard error, beside the report.
+ghost use Rattle.std.specs.Prelude.{◌≡◌, ◌<◌, ◌⊎◌};
+ghost use Rattle.cgra.specs.Notices.{notice_of};
+
+use crate::commands::COMMANDS;
+use cg_top::Status;
+
+/// At want of memory.
+pub const NO_MEMORY: &str = "cgra: memory was wanting\n";
+
+/// At a write fault of the store.
+pub const NO_FILE: &str = "cgra: an output file couldn't be written\n";
+
+/// At a write fault of the sink.
+pub const NO_REPORT: &str = "cgra: the report couldn't be written\n";
+
+/// What is said where a call ends so, and so many writes of files and puts of reports failed in it.
+pub fn notice(status: Status, write_faults: u64, put_faults: u64) -> &'static str
+    requires { status ≡ Status.WriteFault → (0 < write_faults) ⊎ (0 < put_faults) }
+    ensures { result.now ≡ notice_of status write_faults }
+{
+    match status {
+        Status::Usage => COMMANDS,
+        Status::Memory => NO_MEMORY,
+        Status::WriteFault if write_faults == 0 => NO_REPORT,
+        Status::WriteFault => NO_FILE,
+        Status::Done
+        | Status::Malformed
+        | Status::Impossible
+        | Status::ReadFault
+        | Status::BudgetSpent
+        | Status::No => "",
+    }
+}
