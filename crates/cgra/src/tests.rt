@@ -81,7 +81,11 @@ fn writes_files(rt: HostRuntime) -> Result<(), Fail> {
         let ended = run_line(rt.alloc(), words.as_slice(), &mut store, &mut out);
         assert_eq!(rt; ended, status, "{line}");
         assert_eq!(rt; fs::read(&rt, name)?.as_slice(), bytes, "{line}");
+        fs::remove_file(&rt, name)?;
     }
+    fs::remove_file(&rt, "t1.toml")?;
+    fs::remove_file(&rt, "swap.json")?;
+    fs::remove_file(&rt, "in.img")?;
     Ok(())
 }
 

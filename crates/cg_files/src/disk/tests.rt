@@ -19,6 +19,7 @@ fn reads_back_what_it_wrote(rt: HostRuntime) -> Result<(), Fail> {
     let nowhere = store.write(rt.alloc(), "missing/words.txt", b"one");
     assert_eq!(rt; nowhere.err(), Some(StoreFail::Failed));
     assert_eq!(rt; store.write_faults(), 1);
+    fs::remove_file(&rt, "words.txt")?;
     Ok(())
 }
 
@@ -51,6 +52,7 @@ fn long_files_and_reports(rt: HostRuntime) -> Result<(), Fail> {
         (store.read_faults, store.write_faults(), sink.faults()),
         (0, 0, 0)
     );
+    fs::remove_file(&rt, "long.txt")?;
     Ok(())
 }
 
