@@ -1,5 +1,5 @@
 -- No bytes are refused for want of memory.
-use Rattle.std.proofs.Common.{◌≡◌, ℕ, List, Bool, true, false, Option, Some, None, Result, Ok, Err, cond}
+use Rattle.std.proofs.Common.{◌≡◌, ℕ, List, Bool, true, false, Option, Some, None, Result, Ok, Err, cond, ap, sym, ◌∙◌}
 use Rattle.std.specs.Option.{option_map, option_or}
 use Rattle.toml.specs.Data.{Data}
 use Rattle.cg_parts.specs.declared.parts.Parts.{Parts}
@@ -11,7 +11,7 @@ use Rattle.cg_tiles.specs.Rules.{TilesFault, Cell, first_fault, unknown_key, unk
 use Rattle.cg_tiles.specs.declared.rules.PartRule.TheVariants.{UnknownOp}
 use Rattle.cg_tiles.specs.declared.fault.TilesFault.TheVariants as fault
 use Rattle.cg_tiles.specs.Flat.{parts_of}
-use Rattle.cg_tiles.specs.Answer.{unless, judged, parts_written, parts_in, parts_spelled}
+use Rattle.cg_tiles.specs.Answer.{unless, judged, parts_written, parts_in, parts_spelled, IsRefused}
 
 lowest : (key : Option TilesPlace) (cell : Option Cell) (row : Option ℕ) (op : Option PartPlace) (large_one : Bool)
     → option_or (option_map fault.UnknownKey key) (option_or (option_map fault.UnknownTile cell) (option_or (option_map fault.RaggedGrid row) (option_or (option_map fault.UnknownOp op)
@@ -40,6 +40,13 @@ no_table : (o : Option Data) → parts_in o ≡ Err (fault.Parts arch.Memory) �
 no_table None e = let bad : Err fault.NotToml ≡ Err (fault.Parts arch.Memory) = e in cc
 no_table (Some d) e = no_written (written_of d) e
 
-pub never_memory : (bytes : List ℕ) → parts_spelled bytes ≡ Err (fault.Parts arch.Memory) → ⊥
+never_spelled : (bytes : List ℕ) → parts_spelled bytes ≡ Err (fault.Parts arch.Memory) → ⊥
 unfolding parts_spelled
-never_memory bytes e = no_table (table_of bytes) e
+never_spelled bytes e = no_table (table_of bytes) e
+
+never : (r : Result Parts TilesFault) (f : TilesFault) → (r ≡ Err (fault.Parts arch.Memory) → ⊥) → IsRefused r f → f ≡ fault.Parts arch.Memory → ⊥
+never (Err e) f h is m = h (ap Err (sym is ∙ m))
+never (Ok parts) f h is m = is.2 (let same : fault.Parts is.0 ≡ fault.Parts arch.Memory = sym is.1 ∙ m in cc)
+
+pub never_memory : (bytes : List ℕ) (f : TilesFault) → IsRefused (parts_spelled bytes) f → f ≡ fault.Parts arch.Memory → ⊥
+never_memory bytes f = never (parts_spelled bytes) f (never_spelled bytes)

@@ -1,4 +1,5 @@
 pub mod Answer
+pub mod Counts
 pub mod Flat
 pub mod Rules
 pub mod Written

@@ -1,18 +1,23 @@
 //! From tiles on a grid to the flat parts that they stand for.
-ghost use Rattle.std.specs.Prelude.{◌≡◌, ◌++◌, IfOk, OnOk, filter_map, map};
+ghost use Rattle.std.specs.Prelude.{◌≡◌, ◌+◌, ◌<◌, ◌≤◌, ◌++◌, IfOk, IfErr, OnOk, IsErrOf, length, map, string_bytes, sum_by};
+ghost use Rattle.cg_parts.specs.Parts.{with_name};
+ghost use Rattle.cg_tiles.specs.Counts as counts;
 ghost use Rattle.cg_tiles.specs.Flat as spec;
 
 use crate::grid::{Cell, Grid, neighbour};
+use crate::room::{MakingFault, Room};
 use crate::rules::{columns, tile_of};
 use crate::written::{Part, Reference, References, Side, WrittenArch, WrittenPart};
 use cg_model::{Items, Name};
-use cg_parts::{Element, Names, Parts, distinct};
+use cg_parts::{Element, Names, Parts};
+use indexmap::IndexSet;
 use std::alloc::{AllocError, Global};
 
-/// The parts that are written.
+/// The parts that are written, unless there are more than 65,536 links into their resources.
 #[tactic(auto, unfolding(crate::specs::Flat::parts_of))]
-pub(crate) fn parts_of(alloc: Global, written: WrittenArch) -> Result<Parts, AllocError>
-    ensures { IfOk result (λ parts. parts ≡ spec.parts_of written) }
+pub(crate) fn parts_of(alloc: Global, written: WrittenArch) -> Result<Parts, MakingFault>
+    ensures parts { IfOk result (λ parts. parts ≡ spec.parts_of written) }
+    ensures many { IsErrOf result MakingFault.TooManyLinks → 65536 < counts.grid_links written (spec.grid_of written) 0 written.sheet.grid }
 {
     let elements = elements_of(alloc, &written)?;
     Ok(Parts {
@@ -25,8 +30,9 @@ pub(crate) fn parts_of(alloc: Global, written: WrittenArch) -> Result<Parts, All
 }
 
 /// The elements of all cells, by row and column.
-fn elements_of(alloc: Global, written: &WrittenArch) -> Result<Vec<Element>, AllocError>
-    ensures { IfOk result (λ list. list.items ≡ spec.grid_elements written.now (spec.grid_of written.now) 0 written.now.sheet.grid) }
+fn elements_of(alloc: Global, written: &WrittenArch) -> Result<Vec<Element>, MakingFault>
+    ensures elements { IfOk result (λ list. list.items ≡ spec.grid_elements written.now (spec.grid_of written.now) 0 written.now.sheet.grid) }
+    ensures many { IsErrOf result MakingFault.TooManyLinks → 65536 < counts.grid_links written.now (spec.grid_of written.now) 0 written.now.sheet.grid }
 {
     let rows = written.sheet.grid.as_slice();
     let grid = Grid {
@@ -35,15 +41,13 @@ fn elements_of(alloc: Global, written: &WrittenArch) -> Result<Vec<Element>, All
         torus: written.sheet.torus,
     };
     let mut elements = Vec::new(alloc);
+    let mut room = Room {
+        links: 65_536,
+        text: 67_108_864,
+    };
     for (row, cells) in rows.iter().enumerate() {
-        add_row(
-            alloc,
-            &mut elements,
-            written,
-            grid,
-            row,
-            cells.as_str().as_bytes(),
-        )?;
+        let cells = cells.as_str().as_bytes();
+        add_row(alloc, &mut elements, &mut room, written, grid, row, cells)?;
     }
     Ok(elements)
 }
@@ -52,22 +56,19 @@ fn elements_of(alloc: Global, written: &WrittenArch) -> Result<Vec<Element>, All
 fn add_row(
     alloc: Global,
     elements: &mut Vec<Element>,
+    room: &mut Room,
     written: &WrittenArch,
     grid: Grid,
     row: usize,
     cells: &[u8],
-) -> Result<(), AllocError>
-    ensures { OnOk result (elements.new.items ≡ elements.old.items ++ spec.row_elements written.now grid row 0 cells.now) }
+) -> Result<(), MakingFault>
+    ensures elements { OnOk result (elements.new.items ≡ elements.old.items ++ spec.row_elements written.now grid row 0 cells.now) }
+    ensures room { OnOk result (room.new.links + counts.row_links written.now grid row 0 cells.now ≡ room.old.links) }
+    ensures many { IsErrOf result MakingFault.TooManyLinks → room.old.links < counts.row_links written.now grid row 0 cells.now }
 {
     for (column, letter) in cells.iter().enumerate() {
-        add_cell(
-            alloc,
-            elements,
-            written,
-            grid,
-            Cell { row, column },
-            *letter,
-        )?;
+        let cell = Cell { row, column };
+        add_cell(alloc, elements, room, written, grid, cell, *letter)?;
     }
     Ok(())
 }
@@ -76,15 +77,18 @@ fn add_row(
 fn add_cell(
     alloc: Global,
     elements: &mut Vec<Element>,
+    room: &mut Room,
     written: &WrittenArch,
     grid: Grid,
     cell: Cell,
     letter: u8,
-) -> Result<(), AllocError>
-    ensures { OnOk result (elements.new.items ≡ elements.old.items ++ spec.cell_elements written.now grid cell letter) }
+) -> Result<(), MakingFault>
+    ensures elements { OnOk result (elements.new.items ≡ elements.old.items ++ spec.cell_elements written.now grid cell letter) }
+    ensures room { OnOk result (room.new.links + counts.part_links grid cell (spec.parts_for written.now.tiles letter) ≡ room.old.links) }
+    ensures many { IsErrOf result MakingFault.TooManyLinks → room.old.links < counts.part_links grid cell (spec.parts_for written.now.tiles letter) }
 {
     match tile_of(written.tiles.as_slice(), letter) {
-        Some(tile) => add_parts(alloc, elements, grid, cell, tile.parts.as_slice()),
+        Some(tile) => add_parts(alloc, elements, room, grid, cell, tile.parts.as_slice()),
         None => Ok(()),
     }
 }
@@ -92,30 +96,41 @@ fn add_cell(
 fn add_parts(
     alloc: Global,
     elements: &mut Vec<Element>,
+    room: &mut Room,
     grid: Grid,
     cell: Cell,
     parts: &[WrittenPart],
-) -> Result<(), AllocError>
-    ensures { OnOk result (elements.new.items ≡ elements.old.items ++ map (λ p. spec.element_of grid cell p.part) parts.now) }
+) -> Result<(), MakingFault>
+    ensures elements { OnOk result (elements.new.items ≡ elements.old.items ++ map (λ p. spec.element_of grid cell p.part) parts.now) }
+    ensures room { OnOk result (room.new.links + counts.part_links grid cell parts.now ≡ room.old.links) }
+    ensures many { IsErrOf result MakingFault.TooManyLinks → room.old.links < counts.part_links grid cell parts.now }
 {
     for part in parts {
-        elements.push(element_of(alloc, grid, cell, &part.part)?)?;
+        elements.push(element_of(alloc, room, grid, cell, &part.part)?)?;
     }
     Ok(())
 }
 
 /// What a part of a tile is in a cell.
-fn element_of(alloc: Global, grid: Grid, cell: Cell, part: &Part) -> Result<Element, AllocError>
-    ensures { IfOk result (λ element. element ≡ spec.element_of grid cell part.now) }
+fn element_of(
+    alloc: Global,
+    room: &mut Room,
+    grid: Grid,
+    cell: Cell,
+    part: &Part,
+) -> Result<Element, MakingFault>
+    ensures element { IfOk result (λ element. element ≡ spec.element_of grid cell part.now) }
+    ensures room { OnOk result (room.new.links + counts.links_of grid cell part.now ≡ room.old.links) }
+    ensures many { IsErrOf result MakingFault.TooManyLinks → room.old.links < counts.links_of grid cell part.now }
 {
     match part {
         Part::Wire { name, from } => Ok(Element::Wire {
-            name: flat_name(alloc, cell, name.as_str())?,
-            drivers: drivers_of(alloc, grid, cell, from.as_slice())?,
+            name: own_name(alloc, room, cell, name.as_str())?,
+            drivers: drivers_of(alloc, room, grid, cell, from.as_slice())?,
         }),
         Part::Register { name, from } => Ok(Element::Register {
-            name: flat_name(alloc, cell, name.as_str())?,
-            drivers: drivers_of(alloc, grid, cell, from.as_slice())?,
+            name: own_name(alloc, room, cell, name.as_str())?,
+            drivers: drivers_of(alloc, room, grid, cell, from.as_slice())?,
         }),
         Part::Unit {
             name,
@@ -124,25 +139,38 @@ fn element_of(alloc: Global, grid: Grid, cell: Cell, part: &Part) -> Result<Elem
             ports,
             ..
         } => Ok(Element::Unit {
-            name: flat_name(alloc, cell, name.as_str())?,
+            name: own_name(alloc, room, cell, name.as_str())?,
             ops: *ops,
             latency: *latency,
-            ports: Items::new(ports_of(alloc, grid, cell, ports.as_slice())?),
+            ports: Items::new(ports_of(alloc, room, grid, cell, ports.as_slice())?),
         }),
     }
 }
 
+/// The flat name of a part, for which there has to be room.
+fn own_name(alloc: Global, room: &mut Room, cell: Cell, name: &str) -> Result<Name, MakingFault>
+    ensures name { IfOk result (λ flat. flat ≡ spec.flat_name cell name.now) }
+    ensures links { room.new.links ≡ room.old.links }
+    ensures memory { IfErr result (λ fault. fault ≡ MakingFault.Memory) }
+{
+    room.spend(name)?;
+    Ok(flat_name(alloc, cell, name)?)
+}
+
 fn ports_of(
     alloc: Global,
+    room: &mut Room,
     grid: Grid,
     cell: Cell,
     ports: &[References],
-) -> Result<Vec<Names>, AllocError>
-    ensures { IfOk result (λ list. list.items ≡ map (spec.drivers_of grid cell) ports.now) }
+) -> Result<Vec<Names>, MakingFault>
+    ensures ports { IfOk result (λ list. list.items ≡ map (spec.drivers_of grid cell) ports.now) }
+    ensures room { OnOk result (room.new.links + sum_by (counts.list_links grid cell) ports.now ≡ room.old.links) }
+    ensures many { IsErrOf result MakingFault.TooManyLinks → room.old.links < sum_by (counts.list_links grid cell) ports.now }
 {
     let mut list = Vec::new(alloc);
     for references in ports {
-        list.push(drivers_of(alloc, grid, cell, references.as_slice())?)?;
+        list.push(drivers_of(alloc, room, grid, cell, references.as_slice())?)?;
     }
     Ok(list)
 }
@@ -150,32 +178,66 @@ fn ports_of(
 /// The names of the drivers that references in a cell name, equal ones once.
 fn drivers_of(
     alloc: Global,
+    room: &mut Room,
     grid: Grid,
     cell: Cell,
     references: &[Reference],
-) -> Result<Names, AllocError>
-    ensures { IfOk result (λ names. names ≡ spec.drivers_of grid cell references.now) }
+) -> Result<Names, MakingFault>
+    ensures names { IfOk result (λ names. names ≡ spec.drivers_of grid cell references.now) }
+    ensures room { OnOk result (room.new.links + counts.list_links grid cell references.now ≡ room.old.links) }
+    ensures many { IsErrOf result MakingFault.TooManyLinks → room.old.links < counts.list_links grid cell references.now }
 {
-    let names = names_of(alloc, grid, cell, references)?;
-    distinct(alloc, &names)
+    let names = names_of(alloc, room, grid, cell, references)?;
+    if names.len() > room.links {
+        return Err(MakingFault::TooManyLinks);
+    }
+    room.links -= names.len();
+    Ok(Names::new(names))
 }
 
-/// The same with equal ones again.
+/// The same names. They are given up where those found so far are too many for the room, and may be too many by one.
+#[tactic(auto, using(crate::proofs::Distinct::fold_longer), unfolding(cg_parts::specs::Parts::distinct))]
 fn names_of(
     alloc: Global,
+    room: &mut Room,
     grid: Grid,
     cell: Cell,
     references: &[Reference],
-) -> Result<Vec<Name>, AllocError>
-    ensures { IfOk result (λ names. names.items ≡ filter_map (spec.driver_of grid cell) references.now) }
+) -> Result<Vec<Name>, MakingFault>
+    ensures names { IfOk result (λ names. names.items ≡ spec.drivers_of grid cell references.now) }
+    ensures links { room.new.links ≡ room.old.links }
+    ensures many { IsErrOf result MakingFault.TooManyLinks → room.old.links < counts.list_links grid cell references.now }
 {
+    let mut seen = IndexSet::new(alloc);
     let mut names = Vec::new(alloc);
     for reference in references {
+        if names.len() > room.links {
+            return Err(MakingFault::TooManyLinks);
+        }
         if let Some(name) = driver_of(alloc, grid, cell, reference)? {
-            names.push(name)?;
+            room.spend(name.as_str())?;
+            add_name(alloc, &mut seen, &mut names, name)?;
         }
     }
     Ok(names)
+}
+
+/// Adds a name to those seen and kept, unless it stands there.
+fn add_name(
+    alloc: Global,
+    seen: &mut IndexSet<String>,
+    kept: &mut Vec<Name>,
+    name: Name,
+) -> Result<(), AllocError>
+    requires { map string_bytes seen.old.keys ≡ kept.old.items }
+    ensures seen { OnOk result (map string_bytes seen.new.keys ≡ kept.new.items) }
+    ensures kept { OnOk result (kept.new.items ≡ with_name kept.old.items name) }
+{
+    let added = seen.insert(name.as_str().to_string(alloc)?)?;
+    if added {
+        kept.push(name)?;
+    }
+    Ok(())
 }
 
 /// The flat name of the resource that a reference in a cell names, none off the grid.

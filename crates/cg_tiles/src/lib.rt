@@ -1,12 +1,14 @@
 //! Architectures as a designer writes them: a TOML table of tiles on a grid.
 #![tactic(auto)]
 
+mod counting;
 mod fault;
 mod flat;
 mod grid;
 mod part_reading;
 mod read;
 mod reading;
+mod room;
 mod rules;
 mod written;
 

@@ -1,18 +1,19 @@
 //! From bytes to an architecture.
-ghost use Rattle.std.specs.Prelude.{◌≡◌, IfOk, IsErrOf};
+ghost use Rattle.std.specs.Prelude.{◌≡◌, ◌≢◌, IfOk, IfErr, IsErrOf, Ok, Err};
 ghost use Rattle.toml.specs.View.{view};
-ghost use Rattle.cg_model.specs.Answers.{Gives};
 ghost use Rattle.cg_model.specs.Array.{IsArch};
 ghost use Rattle.cg_tiles.specs.Answer as spec;
-ghost use Rattle.cg_tiles.specs.Written as written;
+ghost use Rattle.cg_tiles.specs.Written as spelled;
 
+use crate::counting::has_many_resources;
 use crate::fault::TilesFault;
 use crate::flat::parts_of;
 use crate::reading::written_of;
+use crate::room::MakingFault;
 use crate::rules::first_fault;
 use crate::written::WrittenArch;
 use cg_arch::{Arch, validate};
-use cg_parts::{ArchFault, Parts};
+use cg_parts::{ArchFault, Parts, TooLargePlace};
 use cg_toml::{TomlFault, toml_table};
 use std::alloc::Global;
 use toml::Value;
@@ -35,33 +36,59 @@ pub fn read_arch(alloc: Global, bytes: &[u8]) -> Result<Arch, TilesFault>
     }
 }
 
-/// The parts that the bytes stand for.
-#[tactic(auto, unfolding(crate::specs::Answer::parts_spelled))]
+/// The parts that the bytes stand for. Those of too many resources or links aren't made.
 fn parts_spelled(alloc: Global, bytes: &[u8]) -> Result<Parts, TilesFault>
-    ensures { Gives TilesFault.Memory result (spec.parts_spelled bytes.now) }
+    ensures spelled { IfOk result (λ parts. spec.parts_spelled bytes.now ≡ Ok parts) }
+    ensures refused { IfErr result (λ fault. fault ≢ TilesFault.Memory → spec.IsRefused (spec.parts_spelled bytes.now) fault) }
+{
+    let written = written_spelled(alloc, bytes)?;
+    judged(alloc, written)
+}
+
+/// What the bytes write. Their TOML table is let go.
+#[tactic(auto, unfolding(crate::specs::Answer::parts_spelled))]
+fn written_spelled(alloc: Global, bytes: &[u8]) -> Result<WrittenArch, TilesFault>
+    ensures read { IfOk result (λ written. spec.parts_spelled bytes.now ≡ spec.judged written) }
+    ensures refused { IfErr result (λ fault. fault ≢ TilesFault.Memory → spec.parts_spelled bytes.now ≡ Err fault) }
 {
     match toml_table(alloc, bytes) {
-        Ok(value) => parts_in(alloc, &value),
+        Ok(value) => written_in(alloc, &value),
         Err(TomlFault::NotToml) => Err(TilesFault::NotToml),
         Err(TomlFault::Memory) => Err(TilesFault::Memory),
     }
 }
 
-fn parts_in(alloc: Global, value: &Value) -> Result<Parts, TilesFault>
-    ensures { Gives TilesFault.Memory result (spec.parts_written (written.written_of (view value.now))) }
+fn written_in(alloc: Global, value: &Value) -> Result<WrittenArch, TilesFault>
+    ensures read { IfOk result (λ written. spec.parts_written (spelled.written_of (view value.now)) ≡ spec.judged written) }
+    ensures refused { IfErr result (λ fault. fault ≢ TilesFault.Memory → spec.parts_written (spelled.written_of (view value.now)) ≡ Err fault) }
 {
     match written_of(alloc, value)? {
-        Ok(written) => judged(alloc, written),
+        Ok(written) => Ok(written),
         Err(place) => Err(TilesFault::WrongShape(place)),
     }
 }
 
+/// The parts that are written, or the first of M3 to M6 that applies, and else A1 for the grid, resources and links.
 #[tactic(auto, unfolding(crate::specs::Answer::judged))]
 fn judged(alloc: Global, written: WrittenArch) -> Result<Parts, TilesFault>
-    ensures { Gives TilesFault.Memory result (spec.judged written) }
+    ensures judged { IfOk result (λ parts. spec.judged written ≡ Ok parts) }
+    ensures refused { IfErr result (λ fault. fault ≢ TilesFault.Memory → spec.IsRefused (spec.judged written) fault) }
 {
     if let Some(fault) = first_fault(&written) {
         return Err(fault);
     }
-    Ok(parts_of(alloc, written)?)
+    if has_many_resources(&written) {
+        return Err(too_large(TooLargePlace::Resources));
+    }
+    match parts_of(alloc, written) {
+        Ok(parts) => Ok(parts),
+        Err(MakingFault::Memory) => Err(TilesFault::Memory),
+        Err(MakingFault::TooManyLinks) => Err(too_large(TooLargePlace::Links)),
+    }
+}
+
+fn too_large(place: TooLargePlace) -> TilesFault
+    ensures { result ≡ TilesFault.Parts (ArchFault.TooLarge place) }
+{
+    TilesFault::Parts(ArchFault::TooLarge(place))
 }

@@ -1,4 +1,4 @@
-use Rattle.std.proofs.Common.{◌≡◌, ◌∙◌, Err, ap, sym}
+use Rattle.std.proofs.Common.{◌≡◌, ◌∙◌, sym}
 use Rattle.cg_parts.specs.declared.fault.ArchFault.TheVariants as arch
 use Rattle.cg_tiles.specs.declared.fault.TilesFault.TheVariants as fault
 use Rattle.cg_tiles.proofs.Never.{never_memory}
@@ -8,4 +8,4 @@ pub returns-clause-no_memory : goal.returns-clause-no_memory
 returns-clause-no_memory c =
     λ e.
     let same : c.in-Err.fault ≡ fault.Parts arch.Memory = cc in
-    never_memory c.args.bytes.now (sym (c.in-Err.ensures (λ m. let bad : fault.Memory ≡ fault.Parts arch.Memory = sym m ∙ same in cc)) ∙ ap Err same)
+    never_memory c.args.bytes.now c.in-Err.fault (c.in-Err.ensures.refused (λ m. let bad : fault.Memory ≡ fault.Parts arch.Memory = sym m ∙ same in cc)) same

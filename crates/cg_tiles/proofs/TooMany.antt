@@ -1,0 +1,48 @@
+-- Tiles that stand for too many resources or links are refused.
+use Rattle.std.proofs.Common.{◌≡◌, ◌<◌, ℕ, length, true, false, Some, None, Ok, cond, nat_lt, lt-ltb, refl, ap, sym, ◌∙◌, subst}
+use Rattle.std.specs.Option.{option_map, option_or}
+use Rattle.cg_parts.specs.declared.parts.Parts.{Parts}
+use Rattle.cg_parts.specs.declared.fault.ArchFault.TheVariants as arch
+use Rattle.cg_parts.specs.declared.fault.TooLargePlace.{TooLargePlace}
+use Rattle.cg_parts.specs.declared.fault.TooLargePlace.TheVariants as large
+use Rattle.cg_parts.specs.Parts.{entries}
+use Rattle.cg_parts.specs.Rules.{links, too_large, early_fault, bad_name, repeated_name, wrong_driver}
+use Rattle.cg_arch.specs.Answer.{IsFault, early}
+use Rattle.cg_tiles.specs.Written.{WrittenArch}
+use Rattle.cg_tiles.specs.Rules.{first_fault}
+use Rattle.cg_tiles.specs.declared.fault.TilesFault.TheVariants as fault
+use Rattle.cg_tiles.specs.Flat.{parts_of, grid_elements, grid_of}
+use Rattle.cg_tiles.specs.Counts.{grid_resources, grid_links}
+use Rattle.cg_tiles.specs.Answer.{unless, judged, IsRefused}
+use Rattle.cg_tiles.proofs.Counted.{resources-counted, links-counted}
+
+early-too_large : (parts : Parts) (place : TooLargePlace) → too_large parts (entries parts.elements) ≡ Some place → early_fault parts ≡ Some (arch.TooLarge place)
+unfolding early_fault
+early-too_large parts place e =
+    ap (λ o. option_or (option_map arch.TooLarge o) (option_or (option_map arch.BadName (bad_name parts)) (option_or (option_map arch.RepeatedName (repeated_name parts.elements)) (wrong_driver parts.elements (entries parts.elements))))) e
+
+-- what is written stands for parts that are too large
+refused : (w : WrittenArch) (place : TooLargePlace) → first_fault w ≡ None → too_large (parts_of w) (entries (parts_of w).elements) ≡ Some place → IsRefused (judged w) (fault.Parts (arch.TooLarge place))
+unfolding judged
+refused w place none e =
+    subst (λ o. IsRefused (unless o (parts_of w)) (fault.Parts (arch.TooLarge place))) (sym none)
+    (arch.TooLarge place, refl, (λ m. let bad : arch.TooLarge place ≡ arch.Memory = m in cc), early (early-too_large (parts_of w) place e))
+
+resources-of : (w : WrittenArch) → length (entries (parts_of w).elements) ≡ grid_resources w.tiles w.sheet.grid
+unfolding parts_of
+resources-of w = resources-counted w (grid_of w) 0 w.sheet.grid
+
+links-of : (w : WrittenArch) → links (entries (parts_of w).elements) ≡ grid_links w (grid_of w) 0 w.sheet.grid
+unfolding parts_of
+links-of w = links-counted w (grid_of w) 0 w.sheet.grid
+
+pub refused-resources : (w : WrittenArch) → first_fault w ≡ None → nat_lt 4096 (grid_resources w.tiles w.sheet.grid) ≡ true
+    → IsRefused (judged w) (fault.Parts (arch.TooLarge large.Resources))
+refused-resources w none many = refused w large.Resources none (let e : nat_lt 4096 (length (entries (parts_of w).elements)) ≡ true = ap (nat_lt 4096) (resources-of w) ∙ many in rw e refl)
+
+pub refused-links : (w : WrittenArch) → first_fault w ≡ None → nat_lt 4096 (grid_resources w.tiles w.sheet.grid) ≡ false → 65536 < grid_links w (grid_of w) 0 w.sheet.grid
+    → IsRefused (judged w) (fault.Parts (arch.TooLarge large.Links))
+refused-links w none few many = refused w large.Links none
+    (let e : nat_lt 4096 (length (entries (parts_of w).elements)) ≡ false = ap (nat_lt 4096) (resources-of w) ∙ few in
+    let m : nat_lt 65536 (links (entries (parts_of w).elements)) ≡ true = ap (nat_lt 65536) (links-of w) ∙ lt-ltb 65536 (grid_links w (grid_of w) 0 w.sheet.grid) many in
+    rw (e, m) refl)

@@ -1,0 +1,18 @@
+use Rattle.std.proofs.Common.{◌≡◌, ◌∙◌, None, Err, ap, sym, subst}
+use Rattle.cg_tiles.specs.Rules.{first_fault}
+use Rattle.cg_tiles.specs.Answer.{judged, IsRefused}
+use Rattle.cg_tiles.proofs.TooMany.{refused-resources, refused-links}
+use Rattle.cg_tiles.proofs.read.judged.Goals as goal
+
+pub returns-then-has_many_resources-clause-refused : goal.returns-then-has_many_resources-clause-refused
+returns-then-has_many_resources-clause-refused c =
+    λ _.
+    let none : first_fault c.args.written ≡ None = cc in
+    subst (IsRefused (judged c.args.written)) (sym c.too_large.ensures) (refused-resources c.args.written none (sym c.has_many_resources.ensures ∙ c.if-has_many_resources.true))
+
+pub returns-in-Err-TooManyLinks-clause-refused : goal.returns-in-Err-TooManyLinks-clause-refused
+returns-in-Err-TooManyLinks-clause-refused c =
+    λ _.
+    let none : first_fault c.args.written ≡ None = cc in
+    subst (IsRefused (judged c.args.written)) (sym c.too_large-in-Err-TooManyLinks.ensures)
+    (refused-links c.args.written none (sym c.has_many_resources.ensures ∙ c.if-has_many_resources.false) (c.in-Err-TooManyLinks.ensures.many (ap Err c.in-Err-TooManyLinks.field-0-is)))

@@ -1,0 +1,58 @@
+//! What there is still room for while parts are made.
+
+ghost use Rattle.std.specs.Prelude.{◌≡◌};
+ghost use Rattle.cg_tiles.specs.declared.room.MakingFault.TheVariants.{Memory};
+
+use std::alloc::{AllocError, AllocFailed};
+use thiserror::Error;
+
+/// Why no parts are made.
+#[derive(Clone, Copy, Debug, PartialEq, Eq, Error)]
+pub enum MakingFault {
+    #[error("memory ran out")]
+    Memory,
+    #[error("too many links")]
+    TooManyLinks,
+}
+
+impl From<AllocError> for MakingFault {
+    ghost from_gives = { λ _ fault. fault ≡ Memory };
+
+    fn from(_error: AllocError) -> MakingFault {
+        MakingFault::Memory
+    }
+}
+
+impl<T: Drop> From<AllocFailed<T>> for MakingFault {
+    ghost from_gives = { λ _ fault. fault ≡ Memory };
+
+    fn from(_error: AllocFailed<T>) -> MakingFault {
+        MakingFault::Memory
+    }
+}
+
+/// What there is still room for.
+#[derive(Clone, Copy, Debug)]
+pub struct Room {
+    pub links: usize,
+    /// Bytes of names. Architectures of 4,096 resources and 65,536 links with names of 40 characters take 3 million;
+    /// where longer names take more than 67,108,864, memory is wanting.
+    pub text: usize,
+}
+
+impl Room {
+    ghost use Rattle.std.specs.Prelude.{◌≡◌, ◌≢◌, IfErr};
+    ghost use Rattle.cg_tiles.specs.declared.room.MakingFault.TheVariants.{Memory};
+
+    /// Takes the room of a name.
+    pub fn spend(&mut self, name: &str) -> Result<(), MakingFault>
+        ensures links { self.new.links ≡ self.old.links }
+        ensures memory { IfErr result (λ fault. fault ≡ Memory) }
+    {
+        if name.len() > self.text {
+            return Err(MakingFault::Memory);
+        }
+        self.text -= name.len();
+        Ok(())
+    }
+}
