@@ -5,4 +5,5 @@ pub mod ItemLists
 pub mod Never
 pub mod NotBoth
 pub mod Places
+pub mod SameParts
 pub mod TooMany

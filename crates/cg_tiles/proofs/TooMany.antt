@@ -12,9 +12,15 @@ use Rattle.cg_tiles.specs.Written.{WrittenArch}
 use Rattle.cg_tiles.specs.Rules.{first_fault}
 use Rattle.cg_tiles.specs.declared.fault.TilesFault.TheVariants as fault
 use Rattle.cg_tiles.specs.Flat.{parts_of, grid_elements, grid_of}
+use Rattle.cg_tiles.specs.Once.{once}
 use Rattle.cg_tiles.specs.Counts.{grid_resources, grid_links}
 use Rattle.cg_tiles.specs.Answer.{unless, judged, IsRefused}
 use Rattle.cg_tiles.proofs.Counted.{resources-counted, links-counted}
+use Rattle.cg_tiles.proofs.SameParts.{same_parts}
+
+pub judged-clean : (w : WrittenArch) → first_fault w ≡ None → judged w ≡ Ok (parts_of w)
+unfolding judged
+judged-clean w none = ap (λ o. unless o (parts_of w)) none
 
 early-too_large : (parts : Parts) (place : TooLargePlace) → too_large parts (entries parts.elements) ≡ Some place → early_fault parts ≡ Some (arch.TooLarge place)
 unfolding early_fault
@@ -40,9 +46,12 @@ pub refused-resources : (w : WrittenArch) → first_fault w ≡ None → nat_lt 
     → IsRefused (judged w) (fault.Parts (arch.TooLarge large.Resources))
 refused-resources w none many = refused w large.Resources none (let e : nat_lt 4096 (length (entries (parts_of w).elements)) ≡ true = ap (nat_lt 4096) (resources-of w) ∙ many in rw e refl)
 
-pub refused-links : (w : WrittenArch) → first_fault w ≡ None → nat_lt 4096 (grid_resources w.tiles w.sheet.grid) ≡ false → 65536 < grid_links w (grid_of w) 0 w.sheet.grid
+-- by what is written, with equal references of a list once
+pub refused-links : (w u : WrittenArch) → u ≡ once w → first_fault w ≡ None → nat_lt 4096 (grid_resources w.tiles w.sheet.grid) ≡ false → 65536 < grid_links u (grid_of u) 0 u.sheet.grid
     → IsRefused (judged w) (fault.Parts (arch.TooLarge large.Links))
-refused-links w none few many = refused w large.Links none
+refused-links w u is none few many = refused w large.Links none
     (let e : nat_lt 4096 (length (entries (parts_of w).elements)) ≡ false = ap (nat_lt 4096) (resources-of w) ∙ few in
-    let m : nat_lt 65536 (links (entries (parts_of w).elements)) ≡ true = ap (nat_lt 65536) (links-of w) ∙ lt-ltb 65536 (grid_links w (grid_of w) 0 w.sheet.grid) many in
+    let same : parts_of w ≡ parts_of u = sym (same_parts w) ∙ ap parts_of (sym is) in
+    let m : nat_lt 65536 (links (entries (parts_of w).elements)) ≡ true =
+    ap (λ parts. nat_lt 65536 (links (entries parts.elements))) same ∙ ap (nat_lt 65536) (links-of u) ∙ lt-ltb 65536 (grid_links u (grid_of u) 0 u.sheet.grid) many in
     rw (e, m) refl)

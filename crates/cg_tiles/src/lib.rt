@@ -5,6 +5,7 @@ mod counting;
 mod fault;
 mod flat;
 mod grid;
+mod once;
 mod part_reading;
 mod read;
 mod reading;

@@ -8,6 +8,7 @@ ghost use Rattle.cg_tiles.specs.Written as spelled;
 use crate::counting::has_many_resources;
 use crate::fault::TilesFault;
 use crate::flat::parts_of;
+use crate::once::once;
 use crate::reading::written_of;
 use crate::room::MakingFault;
 use crate::rules::first_fault;
@@ -80,7 +81,7 @@ fn judged(alloc: Global, written: WrittenArch) -> Result<Parts, TilesFault>
     if has_many_resources(&written) {
         return Err(too_large(TooLargePlace::Resources));
     }
-    match parts_of(alloc, written) {
+    match parts_of(alloc, once(alloc, written)?) {
         Ok(parts) => Ok(parts),
         Err(MakingFault::Memory) => Err(TilesFault::Memory),
         Err(MakingFault::TooManyLinks) => Err(too_large(TooLargePlace::Links)),

@@ -1,0 +1,133 @@
+//! Equal references of a list once, so that they aren't gone over in each cell.
+ghost use Rattle.std.specs.Prelude.{◌≡◌, IfOk, OnOk, map, string_bytes};
+ghost use Rattle.cg_tiles.specs.Once as spec;
+
+use crate::written::{Part, Reference, References, Side, Tile, WrittenArch, WrittenPart};
+use cg_model::Items;
+use indexmap::IndexSet;
+use std::alloc::{AllocError, Global};
+
+/// What is written, with equal references of a list once.
+#[tactic(auto, unfolding(crate::specs::Once::once))]
+pub(crate) fn once(alloc: Global, written: WrittenArch) -> Result<WrittenArch, AllocError>
+    ensures { IfOk result (λ read. read ≡ spec.once written) }
+{
+    let tiles = tiles_once(alloc, written.tiles)?;
+    Ok(WrittenArch {
+        sheet: written.sheet,
+        tiles,
+    })
+}
+
+fn tiles_once(alloc: Global, tiles: Items<Tile>) -> Result<Items<Tile>, AllocError>
+    ensures { IfOk result (λ list. list ≡ map spec.tile_once tiles) }
+{
+    let mut list = Vec::new(alloc);
+    for tile in tiles.into_vec() {
+        let parts = parts_once(alloc, tile.parts)?;
+        list.push(Tile {
+            letter: tile.letter,
+            parts,
+        })?;
+    }
+    Ok(Items::new(list))
+}
+
+fn parts_once(alloc: Global, parts: Items<WrittenPart>) -> Result<Items<WrittenPart>, AllocError>
+    ensures { IfOk result (λ list. list ≡ map spec.written_part_once parts) }
+{
+    let mut list = Vec::new(alloc);
+    for part in parts.into_vec() {
+        list.push(WrittenPart {
+            part: part_once(alloc, part.part)?,
+            other_keys: part.other_keys,
+        })?;
+    }
+    Ok(Items::new(list))
+}
+
+fn part_once(alloc: Global, part: Part) -> Result<Part, AllocError>
+    ensures { IfOk result (λ read. read ≡ spec.part_once part) }
+{
+    match part {
+        Part::Wire { name, from } => {
+            let from = references_once(alloc, from)?;
+            Ok(Part::Wire { name, from })
+        }
+        Part::Register { name, from } => {
+            let from = references_once(alloc, from)?;
+            Ok(Part::Register { name, from })
+        }
+        Part::Unit {
+            name,
+            ops,
+            other_ops,
+            latency,
+            ports,
+        } => {
+            let ports = ports_once(alloc, ports)?;
+            Ok(Part::Unit {
+                name,
+                ops,
+                other_ops,
+                latency,
+                ports,
+            })
+        }
+    }
+}
+
+fn ports_once(alloc: Global, ports: Items<References>) -> Result<Items<References>, AllocError>
+    ensures { IfOk result (λ list. list ≡ map spec.references_once ports) }
+{
+    let mut list = Vec::new(alloc);
+    for references in ports.into_vec() {
+        list.push(references_once(alloc, references)?)?;
+    }
+    Ok(Items::new(list))
+}
+
+/// The references of a list, each where it stands first.
+fn references_once(alloc: Global, references: References) -> Result<References, AllocError>
+    ensures { IfOk result (λ list. list ≡ spec.references_once references) }
+{
+    let mut seen = IndexSet::new(alloc);
+    let mut kept = Vec::new(alloc);
+    for reference in references.into_vec() {
+        add_reference(alloc, &mut seen, &mut kept, reference)?;
+    }
+    Ok(Items::new(kept))
+}
+
+/// Adds a reference to those seen and kept, unless an equal one stands there.
+fn add_reference(
+    alloc: Global,
+    seen: &mut IndexSet<String>,
+    kept: &mut Vec<Reference>,
+    reference: Reference,
+) -> Result<(), AllocError>
+    requires { map string_bytes seen.old.keys ≡ map spec.key_of kept.old.items }
+    ensures seen { OnOk result (map string_bytes seen.new.keys ≡ map spec.key_of kept.new.items) }
+    ensures kept { OnOk result (kept.new.items ≡ spec.with_reference kept.old.items reference) }
+{
+    let added = seen.insert(key_of(alloc, &reference)?)?;
+    if added {
+        kept.push(reference)?;
+    }
+    Ok(())
+}
+
+/// The text by which a reference is known: the letter of its side, and its name.
+fn key_of(alloc: Global, reference: &Reference) -> Result<String, AllocError>
+    ensures { IfOk result (λ key. string_bytes key ≡ spec.key_of reference.now) }
+{
+    let name = reference.name.as_str();
+    match reference.side {
+        Side::Here => format!(in alloc; "h{name}"),
+        Side::North => format!(in alloc; "n{name}"),
+        Side::East => format!(in alloc; "e{name}"),
+        Side::South => format!(in alloc; "s{name}"),
+        Side::West => format!(in alloc; "w{name}"),
+        Side::Anywhere => format!(in alloc; "a{name}"),
+    }
+}
