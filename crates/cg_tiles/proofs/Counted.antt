@@ -1,5 +1,5 @@
 -- The resources and links of the elements are those that are counted by what is written.
-use Rattle.std.proofs.Common.{◌≡◌, ℕ, suc, ◌+◌, List, [], ◌∷◌, ◌++◌, length, map, filter_map, sum_by, arith, refl, ap, ◌∙◌, length-append, append-nil}
+use Rattle.std.proofs.Common.{◌≡◌, ℕ, suc, ◌+◌, List, [], ◌∷◌, ◌++◌, length, map, filter_map, sum_by, arith, refl, ap, ◌∙◌, length-append}
 use Rattle.std.proofs.lemmas.Grind.{flat_map-append}
 use Rattle.std.proofs.lemmas.List.{length-map}
 use Rattle.std.proofs.lemmas.List.Concat.{flat_map-cons}
@@ -8,7 +8,7 @@ use Rattle.cg_parts.specs.declared.parts.Element.{Element}
 use Rattle.cg_parts.specs.declared.entry.Entry.{Entry}
 use Rattle.cg_parts.specs.Parts.{entries, entries_of, port_entries, out_entry}
 use Rattle.cg_parts.specs.Rules.{links}
-use Rattle.cg_tiles.specs.Written.{Reference, Part, WrittenPart, Tile, WrittenArch}
+use Rattle.cg_tiles.specs.Written.{Reference, Part, WrittenPart, WrittenArch}
 use Rattle.cg_tiles.specs.declared.written.Part.TheVariants as part
 use Rattle.cg_tiles.specs.declared.grid.Cell.{Cell}
 use Rattle.cg_tiles.specs.declared.grid.Grid.{Grid}
@@ -20,7 +20,7 @@ entries-append : (xs ys : List Element) → entries (xs ++ ys) ≡ entries xs ++
 unfolding entries
 entries-append xs ys = flat_map-append entries_of xs ys
 
-entries-cons : (x : Element) (xs : List Element) → entries (x ∷ xs) ≡ entries_of x ++ entries xs
+pub entries-cons : (x : Element) (xs : List Element) → entries (x ∷ xs) ≡ entries_of x ++ entries xs
 unfolding entries
 entries-cons x xs = flat_map-cons entries_of x xs
 
@@ -34,7 +34,7 @@ links-nil = refl
 
 -- ---- resources
 
-port_entries-length : (unit : List ℕ) (p : ℕ) (ports : List (List (List ℕ))) → length (port_entries unit p ports) ≡ length ports
+pub port_entries-length : (unit : List ℕ) (p : ℕ) (ports : List (List (List ℕ))) → length (port_entries unit p ports) ≡ length ports
 port_entries-length unit p [] = refl
 port_entries-length unit p (x ∷ xs) = ap (λ n. suc n) (port_entries-length unit (p + 1) xs)
 
@@ -71,7 +71,7 @@ resources-counted w grid r (row ∷ rows) =
 
 -- ---- links
 
-links-append : (xs ys : List Entry) → links (xs ++ ys) ≡ links xs + links ys
+pub links-append : (xs ys : List Entry) → links (xs ++ ys) ≡ links xs + links ys
 links-append [] ys = omega arith
 links-append (x ∷ xs) ys = omega (arith, links-append xs ys)
 

@@ -1,5 +1,5 @@
 -- Names of a list, each where it stands first.
-use Rattle.std.proofs.Common.{◌≡◌, ℕ, ◌+◌, ◌<◌, ◌≤◌, List, [], ◌∷◌, ◌++◌, length, take, drop, fold, Bool, true, false, cond, bytes_eq, arith, refl, ap, sym, ◌∙◌, length-append, map, String, Global, string_bytes, ◌||◌}
+use Rattle.std.proofs.Common.{◌≡◌, ℕ, ◌≤◌, List, [], ◌∷◌, ◌++◌, length, fold, Bool, true, false, cond, bytes_eq, arith, refl, ap, ◌∙◌, length-append, map, String, Global, string_bytes, ◌||◌}
 use Rattle.std.specs.List.{list_any}
 use Rattle.std.proofs.lemmas.List.Sums.{fold-append}
 use Rattle.cg_parts.specs.Parts.{with_name, distinct}

@@ -1,9 +1,11 @@
+pub mod Alike
 pub mod Counted
 pub mod Distinct
 pub mod Fronts
 pub mod ItemLists
+pub mod Leaner
 pub mod Never
 pub mod NotBoth
 pub mod Places
-pub mod SameParts
+pub mod References
 pub mod TooMany

@@ -1,5 +1,5 @@
 -- Tiles that stand for too many resources or links are refused.
-use Rattle.std.proofs.Common.{◌≡◌, ◌<◌, ℕ, length, true, false, Some, None, Ok, cond, nat_lt, lt-ltb, refl, ap, sym, ◌∙◌, subst}
+use Rattle.std.proofs.Common.{◌≡◌, ◌<◌, length, true, false, Some, None, Ok, nat_lt, lt-ltb, refl, ap, sym, ◌∙◌, subst}
 use Rattle.std.specs.Option.{option_map, option_or}
 use Rattle.cg_parts.specs.declared.parts.Parts.{Parts}
 use Rattle.cg_parts.specs.declared.fault.ArchFault.TheVariants as arch
@@ -7,16 +7,16 @@ use Rattle.cg_parts.specs.declared.fault.TooLargePlace.{TooLargePlace}
 use Rattle.cg_parts.specs.declared.fault.TooLargePlace.TheVariants as large
 use Rattle.cg_parts.specs.Parts.{entries}
 use Rattle.cg_parts.specs.Rules.{links, too_large, early_fault, bad_name, repeated_name, wrong_driver}
-use Rattle.cg_arch.specs.Answer.{IsFault, early}
+use Rattle.cg_arch.specs.Answer.{early}
 use Rattle.cg_tiles.specs.Written.{WrittenArch}
 use Rattle.cg_tiles.specs.Rules.{first_fault}
 use Rattle.cg_tiles.specs.declared.fault.TilesFault.TheVariants as fault
-use Rattle.cg_tiles.specs.Flat.{parts_of, grid_elements, grid_of}
-use Rattle.cg_tiles.specs.Once.{once}
+use Rattle.cg_tiles.specs.Flat.{parts_of, grid_of}
+use Rattle.cg_tiles.specs.Lean.{lean}
 use Rattle.cg_tiles.specs.Counts.{grid_resources, grid_links}
 use Rattle.cg_tiles.specs.Answer.{unless, judged, IsRefused}
 use Rattle.cg_tiles.proofs.Counted.{resources-counted, links-counted}
-use Rattle.cg_tiles.proofs.SameParts.{same_parts}
+use Rattle.cg_tiles.proofs.Leaner.{lean-links}
 
 pub judged-clean : (w : WrittenArch) → first_fault w ≡ None → judged w ≡ Ok (parts_of w)
 unfolding judged
@@ -46,12 +46,11 @@ pub refused-resources : (w : WrittenArch) → first_fault w ≡ None → nat_lt 
     → IsRefused (judged w) (fault.Parts (arch.TooLarge large.Resources))
 refused-resources w none many = refused w large.Resources none (let e : nat_lt 4096 (length (entries (parts_of w).elements)) ≡ true = ap (nat_lt 4096) (resources-of w) ∙ many in rw e refl)
 
--- by what is written, with equal references of a list once
-pub refused-links : (w u : WrittenArch) → u ≡ once w → first_fault w ≡ None → nat_lt 4096 (grid_resources w.tiles w.sheet.grid) ≡ false → 65536 < grid_links u (grid_of u) 0 u.sheet.grid
+-- by what is lean
+pub refused-links : (w u : WrittenArch) → u ≡ lean w → first_fault w ≡ None → nat_lt 4096 (grid_resources w.tiles w.sheet.grid) ≡ false → 65536 < grid_links u (grid_of u) 0 u.sheet.grid
     → IsRefused (judged w) (fault.Parts (arch.TooLarge large.Links))
 refused-links w u is none few many = refused w large.Links none
     (let e : nat_lt 4096 (length (entries (parts_of w).elements)) ≡ false = ap (nat_lt 4096) (resources-of w) ∙ few in
-    let same : parts_of w ≡ parts_of u = sym (same_parts w) ∙ ap parts_of (sym is) in
-    let m : nat_lt 65536 (links (entries (parts_of w).elements)) ≡ true =
-    ap (λ parts. nat_lt 65536 (links (entries parts.elements))) same ∙ ap (nat_lt 65536) (links-of u) ∙ lt-ltb 65536 (grid_links u (grid_of u) 0 u.sheet.grid) many in
+    let same : links (entries (parts_of w).elements) ≡ grid_links u (grid_of u) 0 u.sheet.grid = sym (lean-links w) ∙ ap (λ x. links (entries (parts_of x).elements)) (sym is) ∙ links-of u in
+    let m : nat_lt 65536 (links (entries (parts_of w).elements)) ≡ true = ap (nat_lt 65536) same ∙ lt-ltb 65536 (grid_links u (grid_of u) 0 u.sheet.grid) many in
     rw (e, m) refl)

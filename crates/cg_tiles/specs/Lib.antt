@@ -1,6 +1,7 @@
+pub mod Alike
 pub mod Answer
 pub mod Counts
 pub mod Flat
-pub mod Once
+pub mod Lean
 pub mod Rules
 pub mod Written

@@ -1,5 +1,5 @@
 //! From tiles on a grid to the flat parts that they stand for.
-ghost use Rattle.std.specs.Prelude.{◌≡◌, ◌+◌, ◌<◌, ◌≤◌, ◌++◌, IfOk, IfErr, OnOk, IsErrOf, length, map, string_bytes, sum_by};
+ghost use Rattle.std.specs.Prelude.{◌≡◌, ◌+◌, ◌<◌, ◌≤◌, ◌++◌, IfOk, OnOk, IsErrOf, length, map, string_bytes, sum_by};
 ghost use Rattle.cg_parts.specs.Parts.{with_name};
 ghost use Rattle.cg_tiles.specs.Counts as counts;
 ghost use Rattle.cg_tiles.specs.Flat as spec;
@@ -125,11 +125,11 @@ fn element_of(
 {
     match part {
         Part::Wire { name, from } => Ok(Element::Wire {
-            name: own_name(alloc, room, cell, name.as_str())?,
+            name: flat_name(alloc, cell, name.as_str())?,
             drivers: drivers_of(alloc, room, grid, cell, from.as_slice())?,
         }),
         Part::Register { name, from } => Ok(Element::Register {
-            name: own_name(alloc, room, cell, name.as_str())?,
+            name: flat_name(alloc, cell, name.as_str())?,
             drivers: drivers_of(alloc, room, grid, cell, from.as_slice())?,
         }),
         Part::Unit {
@@ -139,22 +139,12 @@ fn element_of(
             ports,
             ..
         } => Ok(Element::Unit {
-            name: own_name(alloc, room, cell, name.as_str())?,
+            name: flat_name(alloc, cell, name.as_str())?,
             ops: *ops,
             latency: *latency,
             ports: Items::new(ports_of(alloc, room, grid, cell, ports.as_slice())?),
         }),
     }
-}
-
-/// The flat name of a part, for which there has to be room.
-fn own_name(alloc: Global, room: &mut Room, cell: Cell, name: &str) -> Result<Name, MakingFault>
-    ensures name { IfOk result (λ flat. flat ≡ spec.flat_name cell name.now) }
-    ensures links { room.new.links ≡ room.old.links }
-    ensures memory { IfErr result (λ fault. fault ≡ MakingFault.Memory) }
-{
-    room.spend(name)?;
-    Ok(flat_name(alloc, cell, name)?)
 }
 
 fn ports_of(

@@ -5,7 +5,7 @@ mod counting;
 mod fault;
 mod flat;
 mod grid;
-mod once;
+mod lean;
 mod part_reading;
 mod read;
 mod reading;

@@ -2,13 +2,15 @@
 ghost use Rattle.std.specs.Prelude.{◌≡◌, ◌≢◌, IfOk, IfErr, IsErrOf, Ok, Err};
 ghost use Rattle.toml.specs.View.{view};
 ghost use Rattle.cg_model.specs.Array.{IsArch};
+ghost use Rattle.cg_parts.specs.declared.parts.Parts.{Parts};
+ghost use Rattle.cg_tiles.specs.Alike.{AnswersFor};
 ghost use Rattle.cg_tiles.specs.Answer as spec;
 ghost use Rattle.cg_tiles.specs.Written as spelled;
 
 use crate::counting::has_many_resources;
 use crate::fault::TilesFault;
 use crate::flat::parts_of;
-use crate::once::once;
+use crate::lean::lean;
 use crate::reading::written_of;
 use crate::room::MakingFault;
 use crate::rules::first_fault;
@@ -37,9 +39,10 @@ pub fn read_arch(alloc: Global, bytes: &[u8]) -> Result<Arch, TilesFault>
     }
 }
 
-/// The parts that the bytes stand for. Those of too many resources or links aren't made.
+/// Parts for which the answers are those for the ones that the bytes stand for. Those of too many resources or links
+/// aren't made.
 fn parts_spelled(alloc: Global, bytes: &[u8]) -> Result<Parts, TilesFault>
-    ensures spelled { IfOk result (λ parts. spec.parts_spelled bytes.now ≡ Ok parts) }
+    ensures spelled { IfOk result (λ parts. (others : Parts) × (spec.parts_spelled bytes.now ≡ Ok others) × AnswersFor parts others) }
     ensures refused { IfErr result (λ fault. fault ≢ TilesFault.Memory → spec.IsRefused (spec.parts_spelled bytes.now) fault) }
 {
     let written = written_spelled(alloc, bytes)?;
@@ -69,10 +72,11 @@ fn written_in(alloc: Global, value: &Value) -> Result<WrittenArch, TilesFault>
     }
 }
 
-/// The parts that are written, or the first of M3 to M6 that applies, and else A1 for the grid, resources and links.
+/// Parts for which the answers are those for the ones that are written; or the first of M3 to M6 that applies, and else A1
+/// for the grid, resources and links.
 #[tactic(auto, unfolding(crate::specs::Answer::judged))]
 fn judged(alloc: Global, written: WrittenArch) -> Result<Parts, TilesFault>
-    ensures judged { IfOk result (λ parts. spec.judged written ≡ Ok parts) }
+    ensures judged { IfOk result (λ parts. (others : Parts) × (spec.judged written ≡ Ok others) × AnswersFor parts others) }
     ensures refused { IfErr result (λ fault. fault ≢ TilesFault.Memory → spec.IsRefused (spec.judged written) fault) }
 {
     if let Some(fault) = first_fault(&written) {
@@ -81,7 +85,7 @@ fn judged(alloc: Global, written: WrittenArch) -> Result<Parts, TilesFault>
     if has_many_resources(&written) {
         return Err(too_large(TooLargePlace::Resources));
     }
-    match parts_of(alloc, once(alloc, written)?) {
+    match parts_of(alloc, lean(alloc, written)?) {
         Ok(parts) => Ok(parts),
         Err(MakingFault::Memory) => Err(TilesFault::Memory),
         Err(MakingFault::TooManyLinks) => Err(too_large(TooLargePlace::Links)),

@@ -1,8 +1,10 @@
-use Rattle.std.proofs.Common.{◌≡◌, ◌∙◌, None, Ok, Err, ap, sym, subst}
+use Rattle.std.proofs.Common.{◌≡◌, ◌∙◌, None, Err, ap, sym, subst}
 use Rattle.cg_tiles.specs.Rules.{first_fault}
 use Rattle.cg_tiles.specs.Flat.{parts_of}
+use Rattle.cg_tiles.specs.Lean.{lean}
+use Rattle.cg_tiles.specs.Alike.{AnswersFor}
 use Rattle.cg_tiles.specs.Answer.{judged, IsRefused}
-use Rattle.cg_tiles.proofs.SameParts.{same_parts}
+use Rattle.cg_tiles.proofs.Leaner.{lean-answers}
 use Rattle.cg_tiles.proofs.TooMany.{judged-clean, refused-resources, refused-links}
 use Rattle.cg_tiles.proofs.read.judged.Goals as goal
 
@@ -17,10 +19,10 @@ returns-in-Err-TooManyLinks-clause-refused c =
     λ _.
     let none : first_fault c.args.written ≡ None = cc in
     subst (IsRefused (judged c.args.written)) (sym c.too_large-in-Err-TooManyLinks.ensures)
-    (refused-links c.args.written c.in_ok-once.field-0 c.in_ok-once.ensures none (sym c.has_many_resources.ensures ∙ c.if-has_many_resources.false) (c.in-Err-TooManyLinks.ensures.many (ap Err c.in-Err-TooManyLinks.field-0-is)))
+    (refused-links c.args.written c.in_ok-lean.field-0 c.in_ok-lean.ensures none (sym c.has_many_resources.ensures ∙ c.if-has_many_resources.false) (c.in-Err-TooManyLinks.ensures.many (ap Err c.in-Err-TooManyLinks.field-0-is)))
 
 pub returns-in-Ok-clause-judged : goal.returns-in-Ok-clause-judged
 returns-in-Ok-clause-judged c =
     let none : first_fault c.args.written ≡ None = cc in
-    judged-clean c.args.written none
-    ∙ ap Ok (sym (same_parts c.args.written) ∙ ap parts_of (sym c.in_ok-once.ensures) ∙ sym c.in-Ok.ensures.parts)
+    let is : c.in-Ok.parts ≡ parts_of (lean c.args.written) = c.in-Ok.ensures.parts ∙ ap parts_of c.in_ok-lean.ensures in
+    (parts_of c.args.written, judged-clean c.args.written none, subst (λ parts. AnswersFor parts (parts_of c.args.written)) (sym is) (lean-answers c.args.written))

@@ -1,7 +1,7 @@
 use Rattle.std.proofs.Common.{◌≡◌, fold, map, string_bytes}
 use Rattle.std.specs.Vec.Iter.{into_iter_items}
-use Rattle.cg_tiles.specs.Once.{key_of, with_reference, references_once}
-use Rattle.cg_tiles.proofs.once.references_once.Given as goal
+use Rattle.cg_tiles.specs.Lean.{key_of, with_reference, references_once}
+use Rattle.cg_tiles.proofs.lean.references_once.Given as goal
 
 abbrev pub invariant-loop-reference : goal.invariant-loop-reference
 invariant-loop-reference l = record {

@@ -1,30 +1,30 @@
-//! Equal references of a list once, so that they aren't gone over in each cell.
+//! What is written, without what would be gone over in each cell for nothing.
 ghost use Rattle.std.specs.Prelude.{◌≡◌, IfOk, OnOk, map, string_bytes};
-ghost use Rattle.cg_tiles.specs.Once as spec;
+ghost use Rattle.cg_tiles.specs.Lean as spec;
 
 use crate::written::{Part, Reference, References, Side, Tile, WrittenArch, WrittenPart};
-use cg_model::Items;
+use cg_model::{Items, Name};
 use indexmap::IndexSet;
 use std::alloc::{AllocError, Global};
 
-/// What is written, with equal references of a list once.
-#[tactic(auto, unfolding(crate::specs::Once::once))]
-pub(crate) fn once(alloc: Global, written: WrittenArch) -> Result<WrittenArch, AllocError>
-    ensures { IfOk result (λ read. read ≡ spec.once written) }
+/// What is written, with equal references of a list once, and with a short bad name in place of each one that is too long.
+#[tactic(auto, unfolding(crate::specs::Lean::lean))]
+pub(crate) fn lean(alloc: Global, written: WrittenArch) -> Result<WrittenArch, AllocError>
+    ensures { IfOk result (λ read. read ≡ spec.lean written) }
 {
-    let tiles = tiles_once(alloc, written.tiles)?;
+    let tiles = lean_tiles(alloc, written.tiles)?;
     Ok(WrittenArch {
         sheet: written.sheet,
         tiles,
     })
 }
 
-fn tiles_once(alloc: Global, tiles: Items<Tile>) -> Result<Items<Tile>, AllocError>
-    ensures { IfOk result (λ list. list ≡ map spec.tile_once tiles) }
+fn lean_tiles(alloc: Global, tiles: Items<Tile>) -> Result<Items<Tile>, AllocError>
+    ensures { IfOk result (λ list. list ≡ map spec.lean_tile tiles) }
 {
     let mut list = Vec::new(alloc);
     for tile in tiles.into_vec() {
-        let parts = parts_once(alloc, tile.parts)?;
+        let parts = lean_parts(alloc, tile.parts)?;
         list.push(Tile {
             letter: tile.letter,
             parts,
@@ -33,28 +33,30 @@ fn tiles_once(alloc: Global, tiles: Items<Tile>) -> Result<Items<Tile>, AllocErr
     Ok(Items::new(list))
 }
 
-fn parts_once(alloc: Global, parts: Items<WrittenPart>) -> Result<Items<WrittenPart>, AllocError>
-    ensures { IfOk result (λ list. list ≡ map spec.written_part_once parts) }
+fn lean_parts(alloc: Global, parts: Items<WrittenPart>) -> Result<Items<WrittenPart>, AllocError>
+    ensures { IfOk result (λ list. list ≡ map spec.lean_written parts) }
 {
     let mut list = Vec::new(alloc);
     for part in parts.into_vec() {
         list.push(WrittenPart {
-            part: part_once(alloc, part.part)?,
+            part: lean_part(alloc, part.part)?,
             other_keys: part.other_keys,
         })?;
     }
     Ok(Items::new(list))
 }
 
-fn part_once(alloc: Global, part: Part) -> Result<Part, AllocError>
-    ensures { IfOk result (λ read. read ≡ spec.part_once part) }
+fn lean_part(alloc: Global, part: Part) -> Result<Part, AllocError>
+    ensures { IfOk result (λ read. read ≡ spec.lean_part part) }
 {
     match part {
         Part::Wire { name, from } => {
+            let name = short_name(alloc, name)?;
             let from = references_once(alloc, from)?;
             Ok(Part::Wire { name, from })
         }
         Part::Register { name, from } => {
+            let name = short_name(alloc, name)?;
             let from = references_once(alloc, from)?;
             Ok(Part::Register { name, from })
         }
@@ -65,7 +67,8 @@ fn part_once(alloc: Global, part: Part) -> Result<Part, AllocError>
             latency,
             ports,
         } => {
-            let ports = ports_once(alloc, ports)?;
+            let name = short_name(alloc, name)?;
+            let ports = lean_ports(alloc, ports)?;
             Ok(Part::Unit {
                 name,
                 ops,
@@ -77,7 +80,18 @@ fn part_once(alloc: Global, part: Part) -> Result<Part, AllocError>
     }
 }
 
-fn ports_once(alloc: Global, ports: Items<References>) -> Result<Items<References>, AllocError>
+/// The name, or a short one that is bad too where it has more than 40 characters.
+fn short_name(alloc: Global, name: Name) -> Result<Name, AllocError>
+    ensures { IfOk result (λ short. short ≡ spec.short_name name) }
+{
+    if name.as_str().len() > 40 {
+        Ok(Name::new(".".to_string(alloc)?))
+    } else {
+        Ok(name)
+    }
+}
+
+fn lean_ports(alloc: Global, ports: Items<References>) -> Result<Items<References>, AllocError>
     ensures { IfOk result (λ list. list ≡ map spec.references_once ports) }
 {
     let mut list = Vec::new(alloc);

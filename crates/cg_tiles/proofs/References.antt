@@ -1,23 +1,17 @@
--- What is written stands for the same parts where equal references of a list are there once.
-use Rattle.std.proofs.Common.{◌≡◌, ℕ, ◌+◌, List, [], ◌∷◌, ◌++◌, map, take, drop, fold, filter_map, Bool, true, false, cond, ◌||◌, eqb, Option, Some, None, bytes_eq, slice_index, refl, ap, sym, ◌∙◌, subst}
+-- References name the same drivers where equal ones are there once.
+use Rattle.std.proofs.Common.{◌≡◌, ℕ, List, [], ◌∷◌, ◌++◌, map, fold, filter_map, Bool, true, false, cond, ◌||◌, eqb, Option, Some, None, bytes_eq, refl, ap, sym, ◌∙◌}
 use Rattle.std.specs.List.{list_any}
-use Rattle.std.specs.Option.{option_map_or}
 use Rattle.std.proofs.lemmas.List.Elements.{filter_map-append}
 use Rattle.std.proofs.lemmas.List.Folds.{list_any-append}
 use Rattle.std.proofs.lemmas.List.Sums.{fold-append}
 use Rattle.std.proofs.lemmas.Slice.Eq.{bytes_eq-Decides}
-use Rattle.cg_model.specs.First.{first_such}
-use Rattle.cg_parts.specs.declared.parts.Element.{Element}
-use Rattle.cg_parts.specs.declared.parts.Element.TheVariants as element
 use Rattle.cg_parts.specs.Parts.{with_name, distinct}
-use Rattle.cg_tiles.specs.Written.{Side, Reference, Part, WrittenPart, Tile, WrittenArch}
+use Rattle.cg_tiles.specs.Written.{Side, Reference}
 use Rattle.cg_tiles.specs.declared.written.Side.TheVariants.{Here, North, East, South, West, Anywhere}
-use Rattle.cg_tiles.specs.declared.written.Part.TheVariants as part
 use Rattle.cg_tiles.specs.declared.grid.Cell.{Cell}
 use Rattle.cg_tiles.specs.declared.grid.Grid.{Grid}
-use Rattle.cg_tiles.specs.Rules.{tile_of}
-use Rattle.cg_tiles.specs.Flat.{name_on, driver_of, drivers_of, element_of, flat_name, parts_for, cell_elements, row_elements, grid_elements, grid_of, parts_of}
-use Rattle.cg_tiles.specs.Once.{letter, key_of, is_same, with_reference, references_once, part_once, written_part_once, tile_once, once}
+use Rattle.cg_tiles.specs.Flat.{name_on, driver_of, drivers_of}
+use Rattle.cg_tiles.specs.Lean.{letter, key_of, is_same, with_reference, references_once}
 
 -- ---- names that stand in a list stay there
 
@@ -129,58 +123,14 @@ all_more grid cell xs (r ∷ rs) =
     ∙ ap (λ names. adding grid cell names rs) (one_more grid cell r xs (list_any (is_same r) xs) refl)
     ∙ sym (adding-append grid cell (adding grid cell [] xs) (r ∷ []) rs)
 
-drivers-once : (grid : Grid) (cell : Cell) (references : List Reference) → drivers_of grid cell (references_once references) ≡ drivers_of grid cell references
+pub drivers-once : (grid : Grid) (cell : Cell) (references : List Reference) → drivers_of grid cell (references_once references) ≡ drivers_of grid cell references
 unfolding distinct adding
 drivers-once grid cell references = all_more grid cell [] references
 
--- ---- so parts, tiles and grids stand for the same elements
-
-ports-once : (grid : Grid) (cell : Cell) (ports : List (List Reference)) → map (drivers_of grid cell) (map references_once ports) ≡ map (drivers_of grid cell) ports
+pub ports-once : (grid : Grid) (cell : Cell) (ports : List (List Reference)) → map (drivers_of grid cell) (map references_once ports) ≡ map (drivers_of grid cell) ports
 ports-once grid cell [] = refl
 ports-once grid cell (x ∷ xs) =
     ap (λ names. names ∷ map (drivers_of grid cell) (map references_once xs)) (drivers-once grid cell x) ∙ ap (λ rest. drivers_of grid cell x ∷ rest) (ports-once grid cell xs)
-
-part-once : (grid : Grid) (cell : Cell) (p : Part) → element_of grid cell (part_once p) ≡ element_of grid cell p
-part-once grid cell (part.Wire name from) = ap (element.Wire (flat_name cell name)) (drivers-once grid cell from)
-part-once grid cell (part.Register name from) = ap (element.Register (flat_name cell name)) (drivers-once grid cell from)
-part-once grid cell (part.Unit name ops other latency ports) = ap (element.Unit (flat_name cell name) ops latency) (ports-once grid cell ports)
-
-parts-once : (grid : Grid) (cell : Cell) (ps : List WrittenPart) → map (λ p. element_of grid cell p.part) (map written_part_once ps) ≡ map (λ p. element_of grid cell p.part) ps
-parts-once grid cell [] = refl
-parts-once grid cell (p ∷ ps) =
-    ap (λ e. e ∷ map (λ q. element_of grid cell q.part) (map written_part_once ps)) (part-once grid cell p.part) ∙ ap (λ rest. element_of grid cell p.part ∷ rest) (parts-once grid cell ps)
-
-found : (b : Bool) (t : Tile) (o q : Option Tile) → option_map_or (λ t. t.parts) o [] ≡ map written_part_once (option_map_or (λ t. t.parts) q [])
-    → option_map_or (λ t. t.parts) (cond b (Some (tile_once t)) o) [] ≡ map written_part_once (option_map_or (λ t. t.parts) (cond b (Some t) q) [])
-found true t o q e = refl
-found false t o q e = e
-
-tiles-once : (tiles : List Tile) (cell_letter : ℕ) → parts_for (map tile_once tiles) cell_letter ≡ map written_part_once (parts_for tiles cell_letter)
-tiles-once [] cell_letter = refl
-tiles-once (t ∷ ts) cell_letter = found (eqb t.letter cell_letter) t (tile_of (map tile_once ts) cell_letter) (tile_of ts cell_letter) (tiles-once ts cell_letter)
-
-cell-once : (w : WrittenArch) (grid : Grid) (cell : Cell) (cell_letter : ℕ) → cell_elements (once w) grid cell cell_letter ≡ cell_elements w grid cell cell_letter
-unfolding once
-cell-once w grid cell cell_letter =
-    ap (map (λ p. element_of grid cell p.part)) (tiles-once w.tiles cell_letter) ∙ parts-once grid cell (parts_for w.tiles cell_letter)
-
-row-once : (w : WrittenArch) (grid : Grid) (r c : ℕ) (row : List ℕ) → row_elements (once w) grid r c row ≡ row_elements w grid r c row
-row-once w grid r c [] = refl
-row-once w grid r c (x ∷ xs) =
-    ap (λ front. front ++ row_elements (once w) grid r (c + 1) xs) (cell-once w grid (record { row = r; column = c }) x)
-    ∙ ap (λ rest. cell_elements w grid (record { row = r; column = c }) x ++ rest) (row-once w grid r (c + 1) xs)
-
-grid-once : (w : WrittenArch) (grid : Grid) (r : ℕ) (rows : List (List ℕ)) → grid_elements (once w) grid r rows ≡ grid_elements w grid r rows
-grid-once w grid r [] = refl
-grid-once w grid r (x ∷ xs) =
-    ap (λ front. front ++ grid_elements (once w) grid (r + 1) xs) (row-once w grid r 0 x)
-    ∙ ap (λ rest. row_elements w grid r 0 x ++ rest) (grid-once w grid (r + 1) xs)
-
-pub same_parts : (w : WrittenArch) → parts_of (once w) ≡ parts_of w
-unfolding parts_of once
-same_parts w =
-    ap (λ elements. record { name = w.sheet.name; contexts = w.sheet.contexts; memory = w.sheet.memory; elements = elements; hub = w.sheet.hub })
-    (grid-once w (grid_of w) 0 w.sheet.grid)
 
 -- a test of keys
 pub list_any-keys : (p : List ℕ → Bool) (refs : List Reference) → list_any (λ r. p (key_of r)) refs ≡ list_any p (map key_of refs)

@@ -1,10 +1,10 @@
-use Rattle.std.proofs.Common.{◌≡◌, ◌∙◌, ◌∷◌, [], ◌++◌, true, false, cond, ap, sym, map, bytes_eq, string_bytes}
+use Rattle.std.proofs.Common.{◌≡◌, ◌∙◌, ◌∷◌, [], ◌++◌, true, false, cond, ap, sym, bytes_eq, string_bytes}
 use Rattle.std.specs.List.{list_any}
 use Rattle.std.proofs.lemmas.Bool.{not-true, not-false}
-use Rattle.cg_tiles.specs.Once.{key_of, is_same}
+use Rattle.cg_tiles.specs.Lean.{key_of, is_same}
 use Rattle.cg_tiles.proofs.Distinct.{list_any-bytes}
-use Rattle.cg_tiles.proofs.SameParts.{list_any-keys}
-use Rattle.cg_tiles.proofs.once.add_reference.Goals as goal
+use Rattle.cg_tiles.proofs.References.{list_any-keys}
+use Rattle.cg_tiles.proofs.lean.add_reference.Goals as goal
 
 pub returns-in_ok-push-clause-kept : goal.returns-in_ok-push-clause-kept
 returns-in_ok-push-clause-kept c =

@@ -1,0 +1,10 @@
+-- Parts for which the answers are those for others.
+use Rattle.cg_model.specs.Array.{Arch}
+use Rattle.cg_parts.specs.declared.parts.Parts.{Parts}
+use Rattle.cg_parts.specs.declared.fault.ArchFault.{ArchFault}
+use Rattle.cg_arch.specs.Answer.{IsFault, AreValid}
+
+-- what the parts are, or have, others are or have too
+pub record AnswersFor (parts others : Parts) : Type 0 where
+  pub valid : (A : Arch) → AreValid parts A → AreValid others A
+  pub fault : (f : ArchFault) → IsFault parts f → IsFault others f

@@ -1,0 +1,50 @@
+-- What is written, without what would be gone over in each cell for nothing: equal references of a list, and long names.
+use Rattle.std.specs.Prelude.{ℕ, Bool, List, [], ◌∷◌, ◌++◌, map, fold, length, nat_lt, codes, if◌then◌else◌}
+use Rattle.std.specs.List.{list_any}
+use Rattle.std.specs.Str.{bytes_eq}
+use Rattle.cg_tiles.specs.Written.{Side, Reference, Part, WrittenPart, Tile, WrittenArch}
+use Rattle.cg_tiles.specs.declared.written.Side.TheVariants.{Here, North, East, South, West, Anywhere}
+use Rattle.cg_tiles.specs.declared.written.Part.TheVariants as part
+
+-- a letter for each side
+abbrev pub letter : Side → ℕ
+letter Here = 104
+letter North = 110
+letter East = 101
+letter South = 115
+letter West = 119
+letter Anywhere = 97
+
+-- the text by which a reference is known: the letter of its side, and its name
+abbrev pub key_of : Reference → List ℕ
+key_of r = letter r.side ∷ r.name
+
+-- references with one more, unless an equal one stands there
+abbrev pub is_same : Reference → Reference → Bool
+is_same r other = bytes_eq (key_of r) (key_of other)
+
+abbrev pub with_reference : List Reference → Reference → List Reference
+with_reference references r = if list_any (is_same r) references then references else references ++ r ∷ []
+
+-- the references of a list, each where it stands first
+abbrev pub references_once : List Reference → List Reference
+references_once references = fold with_reference [] references
+
+-- a name that stands for one of more than 40 characters, since it breaks the rule for names too
+abbrev pub short_name : List ℕ → List ℕ
+short_name name = if nat_lt 40 (length name) then codes "." else name
+
+-- parts, tiles and what is written, with such lists and names
+abbrev pub lean_part : Part → Part
+lean_part (part.Wire name from) = part.Wire (short_name name) (references_once from)
+lean_part (part.Register name from) = part.Register (short_name name) (references_once from)
+lean_part (part.Unit name ops other latency ports) = part.Unit (short_name name) ops other latency (map references_once ports)
+
+abbrev pub lean_written : WrittenPart → WrittenPart
+lean_written p = record { part = lean_part p.part; other_keys = p.other_keys }
+
+abbrev pub lean_tile : Tile → Tile
+lean_tile t = record { letter = t.letter; parts = map lean_written t.parts }
+
+unfoldable pub lean : WrittenArch → WrittenArch
+lean w = record { sheet = w.sheet; tiles = map lean_tile w.tiles }
