@@ -6,10 +6,13 @@ ghost use Rattle.toml.specs.View.{view};
 ghost use Rattle.cg_toml.specs.Bytes.{table_of};
 
 mod members;
+mod size;
 
 pub use members::{
     flag_or, has_other_keys, items, list_at, list_or_none, table_at, text_at, word_at, word_or,
 };
+pub use size::MOST_MEMORY;
+use size::memory_for;
 use std::alloc::Global;
 use toml::Value;
 
@@ -21,10 +24,15 @@ pub enum TomlFault {
 }
 
 /// The TOML table that the bytes stand for.
+///
+/// A text whose values may take more than [`MOST_MEMORY`] bytes is answered by `Memory` before it is parsed.
 pub fn toml_table(alloc: Global, bytes: &[u8]) -> Result<Value, TomlFault>
     ensures ok { IfOk result (λ value. table_of bytes.now ≡ Some (view value)) }
     ensures not_toml { IsErrOf result TomlFault.NotToml → table_of bytes.now ≡ None }
 {
+    if memory_for(bytes) > MOST_MEMORY {
+        return Err(TomlFault::Memory);
+    }
     match toml::table_from_slice(alloc, bytes) {
         Ok(table) => Ok(Value::Table(table)),
         Err(error) => if error.is_memory() {
