@@ -2,5 +2,7 @@
 #![tactic(auto)]
 
 mod print;
+#[cfg(test)]
+mod tests;
 
 pub use print::print_kernel;
