@@ -78,6 +78,9 @@ fn add_item(bytes: &mut Vec<u8>, item: &str) -> Result<bool, AllocError> {
     let (Ok(first), Ok(last)) = (first.parse::<u32>(), last.parse::<u32>()) else {
         return Ok(false);
     };
+    if first > last {
+        return Ok(false);
+    }
     for word in first..=last {
         bytes.extend_from_slice(&word.to_be_bytes())?;
     }

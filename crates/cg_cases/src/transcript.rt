@@ -28,6 +28,8 @@ pub(crate) struct Transcript {
     bytes: Vec<u8>,
     /// The status of the last call, until the line comes that says which one it must be.
     open_status: Option<u8>,
+    /// Whether a call was made in this case.
+    calls: bool,
     /// Whether a difference was met in this case.
     differs: bool,
     cases: u64,
@@ -46,6 +48,7 @@ impl Transcript {
             purpose: Purpose::None,
             bytes: Vec::new(alloc),
             open_status: None,
+            calls: false,
             differs: false,
             cases: 0,
             differing: 0,
@@ -128,10 +131,14 @@ impl Transcript {
         self.end_call(alloc)?;
         if self.case.is_some() {
             self.cases = self.cases.saturating_add(1);
+            if !self.calls {
+                self.differ(alloc, "no call", "is made")?;
+            }
         }
         if self.differs {
             self.differing = self.differing.saturating_add(1);
         }
+        self.calls = false;
         self.differs = false;
         Ok(())
     }
@@ -167,6 +174,7 @@ impl Transcript {
     /// Makes the call with the words of a line, parted by single blanks; `""` is an empty one.
     fn run(&mut self, alloc: Global, line: &str) -> Result<(), AllocError> {
         self.end_call(alloc)?;
+        self.calls = true;
         let mut words = Vec::new(alloc);
         if !line.is_empty() {
             for word in line.split(' ') {
