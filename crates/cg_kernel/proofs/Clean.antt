@@ -7,7 +7,7 @@ use Rattle.cg_model.proofs.Options.{cond_none, or_none, map_none}
 use Rattle.cg_model.proofs.Positions.{first_from_none}
 use Rattle.cg_kernel.specs.Written.{WrittenNode, WrittenEdge, WrittenKernel}
 use Rattle.cg_kernel.specs.Rules.{Rule, applies_to_file, applies_to_node, applies_to_edge, first_place, fault_at, first_fault, all_rules}
-use Rattle.cg_kernel.specs.declared.fault.Place.TheVariants as place
+use Rattle.cg_kernel.specs.declared.fault.KernelPlace.TheVariants as place
 use Rattle.cg_kernel.specs.declared.rule.Rule.TheVariants.{TooLarge, BadName, RepeatedName, UnknownOp, WrongOperandCount, UnknownNode, NoValue, BackEdgeWithoutDistance, BadDistance, InitCount, TwoConstants, BadPort, RepeatedOutputPort}
 
 -- the fault applies nowhere

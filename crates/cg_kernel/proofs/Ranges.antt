@@ -7,8 +7,8 @@ use Rattle.serde_json.specs.Find.{as_number, as_u64}
 use Rattle.std.proofs.lemmas.Bool.{ltb-true}
 use Rattle.cg_word.specs.Word.{words}
 use Rattle.cg_json.specs.Members.{fitting, word_in, all_of, all_or_first, and_rest, items_at, items_or_none, has_other_keys}
-use Rattle.cg_kernel.specs.Written.{Place, Format, WrittenArg, WrittenNode, WrittenEdge, WrittenKernel, arg_in, source_in, source_from, node_in, node_from, joined, written_from, format_in, written_of}
-use Rattle.cg_kernel.specs.declared.fault.Place.TheVariants as place
+use Rattle.cg_kernel.specs.Written.{KernelPlace, Format, WrittenArg, WrittenNode, WrittenEdge, WrittenKernel, arg_in, source_in, source_from, node_in, node_from, joined, written_from, format_in, written_of}
+use Rattle.cg_kernel.specs.declared.fault.KernelPlace.TheVariants as place
 use Rattle.cg_kernel.specs.declared.written.WrittenArg.TheVariants.{Number, Source}
 use Rattle.cg_kernel.specs.Words.{HasWords, HasAllWords}
 
@@ -138,6 +138,6 @@ pub written_of-words : (d : Data) (w : WrittenKernel) → written_of d ≡ Ok w 
 unfolding written_of
 written_of-words d w e = of_kernel (format_in d) (items_at (codes "nodes") d) (items_or_none (codes "order") d) (has_other_keys (codes "format" ∷ codes "nodes" ∷ codes "order" ∷ []) d) w e
 
-pub written_of-all_words : (d : Data) (read : Result WrittenKernel Place) → read ≡ written_of d → IfOk read HasAllWords
+pub written_of-all_words : (d : Data) (read : Result WrittenKernel KernelPlace) → read ≡ written_of d → IfOk read HasAllWords
 written_of-all_words d (Ok w) e = written_of-words d w (sym e)
 written_of-all_words d (Err p) e = tt

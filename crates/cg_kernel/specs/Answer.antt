@@ -8,7 +8,7 @@ use Rattle.cg_model.specs.declared.kernel.Operand.{Operand}
 use Rattle.cg_model.specs.declared.kernel.Operand.TheVariants.{Const as Constant, Edge}
 use Rattle.cg_model.specs.declared.kernel.OrderEdge.{OrderEdge}
 use Rattle.cg_json.specs.Bytes.{value_of}
-use Rattle.cg_kernel.specs.Written.{Place, WrittenArg, WrittenNode, WrittenEdge, WrittenKernel, written_of}
+use Rattle.cg_kernel.specs.Written.{KernelPlace, WrittenArg, WrittenNode, WrittenEdge, WrittenKernel, written_of}
 use Rattle.cg_kernel.specs.Rules.{number_of, op_of, all_rules, first_fault}
 use Rattle.cg_kernel.specs.declared.written.WrittenArg.TheVariants.{Number, Source}
 pub use Rattle.cg_kernel.specs.declared.fault.KernelFault.{KernelFault}
@@ -44,7 +44,7 @@ unfoldable pub judged : WrittenKernel → Result Kernel KernelFault
 judged w = unless (first_fault all_rules w) (kernel_of w)
 
 -- K2 before them
-abbrev pub answer_written : Result WrittenKernel Place → Result Kernel KernelFault
+abbrev pub answer_written : Result WrittenKernel KernelPlace → Result Kernel KernelFault
 answer_written (Err p) = Err (fault.WrongShape p)
 answer_written (Ok w) = judged w
 

@@ -7,10 +7,10 @@ use Rattle.cg_word.specs.declared.op.Op.{Op}
 use Rattle.cg_word.specs.Word.{arity, code, has_value, has_port, is_output, op_named}
 use Rattle.cg_model.specs.Names.{is_name}
 use Rattle.cg_model.specs.First.{first_from, is_before}
-use Rattle.cg_kernel.specs.Written.{Place, Format, WrittenArg, WrittenNode, WrittenEdge, WrittenKernel}
+use Rattle.cg_kernel.specs.Written.{KernelPlace, Format, WrittenArg, WrittenNode, WrittenEdge, WrittenKernel}
 use Rattle.cg_kernel.specs.declared.fault.KernelFault.{KernelFault}
 use Rattle.cg_kernel.specs.declared.fault.KernelFault.TheVariants as fault
-use Rattle.cg_kernel.specs.declared.fault.Place.TheVariants as place
+use Rattle.cg_kernel.specs.declared.fault.KernelPlace.TheVariants as place
 use Rattle.cg_kernel.specs.declared.written.Format.TheVariants.{First, Second}
 use Rattle.cg_kernel.specs.declared.written.WrittenArg.TheVariants.{Number, Source}
 pub use Rattle.cg_kernel.specs.declared.rule.Rule.{Rule}
@@ -161,7 +161,7 @@ applies_to_file TooLarge w = is_too_large w
 applies_to_file _ w = false
 
 -- the first place where it applies: the file, then the nodes in order, then the order edges
-unfoldable pub first_place : Rule → WrittenKernel → Option Place
+unfoldable pub first_place : Rule → WrittenKernel → Option KernelPlace
 first_place rule w = option_or
     (if applies_to_file rule w then Some place.File else None)
     (option_or (option_map place.Node (first_from (applies_to_node rule w) 0 w.nodes))
@@ -174,7 +174,7 @@ abbrev pub all_rules : List Rule
 all_rules = UnknownKey ∷ TooLarge ∷ BadName ∷ RepeatedName ∷ UnknownOp ∷ WrongOperandCount ∷ UnknownNode ∷ NoValue ∷ BackEdgeWithoutDistance ∷ BadDistance ∷ InitCount ∷ TwoConstants ∷ BadPort ∷ RepeatedOutputPort ∷ []
 
 -- the fault of that number, at that place
-abbrev pub fault_at : Rule → Place → KernelFault
+abbrev pub fault_at : Rule → KernelPlace → KernelFault
 fault_at UnknownKey p = fault.UnknownKey p
 fault_at TooLarge p = fault.TooLarge
 fault_at BadName p = fault.BadName p

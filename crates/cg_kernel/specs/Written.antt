@@ -4,8 +4,8 @@ use Rattle.std.specs.Option.{option_or}
 use Rattle.std.specs.Str.{bytes_eq}
 use Rattle.serde_json.specs.Data.{Data, Items}
 use Rattle.cg_json.specs.Members.{text_at, items_at, items_or_none, word_in, word_or, optional_word_at, all_of, all_or_first, has_other_keys}
-pub use Rattle.cg_kernel.specs.declared.fault.Place.{Place}
-use Rattle.cg_kernel.specs.declared.fault.Place.TheVariants as place
+pub use Rattle.cg_kernel.specs.declared.fault.KernelPlace.{KernelPlace}
+use Rattle.cg_kernel.specs.declared.fault.KernelPlace.TheVariants as place
 pub use Rattle.cg_kernel.specs.declared.written.Format.{Format}
 use Rattle.cg_kernel.specs.declared.written.Format.TheVariants.{First, Second}
 pub use Rattle.cg_kernel.specs.declared.written.WrittenArg.{WrittenArg}
@@ -63,17 +63,17 @@ abbrev pub format_in : Data → Option Format
 format_in d = option_and_then format_named (text_at (codes "format") d)
 
 -- all nodes and order edges, or the first that is none
-abbrev pub joined : Format → Bool → Result (List WrittenNode) ℕ → Result (List WrittenEdge) ℕ → Result WrittenKernel Place
+abbrev pub joined : Format → Bool → Result (List WrittenNode) ℕ → Result (List WrittenEdge) ℕ → Result WrittenKernel KernelPlace
 joined format other (Ok nodes) (Ok order) = Ok (record { format = format; nodes = nodes; order = order; other_keys = other })
 joined format other (Ok nodes) (Err e) = Err (place.Order e)
 joined format other (Err v) order = Err (place.Node v)
 
-abbrev pub written_from : Option Format → Option Items → Option Items → Bool → Result WrittenKernel Place
+abbrev pub written_from : Option Format → Option Items → Option Items → Bool → Result WrittenKernel KernelPlace
 written_from (Some format) (Some nodes) (Some order) other = joined format other (all_or_first node_in 0 nodes) (all_or_first edge_in 0 order)
 written_from _ _ _ other = Err place.File
 
 -- K2 WrongShape: what the value writes, or the first place where a needed key is missing or a value has another kind or range
-unfoldable pub written_of : Data → Result WrittenKernel Place
+unfoldable pub written_of : Data → Result WrittenKernel KernelPlace
 written_of d = written_from
     (format_in d)
     (items_at (codes "nodes") d)

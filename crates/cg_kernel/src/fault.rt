@@ -8,7 +8,7 @@ use thiserror::Error;
 
 /// Where a fault applies first: the whole file, a node or an order edge, counted from 0.
 #[derive(Clone, Copy, Debug, PartialEq, Eq)]
-pub enum Place {
+pub enum KernelPlace {
     File,
     Node(usize),
     Order(usize),
@@ -22,35 +22,35 @@ pub enum KernelFault {
     #[error("no JSON value")]
     NotJson,
     #[error("wrong shape")]
-    WrongShape(Place),
+    WrongShape(KernelPlace),
     #[error("unknown key")]
-    UnknownKey(Place),
+    UnknownKey(KernelPlace),
     #[error("too many nodes or order edges")]
     TooLarge,
     #[error("bad name")]
-    BadName(Place),
+    BadName(KernelPlace),
     #[error("repeated name")]
-    RepeatedName(Place),
+    RepeatedName(KernelPlace),
     #[error("unknown operation")]
-    UnknownOp(Place),
+    UnknownOp(KernelPlace),
     #[error("wrong number of operands")]
-    WrongOperandCount(Place),
+    WrongOperandCount(KernelPlace),
     #[error("unknown node")]
-    UnknownNode(Place),
+    UnknownNode(KernelPlace),
     #[error("source without a value")]
-    NoValue(Place),
+    NoValue(KernelPlace),
     #[error("edge of distance 0 from no earlier node")]
-    BackEdgeWithoutDistance(Place),
+    BackEdgeWithoutDistance(KernelPlace),
     #[error("distance too great")]
-    BadDistance(Place),
+    BadDistance(KernelPlace),
     #[error("wrong number of initial words")]
-    InitCount(Place),
+    InitCount(KernelPlace),
     #[error("more than one constant operand")]
-    TwoConstants(Place),
+    TwoConstants(KernelPlace),
     #[error("bad port")]
-    BadPort(Place),
+    BadPort(KernelPlace),
     #[error("repeated output port")]
-    RepeatedOutputPort(Place),
+    RepeatedOutputPort(KernelPlace),
 }
 
 impl From<AllocError> for KernelFault {

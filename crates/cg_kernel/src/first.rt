@@ -4,7 +4,7 @@ ghost use Rattle.cg_model.specs.First.{first_from};
 ghost use Rattle.cg_kernel.specs.Numbers.{IsIndex};
 ghost use Rattle.cg_kernel.specs.Rules as spec;
 
-use crate::fault::{KernelFault, Place};
+use crate::fault::{KernelFault, KernelPlace};
 use crate::numbers::Numbers;
 use crate::rule::Rule;
 use crate::rules::{applies_to_edge, applies_to_file, applies_to_node};
@@ -46,7 +46,7 @@ fn first_of(rules: &[Rule], numbers: &Numbers, written: &WrittenKernel) -> Optio
     None
 }
 
-fn fault_at(rule: Rule, place: Place) -> KernelFault
+fn fault_at(rule: Rule, place: KernelPlace) -> KernelFault
     ensures { result ≡ spec.fault_at rule place }
 {
     match rule {
@@ -68,16 +68,16 @@ fn fault_at(rule: Rule, place: Place) -> KernelFault
 }
 
 #[tactic(auto, unfolding(crate::specs::Rules::first_place))]
-fn first_place(rule: Rule, numbers: &Numbers, written: &WrittenKernel) -> Option<Place>
+fn first_place(rule: Rule, numbers: &Numbers, written: &WrittenKernel) -> Option<KernelPlace>
     requires { IsIndex numbers.now written.now.nodes }
     ensures { result ≡ spec.first_place rule written.now }
 {
     if applies_to_file(rule, written) {
-        return Some(Place::File);
+        return Some(KernelPlace::File);
     }
     match first_node(rule, numbers, written) {
-        Some(number) => Some(Place::Node(number)),
-        None => first_edge(rule, numbers, written).map(Place::Order),
+        Some(number) => Some(KernelPlace::Node(number)),
+        None => first_edge(rule, numbers, written).map(KernelPlace::Order),
     }
 }
 

@@ -14,6 +14,6 @@ mod written;
 
 pub use cg_model::{Items, Name, Node, Operand, Operands, OrderEdge, Words};
 pub use cg_word::Op;
-pub use fault::{KernelFault, Place};
+pub use fault::{KernelFault, KernelPlace};
 pub use kernel::Kernel;
 pub use read::read_kernel;

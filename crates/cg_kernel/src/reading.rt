@@ -5,7 +5,7 @@ ghost use Rattle.cg_json.specs.Members.{all_of, all_or_first};
 ghost use Rattle.cg_kernel.specs.Words.{HasAllWords};
 ghost use Rattle.cg_kernel.specs.Written as spec;
 
-use crate::fault::Place;
+use crate::fault::KernelPlace;
 use crate::written::{Format, WrittenArg, WrittenEdge, WrittenKernel, WrittenNode};
 use cg_json::{
     has_other_keys, list_at, list_or_none, optional_word_at, text_at, word_of, word_or, words_of,
@@ -15,7 +15,7 @@ use serde_json::Value;
 use std::alloc::{AllocError, Global};
 
 /// What the value writes, or the first place of a wrong shape.
-pub fn written_of(alloc: Global, value: &Value) -> Result<Result<WrittenKernel, Place>, AllocError>
+pub fn written_of(alloc: Global, value: &Value) -> Result<Result<WrittenKernel, KernelPlace>, AllocError>
     ensures value { IfOk result (λ read. read ≡ spec.written_of (view value.now)) }
     ensures words { IfOk result (λ read. IfOk read HasAllWords) }
 {
@@ -23,17 +23,17 @@ pub fn written_of(alloc: Global, value: &Value) -> Result<Result<WrittenKernel, 
 }
 
 #[tactic(auto, unfolding(crate::specs::Written::written_of))]
-fn whole_of(alloc: Global, value: &Value) -> Result<Result<WrittenKernel, Place>, AllocError>
+fn whole_of(alloc: Global, value: &Value) -> Result<Result<WrittenKernel, KernelPlace>, AllocError>
     ensures { IfOk result (λ read. read ≡ spec.written_of (view value.now)) }
 {
     let Some(format) = format_of(value) else {
-        return Ok(Err(Place::File));
+        return Ok(Err(KernelPlace::File));
     };
     let Some(nodes) = list_at(value, "nodes") else {
-        return Ok(Err(Place::File));
+        return Ok(Err(KernelPlace::File));
     };
     let Some(order) = list_or_none(value, "order") else {
-        return Ok(Err(Place::File));
+        return Ok(Err(KernelPlace::File));
     };
     let other_keys = has_other_keys(value, &["format", "nodes", "order"]);
     joined(alloc, format, other_keys, nodes, order)
@@ -45,18 +45,18 @@ fn joined(
     other_keys: bool,
     nodes: &[Value],
     order: &[Value],
-) -> Result<Result<WrittenKernel, Place>, AllocError>
+) -> Result<Result<WrittenKernel, KernelPlace>, AllocError>
     ensures { IfOk result (λ read. read ≡ spec.joined format other_keys
         (all_or_first spec.node_in 0 (items_view nodes.now))
         (all_or_first spec.edge_in 0 (items_view order.now))) }
 {
     let nodes = match nodes_of(alloc, nodes)? {
         Ok(nodes) => nodes,
-        Err(number) => return Ok(Err(Place::Node(number))),
+        Err(number) => return Ok(Err(KernelPlace::Node(number))),
     };
     let order = match edges_of(alloc, order)? {
         Ok(order) => order,
-        Err(number) => return Ok(Err(Place::Order(number))),
+        Err(number) => return Ok(Err(KernelPlace::Order(number))),
     };
     Ok(Ok(WrittenKernel {
         format,

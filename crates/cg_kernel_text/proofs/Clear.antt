@@ -25,7 +25,7 @@ use Rattle.cg_model.proofs.Counts.{count_by-one}
 use Rattle.cg_kernel.specs.declared.written.WrittenNode.{WrittenNode}
 use Rattle.cg_kernel.specs.declared.rule.Rule.{Rule}
 use Rattle.cg_kernel.specs.declared.rule.Rule.TheVariants.{UnknownKey, TooLarge, BadName, RepeatedName, UnknownOp, WrongOperandCount, UnknownNode, NoValue, BackEdgeWithoutDistance, BadDistance, InitCount, TwoConstants, BadPort, RepeatedOutputPort}
-use Rattle.cg_kernel.specs.declared.fault.Place.TheVariants as place
+use Rattle.cg_kernel.specs.declared.fault.KernelPlace.TheVariants as place
 use Rattle.cg_kernel.specs.Rules.{number_of, op_of, source_op, applies_to_arg, applies_to_node, applies_to_edge, applies_to_file, is_number, is_bad_port, output_port, outputs_to, first_place, fault_at, first_fault, all_rules}
 use Rattle.cg_kernel.specs.Answer.{node_number, operand_of, node_of, edge_of, kernel_of, judged, unless, answer_of, answer_in, answer_written}
 use Rattle.serde_json.specs.Read.{read}

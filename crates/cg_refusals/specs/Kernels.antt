@@ -1,12 +1,12 @@
 -- What reports say of the faults of kernels.
 use Rattle.std.specs.Prelude.{List, [], ◌∷◌, ◌++◌, codes, decimal}
 use Rattle.cg_ending.specs.Outcome.{Bytes}
-use Rattle.cg_kernel.specs.declared.fault.Place.{Place}
-use Rattle.cg_kernel.specs.declared.fault.Place.TheVariants as place
+use Rattle.cg_kernel.specs.declared.fault.KernelPlace.{KernelPlace}
+use Rattle.cg_kernel.specs.declared.fault.KernelPlace.TheVariants as place
 use Rattle.cg_kernel.specs.declared.fault.KernelFault.{KernelFault}
 use Rattle.cg_kernel.specs.declared.fault.KernelFault.TheVariants as fault
 
-abbrev pub place_text : Place → Bytes
+abbrev pub place_text : KernelPlace → Bytes
 place_text place.File = codes "file"
 place_text (place.Node v) = codes "nodes " ++ decimal v
 place_text (place.Order e) = codes "order " ++ decimal e
@@ -32,7 +32,7 @@ kernel_fault_name (fault.BadPort p) = codes "K15 BadPort"
 kernel_fault_name (fault.RepeatedOutputPort p) = codes "K16 RepeatedOutputPort"
 
 -- where the fault applies first: the whole file where it tells no place
-abbrev pub kernel_fault_place : KernelFault → Place
+abbrev pub kernel_fault_place : KernelFault → KernelPlace
 kernel_fault_place fault.Memory = place.File
 kernel_fault_place fault.NotJson = place.File
 kernel_fault_place (fault.WrongShape p) = p

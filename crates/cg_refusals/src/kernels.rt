@@ -5,7 +5,7 @@ ghost use Rattle.cg_refusals.specs.Refusals.{malformed_of};
 ghost use Rattle.cg_refusals.specs.Kernels.{kernel_fault_text, kernel_fault_name, kernel_fault_place, place_text};
 
 use cg_ending::{File, Outcome, Status};
-use cg_kernel::{KernelFault, Place};
+use cg_kernel::{KernelFault, KernelPlace};
 use std::alloc::{AllocError, Global};
 
 /// The bytes of the file spell no kernel.
@@ -23,21 +23,21 @@ pub fn no_kernel(alloc: Global, file: &File, fault: &KernelFault) -> Result<Outc
     })
 }
 
-fn place_text(alloc: Global, place: Place) -> Result<String, AllocError>
+fn place_text(alloc: Global, place: KernelPlace) -> Result<String, AllocError>
     ensures { IfOk result (λ s. string_bytes s ≡ place_text place) }
 {
     match place {
-        Place::File => String::from_str(alloc, "file"),
-        Place::Node(node) => format!(in alloc; "nodes {node}"),
-        Place::Order(edge) => format!(in alloc; "order {edge}"),
+        KernelPlace::File => String::from_str(alloc, "file"),
+        KernelPlace::Node(node) => format!(in alloc; "nodes {node}"),
+        KernelPlace::Order(edge) => format!(in alloc; "order {edge}"),
     }
 }
 
-fn fault_place(fault: &KernelFault) -> Place
+fn fault_place(fault: &KernelFault) -> KernelPlace
     ensures { result ≡ kernel_fault_place fault.now }
 {
     match fault {
-        KernelFault::Memory | KernelFault::NotJson | KernelFault::TooLarge => Place::File,
+        KernelFault::Memory | KernelFault::NotJson | KernelFault::TooLarge => KernelPlace::File,
         KernelFault::WrongShape(place)
         | KernelFault::UnknownKey(place)
         | KernelFault::BadName(place)

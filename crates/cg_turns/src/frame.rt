@@ -10,7 +10,7 @@ use crate::watch::{Watch, reached, watch_step};
 use crate::window::{ROWS, argument};
 use cg_kernel::Kernel;
 use cg_model::Words;
-use cg_order::DistanceTable;
+use cg_distance::DistanceTable;
 use cg_pad::{Image, Scratchpad, Work, empty_streams};
 use std::alloc::{AllocError, Global};
 

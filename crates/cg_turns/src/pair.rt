@@ -7,7 +7,7 @@ ghost use Rattle.cg_turns.specs.Pairs.{step_of, later_access, IsRival, IsLatest,
 ghost use Rattle.cg_turns.specs.declared.pair.Access.{Access as AccessOf};
 
 use cg_kernel::Kernel;
-use cg_order::DistanceTable;
+use cg_distance::DistanceTable;
 
 /// A node in a turn that accesses a word of the memory.
 #[derive(Clone, Copy, Debug, PartialEq, Eq, Drop)]

@@ -9,7 +9,7 @@ use crate::frame::{Frame, one_turn, start};
 use crate::pair::UnorderedPair;
 use crate::watch::unwatched;
 use cg_kernel::Kernel;
-use cg_order::min_distance;
+use cg_distance::min_distance;
 use cg_pad::{Image, Streams};
 use std::alloc::{AllocError, Global};
 

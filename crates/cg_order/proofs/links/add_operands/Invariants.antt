@@ -1,6 +1,0 @@
-use Rattle.cg_model.specs.Kernel.{size}
-use Rattle.cg_order.specs.Leaving.{HasLinks, Seen}
-use Rattle.cg_order.proofs.links.add_operands.Given as goal
-
-abbrev pub invariant-loop-place : goal.invariant-loop-place
-invariant-loop-place l = HasLinks (size l.kernel) (Seen l.kernel l.to l.place 0) l.lists
