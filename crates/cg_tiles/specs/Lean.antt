@@ -19,10 +19,11 @@ letter Anywhere = 97
 abbrev pub key_of : Reference → List ℕ
 key_of r = letter r.side ∷ r.name
 
--- references with one more, unless an equal one stands there
+-- two references have the same side and name
 abbrev pub is_same : Reference → Reference → Bool
 is_same r other = bytes_eq (key_of r) (key_of other)
 
+-- references with one more, unless an equal one stands there
 abbrev pub with_reference : List Reference → Reference → List Reference
 with_reference references r = if list_any (is_same r) references then references else references ++ r ∷ []
 
@@ -30,21 +31,23 @@ with_reference references r = if list_any (is_same r) references then references
 abbrev pub references_once : List Reference → List Reference
 references_once references = fold with_reference [] references
 
--- a name that stands for one of more than 40 characters, since it breaks the rule for names too
+-- a name of more than 40 characters breaks the rule for names; a short one that breaks it too stands for it
 abbrev pub short_name : List ℕ → List ℕ
 short_name name = if nat_lt 40 (length name) then codes "." else name
 
--- parts, tiles and what is written, with such lists and names
+-- a part with such lists and such a name
 abbrev pub lean_part : Part → Part
 lean_part (part.Wire name from) = part.Wire (short_name name) (references_once from)
 lean_part (part.Register name from) = part.Register (short_name name) (references_once from)
 lean_part (part.Unit name ops other latency ports) = part.Unit (short_name name) ops other latency (map references_once ports)
 
+-- the parts of tiles with them
 abbrev pub lean_written : WrittenPart → WrittenPart
 lean_written p = record { part = lean_part p.part; other_keys = p.other_keys }
 
 abbrev pub lean_tile : Tile → Tile
 lean_tile t = record { letter = t.letter; parts = map lean_written t.parts }
 
+-- what is written, with them
 unfoldable pub lean : WrittenArch → WrittenArch
 lean w = record { sheet = w.sheet; tiles = map lean_tile w.tiles }
