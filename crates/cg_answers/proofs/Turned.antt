@@ -5,7 +5,7 @@ use Rattle.cg_model.specs.Work.{Image, Left}
 use Rattle.cg_model.specs.Turns.{turns_left}
 use Rattle.cg_ending.specs.declared.outcome.Status.TheVariants.{Done}
 use Rattle.cg_ending.specs.Outcome.{Bytes}
-use Rattle.cg_refusals.specs.Refusals.{reports}
+use Rattle.cg_ending.specs.Refusals.{reports}
 use Rattle.cg_answers.specs.Turns.{blank, streams_report, turned}
 
 pub turned_by : (K : Kernel) (n : ℕ) (image : Image) (left : Left) (streams : List (List ℕ)) (report : Bytes) → image ≡ blank → left ≡ turns_left K n image → streams ≡ left.image.streams

@@ -12,8 +12,8 @@ use Rattle.cg_ending.specs.declared.outcome.Status.TheVariants.{Done}
 use Rattle.cg_files.specs.Held.{Holds, Appends}
 use Rattle.cg_ending.specs.Outcome.{Name, Bytes, File, Outcome, line_of}
 use Rattle.cg_ending.specs.Ends.{Moment}
-use Rattle.cg_refusals.specs.Refusals.{malformed_of}
-use Rattle.cg_refusals.specs.Archs.{tiles_fault_text}
+use Rattle.cg_ending.specs.Refusals.{malformed_of}
+use Rattle.cg_tiles.specs.Texts.{tiles_fault_text}
 use Rattle.cg_answers.specs.Lines.{line_then}
 
 -- how many resources, units and links there are, and the digest of the text
@@ -30,7 +30,7 @@ flattened A out = record { status = Done; report = flat_report A; writes = recor
 
 abbrev pub flat_by : File → Name → Result Arch TilesFault → Outcome
 flat_by file out (Ok A) = flattened A out
-flat_by file out (Err f) = malformed_of file (tiles_fault_text f ∷ [])
+flat_by file out (Err f) = malformed_of file.name (tiles_fault_text f)
 
 -- by what the file gives: an architecture, or a fault, of which only the loop may be chosen
 pub record IsFlat (file : File) (out : Name) (o : Outcome) : Type 0 where

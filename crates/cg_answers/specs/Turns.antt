@@ -11,8 +11,8 @@ use Rattle.cg_ending.specs.Outcome.{Name, Bytes, File, Outcome}
 use Rattle.cg_ending.specs.Ends.{Moment}
 use Rattle.cg_kernel.specs.declared.fault.KernelFault.{KernelFault}
 use Rattle.cg_kernel.specs.Answer.{answer_of}
-use Rattle.cg_refusals.specs.Refusals.{reports, malformed_of}
-use Rattle.cg_refusals.specs.Kernels.{kernel_fault_text}
+use Rattle.cg_ending.specs.Refusals.{reports, malformed_of}
+use Rattle.cg_kernel.specs.Texts.{kernel_fault_text}
 
 -- some node gives output to the port
 abbrev pub outputs_to : Kernel → ℕ → Bool
@@ -45,7 +45,7 @@ turned n K = reports Done (streams_report K (turns_left K n blank).image.streams
 
 abbrev pub turns_by : ℕ → File → Result Kernel KernelFault → Outcome
 turns_by n file (Ok K) = turned n K
-turns_by n file (Err f) = malformed_of file (kernel_fault_text f)
+turns_by n file (Err f) = malformed_of file.name (kernel_fault_text f)
 
 -- what the command defines for the file
 unfoldable pub turns_of : ℕ → File → Outcome

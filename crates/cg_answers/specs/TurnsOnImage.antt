@@ -15,9 +15,9 @@ use Rattle.cg_pad.specs.declared.fault.ImageFault.{ImageFault}
 use Rattle.cg_pad.specs.Bytes as images
 use Rattle.cg_turns.specs.declared.pair.UnorderedPair.{UnorderedPair}
 use Rattle.cg_turns.specs.Pairs.{IsPairOf}
-use Rattle.cg_refusals.specs.Refusals.{malformed_of}
-use Rattle.cg_refusals.specs.Kernels.{kernel_fault_text}
-use Rattle.cg_refusals.specs.Images.{image_fault_text}
+use Rattle.cg_ending.specs.Refusals.{malformed_of}
+use Rattle.cg_kernel.specs.Texts.{kernel_fault_text}
+use Rattle.cg_pad.specs.Texts.{image_fault_text}
 use Rattle.cg_answers.specs.Lines.{line_then}
 
 -- the pair that no edges order: node and turn of the earlier access, and then of the later
@@ -50,11 +50,11 @@ pub record IsImaged (n : ℕ) (K : Kernel) (image : Image) (out : Name) (o : Out
 -- after the kernel the image is parsed
 abbrev pub IsOnImage : ℕ → Kernel → File → Name → Result Image ImageFault → Outcome → Type 0
 IsOnImage n K input out (Ok image) o = IsImaged n K image out o
-IsOnImage n K input out (Err f) o = o ≡ malformed_of input (image_fault_text f ∷ [])
+IsOnImage n K input out (Err f) o = o ≡ malformed_of input.name (image_fault_text f)
 
 abbrev pub IsOnKernel : ℕ → File → File → Name → Result Kernel KernelFault → Outcome → Type 0
 IsOnKernel n file input out (Ok K) o = IsOnImage n K input out (images.answer_of input.bytes) o
-IsOnKernel n file input out (Err f) o = o ≡ malformed_of file (kernel_fault_text f)
+IsOnKernel n file input out (Err f) o = o ≡ malformed_of file.name (kernel_fault_text f)
 
 -- what the command defines for the files
 unfoldable pub IsTurnsOnImage : ℕ → File → File → Name → Outcome → Type 0

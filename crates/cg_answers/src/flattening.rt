@@ -5,9 +5,8 @@ ghost use Rattle.cg_ending.specs.Outcome.{file_of, outcome_of};
 ghost use Rattle.cg_answers.specs.Flat.{IsFlat, flat_report, flattened};
 
 use cg_arch::{Arch, Resource, flat_text};
-use cg_ending::{File, Outcome, Status};
-use cg_refusals::no_arch;
-use cg_tiles::{TilesFault, read_arch};
+use cg_ending::{File, Outcome, Status, malformed};
+use cg_tiles::{TilesFault, read_arch, tiles_fault_text};
 use std::alloc::{AllocError, Global};
 
 /// The text of the architecture that a file gives, under the name `out`.
@@ -17,7 +16,10 @@ pub(crate) fn flat(alloc: Global, file: &File, out: &str) -> Result<Outcome, All
     match read_arch(alloc, file.bytes.as_slice()) {
         Ok(arch) => flattened(alloc, &arch, out),
         Err(TilesFault::Memory) => Err(AllocError),
-        Err(fault) => no_arch(alloc, file, &fault),
+        Err(fault) => {
+            let text = tiles_fault_text(alloc, &fault)?;
+            malformed(alloc, file.name.as_str(), text.as_str())
+        }
     }
 }
 

@@ -5,10 +5,9 @@ ghost use Rattle.cg_ending.specs.Outcome.{file_of, outcome_of};
 ghost use Rattle.cg_answers.specs.TurnsOnImage.{IsImaged, IsOnImage, IsTurnsOnImage, image_report, pair_status};
 ghost use Rattle.cg_pad.specs.Bytes as images;
 
-use cg_ending::{File, Outcome, Status};
-use cg_kernel::{Kernel, KernelFault, read_kernel};
-use cg_pad::{Image, ImageFault, read_image, write_image};
-use cg_refusals::{no_image, no_kernel};
+use cg_ending::{File, Outcome, Status, malformed};
+use cg_kernel::{Kernel, KernelFault, kernel_fault_text, read_kernel};
+use cg_pad::{Image, ImageFault, image_fault_text, read_image, write_image};
 use cg_turns::{UnorderedPair, run_turns};
 use std::alloc::{AllocError, Global};
 
@@ -27,7 +26,10 @@ pub(crate) fn turns_on_image(
     match read_kernel(alloc, file.bytes.as_slice()) {
         Ok(kernel) => on_image(alloc, turns, &kernel, input, out),
         Err(KernelFault::Memory) => Err(AllocError),
-        Err(fault) => no_kernel(alloc, file, &fault),
+        Err(fault) => {
+            let text = kernel_fault_text(alloc, &fault)?;
+            malformed(alloc, file.name.as_str(), text.as_str())
+        }
     }
 }
 
@@ -44,7 +46,10 @@ fn on_image(
     match read_image(alloc, input.bytes.as_slice()) {
         Ok(image) => imaged(alloc, turns, kernel, &image, out),
         Err(ImageFault::Memory) => Err(AllocError),
-        Err(fault) => no_image(alloc, input, fault),
+        Err(fault) => {
+            let text = image_fault_text(alloc, fault)?;
+            malformed(alloc, input.name.as_str(), text.as_str())
+        }
     }
 }
 

@@ -4,10 +4,9 @@ ghost use Rattle.cg_ending.specs.Outcome.{file_of, outcome_of};
 ghost use Rattle.cg_answers.specs.Turns.{turned, turns_of};
 
 use crate::streams::streams_report;
-use cg_ending::{File, Outcome, Status};
-use cg_kernel::{Kernel, KernelFault, read_kernel};
+use cg_ending::{File, Outcome, Status, malformed};
+use cg_kernel::{Kernel, KernelFault, kernel_fault_text, read_kernel};
 use cg_pad::Image;
-use cg_refusals::no_kernel;
 use cg_turns::run_turns;
 use std::alloc::{AllocError, Global};
 
@@ -19,7 +18,10 @@ pub(crate) fn turns(alloc: Global, turns: u32, file: &File) -> Result<Outcome, A
     match read_kernel(alloc, file.bytes.as_slice()) {
         Ok(kernel) => turned(alloc, turns, &kernel),
         Err(KernelFault::Memory) => Err(AllocError),
-        Err(fault) => no_kernel(alloc, file, &fault),
+        Err(fault) => {
+            let text = kernel_fault_text(alloc, &fault)?;
+            malformed(alloc, file.name.as_str(), text.as_str())
+        }
     }
 }
 

@@ -2,33 +2,33 @@
 use Rattle.std.proofs.Common.{◌≡◌, ℕ, ◌≤◌, List, length, None, arith}
 use Rattle.cg_model.specs.Array.{IsArch}
 use Rattle.cg_model.proofs.Options.{or_none}
-use Rattle.cg_level.specs.Rising.{IsRising, AreKnown}
+use Rattle.cg_level.specs.Topological.{IsTopological, AreKnown}
 use Rattle.cg_level.proofs.Levels.{place_of, order_levels, order_no_loop}
 use Rattle.cg_parts.specs.declared.parts.Parts.{Parts}
-use Rattle.cg_parts.specs.Rules.{early_fault, unit_fault}
+use Rattle.cg_parts.specs.Rules.{fault_before_loops, unit_or_contexts_fault}
 use Rattle.cg_arch.specs.Flat.{arch_of}
 use Rattle.cg_arch.specs.Hub.{hub_fault}
-use Rattle.cg_arch.specs.Answer.{late_fault, HasNoLoop}
+use Rattle.cg_arch.specs.Answer.{fault_after_loops, HasNoCombinationalLoop}
 use Rattle.cg_arch.proofs.Clean.{clean}
 use Rattle.cg_arch.proofs.Resources.{size, known}
 use Rattle.cg_arch.proofs.Valid.{valid}
 
-pub few : (parts : Parts) → early_fault parts ≡ None → length (arch_of parts).resources ≤ 4096
+pub few : (parts : Parts) → fault_before_loops parts ≡ None → length (arch_of parts).resources ≤ 4096
 unfolding arch_of
 few parts early = let long = size parts in let most = (clean parts early).resources in omega (arith, long, most)
 
-pub drivers_known : (parts : Parts) → early_fault parts ≡ None → AreKnown (arch_of parts).resources
+pub drivers_known : (parts : Parts) → fault_before_loops parts ≡ None → AreKnown (arch_of parts).resources
 unfolding arch_of
 drivers_known parts early = known parts (clean parts early)
 
-pub no_loop : (parts : Parts) (order : List ℕ) → IsRising (arch_of parts).resources order → HasNoLoop parts
+pub no_loop : (parts : Parts) (order : List ℕ) → IsTopological (arch_of parts).resources order → HasNoCombinationalLoop parts
 no_loop parts order rising = λ loop is. order_no_loop (arch_of parts).resources order loop rising is
 
-late_parts : (parts : Parts) → late_fault parts ≡ None → (unit_fault parts ≡ None) × (hub_fault parts (arch_of parts) ≡ None)
-unfolding late_fault
-late_parts parts late = or_none (unit_fault parts) (hub_fault parts (arch_of parts)) late
+late_parts : (parts : Parts) → fault_after_loops parts ≡ None → (unit_or_contexts_fault parts ≡ None) × (hub_fault parts (arch_of parts) ≡ None)
+unfolding fault_after_loops
+late_parts parts late = or_none (unit_or_contexts_fault parts) (hub_fault parts (arch_of parts)) late
 
-pub valid_by : (parts : Parts) (order : List ℕ) → early_fault parts ≡ None → late_fault parts ≡ None → IsRising (arch_of parts).resources order → IsArch (arch_of parts)
+pub valid_by : (parts : Parts) (order : List ℕ) → fault_before_loops parts ≡ None → fault_after_loops parts ≡ None → IsTopological (arch_of parts).resources order → IsArch (arch_of parts)
 valid_by parts order early late rising =
     let levels = order_levels (arch_of parts).resources order rising in
     let none = late_parts parts late in

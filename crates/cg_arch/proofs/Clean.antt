@@ -13,10 +13,10 @@ use Rattle.cg_parts.specs.declared.entry.Entry.{Entry}
 use Rattle.cg_parts.specs.declared.fault.ArchFault.TheVariants as fault
 use Rattle.cg_parts.specs.declared.fault.NamePlace.TheVariants as place
 use Rattle.cg_parts.specs.declared.fault.TooLargePlace.TheVariants as large
-use Rattle.cg_parts.specs.declared.drivers.Wrong.TheVariants.{Nothing, APort}
+use Rattle.cg_parts.specs.declared.drivers.DriverRule.TheVariants.{UnknownDriver, PortDrives}
 use Rattle.cg_parts.specs.Parts.{entries, name_of, drivers_of}
 use Rattle.cg_parts.specs.Numbers.{claimer_of}
-use Rattle.cg_parts.specs.Rules.{first_driver, links, is_unit, has_bad_name, repeats_by, is_wrong, is_bad_unit, too_large, bad_name, repeated_name, wrong_driver, early_fault, bad_unit, bad_contexts, unit_fault}
+use Rattle.cg_parts.specs.Rules.{first_driver, links, is_unit, has_bad_name, repeats_by, is_wrong, is_bad_unit, too_large, bad_name, repeated_name, wrong_driver, fault_before_loops, bad_unit, bad_contexts, unit_or_contexts_fault}
 
 -- ---- drivers
 
@@ -41,8 +41,8 @@ pub record IsClean (parts : Parts) : Type 0 where
   pub own_name : is_name 40 parts.name ≡ true
   pub names : (v : ℕ) (e : Element) → slice_get parts.elements v ≡ Some e → is_name 40 (name_of e) ≡ true
   pub claims : (v : ℕ) (e : Element) → slice_get parts.elements v ≡ Some e → repeats_by (claimer_of parts.elements) v e ≡ false
-  pub drivers : (v m : ℕ) (e : Element) (d : List ℕ) → slice_get parts.elements v ≡ Some e → slice_get (drivers_of e) m ≡ Some d → is_wrong Nothing (entries parts.elements) d ≡ false
-  pub no_ports : (v m : ℕ) (e : Element) (d : List ℕ) → slice_get parts.elements v ≡ Some e → slice_get (drivers_of e) m ≡ Some d → is_wrong APort (entries parts.elements) d ≡ false
+  pub drivers : (v m : ℕ) (e : Element) (d : List ℕ) → slice_get parts.elements v ≡ Some e → slice_get (drivers_of e) m ≡ Some d → is_wrong UnknownDriver (entries parts.elements) d ≡ false
+  pub no_ports : (v m : ℕ) (e : Element) (d : List ℕ) → slice_get parts.elements v ≡ Some e → slice_get (drivers_of e) m ≡ Some d → is_wrong PortDrives (entries parts.elements) d ≡ false
 
 -- neither A7 nor A8 applies
 pub record HaveGoodUnits (parts : Parts) : Type 0 where
@@ -81,14 +81,14 @@ named parts none =
       names = λ v e at. not-false (is_name 40 (name_of e)) (first_from_none (λ number e. has_bad_name e) 0 parts.elements v v e (map_none place.Element _ parts_none.1) at (omega arith));
     }
 
-pub clean : (parts : Parts) → early_fault parts ≡ None → IsClean parts
-unfolding early_fault
+pub clean : (parts : Parts) → fault_before_loops parts ≡ None → IsClean parts
+unfolding fault_before_loops
 clean parts early =
     let rs = entries parts.elements in
     let one = or_none (option_map fault.TooLarge (too_large parts rs)) (option_or (option_map fault.BadName (bad_name parts)) (option_or (option_map fault.RepeatedName (repeated_name parts.elements)) (wrong_driver parts.elements rs))) early in
     let two = or_none (option_map fault.BadName (bad_name parts)) (option_or (option_map fault.RepeatedName (repeated_name parts.elements)) (wrong_driver parts.elements rs)) one.1 in
     let three = or_none (option_map fault.RepeatedName (repeated_name parts.elements)) (wrong_driver parts.elements rs) two.1 in
-    let four = or_none (option_map fault.UnknownDriver (first_driver (is_wrong Nothing rs) 0 parts.elements)) (option_map fault.PortDrives (first_driver (is_wrong APort rs) 0 parts.elements)) three.1 in
+    let four = or_none (option_map fault.UnknownDriver (first_driver (is_wrong UnknownDriver rs) 0 parts.elements)) (option_map fault.PortDrives (first_driver (is_wrong PortDrives rs) 0 parts.elements)) three.1 in
     let large = small parts rs (map_none fault.TooLarge (too_large parts rs) one.0) in
     let names = named parts (map_none fault.BadName (bad_name parts) two.0) in
     record {
@@ -99,12 +99,12 @@ clean parts early =
       own_name = names.own;
       names = names.names;
       claims = λ v e at. first_from_none (repeats_by (claimer_of parts.elements)) 0 parts.elements v v e (map_none fault.RepeatedName (repeated_name parts.elements) three.0) at (omega arith);
-      drivers = λ v m e d at at'. driver_none (is_wrong Nothing rs) 0 parts.elements v m e d (map_none fault.UnknownDriver _ four.0) at at';
-      no_ports = λ v m e d at at'. driver_none (is_wrong APort rs) 0 parts.elements v m e d (map_none fault.PortDrives _ four.1) at at';
+      drivers = λ v m e d at at'. driver_none (is_wrong UnknownDriver rs) 0 parts.elements v m e d (map_none fault.UnknownDriver _ four.0) at at';
+      no_ports = λ v m e d at at'. driver_none (is_wrong PortDrives rs) 0 parts.elements v m e d (map_none fault.PortDrives _ four.1) at at';
     }
 
-pub good_units : (parts : Parts) → unit_fault parts ≡ None → HaveGoodUnits parts
-unfolding unit_fault
+pub good_units : (parts : Parts) → unit_or_contexts_fault parts ≡ None → HaveGoodUnits parts
+unfolding unit_or_contexts_fault
 good_units parts late =
     let five = or_none (bad_unit parts) (bad_contexts parts) late in
     let contexts = or_parts (nat_lt parts.contexts 1) (nat_lt 64 parts.contexts) (cond_none (nat_lt parts.contexts 1 || nat_lt 64 parts.contexts) (fault.BadContexts parts.contexts) None five.1).0 in

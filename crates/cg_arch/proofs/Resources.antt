@@ -15,7 +15,7 @@ use Rattle.cg_parts.specs.declared.parts.Element.{Element}
 use Rattle.cg_parts.specs.declared.parts.Element.TheVariants as element
 use Rattle.cg_parts.specs.declared.parts.Parts.{Parts}
 use Rattle.cg_parts.specs.declared.entry.Entry.{Entry}
-use Rattle.cg_parts.specs.declared.drivers.Wrong.TheVariants.{APort}
+use Rattle.cg_parts.specs.declared.drivers.DriverRule.TheVariants.{PortDrives}
 use Rattle.cg_parts.specs.Parts.{entries, entries_of, drivers_of, distinct}
 use Rattle.cg_parts.specs.Numbers.{number_of, is_named}
 use Rattle.cg_parts.specs.Rules.{is_wrong, is_port, is_port_at}
@@ -158,7 +158,7 @@ pub record IsDriver (parts : Parts) (r k q : ℕ) : Type 0 where
   pub at : slice_get p.x.drivers k ≡ Some d
   pub numbered : IsNumbered (entries parts.elements) d
   pub number : number_in (entries parts.elements) d ≡ q
-  pub no_port : is_wrong APort (entries parts.elements) d ≡ false
+  pub no_port : is_wrong PortDrives (entries parts.elements) d ≡ false
 
 module _ (parts : Parts) (good : IsClean parts) where
   driver_by : (r k q : ℕ) (p : IsResource parts r) (d : List ℕ) → slice_get p.x.drivers k ≡ Some d → number_in (entries parts.elements) d ≡ q → IsDriver parts r k q

@@ -6,7 +6,7 @@ use Rattle.cg_model.specs.declared.array.Kind.TheVariants.{Register, Port, Out}
 use Rattle.cg_parts.specs.declared.parts.Element.TheVariants as element
 use Rattle.cg_parts.specs.declared.parts.Parts.{Parts}
 use Rattle.cg_parts.specs.Parts.{entries, distinct}
-use Rattle.cg_parts.specs.Rules.{early_fault, unit_fault}
+use Rattle.cg_parts.specs.Rules.{fault_before_loops, unit_or_contexts_fault}
 use Rattle.cg_arch.specs.Flat.{arch_of}
 use Rattle.cg_arch.specs.Hub.{hub_fault}
 
@@ -40,13 +40,13 @@ arch_of_tile : arch_of (tile (codes "r" ∷ [])) ≡ record {
 unfolding arch_of entries distinct
 arch_of_tile = refl
 
-no_early_fault : early_fault (tile (codes "r" ∷ [])) ≡ None
-unfolding early_fault entries distinct
-no_early_fault = refl
+no_fault_before_loops : fault_before_loops (tile (codes "r" ∷ [])) ≡ None
+unfolding fault_before_loops entries distinct
+no_fault_before_loops = refl
 
-no_unit_fault : unit_fault (tile (codes "r" ∷ [])) ≡ None
-unfolding unit_fault
-no_unit_fault = refl
+no_unit_or_contexts_fault : unit_or_contexts_fault (tile (codes "r" ∷ [])) ≡ None
+unfolding unit_or_contexts_fault
+no_unit_or_contexts_fault = refl
 
 complete_hub : hub_fault (tile (codes "r" ∷ [])) (arch_of (tile (codes "r" ∷ []))) ≡ None
 unfolding hub_fault arch_of entries distinct

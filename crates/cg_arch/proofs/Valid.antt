@@ -147,7 +147,7 @@ module _ (parts : Parts) (own : HaveGoodUnits parts) where
       omega (arith, long, few)
 
 -- the flat architecture is valid, where a level rises along each of its links of delay 0
-pub valid : (parts : Parts) → rules.early_fault parts ≡ None → rules.unit_fault parts ≡ None → hub_fault parts (arch_of parts) ≡ None
+pub valid : (parts : Parts) → rules.fault_before_loops parts ≡ None → rules.unit_or_contexts_fault parts ≡ None → hub_fault parts (arch_of parts) ≡ None
     → (level : ℕ → ℕ) → ((r : ℕ) → r < length (arch_of parts).resources → level r < length (arch_of parts).resources)
     → ((q r : ℕ) → Contains (resource (arch_of parts) r).drivers q → delay (arch_of parts) r ≡ 0 → level q < level r) → IsArch (arch_of parts)
 unfolding arch_of

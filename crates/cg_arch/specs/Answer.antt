@@ -2,21 +2,21 @@
 use Rattle.std.specs.Prelude.{◌≡◌, ◌≢◌, ℕ, List, map, Option, Some, None, Result, Ok, Err}
 use Rattle.std.specs.Option.{option_or}
 use Rattle.cg_model.specs.Array.{Arch, resource}
-use Rattle.cg_level.specs.Rising.{IsLoop}
+use Rattle.cg_level.specs.Topological.{IsCombinationalLoop}
 use Rattle.cg_parts.specs.declared.parts.Parts.{Parts}
 use Rattle.cg_parts.specs.declared.fault.ArchFault.{ArchFault}
 use Rattle.cg_parts.specs.declared.fault.ArchFault.TheVariants as fault
-use Rattle.cg_parts.specs.Rules.{early_fault, unit_fault}
+use Rattle.cg_parts.specs.Rules.{fault_before_loops, unit_or_contexts_fault}
 use Rattle.cg_arch.specs.Flat.{arch_of}
 use Rattle.cg_arch.specs.Hub.{hub_fault}
 
 -- the lowest of A7 to A9 that applies, at its first place
-unfoldable pub late_fault : Parts → Option ArchFault
-late_fault parts = option_or (unit_fault parts) (hub_fault parts (arch_of parts))
+unfoldable pub fault_after_loops : Parts → Option ArchFault
+fault_after_loops parts = option_or (unit_or_contexts_fault parts) (hub_fault parts (arch_of parts))
 
 -- no links of delay 0 form a loop
-abbrev pub HasNoLoop : Parts → Type 0
-HasNoLoop parts = (loop : List ℕ) → IsLoop (arch_of parts).resources loop → ⊥
+abbrev pub HasNoCombinationalLoop : Parts → Type 0
+HasNoCombinationalLoop parts = (loop : List ℕ) → IsCombinationalLoop (arch_of parts).resources loop → ⊥
 
 -- the names of resources
 abbrev pub names_of : Arch → List ℕ → List (List ℕ)
@@ -25,15 +25,15 @@ names_of A = map (λ r. (resource A r).name)
 -- a fault that parts have: the lowest of A1 to A5, or else a loop (A6), any one, or else the lowest of A7 to A9, each at its
 -- first place
 pub data IsFault (parts : Parts) : ArchFault → Type 0 where
-  early : {f : ArchFault} → early_fault parts ≡ Some f → IsFault parts f
-  a_loop : {loop : List ℕ} → early_fault parts ≡ None → IsLoop (arch_of parts).resources loop → IsFault parts (fault.ZeroDelayLoop (names_of (arch_of parts) loop))
-  late : {f : ArchFault} → early_fault parts ≡ None → HasNoLoop parts → late_fault parts ≡ Some f → IsFault parts f
+  early : {f : ArchFault} → fault_before_loops parts ≡ Some f → IsFault parts f
+  a_loop : {loop : List ℕ} → fault_before_loops parts ≡ None → IsCombinationalLoop (arch_of parts).resources loop → IsFault parts (fault.ZeroDelayLoop (names_of (arch_of parts) loop))
+  late : {f : ArchFault} → fault_before_loops parts ≡ None → HasNoCombinationalLoop parts → fault_after_loops parts ≡ Some f → IsFault parts f
 
 -- parts have no fault, and are that architecture
 pub record AreValid (parts : Parts) (A : Arch) : Type 0 where
-  pub early : early_fault parts ≡ None
-  pub no_loop : HasNoLoop parts
-  pub late : late_fault parts ≡ None
+  pub early : fault_before_loops parts ≡ None
+  pub no_loop : HasNoCombinationalLoop parts
+  pub late : fault_after_loops parts ≡ None
   pub is : A ≡ arch_of parts
 
 -- what is answered, unless memory ran out

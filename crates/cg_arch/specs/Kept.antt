@@ -2,7 +2,7 @@
 use Rattle.std.specs.Prelude.{◌≡◌, ℕ, List}
 use Rattle.sha2.specs.Sha256.{sha256}
 use Rattle.cg_model.specs.Array.{Arch, IsArch}
-use Rattle.cg_level.specs.Rising.{IsRising}
+use Rattle.cg_level.specs.Topological.{IsTopological}
 use Rattle.cg_flat.specs.Text.{text_of}
 use Rattle.cg_flat.specs.Slots.{all_select_at, all_unit_at}
 
@@ -15,6 +15,6 @@ digest_of A = sha256 (text_of A)
 pub record IsKept (A : Arch) (digest order selects units : List ℕ) : Type 0 where
   pub valid : IsArch A
   pub digest_is : digest ≡ digest_of A
-  pub order_is : IsRising A.resources order
+  pub order_is : IsTopological A.resources order
   pub selects_are : selects ≡ all_select_at A
   pub units_are : units ≡ all_unit_at A

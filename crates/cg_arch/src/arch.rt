@@ -32,7 +32,7 @@ impl Model for Arch {
 impl Arch {
     ghost use Rattle.std.specs.Prelude.{◌≡◌, ◌<◌, length};
     ghost use Rattle.cg_model.specs.Array as arrays;
-    ghost use Rattle.cg_level.specs.Rising.{IsRising};
+    ghost use Rattle.cg_level.specs.Topological.{IsTopological};
     ghost use Rattle.cg_flat.specs.Slots as slots;
     ghost use Rattle.cg_arch.specs.Kept.{IsKept, digest_of};
 
@@ -113,7 +113,7 @@ impl Arch {
 
     /// The numbers of all resources, each after those from which it takes its word in the same cycle.
     pub fn order(&self) -> &[u32]
-        ensures { IsRising self.now.resources result.now }
+        ensures { IsTopological self.now.resources result.now }
     {
         self.order.as_slice()
     }

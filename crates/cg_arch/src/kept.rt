@@ -1,7 +1,7 @@
 //! What is kept with a valid architecture.
 ghost use Rattle.std.specs.Prelude.{◌≡◌, IfOk};
 ghost use Rattle.cg_model.specs.Array.{IsArch};
-ghost use Rattle.cg_level.specs.Rising.{IsRising};
+ghost use Rattle.cg_level.specs.Topological.{IsTopological};
 ghost use Rattle.cg_arch.specs.Kept.{digest_of};
 
 use crate::arch::Arch;
@@ -13,7 +13,7 @@ use std::alloc::{AllocError, Global};
 /// The architecture with its digest, that order, and where selects and units begin in a slot.
 pub(crate) fn keep(alloc: Global, flat: Flat, order: Words) -> Result<Arch, AllocError>
     requires valid { IsArch flat }
-    requires order { IsRising flat.resources order }
+    requires order { IsTopological flat.resources order }
     ensures { IfOk result (λ arch. arch ≡ flat) }
 {
     let digest = digest_of(alloc, &flat)?;

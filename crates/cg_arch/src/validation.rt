@@ -3,8 +3,8 @@ ghost use Rattle.std.specs.Prelude.{◌≡◌, IfOk, None};
 ghost use Rattle.cg_model.specs.Array.{IsArch};
 ghost use Rattle.cg_parts.specs.Parts.{entries};
 ghost use Rattle.cg_parts.specs.Numbers.{IsNumbering};
-ghost use Rattle.cg_parts.specs.Rules.{early_fault};
-ghost use Rattle.cg_level.specs.Rising.{IsRising};
+ghost use Rattle.cg_parts.specs.Rules.{fault_before_loops};
+ghost use Rattle.cg_level.specs.Topological.{IsTopological};
 ghost use Rattle.cg_arch.specs.Flat.{arch_of};
 ghost use Rattle.cg_arch.specs.Answer as spec;
 
@@ -13,10 +13,11 @@ use crate::build::flat_of;
 use crate::hub::{hub_fault, name_of};
 use crate::kept::keep;
 use cg_flat::Flat;
-use cg_level::{LevelFault, rising_order};
+use cg_level::{OrderFault, topological_order};
 use cg_model::Words;
 use cg_parts::{
-    ArchFault, Entry, Names, Numbers, Parts, early_fault, entries_of_all, numbers_of, unit_fault,
+    ArchFault, Entry, Names, Numbers, Parts, entries_of_all, fault_before_loops, numbers_of,
+    unit_or_contexts_fault,
 };
 use std::alloc::{AllocError, Global};
 
@@ -28,7 +29,7 @@ pub fn validate(alloc: Global, parts: &Parts) -> Result<Arch, ArchFault>
 {
     let resources = entries_of_all(alloc, parts.elements.as_slice())?;
     let numbers = numbers_of(alloc, &resources)?;
-    if let Some(fault) = early_fault(alloc, parts, &resources, &numbers)? {
+    if let Some(fault) = fault_before_loops(alloc, parts, &resources, &numbers)? {
         return Err(fault);
     }
     numbered(alloc, parts, &resources, &numbers)
@@ -43,19 +44,19 @@ fn numbered(
 ) -> Result<Arch, ArchFault>
     requires resources { resources.now ≡ entries parts.now.elements }
     requires numbers { IsNumbering numbers.now resources.now }
-    requires early { early_fault parts.now ≡ None }
+    requires early { fault_before_loops parts.now ≡ None }
     ensures answer { spec.IsAnswer parts.now result }
     ensures valid { IfOk result IsArch }
 {
     let flat = flat_of(alloc, parts, resources, numbers)?;
-    match rising_order(alloc, flat.resources()) {
+    match topological_order(alloc, flat.resources()) {
         Ok(order) => ordered(alloc, parts, resources, numbers, flat, order),
-        Err(LevelFault::Loop(ring)) => Err(ArchFault::ZeroDelayLoop(names_of(
+        Err(OrderFault::CombinationalLoop(ring)) => Err(ArchFault::ZeroDelayLoop(names_of(
             alloc,
             &flat,
             ring.as_slice(),
         )?)),
-        Err(LevelFault::Memory) => Err(ArchFault::Memory),
+        Err(OrderFault::Memory) => Err(ArchFault::Memory),
     }
 }
 
@@ -70,21 +71,21 @@ fn ordered(
 ) -> Result<Arch, ArchFault>
     requires resources { resources.now ≡ entries parts.now.elements }
     requires numbers { IsNumbering numbers.now resources.now }
-    requires early { early_fault parts.now ≡ None }
+    requires early { fault_before_loops parts.now ≡ None }
     requires flat { flat ≡ arch_of parts.now }
-    requires order { IsRising flat.resources order }
+    requires order { IsTopological flat.resources order }
     ensures answer { spec.IsAnswer parts.now result }
     ensures valid { IfOk result IsArch }
 {
-    if let Some(fault) = late_fault(alloc, parts, resources, numbers, &flat)? {
+    if let Some(fault) = fault_after_loops(alloc, parts, resources, numbers, &flat)? {
         return Err(fault);
     }
     Ok(keep(alloc, flat, order)?)
 }
 
 /// The lowest of A7 to A9 that applies, at its first place.
-#[tactic(auto, unfolding(crate::specs::Answer::late_fault))]
-fn late_fault(
+#[tactic(auto, unfolding(crate::specs::Answer::fault_after_loops))]
+fn fault_after_loops(
     alloc: Global,
     parts: &Parts,
     resources: &[Entry],
@@ -94,9 +95,9 @@ fn late_fault(
     requires resources { resources.now ≡ entries parts.now.elements }
     requires numbers { IsNumbering numbers.now resources.now }
     requires flat { flat.now ≡ arch_of parts.now }
-    ensures { IfOk result (λ found. found ≡ spec.late_fault parts.now) }
+    ensures { IfOk result (λ found. found ≡ spec.fault_after_loops parts.now) }
 {
-    if let Some(fault) = unit_fault(parts) {
+    if let Some(fault) = unit_or_contexts_fault(parts) {
         return Ok(Some(fault));
     }
     hub_fault(alloc, parts, resources, numbers, flat)

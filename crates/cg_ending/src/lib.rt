@@ -4,7 +4,9 @@
 mod finishing;
 mod outcome;
 mod read;
+mod refusals;
 
 pub use finishing::finish;
 pub use outcome::{File, Outcome, Status};
 pub use read::{READ_LIMIT, Stop, read_all};
+pub use refusals::{malformed, usage};

@@ -3,3 +3,4 @@ pub mod Numbers
 pub mod Rules
 pub mod Words
 pub mod Written
+pub mod Texts

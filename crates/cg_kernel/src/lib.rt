@@ -10,6 +10,7 @@ mod read;
 mod reading;
 mod rule;
 mod rules;
+mod texts;
 mod written;
 
 pub use cg_model::{Items, Name, Node, Operand, Operands, OrderEdge, Words};
@@ -17,3 +18,4 @@ pub use cg_word::Op;
 pub use fault::{KernelFault, KernelPlace};
 pub use kernel::Kernel;
 pub use read::read_kernel;
+pub use texts::kernel_fault_text;

@@ -15,7 +15,10 @@ use serde_json::Value;
 use std::alloc::{AllocError, Global};
 
 /// What the value writes, or the first place of a wrong shape.
-pub fn written_of(alloc: Global, value: &Value) -> Result<Result<WrittenKernel, KernelPlace>, AllocError>
+pub fn written_of(
+    alloc: Global,
+    value: &Value,
+) -> Result<Result<WrittenKernel, KernelPlace>, AllocError>
     ensures value { IfOk result (λ read. read ≡ spec.written_of (view value.now)) }
     ensures words { IfOk result (λ read. IfOk read HasAllWords) }
 {

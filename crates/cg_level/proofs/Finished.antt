@@ -7,7 +7,7 @@ use Rattle.cg_model.specs.declared.array.Resource.{Resource}
 use Rattle.cg_level.specs.declared.walk.Mark.{Mark}
 use Rattle.cg_level.specs.declared.walk.Mark.TheVariants.{New, Open, Done}
 use Rattle.cg_level.specs.declared.walk.Walk.{Walk}
-use Rattle.cg_level.specs.Rising.{IsRising}
+use Rattle.cg_level.specs.Topological.{IsTopological}
 use Rattle.cg_level.specs.Walk.{mark, is_done, IsWalk, Keeps, Opens}
 use Rattle.cg_level.proofs.Passing.{none_in}
 use Rattle.cg_level.proofs.Walks.{walk_opened, opened_keeps, opened_met}
@@ -51,7 +51,7 @@ counted_first marks (suc i) h done =
     omega arith
 
 -- a walk that has met all resources, and has none open, has an order of all
-pub walk_rising : (rs : List Resource) (w : Walk) → IsWalk rs w → w.path.items ≡ [] → ((r : ℕ) → r < length rs → mark w.marks.items r ≢ New) → IsRising rs w.order.items
+pub walk_rising : (rs : List Resource) (w : Walk) → IsWalk rs w → w.path.items ≡ [] → ((r : ℕ) → r < length rs → mark w.marks.items r ≢ New) → IsTopological rs w.order.items
 walk_rising rs w is none met =
     let long : length w.marks.items ≡ length rs = is.marks.long in
     let done : (r : ℕ) → r < length rs → mark w.marks.items r ≡ Done =

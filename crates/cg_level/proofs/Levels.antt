@@ -6,7 +6,7 @@ use Rattle.std.proofs.lemmas.Bool.{cases_lt, eq-eqb, eqb-true, both_ways}
 use Rattle.std.proofs.lemmas.List.{get_or-take, length-take}
 use Rattle.std.proofs.lemmas.List.Sums.{fails_before_first, passes_at_first}
 use Rattle.cg_model.specs.declared.array.Resource.{Resource}
-use Rattle.cg_level.specs.Rising.{Passes, IsRising, IsLoop, AreLevels}
+use Rattle.cg_level.specs.Topological.{Passes, IsTopological, IsCombinationalLoop, AreLevels}
 use Rattle.cg_level.proofs.Passing.{place_in, driven_known}
 
 -- the first place of r in a list, or the list's length
@@ -32,7 +32,7 @@ place_has : (order : List ℕ) (r : ℕ) → Contains order r → slice_index or
 place_has order r c = eqb-true (slice_index order (place_of order r)) r (passes_at_first (λ x. eqb x r) order 0 (place_within order r c))
 
 -- the places in an order are levels
-pub order_levels : (rs : List Resource) (order : List ℕ) → IsRising rs order → AreLevels rs (place_of order)
+pub order_levels : (rs : List Resource) (order : List ℕ) → IsTopological rs order → AreLevels rs (place_of order)
 order_levels rs order o =
     record {
       levels = λ r h. subst (λ n. place_of order r < n) o.long (place_within order r (o.all r h));
@@ -48,7 +48,7 @@ order_levels rs order o =
     }
 
 -- along a loop levels rise
-along : (rs : List Resource) (loop : List ℕ) (level : ℕ → ℕ) → IsLoop rs loop → AreLevels rs level → (k : ℕ) → k < length loop → level (slice_index loop 0) ≤ level (slice_index loop k)
+along : (rs : List Resource) (loop : List ℕ) (level : ℕ → ℕ) → IsCombinationalLoop rs loop → AreLevels rs level → (k : ℕ) → k < length loop → level (slice_index loop 0) ≤ level (slice_index loop k)
 along rs loop level l a zero h = omega arith
 along rs loop level l a (suc k) h =
     let before : level (slice_index loop 0) ≤ level (slice_index loop k) = along rs loop level l a k (omega arith) in
@@ -58,7 +58,7 @@ along rs loop level l a (suc k) h =
     omega arith
 
 -- levels leave no loop
-pub levels_no_loop : (rs : List Resource) (level : ℕ → ℕ) (loop : List ℕ) → AreLevels rs level → IsLoop rs loop → ⊥
+pub levels_no_loop : (rs : List Resource) (level : ℕ → ℕ) (loop : List ℕ) → AreLevels rs level → IsCombinationalLoop rs loop → ⊥
 levels_no_loop rs level loop a l =
     let some : 0 < length loop = l.some in
     let round : level (slice_index loop 0) ≤ level (slice_index loop (length loop - 1)) = along rs loop level l a (length loop - 1) (omega arith) in
@@ -66,5 +66,5 @@ levels_no_loop rs level loop a l =
     omega arith
 
 -- there is no order where there is a loop
-pub order_no_loop : (rs : List Resource) (order loop : List ℕ) → IsRising rs order → IsLoop rs loop → ⊥
+pub order_no_loop : (rs : List Resource) (order loop : List ℕ) → IsTopological rs order → IsCombinationalLoop rs loop → ⊥
 order_no_loop rs order loop o l = levels_no_loop rs (place_of order) loop (order_levels rs order o) l

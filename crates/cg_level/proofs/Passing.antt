@@ -7,7 +7,7 @@ use Rattle.cg_model.specs.declared.array.Resource.{Resource}
 use Rattle.cg_model.specs.declared.array.Kind.{Kind}
 use Rattle.cg_model.specs.declared.array.Kind.TheVariants.{Wire, Register, Port, Out}
 use Rattle.cg_model.specs.Array.{delay_by}
-use Rattle.cg_level.specs.Rising.{Passes, resource_at}
+use Rattle.cg_level.specs.Topological.{Passes, resource_at}
 use Rattle.cg_level.specs.Walk.{taken, inputs}
 
 -- a list's number is at some place of it

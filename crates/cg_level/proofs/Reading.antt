@@ -7,7 +7,7 @@ use Rattle.cg_model.specs.declared.array.Resource.{Resource}
 use Rattle.cg_level.specs.declared.walk.Mark.{Mark}
 use Rattle.cg_level.specs.declared.walk.Mark.TheVariants.{New, Open, Done}
 use Rattle.cg_level.specs.declared.walk.Walk.{Walk}
-use Rattle.cg_level.specs.Rising.{Passes, IsLoop, AreKnown}
+use Rattle.cg_level.specs.Topological.{Passes, IsCombinationalLoop, AreKnown}
 use Rattle.cg_level.specs.Ring.{IsRing}
 use Rattle.cg_level.specs.Walk.{mark, taken, inputs, IsWalk, IsLast, AreAlike, IsWaiting, AreDone, Opens, Closes, IsStep}
 use Rattle.cg_level.proofs.Passing.{place_in, item_in, input_passes, passes_input}
@@ -131,6 +131,6 @@ on_path rs mid path x q read known is waiting ep mark_read opened =
     rw ep (is.marks.on_path q (sym (get_or_read mid.marks.items q read (waiting_known rs mid x q known is waiting) mark_read New) ∙ opened))
 
 -- and gives a loop
-pub step_ring : (rs : List Resource) (w mid : Walk) (x q : ℕ) (path ring : List ℕ) → AreAlike w mid → IsWalk rs mid → IsLast w.path.items x → IsWaiting rs mid x q → path ≡ mid.path.items → IsRing path q ring → IsLoop rs ring
+pub step_ring : (rs : List Resource) (w mid : Walk) (x q : ℕ) (path ring : List ℕ) → AreAlike w mid → IsWalk rs mid → IsLast w.path.items x → IsWaiting rs mid x q → path ≡ mid.path.items → IsRing path q ring → IsCombinationalLoop rs ring
 step_ring rs w mid x q path ring alike is last waiting ep turned =
     ring_loop rs path q ring (rw ep is.path) (rw ep (passes_last rs mid x q (last_alike w mid x alike last) waiting)) turned

@@ -4,7 +4,7 @@ use Rattle.std.specs.Prelude.{Contains, slice_index, slice_range}
 use Rattle.std.proofs.lemmas.Bool.{cases_lt}
 use Rattle.std.proofs.lemmas.List.{get_or-take, get_or-drop, get_or-reverse, get_or_append_left, get_or-append_right, length-take, length-drop, length-append, length-reverse}
 use Rattle.cg_model.specs.declared.array.Resource.{Resource}
-use Rattle.cg_level.specs.Rising.{Passes, IsLoop}
+use Rattle.cg_level.specs.Topological.{Passes, IsCombinationalLoop}
 use Rattle.cg_level.specs.Ring.{IsRing}
 use Rattle.cg_level.specs.Walk.{IsPath}
 use Rattle.cg_level.proofs.Passing.{place_in}
@@ -104,7 +104,7 @@ next_passes rs path from is closes p q next hp hq =
     next
 
 -- a ring of a path whose last resource is driven by a number of it is a loop
-pub ring_loop : (rs : List Resource) (path : List ℕ) (number : ℕ) (ring : List ℕ) → IsPath rs path → Passes rs number (slice_index path (length path - 1)) → IsRing path number ring → IsLoop rs ring
+pub ring_loop : (rs : List Resource) (path : List ℕ) (number : ℕ) (ring : List ℕ) → IsPath rs path → Passes rs number (slice_index path (length path - 1)) → IsRing path number ring → IsCombinationalLoop rs ring
 ring_loop rs path number ring is closes r =
     let closes' : Passes rs (slice_index path r.from) (slice_index path (length path - 1)) = subst (λ z. Passes rs z (slice_index path (length path - 1))) (sym r.starts) closes in
     let after : r.from ≤ r.place = r.after in

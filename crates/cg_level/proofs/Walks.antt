@@ -9,7 +9,7 @@ use Rattle.cg_model.specs.declared.array.Resource.{Resource}
 use Rattle.cg_level.specs.declared.walk.Mark.{Mark}
 use Rattle.cg_level.specs.declared.walk.Mark.TheVariants.{New, Open, Done}
 use Rattle.cg_level.specs.declared.walk.Walk.{Walk}
-use Rattle.cg_level.specs.Rising.{Passes}
+use Rattle.cg_level.specs.Topological.{Passes}
 use Rattle.cg_level.specs.Walk.{mark, is_new, is_done, inputs, IsPath, IsClosed, AreMarks, ArePassed, IsWalk, Keeps, Opens, Closes, left}
 use Rattle.cg_level.proofs.Passing.{place_in, item_in}
 

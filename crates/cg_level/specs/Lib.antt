@@ -1,4 +1,4 @@
-pub mod Rising
+pub mod Topological
 pub mod Fault
 pub mod Ring
 pub mod Walk

@@ -6,7 +6,7 @@ use Rattle.cg_model.specs.declared.array.Kind.TheVariants.{Wire, Register, Port,
 use Rattle.cg_level.specs.declared.walk.Mark.{Mark}
 use Rattle.cg_level.specs.declared.walk.Mark.TheVariants.{New, Open, Done}
 use Rattle.cg_level.specs.declared.walk.Walk.{Walk}
-use Rattle.cg_level.specs.Rising.{Passes, resource_at}
+use Rattle.cg_level.specs.Topological.{Passes, resource_at}
 
 -- the mark of resource r; past the last one new
 abbrev pub mark : List Mark → ℕ → Mark

@@ -2,13 +2,13 @@
 //! about the definitions, for the proofs of crates above.
 ghost use Rattle.std.specs.Prelude.{ℕ, List};
 ghost use Rattle.cg_model.specs.declared.array.Resource.{Resource};
-ghost use Rattle.cg_level.specs.Rising.{IsRising, IsLoop, AreLevels};
+ghost use Rattle.cg_level.specs.Topological.{IsTopological, IsCombinationalLoop, AreLevels};
 
 /// An order gives levels that rise from each resource to those that it drives in the same cycle. So no
 /// resources have both an order and a loop.
-pub fn orders_rise()
+pub fn orders_give_levels()
     ensures levels { (rs : List Resource) (order : List ℕ) →
-        IsRising rs order → (level : ℕ → ℕ) × AreLevels rs level }
+        IsTopological rs order → (level : ℕ → ℕ) × AreLevels rs level }
     ensures no_loop { (rs : List Resource) (order loop : List ℕ) →
-        IsRising rs order → IsLoop rs loop → ⊥ }
+        IsTopological rs order → IsCombinationalLoop rs loop → ⊥ }
 {}

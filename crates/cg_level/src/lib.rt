@@ -10,6 +10,6 @@ mod ring;
 mod tests;
 mod walk;
 
-pub use fault::LevelFault;
-pub use laws::orders_rise;
-pub use order::rising_order;
+pub use fault::OrderFault;
+pub use laws::orders_give_levels;
+pub use order::topological_order;

@@ -1,19 +1,19 @@
 //! The order of resources.
 ghost use Rattle.std.specs.Prelude.{◌≤◌, IfOk, IfErr, length};
-ghost use Rattle.cg_level.specs.Rising.{AreKnown, IsRising};
+ghost use Rattle.cg_level.specs.Topological.{AreKnown, IsTopological};
 ghost use Rattle.cg_level.specs.Fault.{IsFaultOf};
 
-use crate::fault::LevelFault;
+use crate::fault::OrderFault;
 use crate::walk::Walk;
 use cg_model::{Resource, Words};
 use std::alloc::Global;
 
 /// An order of all resources in which each stands after those that drive it in the same cycle. Where
 /// there is none, the fault names a loop.
-pub fn rising_order(alloc: Global, resources: &[Resource]) -> Result<Words, LevelFault>
+pub fn topological_order(alloc: Global, resources: &[Resource]) -> Result<Words, OrderFault>
     requires few { length resources.now ≤ 4096 }
     requires known { AreKnown resources.now }
-    ensures order { IfOk result (IsRising resources.now) }
+    ensures order { IfOk result (IsTopological resources.now) }
     ensures ring { IfErr result (IsFaultOf resources.now) }
 {
     let mut walk = Walk::new(alloc, resources.len())?;

@@ -1,9 +1,9 @@
 //! Orders and loops of small lists of resources.
 ghost use Rattle.std.specs.Prelude.{◌<◌, ◌↔◌, All, IsTrue, length};
-ghost use Rattle.cg_level.specs.Rising.{AreKnown};
+ghost use Rattle.cg_level.specs.Topological.{AreKnown};
 
-use crate::fault::LevelFault;
-use crate::order::rising_order;
+use crate::fault::OrderFault;
+use crate::order::topological_order;
 use cg_model::{Kind, Name, Resource, Words};
 use std::alloc::Global;
 use std::test::Fail;
@@ -32,9 +32,12 @@ fn answer(alloc: Global, resources: &[Resource]) -> Result<String, Fail> {
     if resources.len() > 4096 || !are_known(resources) {
         return Err(Fail::from("a driver is no resource"));
     }
-    match rising_order(alloc, resources) {
+    match topological_order(alloc, resources) {
         Ok(order) => Ok(format!(in alloc; "{:?}", order.as_slice())?),
-        Err(LevelFault::Loop(ring)) => Ok(format!(in alloc; "loop {:?}", ring.as_slice())?),
+        Err(OrderFault::CombinationalLoop(ring)) => Ok(format!(in alloc;
+            "loop {:?}",
+            ring.as_slice()
+        )?),
         Err(fault) => Err(Fail::from(fault)),
     }
 }

@@ -2,10 +2,10 @@
 ghost use Rattle.std.specs.Prelude.{◌≡◌, ◌≢◌, ℕ, ◌<◌, ◌≤◌, OnOk, IfOk, IfErr, IfSome, IfNone, [], length, replicate, slice_index};
 ghost use Rattle.cg_level.specs.declared.walk.Mark.TheVariants.{New, Done};
 ghost use Rattle.cg_level.specs.Fault.{IsFaultOf};
-ghost use Rattle.cg_level.specs.Rising.{AreKnown};
+ghost use Rattle.cg_level.specs.Topological.{AreKnown};
 ghost use Rattle.cg_level.specs.Walk.{mark, taken, IsWalk, IsLast, Opens, Closes, AreAlike, IsWaiting, AreDone, IsStep, Places};
 
-use crate::fault::LevelFault;
+use crate::fault::OrderFault;
 use crate::ring::ring_of;
 use cg_model::{Kind, Resource, Words};
 use std::alloc::{AllocError, Global};
@@ -118,7 +118,7 @@ impl Walk {
     }
 
     /// Goes on from the last resource of the path: to a driver that isn't done, or back where each is.
-    fn step(&mut self, alloc: Global, resources: &[Resource]) -> Result<(), LevelFault>
+    fn step(&mut self, alloc: Global, resources: &[Resource]) -> Result<(), OrderFault>
         requires known { AreKnown resources.now }
         requires walk { IsWalk resources.now self.old }
         requires some { 0 < length self.old.path.items }
@@ -131,7 +131,7 @@ impl Walk {
             Some(driver) => {
                 if self.marks[driver as usize] == Mark::Open {
                     let ring = ring_of(alloc, &self.path, driver)?;
-                    return Err(LevelFault::Loop(Words::new(ring)));
+                    return Err(OrderFault::CombinationalLoop(Words::new(ring)));
                 }
                 self.open(driver)?;
             }
@@ -145,7 +145,7 @@ impl Walk {
         alloc: Global,
         resources: &[Resource],
         start: u32,
-    ) -> Result<(), LevelFault>
+    ) -> Result<(), OrderFault>
         requires known { AreKnown resources.now }
         requires start { start < length resources.now }
         requires walk { IsWalk resources.now self.old }

@@ -5,6 +5,7 @@ mod fault;
 mod image;
 mod reading;
 mod scratchpad;
+mod texts;
 mod work;
 mod writing;
 
@@ -12,5 +13,6 @@ pub use fault::ImageFault;
 pub use image::{Image, PORTS, Streams, empty_streams};
 pub use reading::read_image;
 pub use scratchpad::Scratchpad;
+pub use texts::image_fault_text;
 pub use work::Work;
 pub use writing::{reads_back, write_image};

@@ -19,8 +19,8 @@ pub use Rattle.cg_parts.specs.declared.fault.TooLargePlace.{TooLargePlace}
 use Rattle.cg_parts.specs.declared.fault.TooLargePlace.TheVariants as large
 pub use Rattle.cg_parts.specs.declared.fault.NamePlace.{NamePlace}
 use Rattle.cg_parts.specs.declared.fault.NamePlace.TheVariants as place
-pub use Rattle.cg_parts.specs.declared.drivers.Wrong.{Wrong}
-use Rattle.cg_parts.specs.declared.drivers.Wrong.TheVariants.{Nothing, APort}
+pub use Rattle.cg_parts.specs.declared.drivers.DriverRule.{DriverRule}
+use Rattle.cg_parts.specs.declared.drivers.DriverRule.TheVariants.{UnknownDriver, PortDrives}
 
 -- ---- A1 TooLarge: too many resources, links, units or words of memory
 
@@ -72,9 +72,9 @@ abbrev pub is_port_at : List Entry → ℕ → Bool
 is_port_at resources q = option_map_or (λ r. is_port r.kind) (slice_get resources q) false
 
 -- what is wrong with a driver: that it names nothing, or a port
-abbrev pub is_wrong : Wrong → List Entry → List ℕ → Bool
-is_wrong Nothing resources name = is_none (number_of resources name)
-is_wrong APort resources name = option_map_or (is_port_at resources) (number_of resources name) false
+abbrev pub is_wrong : DriverRule → List Entry → List ℕ → Bool
+is_wrong UnknownDriver resources name = is_none (number_of resources name)
+is_wrong PortDrives resources name = option_map_or (is_port_at resources) (number_of resources name) false
 
 -- the first driver that passes a test, in the lists of the elements from number v on
 abbrev pub first_driver : (List ℕ → Bool) → ℕ → List Element → Option DriverPlace
@@ -84,14 +84,14 @@ first_driver test v (e ∷ es) = option_or (option_map (λ name. record { elemen
 -- A4 at its first place, and else A5
 abbrev pub wrong_driver : List Element → List Entry → Option ArchFault
 wrong_driver elements resources = option_or
-    (option_map fault.UnknownDriver (first_driver (is_wrong Nothing resources) 0 elements))
-    (option_map fault.PortDrives (first_driver (is_wrong APort resources) 0 elements))
+    (option_map fault.UnknownDriver (first_driver (is_wrong UnknownDriver resources) 0 elements))
+    (option_map fault.PortDrives (first_driver (is_wrong PortDrives resources) 0 elements))
 
 -- ---- A1 to A5
 
 -- the lowest of A1 to A5 that applies, at its first place
-unfoldable pub early_fault : Parts → Option ArchFault
-early_fault parts = option_or
+unfoldable pub fault_before_loops : Parts → Option ArchFault
+fault_before_loops parts = option_or
     (option_map fault.TooLarge (too_large parts (entries parts.elements)))
     (option_or (option_map fault.BadName (bad_name parts))
     (option_or (option_map fault.RepeatedName (repeated_name parts.elements))
@@ -119,5 +119,5 @@ abbrev pub bad_contexts : Parts → Option ArchFault
 bad_contexts parts = if nat_lt parts.contexts 1 || nat_lt 64 parts.contexts then Some (fault.BadContexts parts.contexts) else None
 
 -- A7, and A8 after it
-unfoldable pub unit_fault : Parts → Option ArchFault
-unit_fault parts = option_or (bad_unit parts) (bad_contexts parts)
+unfoldable pub unit_or_contexts_fault : Parts → Option ArchFault
+unit_or_contexts_fault parts = option_or (bad_unit parts) (bad_contexts parts)

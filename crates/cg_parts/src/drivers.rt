@@ -13,28 +13,28 @@ use crate::parts::{Element, Names};
 use cg_model::{Kind, Name};
 use std::alloc::{AllocError, Global};
 
-/// What is wrong with a driver.
+/// What makes a driver be at fault.
 #[derive(Clone, Copy)]
-pub enum Wrong {
+pub enum DriverRule {
     /// It names no resource.
-    Nothing,
+    UnknownDriver,
     /// It names a port.
-    APort,
+    PortDrives,
 }
 
-/// The first wrong driver in the lists of the elements.
+/// The first driver at fault in the lists of the elements.
 pub(crate) fn first_wrong(
     alloc: Global,
-    wrong: Wrong,
+    rule: DriverRule,
     elements: &[Element],
     resources: &[Entry],
     numbers: &Numbers,
 ) -> Result<Option<DriverPlace>, AllocError>
     requires { IsNumbering numbers.now resources.now }
-    ensures { IfOk result (λ place. place ≡ spec.first_driver (spec.is_wrong wrong resources.now) 0 elements.now) }
+    ensures { IfOk result (λ place. place ≡ spec.first_driver (spec.is_wrong rule resources.now) 0 elements.now) }
 {
     for (number, element) in elements.iter().enumerate() {
-        if let Some(name) = wrong_of(wrong, element, resources, numbers) {
+        if let Some(name) = wrong_of(rule, element, resources, numbers) {
             let name = copy_of(alloc, name.as_str())?;
             return Ok(Some(DriverPlace {
                 element: number,
@@ -45,67 +45,67 @@ pub(crate) fn first_wrong(
     Ok(None)
 }
 
-/// The first wrong driver of an element.
+/// The first driver at fault of an element.
 fn wrong_of<'a>(
-    wrong: Wrong,
+    rule: DriverRule,
     element: &'a Element,
     resources: &[Entry],
     numbers: &Numbers,
 ) -> Option<&'a Name>
     requires { IsNumbering numbers.now resources.now }
-    ensures { option_copied result ≡ spec.first_such (spec.is_wrong wrong resources.now) (drivers_of element.now) }
+    ensures { option_copied result ≡ spec.first_such (spec.is_wrong rule resources.now) (drivers_of element.now) }
 {
     match element {
         Element::Wire { drivers, .. } | Element::Register { drivers, .. } => {
-            wrong_in(wrong, drivers.as_slice(), resources, numbers)
+            wrong_in(rule, drivers.as_slice(), resources, numbers)
         }
-        Element::Unit { ports, .. } => wrong_in_ports(wrong, ports.as_slice(), resources, numbers),
+        Element::Unit { ports, .. } => wrong_in_ports(rule, ports.as_slice(), resources, numbers),
     }
 }
 
-/// The first wrong driver of a unit's ports.
+/// The first driver at fault of a unit's ports.
 fn wrong_in_ports<'a>(
-    wrong: Wrong,
+    rule: DriverRule,
     ports: &'a [Names],
     resources: &[Entry],
     numbers: &Numbers,
 ) -> Option<&'a Name>
     requires { IsNumbering numbers.now resources.now }
-    ensures { option_copied result ≡ spec.first_such (spec.is_wrong wrong resources.now) (flat_map (λ drivers. drivers) ports.now) }
+    ensures { option_copied result ≡ spec.first_such (spec.is_wrong rule resources.now) (flat_map (λ drivers. drivers) ports.now) }
 {
     for drivers in ports {
-        if let Some(name) = wrong_in(wrong, drivers.as_slice(), resources, numbers) {
+        if let Some(name) = wrong_in(rule, drivers.as_slice(), resources, numbers) {
             return Some(name);
         }
     }
     None
 }
 
-/// The first wrong driver of a list.
+/// The first driver at fault of a list.
 fn wrong_in<'a>(
-    wrong: Wrong,
+    rule: DriverRule,
     drivers: &'a [Name],
     resources: &[Entry],
     numbers: &Numbers,
 ) -> Option<&'a Name>
     requires { IsNumbering numbers.now resources.now }
-    ensures { option_copied result ≡ spec.first_such (spec.is_wrong wrong resources.now) drivers.now }
+    ensures { option_copied result ≡ spec.first_such (spec.is_wrong rule resources.now) drivers.now }
 {
     for name in drivers {
-        if is_wrong(wrong, name.as_str(), resources, numbers) {
+        if is_wrong(rule, name.as_str(), resources, numbers) {
             return Some(name);
         }
     }
     None
 }
 
-fn is_wrong(wrong: Wrong, name: &str, resources: &[Entry], numbers: &Numbers) -> bool
+fn is_wrong(rule: DriverRule, name: &str, resources: &[Entry], numbers: &Numbers) -> bool
     requires { IsNumbering numbers.now resources.now }
-    ensures { result ≡ spec.is_wrong wrong resources.now name.now }
+    ensures { result ≡ spec.is_wrong rule resources.now name.now }
 {
-    match wrong {
-        Wrong::Nothing => number_in(numbers, name).is_none(),
-        Wrong::APort => match number_in(numbers, name) {
+    match rule {
+        DriverRule::UnknownDriver => number_in(numbers, name).is_none(),
+        DriverRule::PortDrives => match number_in(numbers, name) {
             Some(number) => is_port(resources, number),
             None => false,
         },

@@ -2,23 +2,25 @@
 //! A5, A7 and A8: of sizes, names, drivers, units and the number of contexts.
 #![tactic(auto)]
 
+mod before_loops;
 mod claims;
 mod drivers;
-mod early;
 mod entries;
 mod entry;
 mod fault;
 mod names;
 mod numbers;
 mod parts;
+mod texts;
 mod units;
 
-pub use drivers::Wrong;
-pub use early::early_fault;
+pub use before_loops::fault_before_loops;
+pub use drivers::DriverRule;
 pub use entries::entries_of_all;
 pub use entry::Entry;
 pub use fault::{ArchFault, DriverPlace, HubPlace, NamePlace, TooLargePlace};
 pub use names::distinct;
 pub use numbers::{Numbers, number_in, numbers_of};
 pub use parts::{Element, Names, Parts};
-pub use units::unit_fault;
+pub use texts::arch_fault_text;
+pub use units::unit_or_contexts_fault;

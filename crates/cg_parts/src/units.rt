@@ -11,9 +11,9 @@ use crate::parts::{Element, Parts};
 use cg_word::{Op, OpSet};
 
 /// A7 at its first place, and else A8.
-#[tactic(auto, unfolding(crate::specs::Rules::unit_fault))]
-pub fn unit_fault(parts: &Parts) -> Option<ArchFault>
-    ensures { result ≡ spec.unit_fault parts.now }
+#[tactic(auto, unfolding(crate::specs::Rules::unit_or_contexts_fault))]
+pub fn unit_or_contexts_fault(parts: &Parts) -> Option<ArchFault>
+    ensures { result ≡ spec.unit_or_contexts_fault parts.now }
 {
     match first_bad_unit(parts.elements.as_slice()) {
         Some(number) => Some(ArchFault::BadUnit(number)),

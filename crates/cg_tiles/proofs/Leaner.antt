@@ -13,7 +13,7 @@ use Rattle.cg_parts.specs.declared.fault.NamePlace.{NamePlace}
 use Rattle.cg_parts.specs.declared.fault.NamePlace.TheVariants as place
 use Rattle.cg_model.proofs.Options.{cond_none}
 use Rattle.cg_parts.specs.Parts.{entries}
-use Rattle.cg_parts.specs.Rules.{links, too_large, bad_name, has_bad_name, repeated_name, wrong_driver, early_fault}
+use Rattle.cg_parts.specs.Rules.{links, too_large, bad_name, has_bad_name, repeated_name, wrong_driver, fault_before_loops}
 use Rattle.cg_arch.specs.Answer.{IsFault, AreValid, early, a_loop, late}
 use Rattle.cg_tiles.specs.Written.{Part, WrittenPart, Tile, WrittenArch}
 use Rattle.cg_tiles.specs.declared.written.Part.TheVariants as part
@@ -81,9 +81,9 @@ faults_from large name rest = option_or (option_map arch.TooLarge large) (option
 
 -- two parts have the same early fault, or are equal
 abbrev Differ : Parts → Parts → Type 0
-Differ q p = (q ≡ p) ⊎ ((f : ArchFault) × (early_fault q ≡ Some f) × (early_fault p ≡ Some f))
+Differ q p = (q ≡ p) ⊎ ((f : ArchFault) × (fault_before_loops q ≡ Some f) × (fault_before_loops p ≡ Some f))
 
-by_fault : (q p : Parts) (large : Option TooLargePlace) (name : Option NamePlace) (a b : Option ArchFault) → early_fault q ≡ faults_from large name a → early_fault p ≡ faults_from large name b
+by_fault : (q p : Parts) (large : Option TooLargePlace) (name : Option NamePlace) (a b : Option ArchFault) → fault_before_loops q ≡ faults_from large name a → fault_before_loops p ≡ faults_from large name b
     → (name ≡ None → q ≡ p) → Differ q p
 by_fault q p (Some l) name a b eq ep same = inr (arch.TooLarge l, eq, ep)
 by_fault q p None (Some n) a b eq ep same = inr (arch.BadName n, eq, ep)
@@ -107,7 +107,7 @@ all_good p none =
     no_place first (cond_none (not (is_name 40 p.name)) place.Architecture (option_map place.Element first) none).1
 
 differ : (p : Parts) (es : List Element) → AreAlike es p.elements → Differ (with_elements p es) p
-unfolding with_elements early_fault
+unfolding with_elements fault_before_loops
 differ p es a =
     let q = with_elements p es in
     by_fault q p (too_large p (entries p.elements)) (bad_name p) (option_or (option_map arch.RepeatedName (repeated_name es)) (wrong_driver es (entries es))) (option_or (option_map arch.RepeatedName (repeated_name p.elements)) (wrong_driver p.elements (entries p.elements)))
@@ -116,7 +116,7 @@ differ p es a =
     refl
     (λ none. ap (with_elements p) (alike-same es p.elements 0 a (all_good p none)))
 
-fault_too : (q p : Parts) (f g : ArchFault) → early_fault q ≡ Some f → early_fault p ≡ Some f → IsFault q g → IsFault p g
+fault_too : (q p : Parts) (f g : ArchFault) → fault_before_loops q ≡ Some f → fault_before_loops p ≡ Some f → IsFault q g → IsFault p g
 fault_too q p f g eq ep (early e) = early (ep ∙ sym eq ∙ e)
 fault_too q p f g eq ep (a_loop none is) = let bad : None ≡ Some f = sym none ∙ eq in cc
 fault_too q p f g eq ep (late none l is) = let bad : None ≡ Some f = sym none ∙ eq in cc
@@ -130,8 +130,8 @@ answers q p (inr (f, eq, ep)) = record {
 
 pub lean-answers : (w : WrittenArch) → AnswersFor (parts_of (lean w)) (parts_of w)
 unfolding parts_of lean with_elements
-lean-answers w = answers (parts_of (lean w)) (parts_of w) (differ (parts_of w) (grid_elements (lean w) (grid_of w) 0 w.sheet.grid) (grid-alike w (grid_of w) 0 w.sheet.grid))
+lean-answers w = answers (parts_of (lean w)) (parts_of w) (differ (parts_of w) (grid_elements (lean w) (grid_of w) 0 w.header.grid) (grid-alike w (grid_of w) 0 w.header.grid))
 
 pub lean-links : (w : WrittenArch) → links (entries (parts_of (lean w)).elements) ≡ links (entries (parts_of w).elements)
 unfolding parts_of lean
-lean-links w = alike-links (grid_elements (lean w) (grid_of w) 0 w.sheet.grid) (grid_elements w (grid_of w) 0 w.sheet.grid) (grid-alike w (grid_of w) 0 w.sheet.grid)
+lean-links w = alike-links (grid_elements (lean w) (grid_of w) 0 w.header.grid) (grid_elements w (grid_of w) 0 w.header.grid) (grid-alike w (grid_of w) 0 w.header.grid)

@@ -25,7 +25,7 @@ lowest None None None None false e = let bad : None ≡ Some (fault.Parts arch.M
 
 no_first_fault : (w : WrittenArch) → first_fault w ≡ Some (fault.Parts arch.Memory) → ⊥
 unfolding first_fault
-no_first_fault w e = lowest (unknown_key w) (unknown_tile w.tiles 0 w.sheet.grid) (ragged_row w.sheet.grid) (first_part (applies UnknownOp) w.tiles) (has_large_grid w.sheet.grid) e
+no_first_fault w e = lowest (unknown_key w) (unknown_tile w.tiles 0 w.header.grid) (ragged_row w.header.grid) (first_part (applies UnknownOp) w.tiles) (has_large_grid w.header.grid) e
 
 no_unless : (o : Option TilesFault) (parts : Parts) → (o ≡ Some (fault.Parts arch.Memory) → ⊥) → unless o parts ≡ Err (fault.Parts arch.Memory) → ⊥
 no_unless None parts h e = let bad : Ok parts ≡ Err (fault.Parts arch.Memory) = e in cc

@@ -6,7 +6,7 @@ use Rattle.cg_parts.specs.declared.fault.ArchFault.TheVariants as arch
 use Rattle.cg_parts.specs.declared.fault.TooLargePlace.{TooLargePlace}
 use Rattle.cg_parts.specs.declared.fault.TooLargePlace.TheVariants as large
 use Rattle.cg_parts.specs.Parts.{entries}
-use Rattle.cg_parts.specs.Rules.{links, too_large, early_fault, bad_name, repeated_name, wrong_driver}
+use Rattle.cg_parts.specs.Rules.{links, too_large, fault_before_loops, bad_name, repeated_name, wrong_driver}
 use Rattle.cg_arch.specs.Answer.{early}
 use Rattle.cg_tiles.specs.Written.{WrittenArch}
 use Rattle.cg_tiles.specs.Rules.{first_fault}
@@ -22,8 +22,8 @@ pub judged-clean : (w : WrittenArch) → first_fault w ≡ None → judged w ≡
 unfolding judged
 judged-clean w none = ap (λ o. unless o (parts_of w)) none
 
-early-too_large : (parts : Parts) (place : TooLargePlace) → too_large parts (entries parts.elements) ≡ Some place → early_fault parts ≡ Some (arch.TooLarge place)
-unfolding early_fault
+early-too_large : (parts : Parts) (place : TooLargePlace) → too_large parts (entries parts.elements) ≡ Some place → fault_before_loops parts ≡ Some (arch.TooLarge place)
+unfolding fault_before_loops
 early-too_large parts place e =
     ap (λ o. option_or (option_map arch.TooLarge o) (option_or (option_map arch.BadName (bad_name parts)) (option_or (option_map arch.RepeatedName (repeated_name parts.elements)) (wrong_driver parts.elements (entries parts.elements))))) e
 
@@ -34,23 +34,23 @@ refused w place none e =
     subst (λ o. IsRefused (unless o (parts_of w)) (fault.Parts (arch.TooLarge place))) (sym none)
     (arch.TooLarge place, refl, (λ m. let bad : arch.TooLarge place ≡ arch.Memory = m in cc), early (early-too_large (parts_of w) place e))
 
-resources-of : (w : WrittenArch) → length (entries (parts_of w).elements) ≡ grid_resources w.tiles w.sheet.grid
+resources-of : (w : WrittenArch) → length (entries (parts_of w).elements) ≡ grid_resources w.tiles w.header.grid
 unfolding parts_of
-resources-of w = resources-counted w (grid_of w) 0 w.sheet.grid
+resources-of w = resources-counted w (grid_of w) 0 w.header.grid
 
-links-of : (w : WrittenArch) → links (entries (parts_of w).elements) ≡ grid_links w (grid_of w) 0 w.sheet.grid
+links-of : (w : WrittenArch) → links (entries (parts_of w).elements) ≡ grid_links w (grid_of w) 0 w.header.grid
 unfolding parts_of
-links-of w = links-counted w (grid_of w) 0 w.sheet.grid
+links-of w = links-counted w (grid_of w) 0 w.header.grid
 
-pub refused-resources : (w : WrittenArch) → first_fault w ≡ None → nat_lt 4096 (grid_resources w.tiles w.sheet.grid) ≡ true
+pub refused-resources : (w : WrittenArch) → first_fault w ≡ None → nat_lt 4096 (grid_resources w.tiles w.header.grid) ≡ true
     → IsRefused (judged w) (fault.Parts (arch.TooLarge large.Resources))
 refused-resources w none many = refused w large.Resources none (let e : nat_lt 4096 (length (entries (parts_of w).elements)) ≡ true = ap (nat_lt 4096) (resources-of w) ∙ many in rw e refl)
 
 -- by what is lean
-pub refused-links : (w u : WrittenArch) → u ≡ lean w → first_fault w ≡ None → nat_lt 4096 (grid_resources w.tiles w.sheet.grid) ≡ false → 65536 < grid_links u (grid_of u) 0 u.sheet.grid
+pub refused-links : (w u : WrittenArch) → u ≡ lean w → first_fault w ≡ None → nat_lt 4096 (grid_resources w.tiles w.header.grid) ≡ false → 65536 < grid_links u (grid_of u) 0 u.header.grid
     → IsRefused (judged w) (fault.Parts (arch.TooLarge large.Links))
 refused-links w u is none few many = refused w large.Links none
     (let e : nat_lt 4096 (length (entries (parts_of w).elements)) ≡ false = ap (nat_lt 4096) (resources-of w) ∙ few in
-    let same : links (entries (parts_of w).elements) ≡ grid_links u (grid_of u) 0 u.sheet.grid = sym (lean-links w) ∙ ap (λ x. links (entries (parts_of x).elements)) (sym is) ∙ links-of u in
-    let m : nat_lt 65536 (links (entries (parts_of w).elements)) ≡ true = ap (nat_lt 65536) same ∙ lt-ltb 65536 (grid_links u (grid_of u) 0 u.sheet.grid) many in
+    let same : links (entries (parts_of w).elements) ≡ grid_links u (grid_of u) 0 u.header.grid = sym (lean-links w) ∙ ap (λ x. links (entries (parts_of x).elements)) (sym is) ∙ links-of u in
+    let m : nat_lt 65536 (links (entries (parts_of w).elements)) ≡ true = ap (nat_lt 65536) same ∙ lt-ltb 65536 (grid_links u (grid_of u) 0 u.header.grid) many in
     rw (e, m) refl)

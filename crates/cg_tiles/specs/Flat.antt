@@ -76,14 +76,14 @@ grid_elements w grid r (row ∷ rows) = row_elements w grid r 0 row ++ grid_elem
 
 -- the size of the grid
 abbrev pub grid_of : WrittenArch → Grid
-grid_of w = record { rows = length w.sheet.grid; columns = columns w.sheet.grid; torus = w.sheet.torus }
+grid_of w = record { rows = length w.header.grid; columns = columns w.header.grid; torus = w.header.torus }
 
 -- the parts that the tiles stand for
 unfoldable pub parts_of : WrittenArch → Parts
 parts_of w = record {
-  name = w.sheet.name;
-  contexts = w.sheet.contexts;
-  memory = w.sheet.memory;
-  elements = grid_elements w (grid_of w) 0 w.sheet.grid;
-  hub = w.sheet.hub;
+  name = w.header.name;
+  contexts = w.header.contexts;
+  memory = w.header.memory;
+  elements = grid_elements w (grid_of w) 0 w.header.grid;
+  hub = w.header.hub;
 }

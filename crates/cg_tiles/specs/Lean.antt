@@ -50,4 +50,4 @@ lean_tile t = record { letter = t.letter; parts = map lean_written t.parts }
 
 -- what is written, with them
 unfoldable pub lean : WrittenArch → WrittenArch
-lean w = record { sheet = w.sheet; tiles = map lean_tile w.tiles }
+lean w = record { header = w.header; tiles = map lean_tile w.tiles }

@@ -5,3 +5,4 @@ pub mod Flat
 pub mod Lean
 pub mod Rules
 pub mod Written
+pub mod Texts

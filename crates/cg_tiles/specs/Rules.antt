@@ -31,7 +31,7 @@ applies UnknownOp p = names_no_op p.part
 
 -- M3 UnknownKey: a key that isn't named for the file, or for a part of that shape
 abbrev pub unknown_key : WrittenArch → Option TilesPlace
-unknown_key w = if w.sheet.other_keys then Some place.File else option_map place.Part (first_part (applies UnknownKey) w.tiles)
+unknown_key w = if w.header.other_keys then Some place.File else option_map place.Part (first_part (applies UnknownKey) w.tiles)
 
 -- the tile of a letter
 abbrev pub tile_of : List Tile → ℕ → Option Tile
@@ -71,7 +71,7 @@ large_grid grid = if has_large_grid grid then Some (fault.Parts (arch.TooLarge l
 unfoldable pub first_fault : WrittenArch → Option TilesFault
 first_fault w = option_or
     (option_map fault.UnknownKey (unknown_key w))
-    (option_or (option_map fault.UnknownTile (unknown_tile w.tiles 0 w.sheet.grid))
-    (option_or (option_map fault.RaggedGrid (ragged_row w.sheet.grid))
+    (option_or (option_map fault.UnknownTile (unknown_tile w.tiles 0 w.header.grid))
+    (option_or (option_map fault.RaggedGrid (ragged_row w.header.grid))
     (option_or (option_map fault.UnknownOp (first_part (applies UnknownOp) w.tiles))
-    (large_grid w.sheet.grid))))
+    (large_grid w.header.grid))))

@@ -19,7 +19,7 @@ pub use Rattle.cg_tiles.specs.declared.written.Part.{Part}
 use Rattle.cg_tiles.specs.declared.written.Part.TheVariants as part
 pub use Rattle.cg_tiles.specs.declared.written.WrittenPart.{WrittenPart}
 pub use Rattle.cg_tiles.specs.declared.written.Tile.{Tile}
-pub use Rattle.cg_tiles.specs.declared.written.Sheet.{Sheet}
+pub use Rattle.cg_tiles.specs.declared.written.Header.{Header}
 pub use Rattle.cg_tiles.specs.declared.written.WrittenArch.{WrittenArch}
 
 -- ---- references: `x` for a resource of the same tile, `N.x`, `E.x`, `S.x` or `W.x` for one of a neighbour, `/name` for
@@ -167,13 +167,13 @@ hub_in d = option_and_then (all_of as_str) (items_or_none (codes "hub") d)
 abbrev pub has_format : Data → Bool
 has_format d = option_map_or (λ text. bytes_eq text (codes "cga1")) (text_at (codes "format") d) false
 
-abbrev pub sheet_from : Option (List ℕ) → Option ℕ → Option ℕ → Option Bool → Option (List (List ℕ)) → Option (List (List ℕ)) → Bool → Option Sheet
-sheet_from (Some name) (Some contexts) (Some memory) (Some torus) (Some hub) (Some grid) other =
+abbrev pub header_from : Option (List ℕ) → Option ℕ → Option ℕ → Option Bool → Option (List (List ℕ)) → Option (List (List ℕ)) → Bool → Option Header
+header_from (Some name) (Some contexts) (Some memory) (Some torus) (Some hub) (Some grid) other =
     Some (record { name = name; contexts = contexts; memory = memory; torus = torus; hub = hub; grid = grid; other_keys = other })
-sheet_from _ _ _ _ _ _ other = None
+header_from _ _ _ _ _ _ other = None
 
-abbrev pub sheet_in : Data → Option Sheet
-sheet_in d = sheet_from
+abbrev pub header_in : Data → Option Header
+header_in d = header_from
     (text_at (codes "name") d)
     (word_at (codes "contexts") d)
     (word_or (codes "memory") 0 d)
@@ -186,15 +186,15 @@ sheet_in d = sheet_from
 abbrev pub tiles_at : Data → Option Members
 tiles_at d = option_and_then (λ ms. if are_tiles ms then Some ms else None) (members_at (codes "tiles") d)
 
-abbrev pub with_tiles : Sheet → Result (List Tile) PartPlace → Result WrittenArch TilesPlace
-with_tiles sheet (Ok tiles) = Ok (record { sheet = sheet; tiles = tiles })
-with_tiles sheet (Err p) = Err (place.Part p)
+abbrev pub with_tiles : Header → Result (List Tile) PartPlace → Result WrittenArch TilesPlace
+with_tiles header (Ok tiles) = Ok (record { header = header; tiles = tiles })
+with_tiles header (Err p) = Err (place.Part p)
 
-abbrev pub written_from : Bool → Option Sheet → Option Members → Result WrittenArch TilesPlace
-written_from true (Some sheet) (Some ms) = with_tiles sheet (tiles_in ms)
+abbrev pub written_from : Bool → Option Header → Option Members → Result WrittenArch TilesPlace
+written_from true (Some header) (Some ms) = with_tiles header (tiles_in ms)
 written_from _ _ _ = Err place.File
 
 -- M2 WrongShape: what the table writes, or the first place where a needed key is missing or a value has another kind, range
 -- or form: the file, and then the parts of tiles, in the order of their letters
 unfoldable pub written_of : Data → Result WrittenArch TilesPlace
-written_of d = written_from (has_format d) (sheet_in d) (tiles_at d)
+written_of d = written_from (has_format d) (header_in d) (tiles_at d)

@@ -9,10 +9,10 @@ use cg_model::Name;
 
 /// Whether the cells of the grid stand for more than 4,096 resources.
 pub(crate) fn has_many_resources(written: &WrittenArch) -> bool
-    ensures { result ≡ nat_lt 4096 (spec.grid_resources written.now.tiles written.now.sheet.grid) }
+    ensures { result ≡ nat_lt 4096 (spec.grid_resources written.now.tiles written.now.header.grid) }
 {
     let tiles = written.tiles.as_slice();
-    room_after_grid(4096, tiles, written.sheet.grid.as_slice()).is_none()
+    room_after_grid(4096, tiles, written.header.grid.as_slice()).is_none()
 }
 
 /// The room for resources that a grid leaves, none where it has too many.

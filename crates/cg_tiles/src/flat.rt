@@ -17,28 +17,28 @@ use std::alloc::{AllocError, Global};
 #[tactic(auto, unfolding(crate::specs::Flat::parts_of))]
 pub(crate) fn parts_of(alloc: Global, written: WrittenArch) -> Result<Parts, MakingFault>
     ensures parts { IfOk result (λ parts. parts ≡ spec.parts_of written) }
-    ensures many { IsErrOf result MakingFault.TooManyLinks → 65536 < counts.grid_links written (spec.grid_of written) 0 written.sheet.grid }
+    ensures many { IsErrOf result MakingFault.TooManyLinks → 65536 < counts.grid_links written (spec.grid_of written) 0 written.header.grid }
 {
     let elements = elements_of(alloc, &written)?;
     Ok(Parts {
-        name: written.sheet.name,
-        contexts: written.sheet.contexts,
-        memory: written.sheet.memory,
+        name: written.header.name,
+        contexts: written.header.contexts,
+        memory: written.header.memory,
         elements: Items::new(elements),
-        hub: written.sheet.hub,
+        hub: written.header.hub,
     })
 }
 
 /// The elements of all cells, by row and column.
 fn elements_of(alloc: Global, written: &WrittenArch) -> Result<Vec<Element>, MakingFault>
-    ensures elements { IfOk result (λ list. list.items ≡ spec.grid_elements written.now (spec.grid_of written.now) 0 written.now.sheet.grid) }
-    ensures many { IsErrOf result MakingFault.TooManyLinks → 65536 < counts.grid_links written.now (spec.grid_of written.now) 0 written.now.sheet.grid }
+    ensures elements { IfOk result (λ list. list.items ≡ spec.grid_elements written.now (spec.grid_of written.now) 0 written.now.header.grid) }
+    ensures many { IsErrOf result MakingFault.TooManyLinks → 65536 < counts.grid_links written.now (spec.grid_of written.now) 0 written.now.header.grid }
 {
-    let rows = written.sheet.grid.as_slice();
+    let rows = written.header.grid.as_slice();
     let grid = Grid {
         rows: rows.len(),
         columns: columns(rows),
-        torus: written.sheet.torus,
+        torus: written.header.torus,
     };
     let mut elements = Vec::new(alloc);
     let mut room = Room {

@@ -14,7 +14,7 @@ pub(crate) fn lean(alloc: Global, written: WrittenArch) -> Result<WrittenArch, A
 {
     let tiles = lean_tiles(alloc, written.tiles)?;
     Ok(WrittenArch {
-        sheet: written.sheet,
+        header: written.header,
         tiles,
     })
 }

@@ -11,6 +11,7 @@ mod read;
 mod reading;
 mod room;
 mod rules;
+mod texts;
 mod written;
 
 pub use cg_arch::Arch;
@@ -18,3 +19,4 @@ pub use cg_parts::ArchFault;
 pub use fault::{PartPlace, TilesFault, TilesPlace};
 pub use grid::Cell;
 pub use read::read_arch;
+pub use texts::tiles_fault_text;

@@ -8,7 +8,7 @@ ghost use Rattle.cg_tiles.specs.Written as spec;
 
 use crate::fault::{PartPlace, TilesPlace};
 use crate::part_reading::parts_of;
-use crate::written::{Sheet, Tile, WrittenArch};
+use crate::written::{Header, Tile, WrittenArch};
 use cg_model::{Items, Name};
 use cg_parts::Names;
 use cg_toml::{
@@ -28,14 +28,14 @@ pub(crate) fn written_of(
     if !has_format(value) {
         return Ok(Err(TilesPlace::File));
     }
-    let Some(sheet) = sheet_of(alloc, value)? else {
+    let Some(header) = header_of(alloc, value)? else {
         return Ok(Err(TilesPlace::File));
     };
     let Some(tiles) = tiles_at(value) else {
         return Ok(Err(TilesPlace::File));
     };
     match tiles_of(alloc, tiles)? {
-        Ok(tiles) => Ok(Ok(WrittenArch { sheet, tiles })),
+        Ok(tiles) => Ok(Ok(WrittenArch { header, tiles })),
         Err(place) => Ok(Err(TilesPlace::Part(place))),
     }
 }
@@ -50,8 +50,8 @@ fn has_format(value: &Value) -> bool
 }
 
 /// What the table writes besides its tiles.
-fn sheet_of(alloc: Global, value: &Value) -> Result<Option<Sheet>, AllocError>
-    ensures { IfOk result (λ read. read ≡ spec.sheet_in (view value.now)) }
+fn header_of(alloc: Global, value: &Value) -> Result<Option<Header>, AllocError>
+    ensures { IfOk result (λ read. read ≡ spec.header_in (view value.now)) }
 {
     let Some(name) = text_at(value, "name") else {
         return Ok(None);
@@ -77,7 +77,7 @@ fn sheet_of(alloc: Global, value: &Value) -> Result<Option<Sheet>, AllocError>
             "format", "name", "contexts", "memory", "torus", "hub", "grid", "tiles",
         ],
     );
-    Ok(Some(Sheet {
+    Ok(Some(Header {
         name: name_of(alloc, name)?,
         contexts,
         memory,

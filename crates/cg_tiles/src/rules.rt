@@ -24,7 +24,7 @@ pub(crate) fn first_fault(written: &WrittenArch) -> Option<TilesFault>
     ensures { result ≡ spec.first_fault written.now }
 {
     let tiles = written.tiles.as_slice();
-    let grid = written.sheet.grid.as_slice();
+    let grid = written.header.grid.as_slice();
     if let Some(place) = unknown_key(written) {
         return Some(TilesFault::UnknownKey(place));
     }
@@ -43,7 +43,7 @@ pub(crate) fn first_fault(written: &WrittenArch) -> Option<TilesFault>
 fn unknown_key(written: &WrittenArch) -> Option<TilesPlace>
     ensures { result ≡ spec.unknown_key written.now }
 {
-    if written.sheet.other_keys {
+    if written.header.other_keys {
         return Some(TilesPlace::File);
     }
     first_part(PartRule::UnknownKey, written.tiles.as_slice()).map(TilesPlace::Part)

@@ -69,7 +69,7 @@ pub struct Tile {
 
 /// What a file writes besides its tiles.
 #[derive(Drop)]
-pub struct Sheet {
+pub struct Header {
     pub name: Name,
     pub contexts: u32,
     pub memory: u32,
@@ -85,6 +85,6 @@ pub struct Sheet {
 /// What a file writes: its tiles, in the order of their letters, and the rest.
 #[derive(Drop)]
 pub struct WrittenArch {
-    pub sheet: Sheet,
+    pub header: Header,
     pub tiles: Items<Tile>,
 }

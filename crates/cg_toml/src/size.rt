@@ -3,6 +3,9 @@
 /// The most bytes that the values of one text may take.
 pub const MOST_MEMORY: u64 = 1_000_000_000;
 
+/// How deep values may nest. The parser goes no further.
+const MOST_DEPTH: u32 = 96;
+
 /// Where in a text a byte stands. The quote is `"` or `'`.
 #[derive(Clone, Copy)]
 enum Place {
@@ -79,15 +82,20 @@ fn in_lines(quote: u8, quotes: u8, byte: u8) -> Place {
 
 /// About how many bytes the values of a text take at most, with what a reader makes of them. The first key of a table
 /// takes a node of a map, and so does each dot of a key; an array with items takes a list of at least four, and each
-/// item of a list its place there.
+/// item of a list its place there. What comes after too many open brackets isn't counted, since it isn't parsed.
 pub(crate) fn memory_for(bytes: &[u8]) -> u64 {
     let mut memory = 0u64;
     let mut place = Place::Bare;
     let mut before = b' ';
+    let mut depth = 0u32;
     let mut is_first = true;
     for byte in bytes {
         place = place.after(*byte);
         if is_mark(place, *byte) {
+            depth = depth_after(depth, *byte);
+            if depth > MOST_DEPTH {
+                return memory;
+            }
             memory = memory.saturating_add(weight(before, *byte, is_first));
             is_first = matches!(*byte, b'[' | b'{') || (is_first && *byte != b'=');
             before = *byte;
@@ -101,6 +109,15 @@ pub(crate) fn memory_for(bytes: &[u8]) -> u64 {
 /// Whether a byte is outside of strings and comments, or begins a string, and is no blank.
 fn is_mark(place: Place, byte: u8) -> bool {
     matches!(place, Place::Bare | Place::Opened(_)) && !matches!(byte, b' ' | b'\t' | b'\r' | b'\n')
+}
+
+/// How many brackets are open after such a byte.
+fn depth_after(depth: u32, byte: u8) -> u32 {
+    match byte {
+        b'[' | b'{' => depth.saturating_add(1),
+        b']' | b'}' => depth.saturating_sub(1),
+        _ => depth,
+    }
 }
 
 /// The bytes of memory for such a byte, after the last one before it. An `=` may be the first of its table.

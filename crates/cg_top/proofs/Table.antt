@@ -11,7 +11,7 @@ use Rattle.cg_ending.specs.Reads.{StopsAt, read_fault_of, too_long_of}
 use Rattle.cg_ending.specs.Ends.{Moment, Finished}
 use Rattle.cg_ending.specs.Status.{leaves_all}
 use Rattle.cg_command.specs.Words.{Plan, plan_of}
-use Rattle.cg_refusals.specs.Refusals.{usage_outcome}
+use Rattle.cg_ending.specs.Refusals.{usage_outcome}
 use Rattle.cg_top.specs.TopCall.{IsPlanned, Ends, IsAnswered, IsStopped, IsByTable}
 use Rattle.cg_top.proofs.Kept.{kept, no_part}
 use Rattle.cg_answers.proofs.Commands.{sound, is_own}

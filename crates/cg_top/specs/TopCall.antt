@@ -9,7 +9,7 @@ use Rattle.cg_ending.specs.Outcome.{Name, Bytes, File, Outcome}
 use Rattle.cg_ending.specs.Reads.{AreRead, StopsAt}
 use Rattle.cg_ending.specs.Ends.{Moment, Finished, Wrote}
 use Rattle.cg_command.specs.Words.{Plan, plan_of}
-use Rattle.cg_refusals.specs.Refusals.{usage_outcome}
+use Rattle.cg_ending.specs.Refusals.{usage_outcome}
 use Rattle.cg_answers.specs.Commands.{IsAnswer, Accepts, Leaves}
 
 -- ---- what words and files define

@@ -8,9 +8,9 @@ ghost use Rattle.cg_turns.specs.Watched.{IsReached, IsWatched};
 use crate::pair::Access;
 use crate::watch::{Watch, reached, watch_step};
 use crate::window::{ROWS, argument};
+use cg_distance::DistanceTable;
 use cg_kernel::Kernel;
 use cg_model::Words;
-use cg_distance::DistanceTable;
 use cg_pad::{Image, Scratchpad, Work, empty_streams};
 use std::alloc::{AllocError, Global};
 

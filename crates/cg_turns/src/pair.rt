@@ -6,8 +6,8 @@ ghost use Rattle.cg_model.specs.Order.{IsOrdered};
 ghost use Rattle.cg_turns.specs.Pairs.{step_of, later_access, IsRival, IsLatest, IsCompared};
 ghost use Rattle.cg_turns.specs.declared.pair.Access.{Access as AccessOf};
 
-use cg_kernel::Kernel;
 use cg_distance::DistanceTable;
+use cg_kernel::Kernel;
 
 /// A node in a turn that accesses a word of the memory.
 #[derive(Clone, Copy, Debug, PartialEq, Eq, Drop)]

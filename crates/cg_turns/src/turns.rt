@@ -8,8 +8,8 @@ use crate::fault::TurnsFault;
 use crate::frame::{Frame, one_turn, start};
 use crate::pair::UnorderedPair;
 use crate::watch::unwatched;
-use cg_kernel::Kernel;
 use cg_distance::min_distance;
+use cg_kernel::Kernel;
 use cg_pad::{Image, Streams};
 use std::alloc::{AllocError, Global};
 

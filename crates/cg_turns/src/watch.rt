@@ -8,8 +8,8 @@ ghost use Rattle.cg_pad.specs.Work.{work_of};
 
 use crate::last::LastAccesses;
 use crate::pair::{Access, UnorderedPair, compared};
-use cg_kernel::Kernel;
 use cg_distance::DistanceTable;
+use cg_kernel::Kernel;
 use cg_pad::Work;
 use std::alloc::{AllocError, Global};
 

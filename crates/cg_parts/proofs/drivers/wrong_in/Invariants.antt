@@ -4,4 +4,4 @@ use Rattle.cg_parts.specs.Rules.{is_wrong}
 use Rattle.cg_parts.proofs.drivers.wrong_in.Given as goal
 
 abbrev pub invariant-loop-name : goal.invariant-loop-name
-invariant-loop-name l = first_such (is_wrong l.wrong l.resources) (drop l.name-index l.drivers) ≡ first_such (is_wrong l.wrong l.resources) l.drivers
+invariant-loop-name l = first_such (is_wrong l.rule l.resources) (drop l.name-index l.drivers) ≡ first_such (is_wrong l.rule l.resources) l.drivers

@@ -1,6 +1,6 @@
 use Rattle.std.proofs.Common.{◌≡◌, ◌≢◌, ◌<◌, length, rules, sym, subst}
 use Rattle.cg_level.specs.declared.walk.Mark.TheVariants.{Open}
-use Rattle.cg_level.specs.Rising.{IsLoop}
+use Rattle.cg_level.specs.Topological.{IsCombinationalLoop}
 use Rattle.cg_level.specs.Walk.{IsLast, IsStep}
 use Rattle.cg_level.proofs.Reading.{last_read, last_known, waiting_known, on_path, step_back, step_on, step_ring}
 use Rattle.cg_level.proofs.walk.Walk.step.Goals as goal
@@ -23,7 +23,7 @@ returns-then-eq-clause-ring c =
     let w = c.args.self.now in
     let long : c.len.result ≡ length w.path.items = search rules in
     let last : IsLast w.path.items c.index-last.result.now = last_read w.path.items c.len.result c.index-last.result.now c.requires.some long c.index-last.ensures in
-    subst (IsLoop rs) (sym c.new.ensures)
+    subst (IsCombinationalLoop rs) (sym c.new.ensures)
     (step_ring rs w c.next_driver.new.self c.index-last.result.now c.in-Some.driver c.deref.result.now c.in_ok-ring-in-Some.ring.items c.in-Some.ensures.alike c.in-Some.ensures.walk last c.in-Some.ensures.waits c.deref.ensures.value c.in_ok-ring-in-Some.ensures)
 
 pub open-requires : goal.open-requires

@@ -1,0 +1,17 @@
+-- The outcomes of refusals that no command has by itself.
+use Rattle.std.specs.Prelude.{[], ◌∷◌, codes}
+use Rattle.cg_ending.specs.declared.outcome.Status.{Status}
+use Rattle.cg_ending.specs.declared.outcome.Status.TheVariants.{Usage, Malformed}
+use Rattle.cg_ending.specs.Outcome.{Name, Bytes, Outcome, line_of}
+
+-- a status with a report, and nothing written
+abbrev pub reports : Status → Bytes → Outcome
+reports status report = record { status = status; report = report; writes = [] }
+
+-- the words fit no command
+abbrev pub usage_outcome : Outcome
+usage_outcome = reports Usage (line_of (codes "usage: cgra COMMAND ARGUMENTS" ∷ []))
+
+-- a reader refuses the file of that name: code, name and place of the fault
+abbrev pub malformed_of : Name → Bytes → Outcome
+malformed_of file fault = reports Malformed (line_of (codes "malformed " ∷ file ∷ codes ": " ∷ fault ∷ []))

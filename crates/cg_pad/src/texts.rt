@@ -1,0 +1,22 @@
+//! What reports say of the faults of images.
+ghost use Rattle.std.specs.Prelude.{◌≡◌, IfOk, string_bytes};
+ghost use Rattle.cg_pad.specs.Texts.{image_fault_text};
+
+use crate::fault::ImageFault;
+use std::alloc::{AllocError, Global};
+
+/// Code, name and place of a fault, as `I2 Truncated length 7`. Want of memory has none of them.
+pub fn image_fault_text(alloc: Global, fault: ImageFault) -> Result<String, AllocError>
+    ensures { IfOk result (λ s. string_bytes s ≡ image_fault_text fault) }
+{
+    match fault {
+        ImageFault::Memory => Ok(String::new(alloc)),
+        ImageFault::Magic => String::from_str(alloc, "I1 Magic byte 0"),
+        ImageFault::Truncated(length) => format!(in alloc; "I2 Truncated length {length}"),
+        ImageFault::MemoryTooLarge(count) => format!(in alloc; "I3 TooLarge memory {count}"),
+        ImageFault::StreamTooLarge(port, count) => {
+            format!(in alloc; "I3 TooLarge stream {port} {count}")
+        }
+        ImageFault::Trailing(byte) => format!(in alloc; "I4 Trailing byte {byte}"),
+    }
+}

@@ -1,0 +1,143 @@
+//! The faults A1 to A5: of sizes, names and drivers.
+ghost use Rattle.std.specs.Prelude.{◌≡◌, IfOk, count_by, nat_lt};
+ghost use Rattle.cg_model.specs.First.{first_from};
+ghost use Rattle.cg_parts.specs.Parts.{entries, name_of};
+ghost use Rattle.cg_parts.specs.Numbers.{IsNumbering};
+ghost use Rattle.cg_parts.specs.Rules as spec;
+
+use crate::claims::first_repeat;
+use crate::drivers::{DriverRule, first_wrong};
+use crate::entry::Entry;
+use crate::fault::{ArchFault, NamePlace, TooLargePlace};
+use crate::numbers::Numbers;
+use crate::parts::{Element, Parts};
+use cg_model::is_name;
+use std::alloc::{AllocError, Global};
+
+/// The lowest of A1 to A5 that applies, at its first place. The resources are those of the parts, with their numbers.
+#[tactic(auto, unfolding(crate::specs::Rules::fault_before_loops))]
+pub fn fault_before_loops(
+    alloc: Global,
+    parts: &Parts,
+    resources: &[Entry],
+    numbers: &Numbers,
+) -> Result<Option<ArchFault>, AllocError>
+    requires resources { resources.now ≡ entries parts.now.elements }
+    requires numbers { IsNumbering numbers.now resources.now }
+    ensures { IfOk result (λ found. found ≡ spec.fault_before_loops parts.now) }
+{
+    if let Some(place) = too_large(parts, resources) {
+        return Ok(Some(ArchFault::TooLarge(place)));
+    }
+    if let Some(place) = bad_name(parts) {
+        return Ok(Some(ArchFault::BadName(place)));
+    }
+    let elements = parts.elements.as_slice();
+    if let Some(number) = first_repeat(alloc, elements)? {
+        return Ok(Some(ArchFault::RepeatedName(number)));
+    }
+    wrong_driver(alloc, elements, resources, numbers)
+}
+
+/// A4 at its first place, and else A5.
+fn wrong_driver(
+    alloc: Global,
+    elements: &[Element],
+    resources: &[Entry],
+    numbers: &Numbers,
+) -> Result<Option<ArchFault>, AllocError>
+    requires { IsNumbering numbers.now resources.now }
+    ensures { IfOk result (λ found. found ≡ spec.wrong_driver elements.now resources.now) }
+{
+    if let Some(place) = first_wrong(
+        alloc,
+        DriverRule::UnknownDriver,
+        elements,
+        resources,
+        numbers,
+    )? {
+        return Ok(Some(ArchFault::UnknownDriver(place)));
+    }
+    if let Some(place) = first_wrong(alloc, DriverRule::PortDrives, elements, resources, numbers)? {
+        return Ok(Some(ArchFault::PortDrives(place)));
+    }
+    Ok(None)
+}
+
+fn too_large(parts: &Parts, resources: &[Entry]) -> Option<TooLargePlace>
+    ensures { result ≡ spec.too_large parts.now resources.now }
+{
+    if resources.len() > 4096 {
+        Some(TooLargePlace::Resources)
+    } else if has_many_links(resources) {
+        Some(TooLargePlace::Links)
+    } else if count_units(parts.elements.as_slice()) > 1024 {
+        Some(TooLargePlace::Units)
+    } else if parts.memory > 1_048_576 {
+        Some(TooLargePlace::Memory)
+    } else {
+        None
+    }
+}
+
+/// Whether there are more than 65,536 links into the resources.
+fn has_many_links(resources: &[Entry]) -> bool
+    ensures { result ≡ nat_lt 65536 (spec.links resources.now) }
+{
+    let mut room = 65_536;
+    for resource in resources {
+        let drivers = resource.drivers.as_slice().len();
+        if drivers > room {
+            return true;
+        }
+        room -= drivers;
+    }
+    false
+}
+
+fn count_units(elements: &[Element]) -> usize
+    ensures { result ≡ count_by spec.is_unit elements.now }
+{
+    let mut count = 0;
+    for element in elements {
+        if is_unit(element) {
+            count += 1;
+        }
+    }
+    count
+}
+
+fn is_unit(element: &Element) -> bool
+    ensures { result ≡ spec.is_unit element.now }
+{
+    matches!(element, Element::Unit { .. })
+}
+
+fn bad_name(parts: &Parts) -> Option<NamePlace>
+    ensures { result ≡ spec.bad_name parts.now }
+{
+    if !is_name(parts.name.as_str(), 40) {
+        return Some(NamePlace::Architecture);
+    }
+    first_bad_name(parts.elements.as_slice()).map(NamePlace::Element)
+}
+
+fn first_bad_name(elements: &[Element]) -> Option<usize>
+    ensures { result ≡ first_from (λ number e. spec.has_bad_name e) 0 elements.now }
+{
+    for (number, element) in elements.iter().enumerate() {
+        if !is_name(name_of(element), 40) {
+            return Some(number);
+        }
+    }
+    None
+}
+
+fn name_of(element: &Element) -> &str
+    ensures { result.now ≡ name_of element.now }
+{
+    match element {
+        Element::Wire { name, .. } | Element::Register { name, .. } | Element::Unit { name, .. } =>
+            name.as_str(),
+    }
+}

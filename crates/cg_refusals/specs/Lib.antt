@@ -1,4 +1,0 @@
-pub mod Archs
-pub mod Images
-pub mod Kernels
-pub mod Refusals
