@@ -5,10 +5,11 @@ ghost use Rattle.cg_ending.specs.Outcome.{file_of, outcome_of};
 ghost use Rattle.cg_answers.specs.TurnsOnImage.{IsImaged, IsOnImage, IsTurnsOnImage, image_report, pair_status};
 ghost use Rattle.cg_pad.specs.Bytes as images;
 
+use crate::running::run;
 use cg_ending::{File, Outcome, Status, malformed};
 use cg_kernel::{Kernel, KernelFault, kernel_fault_text, read_kernel};
 use cg_pad::{Image, ImageFault, image_fault_text, read_image, write_image};
-use cg_turns::{UnorderedPair, run_turns};
+use cg_turns::UnorderedPair;
 use std::alloc::{AllocError, Global};
 
 /// The turns from the image that a file holds, and the result image under the name `out`.
@@ -65,9 +66,7 @@ fn imaged(
     requires memory { length image.now.memory ≤ 1048576 }
     ensures { IfOk result (λ o. IsImaged turns kernel.now image.now out.now (outcome_of o)) }
 {
-    let Ok(done) = run_turns(alloc, kernel, turns, image) else {
-        return Err(AllocError);
-    };
+    let done = run(alloc, kernel, turns, image)?;
     let bytes = write_image(alloc, &done.image)?;
     let name = String::from_str(alloc, out)?;
     Ok(Outcome {

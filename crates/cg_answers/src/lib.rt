@@ -4,6 +4,7 @@
 mod answering;
 mod flattening;
 mod imaging;
+mod running;
 mod streams;
 mod turning;
 

@@ -3,11 +3,11 @@ ghost use Rattle.std.specs.Prelude.{◌≡◌, ◌≤◌, IfOk};
 ghost use Rattle.cg_ending.specs.Outcome.{file_of, outcome_of};
 ghost use Rattle.cg_answers.specs.Turns.{turned, turns_of};
 
+use crate::running::run;
 use crate::streams::streams_report;
 use cg_ending::{File, Outcome, Status, malformed};
 use cg_kernel::{Kernel, KernelFault, kernel_fault_text, read_kernel};
 use cg_pad::Image;
-use cg_turns::run_turns;
 use std::alloc::{AllocError, Global};
 
 #[tactic(auto, unfolding(crate::specs::Turns::turns_of))]
@@ -31,9 +31,7 @@ fn turned(alloc: Global, turns: u32, kernel: &Kernel) -> Result<Outcome, AllocEr
     ensures { IfOk result (λ o. outcome_of o ≡ turned turns kernel.now) }
 {
     let image = Image::empty(alloc)?;
-    let Ok(done) = run_turns(alloc, kernel, turns, &image) else {
-        return Err(AllocError);
-    };
+    let done = run(alloc, kernel, turns, &image)?;
     Ok(Outcome {
         status: Status::Done,
         report: streams_report(alloc, kernel, done.image.streams())?,

@@ -1,47 +1,12 @@
 -- What the words of a command line ask.
-use Rattle.std.specs.Prelude.{◌≡◌, ◌≤◌, ◌==◌, ℕ, Bool, false, not, ◌&&◌, ◌||◌, List, [], ◌∷◌, length, take, drop, find, map, Option, Some, None, is_some, option_map, option_and_then, if◌then◌else◌, nat_lt, nat_le, codes, string_bytes}
-use Rattle.std.specs.Char.{is_ascii_digit}
-use Rattle.std.specs.List.{list_all, list_any, before_first, after_first}
+use Rattle.std.specs.Prelude.{◌≡◌, ◌≤◌, ◌==◌, ℕ, Bool, false, not, ◌||◌, List, [], ◌∷◌, take, drop, find, map, Option, Some, None, is_some, option_map, option_and_then, if◌then◌else◌, codes, string_bytes}
+use Rattle.std.specs.List.{list_any, before_first, after_first}
 use Rattle.std.specs.Str.{bytes_eq}
-use Rattle.std.specs.Str.Parse.{digits_value}
+pub use Rattle.cg_command.specs.Numbers.{Text, is_number, number_up_to, positive, turns_of, interval_of, seed_of, moves_of}
 use Rattle.cg_command.specs.declared.plans.Command.{Command}
 use Rattle.cg_command.specs.declared.plans.Command.TheVariants.{Turns, TurnsOnImage, Flat}
 use Rattle.cg_command.specs.declared.plans.Plan.{Plan as PlanValue}
 use Rattle.cg_command.specs.declared.options.Said.{Said as SaidValue}
-
--- the bytes of a word
-abbrev pub Text : Type 0
-Text = List ℕ
-
--- ---- numbers
-
--- a word is a number where it has 1 to 20 digits
-abbrev pub is_number : Text → Bool
-is_number word = nat_lt 0 (length word) && (nat_le (length word) 20 && list_all is_ascii_digit word)
-
--- the number of a word, where it is in its range
-abbrev pub number_up_to : ℕ → Text → Option ℕ
-number_up_to most word = if is_number word && nat_le (digits_value 10 word) most then Some (digits_value 10 word) else None
-
--- the number, where it isn't 0
-abbrev pub positive : ℕ → Option ℕ
-positive n = if nat_lt 0 n then Some n else None
-
--- TURNS: 0 to 1,000,000
-abbrev pub turns_of : Text → Option ℕ
-turns_of word = number_up_to 1000000 word
-
--- `--ii`: 1 to 64
-abbrev pub interval_of : Text → Option ℕ
-interval_of word = option_and_then positive (number_up_to 64 word)
-
--- `--seed`: 0 to 18,446,744,073,709,551,615
-abbrev pub seed_of : Text → Option ℕ
-seed_of word = number_up_to 18446744073709551615 word
-
--- `--moves`: 0 to 1,000,000
-abbrev pub moves_of : Text → Option ℕ
-moves_of word = number_up_to 1000000 word
 
 -- ---- plain words and options
 

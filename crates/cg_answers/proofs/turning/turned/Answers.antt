@@ -6,4 +6,4 @@ use Rattle.cg_answers.proofs.turning.turned.Goals as goal
 pub returns : goal.returns
 returns c =
     let quiet : c.new.result.items ≡ [] = c.new.ensures.items in
-    rw quiet (turned_by c.args.kernel.now c.args.turns c.in_ok-image.image (left_of c.in-Ok.done) c.streams.result.now c.in_ok-streams_report.field-0.items c.in_ok-image.ensures c.in-Ok.ensures.done c.streams.ensures.streams c.in_ok-streams_report.ensures)
+    rw quiet (turned_by c.args.kernel.now c.args.turns c.in_ok-image.image (left_of c.in_ok-done.done) c.streams.result.now c.in_ok-streams_report.field-0.items c.in_ok-image.ensures c.in_ok-done.ensures.done c.streams.ensures.streams c.in_ok-streams_report.ensures)
