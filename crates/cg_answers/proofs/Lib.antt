@@ -4,3 +4,4 @@ pub mod Shapes
 pub mod Commands
 pub mod Imaged
 pub mod Left
+pub mod Defined

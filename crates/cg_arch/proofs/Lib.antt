@@ -11,4 +11,5 @@ pub mod Complete
 pub mod Valid
 pub mod Starts
 pub mod Answered
+pub mod Solved
 mod Rows

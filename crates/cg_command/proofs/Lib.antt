@@ -4,3 +4,4 @@ pub mod Uses
 pub mod Walk
 pub mod Parts
 pub mod Judged
+pub mod Shaped

@@ -4,3 +4,5 @@ pub mod LinkLists
 pub mod Seen
 pub mod Found
 pub mod UnderWay
+pub mod Searches
+pub mod Decided

@@ -4,3 +4,4 @@ pub mod Turned
 pub mod Walks
 pub mod Reading
 pub mod Finished
+pub mod Solved

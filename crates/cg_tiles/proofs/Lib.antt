@@ -8,4 +8,5 @@ pub mod Never
 pub mod NotBoth
 pub mod Places
 pub mod References
+pub mod Solved
 pub mod TooMany

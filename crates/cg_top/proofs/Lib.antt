@@ -4,3 +4,4 @@ pub mod Table
 pub mod Complete
 pub mod Left
 pub mod Call
+pub mod Defined

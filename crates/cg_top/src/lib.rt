@@ -8,11 +8,14 @@ ghost use Rattle.cg_ending.specs.Ends.{moment};
 ghost use Rattle.cg_command.specs.Words.{plan_of};
 ghost use Rattle.cg_top.specs.TopCall.{IsOutcome, Ends, IsCall};
 
+mod laws;
+
 use cg_answers::answer;
 pub use cg_command::{Command, Plan, plan_words};
 pub use cg_ending::Status;
 use cg_ending::{Outcome, Stop, finish, read_all, usage};
 use cg_files::{Sink, Store};
+pub use laws::always_defined;
 use std::alloc::{AllocError, Global};
 
 /// Does what the words ask: reads the input files out of the store, writes the output files into it, and puts the

@@ -3,3 +3,4 @@ pub mod Worked
 pub mod Rows
 pub mod Steps
 pub mod Small
+pub mod Decided
