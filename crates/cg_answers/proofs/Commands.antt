@@ -1,9 +1,9 @@
 -- Facts of the commands' definitions. A command is a case of each.
-use Rattle.std.proofs.Common.{◌≡◌, ◌≢◌, ℕ, Bool, true, false, List, [], ◌∷◌, Option, Some, None, Result, Ok, Err, refl, sym, ◌∙◌, ap}
+use Rattle.std.proofs.Common.{◌≡◌, ◌≢◌, ℕ, Bool, true, false, List, [], ◌∷◌, Option, Some, None, Result, Ok, Err, refl, sym, ◌∙◌, ap, ◌⊎◌, inl, inr}
 use Rattle.cg_model.specs.Kernel.{Kernel}
 use Rattle.cg_ending.specs.declared.outcome.Status.{Status}
 use Rattle.cg_ending.specs.declared.outcome.Status.TheVariants.{Done, Malformed, Impossible, BudgetSpent, No}
-use Rattle.cg_ending.specs.Outcome.{Name, File, Outcome}
+use Rattle.cg_ending.specs.Outcome.{Name, File, Outcome, names_of}
 use Rattle.cg_kernel.specs.declared.fault.KernelFault.{KernelFault}
 use Rattle.cg_kernel.specs.Answer.{answer_of}
 use Rattle.cg_command.specs.declared.plans.Command.{Command}
@@ -155,3 +155,26 @@ quiet (TurnsOnImage n) (f ∷ g ∷ h ∷ fs) o p = absurd p
 quiet Flat [] o p = absurd p
 quiet Flat (f ∷ []) o p = absurd p
 quiet Flat (f ∷ g ∷ fs) o p = absurd p
+
+-- what an outcome writes has these names, or it writes nothing
+abbrev pub IsNamed : List Name → Outcome → Type 0
+IsNamed outputs o = (names_of o.writes ≡ outputs) ⊎ (o.writes ≡ [])
+
+named_on_image : (n : ℕ) (K : Kernel) (input : File) (out : Name) (r : Result Image ImageFault) (o : Outcome) → IsOnImage n K input out r o → IsNamed (out ∷ []) o
+named_on_image n K input out (Ok image) o p = inl (ap (λ x. names_of x.writes) p.outcome)
+named_on_image n K input out (Err f) o p = inr (ap (λ x. x.writes) p)
+
+named_on_kernel : (n : ℕ) (file input : File) (out : Name) (r : Result Kernel KernelFault) (o : Outcome) → IsOnKernel n file input out r o → IsNamed (out ∷ []) o
+named_on_kernel n file input out (Ok K) o p = named_on_image n K input out (images.answer_of input.bytes) o p
+named_on_kernel n file input out (Err f) o p = inr (ap (λ x. x.writes) p)
+
+named_flat : (file : File) (out : Name) (r : Result Arch TilesFault) (o : Outcome) → o ≡ flat_by file out r → IsNamed (out ∷ []) o
+named_flat file out (Ok A) o p = inl (ap (λ x. names_of x.writes) p)
+named_flat file out (Err f) o p = inr (ap (λ x. x.writes) p)
+
+-- a command writes its output files, or nothing
+pub named : (c : Command) (files : List File) (outputs : List Name) (o : Outcome) → IsAnswer c files outputs o → IsNamed outputs o
+named (Turns n) (f ∷ []) [] o p = inr (ap (λ x. x.writes) (turns_is n f o p) ∙ quiet_turns n f (answer_of f.bytes))
+named (TurnsOnImage n) (f ∷ g ∷ []) (out ∷ []) o p = named_on_kernel n f g out (answer_of f.bytes) o (on_image_is n f g out o p)
+named Flat (f ∷ []) (out ∷ []) o p = named_flat f out p.given o p.outcome
+named _ _ _ o p = absurd p

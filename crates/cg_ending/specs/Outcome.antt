@@ -39,3 +39,7 @@ outcome_of outcome = record {
   report = outcome.report.items;
   writes = map file_of outcome.writes.items;
 }
+
+-- the names of these files, in order
+abbrev pub names_of : List File → List Name
+names_of files = map (λ file. file.name) files

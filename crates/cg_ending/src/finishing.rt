@@ -1,7 +1,8 @@
 //! Writes the files of an outcome, and then puts its report.
 ghost use Rattle.std.specs.Prelude.{◌≡◌, ◌≤◌, [], ℕ, Err, OnOk, IsErrOf, map};
+ghost use Rattle.cg_files.specs.Asked.{NotesAll, NotesPart};
 ghost use Rattle.cg_files.specs.Causes.{Rose};
-ghost use Rattle.cg_ending.specs.Outcome.{file_of, outcome_of};
+ghost use Rattle.cg_ending.specs.Outcome.{file_of, names_of, outcome_of};
 ghost use Rattle.cg_ending.specs.Ends.{moment, Finished, Wrote, WrotePart, FailedAt, Reported};
 
 use crate::outcome::{File, Outcome, Status};
@@ -23,6 +24,10 @@ pub fn finish<S: Store, O: Sink>(
         result }
     // Where nothing is to be written, the store is not called.
     ensures untouched { outcome.now.writes.items ≡ [] → store.new ≡ store.old }
+    // It writes under the outcome's names alone, under each once, in order.
+    ensures wrote { NotesPart (S.wrote store.old) (names_of (outcome_of outcome.now).writes)
+        (S.wrote store.new) }
+    ensures asked { S.asked store.new ≡ S.asked store.old }
     ensures reads { S.read_faults store.new ≡ S.read_faults store.old }
     ensures writes { S.write_faults store.old ≤ S.write_faults store.new }
     ensures faults { O.faults out.old ≤ O.faults out.new }
@@ -44,6 +49,11 @@ fn write_all<S: Store>(alloc: Global, files: &[File], store: &mut S) -> Result<(
         → WrotePart (S.held store.old) (map file_of files.now) (S.held store.new) }
     ensures too_long { (got : ℕ) → result ≡ Err (StoreFail.TooLong got) → ⊥ }
     ensures untouched { files.now ≡ [] → store.new ≡ store.old }
+    ensures wrote { NotesPart (S.wrote store.old) (names_of (map file_of files.now))
+        (S.wrote store.new) }
+    ensures wrote_all { OnOk result
+        (NotesAll (S.wrote store.old) (names_of (map file_of files.now)) (S.wrote store.new)) }
+    ensures asked { S.asked store.new ≡ S.asked store.old }
     ensures reads { S.read_faults store.new ≡ S.read_faults store.old }
     ensures writes { S.write_faults store.old ≤ S.write_faults store.new }
 {

@@ -1,5 +1,6 @@
 //! Reads the input files of a command.
-ghost use Rattle.std.specs.Prelude.{◌≡◌, ◌≤◌, IfOk, IfErr, map, string_bytes};
+ghost use Rattle.std.specs.Prelude.{◌≡◌, ◌≤◌, IfOk, IfErr, OnOk, map, string_bytes};
+ghost use Rattle.cg_files.specs.Asked.{NotesAll, NotesPart};
 ghost use Rattle.cg_files.specs.Causes.{Rose};
 ghost use Rattle.cg_ending.specs.Outcome.{file_of, outcome_of};
 ghost use Rattle.cg_ending.specs.Reads.{AreRead, IsStop, read_fault_of, too_long_of};
@@ -48,6 +49,11 @@ pub fn read_all<S: Store>(alloc: Global, names: &[String], store: &mut S) -> Res
         AreRead (S.held store.old) (map string_bytes names.now) (map file_of files.items)) }
     ensures stopped { IfErr result (IsStop (S.held store.old)
         (Rose (S.read_faults store.old) (S.read_faults store.new)) (map string_bytes names.now)) }
+    // Each name was asked for once, in order, up to the one at which the reading ended.
+    ensures asked { NotesPart (S.asked store.old) (map string_bytes names.now) (S.asked store.new) }
+    ensures asked_all { OnOk result
+        (NotesAll (S.asked store.old) (map string_bytes names.now) (S.asked store.new)) }
+    ensures wrote { S.wrote store.new ≡ S.wrote store.old }
     ensures held { S.held store.new ≡ S.held store.old }
     ensures reads { S.read_faults store.old ≤ S.read_faults store.new }
     ensures writes { S.write_faults store.new ≡ S.write_faults store.old }

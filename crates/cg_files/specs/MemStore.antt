@@ -1,5 +1,5 @@
 -- What a store in memory shows.
-use Rattle.std.specs.Prelude.{◌≡◌, ℕ, List, Option, option_map}
+use Rattle.std.specs.Prelude.{◌≡◌, ℕ, List, Option, option_map, map, string_bytes}
 use Rattle.std.specs.BTreeMap.{get_by_text}
 use Rattle.cg_files.specs.Calls.{IsListed}
 use Rattle.cg_files.specs.declared.memory.MemStore.{MemStore}
@@ -24,6 +24,14 @@ read_faults_of store = store.read_faults
 abbrev pub write_faults_of : MemStore → ℕ
 write_faults_of store = store.write_faults
 
+-- the names of the reads, in order
+abbrev pub asked_of : MemStore → List (List ℕ)
+asked_of store = map string_bytes store.asked.items
+
+-- the names of the writes, in order
+abbrev pub wrote_of : MemStore → List (List ℕ)
+wrote_of store = map string_bytes store.wrote.items
+
 -- the next call is to fail
 abbrev pub FailsNext : MemStore → Type 0
 FailsNext store = IsListed (failing_of store) (calls_of store)
@@ -33,3 +41,5 @@ pub record SameCalls (old new : MemStore) : Type 0 where
   pub calls : calls_of new ≡ calls_of old
   pub read_faults : read_faults_of new ≡ read_faults_of old
   pub write_faults : write_faults_of new ≡ write_faults_of old
+  pub asked : asked_of new ≡ asked_of old
+  pub wrote : wrote_of new ≡ wrote_of old

@@ -1,4 +1,4 @@
-//! The system's files and its standard output. They tell nothing of content.
+//! The system's files and its standard output. They tell nothing of content or names.
 ghost use Rattle.std.specs.Prelude.{◌≡◌, ◌+◌, ◌-◌, ◌^◌, ◌<◌, ◌≤◌, ℕ, Err, IfOk, IfSome, IsErrOf, OnOk, length, min};
 
 use crate::fail::{SinkFail, StoreFail};
@@ -69,6 +69,10 @@ impl<'a, R: Files> Store for DiskStore<'a, R> {
     ghost use Rattle.std.specs.Prelude.{None};
 
     ghost held = { λ _. None };
+
+    ghost asked = { λ _. None };
+
+    ghost wrote = { λ _. None };
 
     ghost read_faults = { λ s. s.read_faults };
 

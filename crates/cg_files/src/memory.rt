@@ -1,5 +1,5 @@
 //! A store and a sink in memory, whose calls fail where they are told to.
-ghost use Rattle.std.specs.Prelude.{◌≡◌, ◌+◌, ◌-◌, ◌^◌, ◌<◌, ◌≤◌, ◌↔◌, ◌++◌, [], min, IsTrue, OnOk, OnErr};
+ghost use Rattle.std.specs.Prelude.{◌≡◌, ◌+◌, ◌-◌, ◌^◌, ◌<◌, ◌≤◌, ◌↔◌, ◌++◌, [], ◌∷◌, min, map, string_bytes, IsTrue, OnOk, OnErr};
 ghost use Rattle.cg_files.specs.Calls.{IsListed, next_call};
 
 use crate::fail::{SinkFail, StoreFail};
@@ -54,12 +54,24 @@ impl Calls {
     }
 }
 
+/// Adds a name to the names of the calls so far.
+fn note(alloc: Global, names: &mut Vec<String>, name: &str) -> Result<(), AllocError>
+    ensures ok { OnOk result
+        (map string_bytes names.new.items ≡ map string_bytes names.old.items ++ name.now ∷ []) }
+    ensures err { OnErr result (names.new.items ≡ names.old.items) }
+{
+    names.push(String::from_str(alloc, name)?)?;
+    Ok(())
+}
+
 /// Files in memory. Its calls are numbered from 1, reads and writes together; one that answers
 /// `Memory` gets no number.
 #[derive(Drop)]
 pub struct MemStore {
     files: BTreeMap<String, Vec<u8>>,
     calls: Calls,
+    asked: Vec<String>,
+    wrote: Vec<String>,
     read_faults: u64,
     write_faults: u64,
     ghost few_read_faults: { read_faults ≤ min calls.made (2 ^ 32 - 1) },
@@ -67,8 +79,8 @@ pub struct MemStore {
 }
 
 impl MemStore {
-    ghost use Rattle.std.specs.Prelude.{◌≡◌, ◌≢◌, ◌<◌, ◌≤◌, ◌↔◌, ◌++◌, ℕ, List, [], Some, None, Err, OnOk, OnErr, IfOk, IsErrOf, IsSomeAnd, length, option_map};
-    ghost use Rattle.cg_files.specs.MemStore.{files_of, calls_of, failing_of, read_faults_of, write_faults_of, SameCalls};
+    ghost use Rattle.std.specs.Prelude.{◌≡◌, ◌≢◌, ◌<◌, ◌≤◌, ◌↔◌, ◌++◌, ◌⊎◌, ℕ, List, [], Some, None, Err, OnOk, OnErr, IfOk, IsErrOf, IsSomeAnd, length, option_map};
+    ghost use Rattle.cg_files.specs.MemStore.{files_of, calls_of, failing_of, read_faults_of, write_faults_of, asked_of, wrote_of, SameCalls, FailsNext};
 
     /// A store that holds nothing, of which no call was made.
     pub fn new(alloc: Global) -> MemStore
@@ -77,10 +89,14 @@ impl MemStore {
         ensures failing { failing_of result ≡ [] }
         ensures reads { read_faults_of result ≡ 0 }
         ensures writes { write_faults_of result ≡ 0 }
+        ensures asked { asked_of result ≡ [] }
+        ensures wrote { wrote_of result ≡ [] }
     {
         MemStore {
             files: BTreeMap::new(alloc),
             calls: Calls::new(alloc),
+            asked: Vec::new(alloc),
+            wrote: Vec::new(alloc),
             read_faults: 0,
             write_faults: 0,
         }
@@ -138,14 +154,36 @@ impl MemStore {
         }
         Ok(Vec::from_slice(alloc, bytes)?)
     }
+
+    /// What the next read of the name answers.
+    fn answer(&self, alloc: Global, name: &str, limit: u64) -> Result<Vec<u8>, StoreFail>
+        ensures ok { IfOk result (λ bytes. (files_of self.now name.now ≡ Some bytes.items)
+            × (length bytes.items ≤ limit)) }
+        ensures failed { IsErrOf result StoreFail.Failed
+            ↔ (FailsNext self.now ⊎ (files_of self.now name.now ≡ None)) }
+        ensures too_long { (got : ℕ) → result ≡ Err (StoreFail.TooLong got)
+            → (limit < got)
+            × IsSomeAnd (files_of self.now name.now) (λ bytes. limit < length bytes) }
+        ensures got { (got : ℕ) → result ≡ Err (StoreFail.TooLong got)
+            → option_map length (files_of self.now name.now) ≡ Some got }
+    {
+        if self.calls.fails_next() {
+            return Err(StoreFail::Failed);
+        }
+        self.copy_of(alloc, name, limit)
+    }
 }
 
 impl Store for MemStore {
-    ghost use Rattle.std.specs.Prelude.{◌≡◌, ◌≢◌, ◌+◌, ◌<◌, ◌≤◌, ◌↔◌, ◌⊎◌, ℕ, List, Some, None, Err, OnOk, OnErr, IfOk, IsErrOf, IsSomeAnd, length, option_map};
+    ghost use Rattle.std.specs.Prelude.{◌≡◌, ◌≢◌, ◌+◌, ◌<◌, ◌≤◌, ◌↔◌, ◌⊎◌, ◌++◌, ◌∷◌, [], ℕ, List, Some, None, Err, OnOk, OnErr, IfOk, IsErrOf, IsSomeAnd, length, option_map};
     ghost use Rattle.cg_files.specs.Calls.{next_call};
-    ghost use Rattle.cg_files.specs.MemStore.{files_of, calls_of, failing_of, read_faults_of, write_faults_of, FailsNext};
+    ghost use Rattle.cg_files.specs.MemStore.{files_of, calls_of, failing_of, read_faults_of, write_faults_of, asked_of, wrote_of, FailsNext};
 
     ghost held = { λ store. Some (files_of store) };
+
+    ghost asked = { λ store. Some (asked_of store) };
+
+    ghost wrote = { λ store. Some (wrote_of store) };
 
     ghost read_faults = { read_faults_of };
 
@@ -155,7 +193,10 @@ impl Store for MemStore {
         ensures ok { IfOk result (λ bytes. (files_of self.old name.now ≡ Some bytes.items)
             × (length bytes.items ≤ limit)) }
         ensures failed { IsErrOf result StoreFail.Failed
-            ↔ (FailsNext self.old ⊎ (files_of self.old name.now ≡ None)) }
+            → FailsNext self.old ⊎ (files_of self.old name.now ≡ None) }
+        ensures fails { ¬ IsErrOf result StoreFail.Memory
+            → (FailsNext self.old ⊎ (files_of self.old name.now ≡ None))
+            → IsErrOf result StoreFail.Failed }
         ensures too_long { (got : ℕ) → result ≡ Err (StoreFail.TooLong got)
             → (limit < got)
             × IsSomeAnd (files_of self.old name.now) (λ bytes. limit < length bytes) }
@@ -163,7 +204,12 @@ impl Store for MemStore {
             → option_map length (files_of self.old name.now) ≡ Some got }
         ensures held { files_of self.new ≡ files_of self.old }
 
-        // A call is counted unless it answers `Memory`.
+        // A call is noted and counted unless it answers `Memory`.
+        ensures unnoted { IsErrOf result StoreFail.Memory
+            → asked_of self.new ≡ asked_of self.old }
+        ensures noted { ¬ IsErrOf result StoreFail.Memory
+            → asked_of self.new ≡ asked_of self.old ++ name.now ∷ [] }
+        ensures wrote { wrote_of self.new ≡ wrote_of self.old }
         ensures uncounted { IsErrOf result StoreFail.Memory
             → calls_of self.new ≡ calls_of self.old }
         ensures counted { ¬ IsErrOf result StoreFail.Memory
@@ -171,34 +217,44 @@ impl Store for MemStore {
         ensures failing { failing_of self.new ≡ failing_of self.old }
 
         // The count rises in listed calls alone, by one.
-        ensures raised { FailsNext self.old
+        ensures raised { IsErrOf result StoreFail.Failed → FailsNext self.old
             → read_faults_of self.new ≡ read_faults_of self.old + 1 }
         ensures still { ¬ FailsNext self.old
+            → read_faults_of self.new ≡ read_faults_of self.old }
+        ensures no_fault { IsErrOf result StoreFail.Memory
             → read_faults_of self.new ≡ read_faults_of self.old }
         ensures reads { read_faults_of self.old ≤ read_faults_of self.new }
         ensures writes { write_faults_of self.new ≡ write_faults_of self.old }
     {
-        if self.calls.fails_next() {
-            self.calls.count();
-            self.read_faults += 1;
-            return Err(StoreFail::Failed);
+        let answer = self.answer(alloc, name, limit);
+        if let Err(StoreFail::Memory) = answer {
+            return answer;
         }
-        let answer = self.copy_of(alloc, name, limit);
-        if !matches!(answer, Err(StoreFail::Memory)) {
-            self.calls.count();
+        note(alloc, &mut self.asked, name)?;
+        let fails = self.calls.fails_next();
+        self.calls.count();
+        if fails {
+            self.read_faults += 1;
         }
         answer
     }
 
     fn write(&mut self, alloc: Global, name: &str, bytes: &[u8]) -> Result<(), StoreFail>
         ensures ok { OnOk result (files_of self.new name.now ≡ Some bytes.now) }
-        ensures failed { IsErrOf result StoreFail.Failed ↔ FailsNext self.old }
+        ensures failed { IsErrOf result StoreFail.Failed → FailsNext self.old }
+        ensures fails { ¬ IsErrOf result StoreFail.Memory → FailsNext self.old
+            → IsErrOf result StoreFail.Failed }
         ensures too_long { (got : ℕ) → result ≡ Err (StoreFail.TooLong got) → ⊥ }
         ensures err { OnErr result (files_of self.new ≡ files_of self.old) }
         ensures others { (other : List ℕ) → other ≢ name.now
             → files_of self.new other ≡ files_of self.old other }
 
-        // A call is counted unless it answers `Memory`.
+        // A call is noted and counted unless it answers `Memory`.
+        ensures unnoted { IsErrOf result StoreFail.Memory
+            → wrote_of self.new ≡ wrote_of self.old }
+        ensures noted { ¬ IsErrOf result StoreFail.Memory
+            → wrote_of self.new ≡ wrote_of self.old ++ name.now ∷ [] }
+        ensures asked { asked_of self.new ≡ asked_of self.old }
         ensures uncounted { IsErrOf result StoreFail.Memory
             → calls_of self.new ≡ calls_of self.old }
         ensures counted { ¬ IsErrOf result StoreFail.Memory
@@ -206,19 +262,25 @@ impl Store for MemStore {
         ensures failing { failing_of self.new ≡ failing_of self.old }
 
         // The count rises in listed calls alone, by one.
-        ensures raised { FailsNext self.old
+        ensures raised { IsErrOf result StoreFail.Failed
             → write_faults_of self.new ≡ write_faults_of self.old + 1 }
         ensures still { ¬ FailsNext self.old
+            → write_faults_of self.new ≡ write_faults_of self.old }
+        ensures no_fault { IsErrOf result StoreFail.Memory
             → write_faults_of self.new ≡ write_faults_of self.old }
         ensures writes { write_faults_of self.old ≤ write_faults_of self.new }
         ensures reads { read_faults_of self.new ≡ read_faults_of self.old }
     {
+        note(alloc, &mut self.wrote, name)?;
         if self.calls.fails_next() {
             self.calls.count();
             self.write_faults += 1;
             return Err(StoreFail::Failed);
         }
-        self.hold(alloc, name, bytes)?;
+        if let Err(AllocError) = self.hold(alloc, name, bytes) {
+            self.wrote.pop();
+            return Err(StoreFail::Memory);
+        }
         self.calls.count();
         Ok(())
     }

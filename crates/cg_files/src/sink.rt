@@ -17,6 +17,7 @@ pub trait Sink {
         ensures ok { OnOk result (Appends (taken self.old) bytes.now (taken self.new)) }
         ensures failed { IsErrOf result SinkFail.Failed → Rose (faults self.old) (faults self.new) }
         ensures memory { IsErrOf result SinkFail.Memory → taken self.new ≡ taken self.old }
+        ensures no_fault { IsErrOf result SinkFail.Memory → faults self.new ≡ faults self.old }
 
         // Whatever it answers, it took a first part of the bytes at most.
         ensures part { AppendsSome (taken self.old) bytes.now (taken self.new) }

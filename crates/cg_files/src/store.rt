@@ -1,14 +1,19 @@
 //! A store of files.
 ghost use Rattle.std.specs.Prelude.{◌≡◌, ◌<◌, ◌≤◌, ◌⊎◌, ℕ, Err, length, is_some, IfOk, OnOk, IsErr, IsErrOf};
+ghost use Rattle.cg_files.specs.Asked.{Names, Notes};
 ghost use Rattle.cg_files.specs.Causes.{Rose};
 ghost use Rattle.cg_files.specs.Held.{Held, Holds, IsMissing, IsLonger, TellsLonger, OthersStay};
 
 use crate::fail::StoreFail;
 use std::alloc::Global;
 
-/// Files under names. It may tell what it holds or not.
+/// Files under names. It may tell what it holds or not, and which names it was asked to read and to write.
 pub trait Store {
     ghost held: { Self → Held };
+
+    ghost asked: { Self → Names };
+
+    ghost wrote: { Self → Names };
 
     ghost read_faults: { Self → ℕ };
 
@@ -30,6 +35,14 @@ pub trait Store {
         ensures failed_first { (got : ℕ) → result ≡ Err (StoreFail.TooLong got)
             → read_faults self.new ≡ read_faults self.old }
 
+        // Each call is noted by its name, but for want of memory, which leaves everything as it was.
+        ensures noted { ¬ IsErrOf result StoreFail.Memory
+            → Notes (asked self.old) name.now (asked self.new) }
+        ensures unnoted { IsErrOf result StoreFail.Memory → asked self.new ≡ asked self.old }
+        ensures no_fault { IsErrOf result StoreFail.Memory
+            → read_faults self.new ≡ read_faults self.old }
+        ensures wrote { wrote self.new ≡ wrote self.old }
+
         ensures held { held self.new ≡ held self.old }
         ensures reads { read_faults self.old ≤ read_faults self.new }
         ensures writes { write_faults self.new ≡ write_faults self.old };
@@ -41,6 +54,14 @@ pub trait Store {
             → Rose (write_faults self.old) (write_faults self.new) }
         ensures too_long { (got : ℕ) → result ≡ Err (StoreFail.TooLong got) → ⊥ }
         ensures memory { IsErrOf result StoreFail.Memory → held self.new ≡ held self.old }
+
+        // Each call is noted by its name, but for want of memory, which leaves everything as it was.
+        ensures noted { ¬ IsErrOf result StoreFail.Memory
+            → Notes (wrote self.old) name.now (wrote self.new) }
+        ensures unnoted { IsErrOf result StoreFail.Memory → wrote self.new ≡ wrote self.old }
+        ensures no_fault { IsErrOf result StoreFail.Memory
+            → write_faults self.new ≡ write_faults self.old }
+        ensures asked { asked self.new ≡ asked self.old }
 
         ensures others { OthersStay (held self.old) (held self.new) name.now }
         ensures tells { is_some (held self.new) ≡ is_some (held self.old) }

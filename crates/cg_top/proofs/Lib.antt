@@ -5,3 +5,4 @@ pub mod Complete
 pub mod Left
 pub mod Call
 pub mod Defined
+pub mod Calls

@@ -1,5 +1,6 @@
 -- How a call of the top call ends. No command is named here.
 use Rattle.std.specs.Prelude.{◌≡◌, ◌≤◌, ◌⊎◌, true, List, [], Contains, Option, Some, None}
+use Rattle.cg_files.specs.Asked.{Names, NotesPart}
 use Rattle.cg_files.specs.Causes.{Rose}
 use Rattle.cg_files.specs.Held.{Held, IsMissing}
 use Rattle.cg_ending.specs.declared.outcome.Status.{Status}
@@ -127,3 +128,20 @@ pub record IsCall (words : List Name) (before after : Moment) (status : Status) 
   pub complete : IsComplete words before after status
   pub counts : KeepsCounts before after
   pub left : IsLeft words before after status
+
+-- ---- the calls of the store
+
+-- the input files were asked for, each once and in order, maybe a first part of them alone
+abbrev pub Asks : Option Plan → Names → Names → Type 0
+Asks None before after = after ≡ before
+Asks (Some plan) before after = NotesPart before plan.inputs after
+
+-- it was written under the names of the output files, each once and in order, maybe a first part of them alone
+abbrev pub Writes : Option Plan → Names → Names → Type 0
+Writes None before after = after ≡ before
+Writes (Some plan) before after = NotesPart before plan.outputs after
+
+-- no other file was read or written, none more often than the words give it, and none at all where they fit no command
+pub record MakesCalls (plan : Option Plan) (asked_before asked_after wrote_before wrote_after : Names) : Type 0 where
+  pub asks : Asks plan asked_before asked_after
+  pub writes : Writes plan wrote_before wrote_after

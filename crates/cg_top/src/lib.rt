@@ -6,7 +6,7 @@ ghost use Rattle.cg_files.specs.Causes.{Rose};
 ghost use Rattle.cg_ending.specs.Outcome.{outcome_of};
 ghost use Rattle.cg_ending.specs.Ends.{moment};
 ghost use Rattle.cg_command.specs.Words.{plan_of};
-ghost use Rattle.cg_top.specs.TopCall.{IsOutcome, Ends, IsCall};
+ghost use Rattle.cg_top.specs.TopCall.{IsOutcome, Ends, IsCall, Asks, MakesCalls};
 
 mod laws;
 
@@ -32,6 +32,9 @@ pub fn run_line<S: Store, O: Sink>(
         (moment (S.held store.old) (S.read_faults store.old) (S.write_faults store.old) (O.taken out.old) (O.faults out.old))
         (moment (S.held store.new) (S.read_faults store.new) (S.write_faults store.new) (O.taken out.new) (O.faults out.new))
         result }
+    // It reads and writes the files that the words give alone, each once and in order.
+    ensures calls { MakesCalls (plan_of (map string_bytes words.now))
+        (S.asked store.old) (S.asked store.new) (S.wrote store.old) (S.wrote store.new) }
     // Where the words fit no command, the store is not called.
     ensures no_call { plan_of (map string_bytes words.now) ≡ None → store.new ≡ store.old }
 {
@@ -48,6 +51,8 @@ fn carry_out<S: Store, O: Sink>(
         (moment (S.held store.old) (S.read_faults store.old) (S.write_faults store.old) (O.taken out.old) (O.faults out.old))
         (moment (S.held store.new) (S.read_faults store.new) (S.write_faults store.new) (O.taken out.new) (O.faults out.new))
         result }
+    ensures calls { MakesCalls (plan_of (map string_bytes words.now))
+        (S.asked store.old) (S.asked store.new) (S.wrote store.old) (S.wrote store.new) }
     ensures no_call { plan_of (map string_bytes words.now) ≡ None → store.new ≡ store.old }
     ensures reads { S.read_faults store.old ≤ S.read_faults store.new }
     ensures writes { S.write_faults store.old ≤ S.write_faults store.new }
@@ -63,6 +68,8 @@ fn carry_out<S: Store, O: Sink>(
 fn outcome<S: Store>(alloc: Global, words: &[String], store: &mut S) -> Result<Outcome, AllocError>
     ensures ok { IfOk result (λ o. IsOutcome (map string_bytes words.now) (S.held store.old)
         (Rose (S.read_faults store.old) (S.read_faults store.new)) (outcome_of o)) }
+    ensures asks { Asks (plan_of (map string_bytes words.now)) (S.asked store.old) (S.asked store.new) }
+    ensures wrote { S.wrote store.new ≡ S.wrote store.old }
     ensures no_call { plan_of (map string_bytes words.now) ≡ None → store.new ≡ store.old }
     ensures no_write { IfOk result (λ o. plan_of (map string_bytes words.now) ≡ None → o.writes.items ≡ []) }
     ensures held { S.held store.new ≡ S.held store.old }

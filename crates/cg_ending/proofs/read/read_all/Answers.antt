@@ -2,6 +2,7 @@ use Rattle.std.proofs.Common.{rules, ◌≡◌, arith, string_bytes, inl, inr}
 use Rattle.std.proofs.lemmas.List.{map-append}
 use Rattle.cg_ending.specs.Outcome.{file_of}
 use Rattle.cg_ending.proofs.Writes.{map_more, map_split}
+use Rattle.cg_ending.proofs.Noted.{noted_more, noted_next, noted_part}
 use Rattle.cg_ending.proofs.ReadsLemmas.{read_one, stopped, caused}
 use Rattle.cg_ending.proofs.read.read_all.Goals as goal
 
@@ -25,6 +26,38 @@ returns-in-Err-TooLong-clause-stopped g c = stopped _ _ _ _ _ (string_bytes c.na
       rw c.loop-name.invariant.held at (c.in-Err-TooLong.ensures.too_long c.in-Err-TooLong.field-0-0 (search rules)).1,
     ))
 
+pub returns-in_err-name-in-Ok-clause-asked : goal.returns-in_err-name-in-Ok-clause-asked
+returns-in_err-name-in-Ok-clause-asked g c = noted_next string_bytes c.args.names.now c.loop-name.name-index c.name-item.result c.as_str.result.now _ _ _ c.loop-name-test.true c.name-item.is
+    (search rules) c.loop-name.invariant.asked (c.in-Ok.ensures.noted (search rules))
+
+pub returns-in_err-push-in-Ok-clause-asked : goal.returns-in_err-push-in-Ok-clause-asked
+returns-in_err-push-in-Ok-clause-asked g c = noted_next string_bytes c.args.names.now c.loop-name.name-index c.name-item.result c.as_str.result.now _ _ _ c.loop-name-test.true c.name-item.is
+    (search rules) c.loop-name.invariant.asked (c.in-Ok.ensures.noted (search rules))
+
+pub returns-in_err-read_fault-in-Err-Failed-clause-asked : goal.returns-in_err-read_fault-in-Err-Failed-clause-asked
+returns-in_err-read_fault-in-Err-Failed-clause-asked g c = noted_next string_bytes c.args.names.now c.loop-name.name-index c.name-item.result c.as_str.result.now _ _ _ c.loop-name-test.true c.name-item.is
+    (search rules) c.loop-name.invariant.asked (c.in-Err-Failed.ensures.noted (search rules))
+
+pub returns-in-Err-Failed-clause-asked : goal.returns-in-Err-Failed-clause-asked
+returns-in-Err-Failed-clause-asked g c = noted_next string_bytes c.args.names.now c.loop-name.name-index c.name-item.result c.as_str.result.now _ _ _ c.loop-name-test.true c.name-item.is
+    (search rules) c.loop-name.invariant.asked (c.in-Err-Failed.ensures.noted (search rules))
+
+pub returns-in_err-too_long-in-Err-TooLong-clause-asked : goal.returns-in_err-too_long-in-Err-TooLong-clause-asked
+returns-in_err-too_long-in-Err-TooLong-clause-asked g c = noted_next string_bytes c.args.names.now c.loop-name.name-index c.name-item.result c.as_str.result.now _ _ _ c.loop-name-test.true c.name-item.is
+    (search rules) c.loop-name.invariant.asked (c.in-Err-TooLong.ensures.noted (search rules))
+
+pub returns-in-Err-TooLong-clause-asked : goal.returns-in-Err-TooLong-clause-asked
+returns-in-Err-TooLong-clause-asked g c = noted_next string_bytes c.args.names.now c.loop-name.name-index c.name-item.result c.as_str.result.now _ _ _ c.loop-name-test.true c.name-item.is
+    (search rules) c.loop-name.invariant.asked (c.in-Err-TooLong.ensures.noted (search rules))
+
+pub returns-in-Err-Memory-clause-asked : goal.returns-in-Err-Memory-clause-asked
+returns-in-Err-Memory-clause-asked g c =
+    let same : g.S.Store.asked c.read.new.self ≡ g.S.Store.asked c.loop-name.store = search rules in
+    rw same (noted_part string_bytes c.args.names.now c.loop-name.name-index _ _ c.loop-name.invariant.asked)
+
+pub returns-clause-asked : goal.returns-clause-asked
+returns-clause-asked g c = noted_part string_bytes c.args.names.now c.loop-name.name-index _ _ c.loop-name.invariant.asked
+
 pub loop-name-preserved : goal.loop-name-preserved
 loop-name-preserved g c = record {
   read = rw (c.in_ok-push-in-Ok.ensures.items, map-append) (read_one _ _ _ _
@@ -33,6 +66,9 @@ loop-name-preserved g c = record {
       (let e : c.as_str.result.now ≡ string_bytes c.in_ok-name-in-Ok.name = search rules in rw (c.loop-name.invariant.held, e) at c.in-Ok.ensures.ok)
       (let e : string_bytes c.in_ok-name-in-Ok.name ≡ string_bytes c.name-item.result = search rules in
       rw e (map_more string_bytes c.args.names.now c.loop-name.name-index c.name-item.result c.loop-name-test.true c.name-item.is)));
+  asked = noted_more string_bytes c.args.names.now c.loop-name.name-index c.name-item.result c.as_str.result.now _ _ _ c.loop-name-test.true c.name-item.is
+      (search rules) c.loop-name.invariant.asked (c.in-Ok.ensures.noted (search rules));
+  wrote = grind arith;
   held = grind arith;
   reads = grind arith;
   writes = grind arith;

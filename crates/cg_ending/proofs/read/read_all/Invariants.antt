@@ -1,4 +1,5 @@
 use Rattle.std.proofs.Common.{◌≡◌, ◌≤◌, map, take, string_bytes}
+use Rattle.cg_files.specs.Asked.{NotesAll}
 use Rattle.cg_ending.specs.Outcome.{file_of}
 use Rattle.cg_ending.specs.Reads.{AreRead}
 use Rattle.cg_ending.proofs.read.read_all.Given as goal
@@ -7,6 +8,8 @@ use Rattle.cg_ending.proofs.read.read_all.Given as goal
 abbrev pub invariant-loop-name : goal.invariant-loop-name
 invariant-loop-name g l = record {
   read : AreRead (g.S.Store.held l.fn.store) (map string_bytes (take l.name-index l.names)) (map file_of l.files.items);
+  asked : NotesAll (g.S.Store.asked l.fn.store) (map string_bytes (take l.name-index l.names)) (g.S.Store.asked l.store);
+  wrote : g.S.Store.wrote l.store ≡ g.S.Store.wrote l.fn.store;
   held : g.S.Store.held l.store ≡ g.S.Store.held l.fn.store;
   reads : g.S.Store.read_faults l.fn.store ≤ g.S.Store.read_faults l.store;
   writes : g.S.Store.write_faults l.store ≡ g.S.Store.write_faults l.fn.store;
