@@ -5,8 +5,6 @@ mod arch;
 mod build;
 mod hub;
 mod kept;
-#[cfg(test)]
-mod tests;
 mod validation;
 
 pub use arch::{Arch, flat_text};

@@ -8,5 +8,3 @@ mod plans;
 pub use options::{Said, said_of};
 pub use plans::{Command, Plan, plan_words};
 
-#[cfg(test)]
-mod tests;

@@ -2,7 +2,5 @@
 #![tactic(auto)]
 
 mod print;
-#[cfg(test)]
-mod tests;
 
 pub use print::print_kernel;

@@ -6,8 +6,6 @@ mod fault;
 mod laws;
 mod order;
 mod ring;
-#[cfg(test)]
-mod tests;
 mod walk;
 
 pub use fault::OrderFault;

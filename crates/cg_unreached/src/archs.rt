@@ -1,6 +1,6 @@
 //! What no architecture file reaches: names that begin with no letter of a cell, and the slot of an architecture.
 
-use super::*;
+use cg_arch::{ArchFault, Element, Name, NamePlace, Names, Op, OpSet, Parts, flat_text, validate};
 use cg_model::Items;
 use std::alloc::{AllocError, Global};
 use std::test::Fail;

@@ -1,6 +1,6 @@
 //! Words that fit, and words that don't.
 
-use crate::{plan_words, said_of};
+use cg_command::{plan_words, said_of};
 use std::alloc::{AllocError, Global};
 
 fn words_of(alloc: Global, line: &str) -> Result<Vec<String>, AllocError> {

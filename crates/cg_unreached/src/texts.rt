@@ -1,7 +1,7 @@
 //! Kernels as text.
 
-use super::*;
 use cg_kernel::{KernelFault, read_kernel};
+use cg_kernel_text::print_kernel;
 use std::alloc::Global;
 use std::test::Fail;
 

@@ -1,0 +1,9 @@
+//! Tests of what no command reaches.
+#![tactic(auto)]
+
+#[cfg(test)]
+mod archs;
+#[cfg(test)]
+mod texts;
+#[cfg(test)]
+mod words;
