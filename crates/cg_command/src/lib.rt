@@ -7,4 +7,3 @@ mod plans;
 
 pub use options::{Said, said_of};
 pub use plans::{Command, Plan, plan_words};
-
