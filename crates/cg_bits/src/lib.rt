@@ -1,0 +1,2 @@
+//! Configurations as bits.
+#![tactic(auto)]

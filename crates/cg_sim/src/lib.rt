@@ -1,0 +1,2 @@
+//! The array, cycle by cycle.
+#![tactic(auto)]

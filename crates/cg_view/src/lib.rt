@@ -1,0 +1,2 @@
+//! Configurations read in place.
+#![tactic(auto)]
