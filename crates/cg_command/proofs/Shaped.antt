@@ -4,8 +4,8 @@ use Rattle.std.specs.Str.{bytes_eq}
 use Rattle.std.specs.Str.Parse.{digits_value}
 use Rattle.std.proofs.lemmas.Bool.{leb-true}
 use Rattle.cg_model.specs.Limits.{most_turns}
-use Rattle.cg_command.specs.declared.plans.Command.TheVariants.{Turns, TurnsOnImage, Flat}
-use Rattle.cg_command.specs.Words.{Text, Arguments, Plan, HasShape, is_number, number_up_to, turns_of, turns_plan, flat_plan, is_empty, without_options, command_plan, arguments_of, plan_of}
+use Rattle.cg_command.specs.declared.plans.Command.TheVariants.{Turns, TurnsOnImage, Flat, Run}
+use Rattle.cg_command.specs.Words.{Text, Arguments, Plan, HasShape, is_number, number_up_to, turns_of, turns_plan, flat_plan, run_plan, is_empty, without_options, command_plan, arguments_of, plan_of}
 
 -- the plan has the shape of its command
 abbrev pub IsShaped : Plan → Type 0
@@ -53,14 +53,24 @@ flat_shaped (a ∷ []) = none_shaped
 flat_shaped (arch ∷ out ∷ []) = one_shaped (record { command = Flat; inputs = arch ∷ []; outputs = out ∷ [] }) (refl, refl)
 flat_shaped (a ∷ b ∷ c ∷ more) = none_shaped
 
+run_shaped : (words : List Text) → AreShaped (run_plan words)
+run_shaped [] = none_shaped
+run_shaped (a ∷ []) = none_shaped
+run_shaped (a ∷ b ∷ []) = none_shaped
+run_shaped (a ∷ b ∷ c ∷ []) = none_shaped
+run_shaped (a ∷ b ∷ c ∷ d ∷ []) = none_shaped
+run_shaped (arch ∷ bits ∷ turns ∷ input ∷ output ∷ []) =
+    numbered_shaped (turns_of turns) (λ n. record { command = Run n; inputs = arch ∷ bits ∷ input ∷ []; outputs = output ∷ [] }) (λ n e. (refl, refl, number_few most_turns turns n e))
+run_shaped (a ∷ b ∷ c ∷ d ∷ e ∷ f ∷ more) = none_shaped
+
 without_shaped : (plan : List Text → Option Plan) (said : Arguments) → AreShaped (plan said.words) → AreShaped (without_options plan said)
 without_shaped plan said is = either_shaped (is_empty said.options) (plan said.words) None is none_shaped
 
 command_shaped : (name : Text) (said : Arguments) → AreShaped (command_plan name said)
 command_shaped name said =
-    either_shaped (bytes_eq name (codes "turns")) (without_options turns_plan said) (cond (bytes_eq name (codes "flat")) (without_options flat_plan said) None)
-    (without_shaped turns_plan said (turns_shaped said.words))
-    (either_shaped (bytes_eq name (codes "flat")) (without_options flat_plan said) None (without_shaped flat_plan said (flat_shaped said.words)) none_shaped)
+    either_shaped (bytes_eq name (codes "turns")) (without_options turns_plan said) _ (without_shaped turns_plan said (turns_shaped said.words))
+    (either_shaped (bytes_eq name (codes "flat")) (without_options flat_plan said) _ (without_shaped flat_plan said (flat_shaped said.words))
+    (either_shaped (bytes_eq name (codes "run")) (without_options run_plan said) None (without_shaped run_plan said (run_shaped said.words)) none_shaped))
 
 said_shaped : (name : Text) (o : Option Arguments) → AreShaped (option_and_then (command_plan name) o)
 said_shaped name None = none_shaped

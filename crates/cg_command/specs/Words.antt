@@ -5,7 +5,7 @@ use Rattle.std.specs.Str.{bytes_eq}
 use Rattle.cg_model.specs.Limits.{most_turns}
 pub use Rattle.cg_command.specs.Numbers.{Text, is_number, number_up_to, positive, turns_of, interval_of, seed_of, moves_of}
 use Rattle.cg_command.specs.declared.plans.Command.{Command}
-use Rattle.cg_command.specs.declared.plans.Command.TheVariants.{Turns, TurnsOnImage, Flat}
+use Rattle.cg_command.specs.declared.plans.Command.TheVariants.{Turns, TurnsOnImage, Flat, Run}
 use Rattle.cg_command.specs.declared.plans.Plan.{Plan as PlanValue}
 use Rattle.cg_command.specs.declared.arguments.Arguments.{Arguments as ArgumentsValue}
 use Rattle.cg_command.specs.declared.arguments.Given.{Given as GivenValue}
@@ -150,6 +150,12 @@ abbrev pub flat_plan : List Text → Option Plan
 flat_plan (arch ∷ out ∷ []) = Some (record { command = Flat; inputs = arch ∷ []; outputs = out ∷ [] })
 flat_plan _ = None
 
+-- run ARCH BITS TURNS IN OUT
+abbrev pub run_plan : List Text → Option Plan
+run_plan (arch ∷ bits ∷ turns ∷ input ∷ output ∷ []) =
+    option_map (λ n. record { command = Run n; inputs = arch ∷ bits ∷ input ∷ []; outputs = output ∷ [] }) (turns_of turns)
+run_plan _ = None
+
 -- no option was given
 abbrev pub is_empty : List Given → Bool
 is_empty [] = true
@@ -164,7 +170,8 @@ abbrev pub command_plan : Text → Arguments → Option Plan
 command_plan name said =
     if bytes_eq name (codes "turns") then without_options turns_plan said
     else (if bytes_eq name (codes "flat") then without_options flat_plan said
-    else None)
+    else (if bytes_eq name (codes "run") then without_options run_plan said
+    else None))
 
 -- what the words ask, None where they fit no command
 unfoldable pub plan_of : List Text → Option Plan
@@ -176,3 +183,4 @@ abbrev pub HasShape : Command → ℕ → ℕ → Type 0
 HasShape (Turns turns) inputs outputs = (inputs ≡ 1) × (outputs ≡ 0) × (turns ≤ most_turns)
 HasShape (TurnsOnImage turns) inputs outputs = (inputs ≡ 2) × (outputs ≡ 1) × (turns ≤ most_turns)
 HasShape Flat inputs outputs = (inputs ≡ 1) × (outputs ≡ 1)
+HasShape (Run turns) inputs outputs = (inputs ≡ 3) × (outputs ≡ 1) × (turns ≤ most_turns)

@@ -16,6 +16,8 @@ pub enum Command {
     TurnsOnImage { turns: u32 },
     /// `flat ARCH OUT`: the flat text of an architecture.
     Flat,
+    /// `run ARCH BITS TURNS IN OUT`: so many turns of the array under a configuration, from an image, and the result image.
+    Run { turns: u32 },
 }
 
 /// A command with the names of its files: the inputs in the order of reading, the outputs in
@@ -53,6 +55,7 @@ fn command_plan(alloc: Global, name: &str, said: &Arguments) -> Result<Option<Pl
     match name {
         "turns" if has_no_options(said) => turns_plan(alloc, said.words.as_slice()),
         "flat" if has_no_options(said) => flat_plan(alloc, said.words.as_slice()),
+        "run" if has_no_options(said) => run_plan(alloc, said.words.as_slice()),
         _ => Ok(None),
     }
 }
@@ -109,6 +112,31 @@ fn flat_plan(alloc: Global, words: &[&str]) -> Result<Option<Plan>, AllocError>
             inputs: vec![in alloc; String::from_str(alloc, arch)?]?,
             outputs: vec![in alloc; String::from_str(alloc, out)?]?,
         })),
+        _ => Ok(None),
+    }
+}
+
+fn run_plan(alloc: Global, words: &[&str]) -> Result<Option<Plan>, AllocError>
+    ensures plan { IfOk result
+        (λ p. option_map spec.planned p ≡ spec.run_plan (map (λ word. word.now) words.now)) }
+    ensures shape { IfOk result (λ p. IfSome p
+        (λ plan. HasShape plan.command (vec_len plan.inputs) (vec_len plan.outputs))) }
+{
+    match words {
+        [arch, bits, turns, input, output] => {
+            let Some(turns) = turns_of(turns) else {
+                return Ok(None);
+            };
+            Ok(Some(Plan {
+                command: Command::Run { turns },
+                inputs: vec![in alloc;
+                    String::from_str(alloc, arch)?,
+                    String::from_str(alloc, bits)?,
+                    String::from_str(alloc, input)?,
+                ]?,
+                outputs: vec![in alloc; String::from_str(alloc, output)?]?,
+            }))
+        }
         _ => Ok(None),
     }
 }

@@ -56,7 +56,10 @@ fn numbers_have_ranges(rt: HostRuntime) {
     assert_eq!(rt; interval_of("1"), Some(1));
     assert_eq!(rt; interval_of("64"), Some(64));
     assert_eq!(rt; interval_of("65"), None);
-    assert_eq!(rt; seed_of("18446744073709551615"), Some(18_446_744_073_709_551_615));
+    assert_eq!(rt;
+        seed_of("18446744073709551615"),
+        Some(18_446_744_073_709_551_615)
+    );
     assert_eq!(rt; seed_of("18446744073709551616"), None);
     assert_eq!(rt; moves_of("1000000"), Some(1_000_000));
     assert_eq!(rt; moves_of("1000001"), None);
