@@ -1,10 +1,9 @@
 //! How many resources the tiles on a grid stand for, before these are made.
 ghost use Rattle.std.specs.Prelude.{◌≡◌, ◌+◌, ◌<◌, MatchOption, nat_lt, sum_by};
 ghost use Rattle.cg_tiles.specs.Counts as spec;
-ghost use Rattle.cg_tiles.specs.Flat.{parts_for};
+ghost use Rattle.cg_tiles.specs.Elements.{parts_for};
 
-use crate::rules::tile_of;
-use crate::written::{Part, Tile, WrittenArch, WrittenPart};
+use cg_grid::{Part, Tile, WrittenArch, WrittenPart, tile_of};
 use cg_model::Name;
 
 /// Whether the cells of the grid stand for more than 4,096 resources.
