@@ -1,12 +1,12 @@
 -- Where each of the faults K3 to K16 applies: at the file, at node v, at an order edge.
 use Rattle.std.specs.Prelude.{ℕ, ◌==◌, ◌&&◌, ◌||◌, Bool, true, false, not, List, [], ◌∷◌, length, take, Option, Some, None, nat_lt, nat_le, count_by, slice_get, option_map, option_and_then, if◌then◌else◌}
 use Rattle.std.specs.Option.{option_or, option_map_or, is_none}
-use Rattle.std.specs.List.{list_any, position_from}
-use Rattle.std.specs.Str.{bytes_eq}
+use Rattle.std.specs.List.{list_any}
 use Rattle.cg_word.specs.declared.op.Op.{Op}
 use Rattle.cg_word.specs.Word.{arity, code, has_value, has_port, is_output, op_named}
 use Rattle.cg_model.specs.Names.{is_name}
 use Rattle.cg_model.specs.First.{first_from, is_before}
+use Rattle.cg_names.specs.Numbers as numbers
 use Rattle.cg_kernel.specs.Written.{KernelPlace, Format, WrittenArg, WrittenNode, WrittenEdge, WrittenKernel}
 use Rattle.cg_kernel.specs.declared.fault.KernelFault.{KernelFault}
 use Rattle.cg_kernel.specs.declared.fault.KernelFault.TheVariants as fault
@@ -20,7 +20,7 @@ use Rattle.cg_kernel.specs.declared.rule.Rule.TheVariants.{UnknownKey, TooLarge,
 
 -- the number of the first node of that name
 abbrev pub number_of : List WrittenNode → List ℕ → Option ℕ
-number_of nodes name = position_from (λ n. bytes_eq n.name name) 0 nodes
+number_of nodes name = numbers.number_of (λ n. Some n.name) nodes name
 
 -- the first format knows the operations of codes 1 to 22, the second one all
 abbrev pub knows : Format → Op → Bool

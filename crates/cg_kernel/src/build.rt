@@ -5,10 +5,10 @@ ghost use Rattle.cg_kernel.specs.Numbers.{IsIndex};
 ghost use Rattle.cg_kernel.specs.Answer as spec;
 
 use crate::kernel::Kernel;
-use crate::numbers::{Numbers, number_in};
 use crate::rules::op_of;
 use crate::written::{WrittenArg, WrittenEdge, WrittenKernel, WrittenNode};
 use cg_model::{Items, Name, Node, Operand, OrderEdge, Words};
+use cg_names::{Numbers, number_in};
 use cg_word::Op;
 use std::alloc::{AllocError, Global};
 

@@ -3,8 +3,8 @@ use Rattle.std.specs.Option.{is_some}
 use Rattle.std.proofs.lemmas.Slice.Eq.{bytes_eq-Decides}
 use Rattle.std.proofs.lemmas.Map.Text.{hash_map_updates_text}
 use Rattle.cg_model.proofs.Positions.{kept_first, added_first}
-use Rattle.cg_parts.specs.Numbers.{found_in}
-use Rattle.cg_parts.proofs.numbers.add_first.Goals as goal
+use Rattle.cg_names.specs.Numbers.{found_in}
+use Rattle.cg_names.proofs.numbers.add_first.Goals as goal
 
 pub returns : goal.returns
 returns c = λ other. added_first _ _ (bytes_eq c.args.name.now other) _
