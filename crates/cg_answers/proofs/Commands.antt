@@ -17,8 +17,8 @@ use Rattle.cg_turns.specs.Pairs.{IsPairOf}
 use Rattle.cg_answers.specs.Turns.{turns_by, turns_of}
 use Rattle.cg_answers.specs.TurnsOnImage.{IsTurnsOnImage, IsOnKernel, IsOnImage, imaged, pair_status}
 use Rattle.cg_model.specs.Array.{Arch}
-use Rattle.cg_tiles.specs.declared.fault.TilesFault.{TilesFault}
-use Rattle.cg_tiles.specs.declared.fault.TilesFault.TheVariants as fault
+use Rattle.cg_grid.specs.declared.fault.TilesFault.{TilesFault}
+use Rattle.cg_grid.specs.declared.fault.TilesFault.TheVariants as fault
 use Rattle.cg_tiles.specs.Answer as tiles
 use Rattle.cg_tiles.specs.Answer.{AreValidBytes}
 use Rattle.cg_tiles.proofs.NotBoth.{not_both}

@@ -4,8 +4,8 @@ use Rattle.hex.specs.Hex.{encode_lower}
 use Rattle.cg_model.specs.Array.{Arch, links}
 use Rattle.cg_flat.specs.Text.{text_of}
 use Rattle.cg_arch.specs.Kept.{digest_of}
-use Rattle.cg_tiles.specs.declared.fault.TilesFault.{TilesFault}
-use Rattle.cg_tiles.specs.declared.fault.TilesFault.TheVariants as fault
+use Rattle.cg_grid.specs.declared.fault.TilesFault.{TilesFault}
+use Rattle.cg_grid.specs.declared.fault.TilesFault.TheVariants as fault
 use Rattle.cg_tiles.specs.Answer as tiles
 use Rattle.cg_tiles.specs.Answer.{AreValidBytes}
 use Rattle.cg_ending.specs.declared.outcome.Status.TheVariants.{Done}
@@ -13,7 +13,7 @@ use Rattle.cg_files.specs.Held.{Holds, Appends}
 use Rattle.cg_ending.specs.Outcome.{Name, Bytes, File, Outcome, line_of}
 use Rattle.cg_ending.specs.Ends.{Moment}
 use Rattle.cg_ending.specs.Refusals.{malformed_of}
-use Rattle.cg_tiles.specs.Texts.{tiles_fault_text}
+use Rattle.cg_grid.specs.Texts.{tiles_fault_text}
 use Rattle.cg_answers.specs.Lines.{line_then}
 
 -- how many resources, units and links there are, and the digest of the text

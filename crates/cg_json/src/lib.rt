@@ -9,7 +9,8 @@ mod members;
 mod size;
 
 pub use members::{
-    has_other_keys, list_at, list_or_none, optional_word_at, text_at, word_of, word_or, words_of,
+    WordReader, has_other_keys, items_at, items_or_none, optional_word_at, text_at, word_in,
+    word_or,
 };
 use serde_json::Value;
 pub use size::MOST_MEMORY;

@@ -2,11 +2,14 @@
 use Rattle.std.proofs.Common.{◌≡◌, ℕ, zero, suc, ◌+◌, ◌<◌, ◌^◌, List, [], ◌∷◌, Option, Some, None, Result, Ok, Err, Bool, true, false, cond, refl, ap, ◌∙◌, sym, arith, lit<}
 use Rattle.std.specs.Prelude.{nat_lt, slice_get, slice_index, codes, IfOk}
 use Rattle.std.specs.Option.{option_map, option_and_then, option_or}
-use Rattle.serde_json.specs.Data.{Data, Items, no_items, item}
+use Rattle.serde_json.specs.Data.{Data}
 use Rattle.serde_json.specs.Find.{as_number, as_u64}
 use Rattle.std.proofs.lemmas.Bool.{ltb-true}
 use Rattle.cg_word.specs.Word.{words}
-use Rattle.cg_json.specs.Members.{fitting, word_in, all_of, all_or_first, and_rest, items_at, items_or_none, has_other_keys}
+use Rattle.cg_reading.specs.Items.{all_of, all_or_first, and_rest}
+use Rattle.cg_reading.specs.declared.misfit.Misfit.{Misfit}
+use Rattle.cg_reading.specs.Reads.{IsReadAt}
+use Rattle.cg_json.specs.Members.{fitting, word_in, items_at, items_or_none, has_other_keys}
 use Rattle.cg_kernel.specs.Written.{KernelPlace, Format, WrittenArg, WrittenNode, WrittenEdge, WrittenKernel, arg_in, source_in, source_from, node_in, node_from, joined, written_from, format_in, written_of}
 use Rattle.cg_kernel.specs.declared.fault.KernelPlace.TheVariants as place
 use Rattle.cg_kernel.specs.declared.written.WrittenArg.TheVariants.{Number, Source}
@@ -20,15 +23,15 @@ read_item None rest xs e = let bad : None ≡ Some xs = e in absurd (cc)
 read_item (Some x) None xs e = let bad : None ≡ Some xs = e in absurd (cc)
 read_item (Some x) (Some ys) xs e = (x, (ys, (refl, refl, (cc))))
 
-pub all_of-item : {T : Type 0} (read : Data → Option T) (items : Items) (xs : List T) (i : ℕ) (x : T) → all_of read items ≡ Some xs → slice_get xs i ≡ Some x → (d : Data) × (read d ≡ Some x)
-all_of-item read no_items xs i x all at =
+pub all_of-item : {T : Type 0} (read : Data → Option T) (items : List Data) (xs : List T) (i : ℕ) (x : T) → all_of read items ≡ Some xs → slice_get xs i ≡ Some x → (d : Data) × (read d ≡ Some x)
+all_of-item read [] xs i x all at =
     let none : [] ≡ xs = cc in
     let bad : None ≡ Some x = ap (λ l. slice_get l i) none ∙ at in absurd (cc)
-all_of-item read (item d ds) xs zero x all at =
+all_of-item read (d ∷ ds) xs zero x all at =
     let first = read_item (read d) (all_of read ds) xs all in
     let here : Some first.0 ≡ Some x = ap (λ l. slice_get l 0) first.1.1.2 ∙ at in
     (d, first.1.1.0 ∙ here)
-all_of-item read (item d ds) xs (suc i) x all at =
+all_of-item read (d ∷ ds) xs (suc i) x all at =
     let first = read_item (read d) (all_of read ds) xs all in
     all_of-item read ds first.1.0 i x first.1.1.1 (ap (λ l. slice_get l (suc i)) first.1.1.2 ∙ at)
 
@@ -38,15 +41,15 @@ read_next k None rest xs e = let bad : Err k ≡ Ok xs = e in absurd (cc)
 read_next k (Some x) (Err j) xs e = let bad : Err j ≡ Ok xs = e in absurd (cc)
 read_next k (Some x) (Ok ys) xs e = (x, (ys, (refl, refl, (cc))))
 
-pub all_or_first-item : {T : Type 0} (read : Data → Option T) (k : ℕ) (items : Items) (xs : List T) (i : ℕ) (x : T) → all_or_first read k items ≡ Ok xs → slice_get xs i ≡ Some x → (d : Data) × (read d ≡ Some x)
-all_or_first-item read k no_items xs i x all at =
+pub all_or_first-item : {T : Type 0} (read : Data → Option T) (k : ℕ) (items : List Data) (xs : List T) (i : ℕ) (x : T) → all_or_first read k items ≡ Ok xs → slice_get xs i ≡ Some x → (d : Data) × (read d ≡ Some x)
+all_or_first-item read k [] xs i x all at =
     let none : [] ≡ xs = cc in
     let bad : None ≡ Some x = ap (λ l. slice_get l i) none ∙ at in absurd (cc)
-all_or_first-item read k (item d ds) xs zero x all at =
+all_or_first-item read k (d ∷ ds) xs zero x all at =
     let first = read_next k (read d) (all_or_first read (k + 1) ds) xs all in
     let here : Some first.0 ≡ Some x = ap (λ l. slice_get l 0) first.1.1.2 ∙ at in
     (d, first.1.1.0 ∙ here)
-all_or_first-item read k (item d ds) xs (suc i) x all at =
+all_or_first-item read k (d ∷ ds) xs (suc i) x all at =
     let first = read_next k (read d) (all_or_first read (k + 1) ds) xs all in
     all_or_first-item read (k + 1) ds first.1.0 i x first.1.1.1 (ap (λ l. slice_get l (suc i)) first.1.1.2 ∙ at)
 
@@ -69,7 +72,7 @@ below_words [] k h = lit< tt
 below_words (x ∷ xs) zero h = h 0 x refl
 below_words (x ∷ xs) (suc k) h = below_words xs k (λ i y at. h (suc i) y at)
 
-pub words_in-below : (o : Option Items) (ws : List ℕ) (k : ℕ) → option_and_then (all_of word_in) o ≡ Some ws → slice_index ws k < words
+pub words_in-below : (o : Option (List Data)) (ws : List ℕ) (k : ℕ) → option_and_then (all_of word_in) o ≡ Some ws → slice_index ws k < words
 words_in-below None ws k e = let bad : None ≡ Some ws = e in absurd (cc)
 words_in-below (Some items) ws k e = below_words ws k (λ i x at. let read = all_of-item word_in items ws i x e at in word_in-below read.0 x read.1)
 
@@ -101,7 +104,7 @@ arg_in-words d a e = of_arg (word_in d) d a refl e
 
 -- ---- nodes and the whole
 
-of_args : (o : Option Items) (args : List WrittenArg) (p : ℕ) (a : WrittenArg) → option_and_then (all_of arg_in) o ≡ Some args → slice_get args p ≡ Some a → HasWords a
+of_args : (o : Option (List Data)) (args : List WrittenArg) (p : ℕ) (a : WrittenArg) → option_and_then (all_of arg_in) o ≡ Some args → slice_get args p ≡ Some a → HasWords a
 of_args None args p a e at = let bad : None ≡ Some args = e in absurd (cc)
 of_args (Some items) args p a e at = let read = all_of-item arg_in items args p a e at in arg_in-words read.0 a read.1
 
@@ -124,7 +127,7 @@ of_joined format other (Ok nodes) (Ok order) w e =
     let made : record { format = format; nodes = nodes; order = order; other_keys = other } ≡ w = cc in
     ap (λ k. Ok k.nodes) made
 
-of_kernel : (format : Option Format) (nodes order : Option Items) (other : Bool) (w : WrittenKernel) → written_from format nodes order other ≡ Ok w → HasAllWords w
+of_kernel : (format : Option Format) (nodes order : Option (List Data)) (other : Bool) (w : WrittenKernel) → written_from format nodes order other ≡ Ok w → HasAllWords w
 of_kernel None nodes order other w e = let bad : Err place.File ≡ Ok w = e in absurd (cc)
 of_kernel (Some format) None order other w e = let bad : Err place.File ≡ Ok w = e in absurd (cc)
 of_kernel (Some format) (Some nodes) None other w e = let bad : Err place.File ≡ Ok w = e in absurd (cc)
@@ -141,3 +144,8 @@ written_of-words d w e = of_kernel (format_in d) (items_at (codes "nodes") d) (i
 pub written_of-all_words : (d : Data) (read : Result WrittenKernel KernelPlace) → read ≡ written_of d → IfOk read HasAllWords
 written_of-all_words d (Ok w) e = written_of-words d w (sym e)
 written_of-all_words d (Err p) e = tt
+
+-- and so are those of a kernel that was read
+pub read-all_words : (d : Data) (r : Result WrittenKernel (Misfit KernelPlace)) → IsReadAt (written_of d) r → IfOk r HasAllWords
+read-all_words d (Ok w) read = written_of-all_words d (Ok w) (sym read)
+read-all_words d (Err misfit) read = tt

@@ -1,12 +1,13 @@
 -- Where each of the faults K3 to K16 applies: at the file, at node v, at an order edge.
 use Rattle.std.specs.Prelude.{ℕ, ◌==◌, ◌&&◌, ◌||◌, Bool, true, false, not, List, [], ◌∷◌, length, take, Option, Some, None, nat_lt, nat_le, count_by, slice_get, option_map, option_and_then, if◌then◌else◌}
 use Rattle.std.specs.Option.{option_or, option_map_or, is_none}
-use Rattle.std.specs.List.{list_any, position_from}
-use Rattle.std.specs.Str.{bytes_eq}
+use Rattle.std.specs.List.{list_any}
+use Rattle.cg_model.specs.Limits.{most_nodes, most_order_edges}
 use Rattle.cg_word.specs.declared.op.Op.{Op}
 use Rattle.cg_word.specs.Word.{arity, code, has_value, has_port, is_output, op_named}
 use Rattle.cg_model.specs.Names.{is_name}
 use Rattle.cg_model.specs.First.{first_from, is_before}
+use Rattle.cg_names.specs.Numbers as numbers
 use Rattle.cg_kernel.specs.Written.{KernelPlace, Format, WrittenArg, WrittenNode, WrittenEdge, WrittenKernel}
 use Rattle.cg_kernel.specs.declared.fault.KernelFault.{KernelFault}
 use Rattle.cg_kernel.specs.declared.fault.KernelFault.TheVariants as fault
@@ -20,7 +21,7 @@ use Rattle.cg_kernel.specs.declared.rule.Rule.TheVariants.{UnknownKey, TooLarge,
 
 -- the number of the first node of that name
 abbrev pub number_of : List WrittenNode → List ℕ → Option ℕ
-number_of nodes name = position_from (λ n. bytes_eq n.name name) 0 nodes
+number_of nodes name = numbers.number_of (λ n. Some n.name) nodes name
 
 -- the first format knows the operations of codes 1 to 22, the second one all
 abbrev pub knows : Format → Op → Bool
@@ -47,7 +48,7 @@ arg_has_other_keys (Source from distance init other) = other
 
 -- K4 TooLarge: more than 1,024 nodes or 4,096 order edges
 abbrev pub is_too_large : WrittenKernel → Bool
-is_too_large w = nat_lt 1024 (length w.nodes) || nat_lt 4096 (length w.order)
+is_too_large w = nat_lt most_nodes (length w.nodes) || nat_lt most_order_edges (length w.order)
 
 -- K5 BadName: the node's name breaks the rule: a letter or `_`, then letters, digits or `_`, 1 to 32 characters
 abbrev pub has_bad_name : WrittenNode → Bool

@@ -2,8 +2,9 @@
 use Rattle.std.specs.Prelude.{ℕ, Bool, List, [], ◌∷◌, Option, Some, None, Result, Ok, Err, codes, option_map, option_and_then, if◌then◌else◌}
 use Rattle.std.specs.Option.{option_or}
 use Rattle.std.specs.Str.{bytes_eq}
-use Rattle.serde_json.specs.Data.{Data, Items}
-use Rattle.cg_json.specs.Members.{text_at, items_at, items_or_none, word_in, word_or, optional_word_at, all_of, all_or_first, has_other_keys}
+use Rattle.serde_json.specs.Data.{Data}
+use Rattle.cg_reading.specs.Items.{all_of, all_or_first}
+use Rattle.cg_json.specs.Members.{text_at, items_at, items_or_none, word_in, word_or, optional_word_at, has_other_keys}
 pub use Rattle.cg_kernel.specs.declared.fault.KernelPlace.{KernelPlace}
 use Rattle.cg_kernel.specs.declared.fault.KernelPlace.TheVariants as place
 pub use Rattle.cg_kernel.specs.declared.written.Format.{Format}
@@ -68,7 +69,7 @@ joined format other (Ok nodes) (Ok order) = Ok (record { format = format; nodes 
 joined format other (Ok nodes) (Err e) = Err (place.Order e)
 joined format other (Err v) order = Err (place.Node v)
 
-abbrev pub written_from : Option Format → Option Items → Option Items → Bool → Result WrittenKernel KernelPlace
+abbrev pub written_from : Option Format → Option (List Data) → Option (List Data) → Bool → Result WrittenKernel KernelPlace
 written_from (Some format) (Some nodes) (Some order) other = joined format other (all_or_first node_in 0 nodes) (all_or_first edge_in 0 order)
 written_from _ _ _ other = Err place.File
 

@@ -5,10 +5,10 @@ ghost use Rattle.cg_kernel.specs.Numbers.{IsIndex};
 ghost use Rattle.cg_kernel.specs.Rules as spec;
 
 use crate::fault::{KernelFault, KernelPlace};
-use crate::numbers::Numbers;
 use crate::rule::Rule;
 use crate::rules::{applies_to_edge, applies_to_file, applies_to_node};
 use crate::written::WrittenKernel;
+use cg_names::Numbers;
 
 /// The lowest of K3 to K16 that applies, at its first place.
 pub fn first_fault(numbers: &Numbers, written: &WrittenKernel) -> Option<KernelFault>

@@ -5,7 +5,6 @@ mod build;
 mod fault;
 mod first;
 mod kernel;
-mod numbers;
 mod read;
 mod reading;
 mod rule;

@@ -11,10 +11,11 @@ use crate::build::kernel_of;
 use crate::fault::KernelFault;
 use crate::first::first_fault;
 use crate::kernel::Kernel;
-use crate::numbers::numbers_of;
 use crate::reading;
 use crate::written::WrittenKernel;
 use cg_json::{JsonFault, json_value};
+use cg_names::numbers_of;
+use cg_reading::Misfit;
 use serde_json::Value;
 use std::alloc::Global;
 
@@ -35,9 +36,9 @@ fn kernel_in(alloc: Global, value: &Value) -> Result<Kernel, KernelFault>
     ensures valid { IfOk result IsKernel }
 {
     match reading::written_of(alloc, value) {
-        Ok(Ok(written)) => judged(alloc, &written),
-        Ok(Err(place)) => Err(KernelFault::WrongShape(place)),
-        Err(_) => Err(KernelFault::Memory),
+        Ok(written) => judged(alloc, &written),
+        Err(Misfit::WrongShape(place)) => Err(KernelFault::WrongShape(place)),
+        Err(Misfit::Memory) => Err(KernelFault::Memory),
     }
 }
 

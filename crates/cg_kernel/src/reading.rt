@@ -1,43 +1,40 @@
 //! From a JSON value to what it writes of a kernel.
-ghost use Rattle.std.specs.Prelude.{◌≡◌, IfOk};
-ghost use Rattle.serde_json.specs.View.{view, items_view};
-ghost use Rattle.cg_json.specs.Members.{all_of, all_or_first};
+ghost use Rattle.std.specs.Prelude.{◌≡◌, IfOk, map};
+ghost use Rattle.serde_json.specs.View.{view};
+ghost use Rattle.cg_reading.specs.Items.{all_or_first};
+ghost use Rattle.cg_reading.specs.Reads.{IsRead, IsReadAt};
 ghost use Rattle.cg_kernel.specs.Words.{HasAllWords};
 ghost use Rattle.cg_kernel.specs.Written as spec;
 
 use crate::fault::KernelPlace;
 use crate::written::{Format, WrittenArg, WrittenEdge, WrittenKernel, WrittenNode};
 use cg_json::{
-    has_other_keys, list_at, list_or_none, optional_word_at, text_at, word_of, word_or, words_of,
+    WordReader, has_other_keys, items_at, items_or_none, optional_word_at, text_at, word_in,
+    word_or,
 };
-use cg_model::{Items, Name, Words};
+use cg_model::Name;
+use cg_reading::{ItemReader, Misfit, WRONG_SHAPE, all_of, all_or_first};
 use serde_json::Value;
 use std::alloc::{AllocError, Global};
 
+/// A wrong shape of the file, outside of its nodes and order edges.
+const WRONG_FILE: Misfit<KernelPlace> = Misfit::WrongShape(KernelPlace::File);
+
 /// What the value writes, or the first place of a wrong shape.
-pub fn written_of(
-    alloc: Global,
-    value: &Value,
-) -> Result<Result<WrittenKernel, KernelPlace>, AllocError>
-    ensures value { IfOk result (λ read. read ≡ spec.written_of (view value.now)) }
-    ensures words { IfOk result (λ read. IfOk read HasAllWords) }
+pub fn written_of(alloc: Global, value: &Value) -> Result<WrittenKernel, Misfit<KernelPlace>>
+    ensures value { IsReadAt (spec.written_of (view value.now)) result }
+    ensures words { IfOk result HasAllWords }
 {
     whole_of(alloc, value)
 }
 
 #[tactic(auto, unfolding(crate::specs::Written::written_of))]
-fn whole_of(alloc: Global, value: &Value) -> Result<Result<WrittenKernel, KernelPlace>, AllocError>
-    ensures { IfOk result (λ read. read ≡ spec.written_of (view value.now)) }
+fn whole_of(alloc: Global, value: &Value) -> Result<WrittenKernel, Misfit<KernelPlace>>
+    ensures { IsReadAt (spec.written_of (view value.now)) result }
 {
-    let Some(format) = format_of(value) else {
-        return Ok(Err(KernelPlace::File));
-    };
-    let Some(nodes) = list_at(value, "nodes") else {
-        return Ok(Err(KernelPlace::File));
-    };
-    let Some(order) = list_or_none(value, "order") else {
-        return Ok(Err(KernelPlace::File));
-    };
+    let format = format_in(value).ok_or(WRONG_FILE)?;
+    let nodes = items_at(value, "nodes").ok_or(WRONG_FILE)?;
+    let order = items_or_none(value, "order").ok_or(WRONG_FILE)?;
     let other_keys = has_other_keys(value, &["format", "nodes", "order"]);
     joined(alloc, format, other_keys, nodes, order)
 }
@@ -48,28 +45,26 @@ fn joined(
     other_keys: bool,
     nodes: &[Value],
     order: &[Value],
-) -> Result<Result<WrittenKernel, KernelPlace>, AllocError>
-    ensures { IfOk result (λ read. read ≡ spec.joined format other_keys
-        (all_or_first spec.node_in 0 (items_view nodes.now))
-        (all_or_first spec.edge_in 0 (items_view order.now))) }
+) -> Result<WrittenKernel, Misfit<KernelPlace>>
+    ensures { IsReadAt (spec.joined format other_keys
+        (all_or_first spec.node_in 0 (map view nodes.now))
+        (all_or_first spec.edge_in 0 (map view order.now))) result }
 {
-    let nodes = match nodes_of(alloc, nodes)? {
-        Ok(nodes) => nodes,
-        Err(number) => return Ok(Err(KernelPlace::Node(number))),
-    };
-    let order = match edges_of(alloc, order)? {
-        Ok(order) => order,
-        Err(number) => return Ok(Err(KernelPlace::Order(number))),
-    };
-    Ok(Ok(WrittenKernel {
+    let nodes = all_or_first::<NodeReader>(alloc, nodes).map_err(|misfit| misfit.at(
+        KernelPlace::Node,
+    ))?;
+    let order = all_or_first::<EdgeReader>(alloc, order).map_err(|misfit| misfit.at(
+        KernelPlace::Order,
+    ))?;
+    Ok(WrittenKernel {
         format,
         nodes,
         order,
         other_keys,
-    }))
+    })
 }
 
-fn format_of(value: &Value) -> Option<Format>
+fn format_in(value: &Value) -> Option<Format>
     ensures { result ≡ spec.format_in (view value.now) }
 {
     match text_at(value, "format") {
@@ -79,129 +74,105 @@ fn format_of(value: &Value) -> Option<Format>
     }
 }
 
-fn nodes_of(alloc: Global, list: &[Value]) -> Result<Result<Items<WrittenNode>, usize>, AllocError>
-    ensures { IfOk result (λ read. read ≡ all_or_first spec.node_in 0 (items_view list.now)) }
-{
-    let mut nodes = Vec::new(alloc);
-    for (number, item) in list.iter().enumerate() {
-        let Some(node) = node_of(alloc, item)? else {
-            return Ok(Err(number));
-        };
-        nodes.push(node)?;
-    }
-    Ok(Ok(Items::new(nodes)))
-}
+/// Reads nodes.
+struct NodeReader;
 
-fn edges_of(alloc: Global, list: &[Value]) -> Result<Result<Items<WrittenEdge>, usize>, AllocError>
-    ensures { IfOk result (λ read. read ≡ all_or_first spec.edge_in 0 (items_view list.now)) }
-{
-    let mut edges = Vec::new(alloc);
-    for (number, item) in list.iter().enumerate() {
-        let Some(edge) = edge_of(alloc, item)? else {
-            return Ok(Err(number));
-        };
-        edges.push(edge)?;
-    }
-    Ok(Ok(Items::new(edges)))
-}
+impl ItemReader for NodeReader {
+    ghost use Rattle.serde_json.specs.Data as json;
 
-fn node_of(alloc: Global, value: &Value) -> Result<Option<WrittenNode>, AllocError>
-    ensures { IfOk result (λ read. read ≡ spec.node_in (view value.now)) }
-{
-    let Some(name) = text_at(value, "name") else {
-        return Ok(None);
-    };
-    let Some(op) = text_at(value, "op") else {
-        return Ok(None);
-    };
-    let Some(args) = list_or_none(value, "args") else {
-        return Ok(None);
-    };
-    let Some(args) = args_of(alloc, args)? else {
-        return Ok(None);
-    };
-    let Some(port) = optional_word_at(value, "port") else {
-        return Ok(None);
-    };
-    let other_keys = has_other_keys(value, &["name", "op", "args", "port"]);
-    Ok(Some(WrittenNode {
-        name: name_of(alloc, name)?,
-        op: name_of(alloc, op)?,
-        args,
-        port,
-        other_keys,
-    }))
-}
+    type Value = Value;
 
-fn edge_of(alloc: Global, value: &Value) -> Result<Option<WrittenEdge>, AllocError>
-    ensures { IfOk result (λ read. read ≡ spec.edge_in (view value.now)) }
-{
-    let Some(from) = text_at(value, "from") else {
-        return Ok(None);
-    };
-    let Some(to) = text_at(value, "to") else {
-        return Ok(None);
-    };
-    let Some(distance) = word_or(value, "distance", 0) else {
-        return Ok(None);
-    };
-    let other_keys = has_other_keys(value, &["from", "to", "distance"]);
-    Ok(Some(WrittenEdge {
-        from: name_of(alloc, from)?,
-        to: name_of(alloc, to)?,
-        distance,
-        other_keys,
-    }))
-}
+    type Item = WrittenNode;
 
-fn args_of(alloc: Global, list: &[Value]) -> Result<Option<Items<WrittenArg>>, AllocError>
-    ensures { IfOk result (λ read. read ≡ all_of spec.arg_in (items_view list.now)) }
-{
-    let mut args = Vec::new(alloc);
-    for item in list {
-        let Some(arg) = arg_of(alloc, item)? else {
-            return Ok(None);
-        };
-        args.push(arg)?;
-    }
-    Ok(Some(Items::new(args)))
-}
+    ghost Data = { json.Data };
 
-fn arg_of(alloc: Global, value: &Value) -> Result<Option<WrittenArg>, AllocError>
-    ensures { IfOk result (λ read. read ≡ spec.arg_in (view value.now)) }
-{
-    match word_of(value) {
-        Some(number) => Ok(Some(WrittenArg::Number(number))),
-        None => source_of(alloc, value),
+    ghost data_of = { view };
+
+    ghost item_in = { spec.node_in };
+
+    fn read(alloc: Global, value: &Value) -> Result<WrittenNode, Misfit<()>> {
+        let name = text_at(value, "name").ok_or(WRONG_SHAPE)?;
+        let op = text_at(value, "op").ok_or(WRONG_SHAPE)?;
+        let args = items_or_none(value, "args").ok_or(WRONG_SHAPE)?;
+        let args = all_of::<ArgReader>(alloc, args)?;
+        let port = optional_word_at(value, "port").ok_or(WRONG_SHAPE)?;
+        let other_keys = has_other_keys(value, &["name", "op", "args", "port"]);
+        Ok(WrittenNode {
+            name: Name::copy_of(alloc, name)?,
+            op: Name::copy_of(alloc, op)?,
+            args,
+            port,
+            other_keys,
+        })
     }
 }
 
-fn source_of(alloc: Global, value: &Value) -> Result<Option<WrittenArg>, AllocError>
-    ensures { IfOk result (λ read. read ≡ spec.source_in (view value.now)) }
+/// Reads order edges.
+struct EdgeReader;
+
+impl ItemReader for EdgeReader {
+    ghost use Rattle.serde_json.specs.Data as json;
+
+    type Value = Value;
+
+    type Item = WrittenEdge;
+
+    ghost Data = { json.Data };
+
+    ghost data_of = { view };
+
+    ghost item_in = { spec.edge_in };
+
+    fn read(alloc: Global, value: &Value) -> Result<WrittenEdge, Misfit<()>> {
+        let from = text_at(value, "from").ok_or(WRONG_SHAPE)?;
+        let to = text_at(value, "to").ok_or(WRONG_SHAPE)?;
+        let distance = word_or(value, "distance", 0).ok_or(WRONG_SHAPE)?;
+        let other_keys = has_other_keys(value, &["from", "to", "distance"]);
+        Ok(WrittenEdge {
+            from: Name::copy_of(alloc, from)?,
+            to: Name::copy_of(alloc, to)?,
+            distance,
+            other_keys,
+        })
+    }
+}
+
+/// Reads arguments of nodes.
+struct ArgReader;
+
+impl ItemReader for ArgReader {
+    ghost use Rattle.serde_json.specs.Data as json;
+
+    type Value = Value;
+
+    type Item = WrittenArg;
+
+    ghost Data = { json.Data };
+
+    ghost data_of = { view };
+
+    ghost item_in = { spec.arg_in };
+
+    fn read(alloc: Global, value: &Value) -> Result<WrittenArg, Misfit<()>> {
+        match word_in(value) {
+            Some(number) => Ok(WrittenArg::Number(number)),
+            None => source_in(alloc, value),
+        }
+    }
+}
+
+fn source_in(alloc: Global, value: &Value) -> Result<WrittenArg, Misfit<()>>
+    ensures { IsRead (spec.source_in (view value.now)) result }
 {
-    let Some(from) = text_at(value, "from") else {
-        return Ok(None);
-    };
-    let Some(distance) = word_or(value, "distance", 0) else {
-        return Ok(None);
-    };
-    let Some(init) = list_or_none(value, "init") else {
-        return Ok(None);
-    };
-    let Some(init) = words_of(alloc, init)? else {
-        return Ok(None);
-    };
+    let from = text_at(value, "from").ok_or(WRONG_SHAPE)?;
+    let distance = word_or(value, "distance", 0).ok_or(WRONG_SHAPE)?;
+    let init = items_or_none(value, "init").ok_or(WRONG_SHAPE)?;
+    let init = all_of::<WordReader>(alloc, init)?;
     let other_keys = has_other_keys(value, &["from", "distance", "init"]);
-    Ok(Some(WrittenArg::Source {
-        from: name_of(alloc, from)?,
+    Ok(WrittenArg::Source {
+        from: Name::copy_of(alloc, from)?,
         distance,
-        init: Words::new(init),
+        init,
         other_keys,
-    }))
-}
-
-fn name_of(alloc: Global, text: &str) -> Result<Name, AllocError>
-    ensures { IfOk result (λ name. name ≡ text.now) }
-{
-    Ok(Name::new(text.to_string(alloc)?))
+    })
 }

@@ -2,14 +2,13 @@
 ghost use Rattle.std.specs.Prelude.{◌≡◌, ◌≤◌, length};
 ghost use Rattle.std.specs.List.{list_any};
 ghost use Rattle.cg_word.specs.Word as word;
-ghost use Rattle.cg_model.specs.First.{is_before};
 ghost use Rattle.cg_kernel.specs.Numbers.{IsIndex};
 ghost use Rattle.cg_kernel.specs.Rules as spec;
 
-use crate::numbers::{Numbers, number_in};
 use crate::rule::Rule;
 use crate::written::{Format, WrittenArg, WrittenEdge, WrittenKernel, WrittenNode};
-use cg_model::is_name;
+use cg_model::{MOST_NODES, MOST_ORDER_EDGES, is_name};
+use cg_names::{Numbers, is_before, number_in};
 use cg_word::Op;
 
 /// The operation of a node, where the format knows one of that name.
@@ -47,15 +46,6 @@ fn source_op(written: &WrittenKernel, numbers: &Numbers, name: &str) -> Option<O
             None => None,
         },
         None => None,
-    }
-}
-
-fn is_before(number: Option<usize>, node: usize) -> bool
-    ensures { result ≡ is_before number node }
-{
-    match number {
-        Some(number) => number < node,
-        None => false,
     }
 }
 
@@ -330,7 +320,7 @@ pub fn applies_to_file(rule: Rule, written: &WrittenKernel) -> bool
     match rule {
         Rule::UnknownKey => written.other_keys,
         Rule::TooLarge => {
-            written.nodes.as_slice().len() > 1024 || written.order.as_slice().len() > 4096
+            written.nodes.as_slice().len() > MOST_NODES || written.order.as_slice().len() > MOST_ORDER_EDGES
         }
         _ => false,
     }

@@ -1,6 +1,7 @@
 //! A kernel as its file writes it, before names and operations are looked up.
 
 use cg_model::{Items, Name, Words};
+use cg_names::Named;
 
 /// The format that a file names: the second one knows the guarded operations.
 #[derive(Clone, Copy, Debug, PartialEq, Eq)]
@@ -28,6 +29,16 @@ pub struct WrittenNode {
     pub args: Items<WrittenArg>,
     pub port: Option<u32>,
     pub other_keys: bool,
+}
+
+impl Named for WrittenNode {
+    ghost use Rattle.std.specs.Prelude.{Some};
+
+    ghost own_name = { λ n. Some n.name };
+
+    fn name(&self) -> Option<&str> {
+        Some(self.name.as_str())
+    }
 }
 
 #[derive(Drop)]

@@ -13,7 +13,9 @@ use Rattle.cg_model.specs.declared.kernel.Node.{Node}
 use Rattle.cg_model.specs.declared.kernel.Operand.{Operand}
 use Rattle.cg_model.specs.declared.kernel.Operand.TheVariants.{Const, Edge}
 use Rattle.cg_model.specs.declared.kernel.OrderEdge.{OrderEdge}
-use Rattle.cg_json.specs.Members.{word_in, all_of, all_or_first, optional_word_at, other_member, has_other_keys}
+use Rattle.cg_reading.specs.Items.{all_of, all_or_first}
+use Rattle.cg_reading.specs.Keys.{has_other}
+use Rattle.cg_json.specs.Members.{word_in, listed, optional_word_at, keys_in, has_other_keys}
 use Rattle.cg_kernel.specs.declared.written.WrittenArg.{WrittenArg}
 use Rattle.cg_kernel.specs.declared.written.WrittenNode.{WrittenNode}
 use Rattle.cg_kernel.specs.declared.written.WrittenEdge.{WrittenEdge}
@@ -58,7 +60,7 @@ small n m h k = omega (arith, h, k)
 pub word_back : (w : ℕ) → w < 2 ^ 32 → word_in (word_data w) ≡ Some w
 word_back w h = ap (λ b. cond b (Some w) None) (lt-ltb w (2 ^ 32) h)
 
-words_back : (ws : List ℕ) → ((i w : ℕ) → slice_get ws i ≡ Some w → w < 2 ^ 32) → all_of word_in (items_of (map word_data ws)) ≡ Some ws
+words_back : (ws : List ℕ) → ((i w : ℕ) → slice_get ws i ≡ Some w → w < 2 ^ 32) → all_of word_in (listed (items_of (map word_data ws))) ≡ Some ws
 words_back ws h = all_of-map word_in word_data (λ w. w) ws (λ i w at. word_back w (h i w at)) ∙ ap Some (map-same (λ w. w) ws (λ _ _ _. refl))
 
 constant_back : (c : ℕ) → c < 2 ^ 32 → arg_in (word_data c) ≡ Some (Number c)
@@ -67,7 +69,7 @@ constant_back c h = ap (λ o. option_or (option_map Number o) None) (word_back c
 edge_back : (name : List ℕ) (d : ℕ) (init : List ℕ) → d < 2 ^ 32 → ((i w : ℕ) → slice_get init i ≡ Some w → w < 2 ^ 32)
     → arg_in (object (member (codes "distance") (word_data d) (member (codes "from") (string name) (member (codes "init") (array (items_of (map word_data init))) no_members)))) ≡ Some (Source name d init false)
 edge_back name d init hd hi =
-    ap (λ o. source_from (Some name) o (all_of word_in (items_of (map word_data init))) false) (word_back d hd)
+    ap (λ o. source_from (Some name) o (all_of word_in (listed (items_of (map word_data init)))) false) (word_back d hd)
     ∙ ap (λ o. source_from (Some name) (Some d) o false) (words_back init hi)
 
 word_at : (init : List ℕ) (i w : ℕ) → slice_get init i ≡ Some w → ((k : ℕ) → slice_index init k < 2 ^ 32) → w < 2 ^ 32
@@ -85,7 +87,7 @@ port_back : (b : Bool) (p : ℕ) → p < 2 ^ 32 → option_map_or (λ found. opt
 port_back true p h = ap (option_map Some) (word_back p h)
 port_back false p h = refl
 
-port_known : (b : Bool) (p : ℕ) → other_member (codes "name" ∷ codes "op" ∷ codes "args" ∷ codes "port" ∷ []) (cond b (member (codes "port") (word_data p) no_members) no_members) ≡ false
+port_known : (b : Bool) (p : ℕ) → has_other (codes "name" ∷ codes "op" ∷ codes "args" ∷ codes "port" ∷ []) (keys_in (cond b (member (codes "port") (word_data p) no_members) no_members)) ≡ false
 port_known true p = refl
 port_known false p = refl
 
@@ -110,7 +112,7 @@ order_back K valid i e at =
 pub written_of-data_of : (K : Kernel) → IsKernel K → written_of (data_of K) ≡ Ok (written K)
 unfolding written_of data_of
 written_of-data_of K valid =
-    ap (λ ns. joined Second false ns (all_or_first edge_in 0 (items_of (map (edge_data K.nodes) K.order))))
+    ap (λ ns. joined Second false ns (all_or_first edge_in 0 (listed (items_of (map (edge_data K.nodes) K.order)))))
     (all_or_first-map node_in (node_data K.nodes) (written_node K.nodes) 0 K.nodes (λ v n at. node_back K valid v n at))
     ∙ ap (λ es. joined Second false (Ok (map (written_node K.nodes) K.nodes)) es)
     (all_or_first-map edge_in (edge_data K.nodes) (written_edge K.nodes) 0 K.order (λ i e at. order_back K valid i e at))

@@ -6,18 +6,19 @@ use Rattle.std.specs.List.{list_any}
 use Rattle.serde_json.specs.Data.{Data}
 use Rattle.serde_json.specs.View.{items_of}
 use Rattle.cg_model.specs.First.{first_from}
-use Rattle.cg_json.specs.Members.{all_of, all_or_first, and_rest}
+use Rattle.cg_reading.specs.Items.{all_of, all_or_first, and_rest}
+use Rattle.cg_json.specs.Members.{listed}
 
-pub all_of-map : {X T : Type 0} (read : Data → Option T) (f : X → Data) (g : X → T) (xs : List X) → ((i : ℕ) (x : X) → slice_get xs i ≡ Some x → read (f x) ≡ Some (g x)) → all_of read (items_of (map f xs)) ≡ Some (map g xs)
+pub all_of-map : {X T : Type 0} (read : Data → Option T) (f : X → Data) (g : X → T) (xs : List X) → ((i : ℕ) (x : X) → slice_get xs i ≡ Some x → read (f x) ≡ Some (g x)) → all_of read (listed (items_of (map f xs))) ≡ Some (map g xs)
 all_of-map read f g [] h = refl
 all_of-map read f g (x ∷ xs) h =
-    ap (option_and_then (λ y. option_map (λ ys. y ∷ ys) (all_of read (items_of (map f xs))))) (h 0 x refl)
+    ap (option_and_then (λ y. option_map (λ ys. y ∷ ys) (all_of read (listed (items_of (map f xs)))))) (h 0 x refl)
     ∙ ap (option_map (λ ys. g x ∷ ys)) (all_of-map read f g xs (λ i y at. h (suc i) y at))
 
-pub all_or_first-map : {X T : Type 0} (read : Data → Option T) (f : X → Data) (g : X → T) (k : ℕ) (xs : List X) → ((i : ℕ) (x : X) → slice_get xs i ≡ Some x → read (f x) ≡ Some (g x)) → all_or_first read k (items_of (map f xs)) ≡ Ok (map g xs)
+pub all_or_first-map : {X T : Type 0} (read : Data → Option T) (f : X → Data) (g : X → T) (k : ℕ) (xs : List X) → ((i : ℕ) (x : X) → slice_get xs i ≡ Some x → read (f x) ≡ Some (g x)) → all_or_first read k (listed (items_of (map f xs))) ≡ Ok (map g xs)
 all_or_first-map read f g k [] h = refl
 all_or_first-map read f g k (x ∷ xs) h =
-    ap (λ o. and_rest k o (all_or_first read (k + 1) (items_of (map f xs)))) (h 0 x refl)
+    ap (λ o. and_rest k o (all_or_first read (k + 1) (listed (items_of (map f xs))))) (h 0 x refl)
     ∙ ap (and_rest k (Some (g x))) (all_or_first-map read f g (k + 1) xs (λ i y at. h (suc i) y at))
 
 pub map-same : {X : Type 0} (f : X → X) (xs : List X) → ((i : ℕ) (x : X) → slice_get xs i ≡ Some x → f x ≡ x) → map f xs ≡ xs

@@ -10,9 +10,9 @@ use crate::claims::first_repeat;
 use crate::drivers::{DriverRule, first_wrong};
 use crate::entry::Entry;
 use crate::fault::{ArchFault, NamePlace, TooLargePlace};
-use crate::numbers::Numbers;
 use crate::parts::{Element, Parts};
 use cg_model::{MOST_LINKS, MOST_MEMORY, MOST_RESOURCES, MOST_UNITS, is_name};
+use cg_names::Numbers;
 use std::alloc::{AllocError, Global};
 
 /// The lowest of A1 to A5 that applies, at its first place. The resources are those of the parts, with their numbers.

@@ -5,13 +5,14 @@ ghost use Rattle.std.specs.Option.{option_or};
 ghost use Rattle.std.specs.Str.{bytes_eq};
 ghost use Rattle.cg_model.specs.First.{first_from, is_before};
 ghost use Rattle.cg_parts.specs.Parts as spec;
-ghost use Rattle.cg_parts.specs.Numbers.{found_in, claims, claimer_of, IsClaiming};
+ghost use Rattle.cg_names.specs.Numbers.{found_in};
+ghost use Rattle.cg_parts.specs.Numbers.{IsClaiming};
 ghost use Rattle.cg_parts.specs.Rules.{repeats_by, repeated_name};
 
 use crate::names::{out_name, port_name_of};
-use crate::numbers::{Numbers, add_first, number_in};
 use crate::parts::{Element, Names};
 use cg_model::Name;
+use cg_names::{Numbers, add_first, is_before, number_in};
 use indexmap::IndexMap;
 use std::alloc::{AllocError, Global};
 
@@ -121,13 +122,4 @@ fn any_before(claimers: &Numbers, names: &[Name], number: usize) -> bool
     ensures { result ≡ list_any (λ claim. is_before (found_in claimers.now claim) number) names.now }
 {
     names.iter().any(|name| is_before(number_in(claimers, name.as_str()), number))
-}
-
-fn is_before(found: Option<usize>, number: usize) -> bool
-    ensures { result ≡ is_before found number }
-{
-    match found {
-        Some(found) => found < number,
-        None => false,
-    }
 }

@@ -7,9 +7,9 @@ ghost use Rattle.cg_parts.specs.Rules as spec;
 
 use crate::entry::Entry;
 use crate::fault::DriverPlace;
-use crate::numbers::{Numbers, number_in};
 use crate::parts::{Element, Names};
 use cg_model::{Kind, Name};
+use cg_names::{Numbers, number_in};
 use std::alloc::{AllocError, Global};
 
 /// What makes a driver be at fault.

@@ -2,6 +2,7 @@
 
 use crate::parts::Names;
 use cg_model::{Kind, Name};
+use cg_names::Named;
 
 /// A resource that an element stands for, its drivers still by name.
 #[derive(Drop)]
@@ -11,4 +12,15 @@ pub struct Entry {
     pub kind: Kind,
     /// Its drivers, each once.
     pub drivers: Names,
+}
+
+impl Named for Entry {
+    ghost own_name = { λ r. r.name };
+
+    fn name(&self) -> Option<&str> {
+        match &self.name {
+            Some(name) => Some(name.as_str()),
+            None => None,
+        }
+    }
 }

@@ -14,8 +14,8 @@ use Rattle.cg_parts.specs.declared.parts.Element.TheVariants as element
 use Rattle.cg_parts.specs.Parts.{entries, entries_of, port_entries, out_entry, name_of}
 use Rattle.cg_parts.specs.Rules.{links, is_unit, has_bad_name}
 use Rattle.cg_word.specs.declared.op.Op.{Op}
-use Rattle.cg_tiles.specs.declared.grid.Cell.{Cell}
-use Rattle.cg_tiles.specs.Flat.{flat_name}
+use Rattle.cg_grid.specs.declared.grid.Cell.{Cell}
+use Rattle.cg_tiles.specs.Elements.{flat_name}
 use Rattle.cg_tiles.specs.Lean.{short_name}
 use Rattle.cg_tiles.proofs.Counted.{entries-cons, links-append, port_entries-length}
 

@@ -8,11 +8,14 @@ use Rattle.cg_parts.specs.declared.parts.Element.{Element}
 use Rattle.cg_parts.specs.declared.entry.Entry.{Entry}
 use Rattle.cg_parts.specs.Parts.{entries, entries_of, port_entries, out_entry}
 use Rattle.cg_parts.specs.Rules.{links}
-use Rattle.cg_tiles.specs.Written.{Reference, Part, WrittenPart, WrittenArch}
-use Rattle.cg_tiles.specs.declared.written.Part.TheVariants as part
-use Rattle.cg_tiles.specs.declared.grid.Cell.{Cell}
-use Rattle.cg_tiles.specs.declared.grid.Grid.{Grid}
-use Rattle.cg_tiles.specs.Flat.{element_of, driver_of, drivers_of, flat_name, parts_for, row_elements, grid_elements}
+use Rattle.cg_grid.specs.declared.written.Reference.{Reference}
+use Rattle.cg_grid.specs.declared.written.Part.{Part}
+use Rattle.cg_grid.specs.declared.written.WrittenPart.{WrittenPart}
+use Rattle.cg_grid.specs.declared.written.WrittenArch.{WrittenArch}
+use Rattle.cg_grid.specs.declared.written.Part.TheVariants as part
+use Rattle.cg_grid.specs.declared.grid.Cell.{Cell}
+use Rattle.cg_grid.specs.declared.grid.Grid.{Grid}
+use Rattle.cg_tiles.specs.Elements.{element_of, driver_of, drivers_of, flat_name, parts_for, row_elements, grid_elements}
 use Rattle.cg_tiles.specs.Counts.{resources_of, part_resources, row_resources, grid_resources, list_links, links_of, part_links, row_links, grid_links}
 use Rattle.cg_tiles.proofs.Distinct.{distinct_distinct}
 

@@ -1,5 +1,5 @@
 -- Names of a list, each where it stands first.
-use Rattle.std.proofs.Common.{◌≡◌, ℕ, ◌≤◌, List, [], ◌∷◌, ◌++◌, length, fold, Bool, true, false, cond, bytes_eq, arith, refl, ap, ◌∙◌, length-append, map, String, Global, string_bytes, ◌||◌}
+use Rattle.std.proofs.Common.{◌≡◌, ℕ, ◌≤◌, List, [], ◌∷◌, ◌++◌, length, fold, Bool, true, false, cond, bytes_eq, arith, refl, ap, ◌∙◌, length-append}
 use Rattle.std.specs.List.{list_any}
 use Rattle.std.proofs.lemmas.List.Sums.{fold-append}
 use Rattle.cg_parts.specs.Parts.{with_name, distinct}
@@ -30,8 +30,3 @@ fold_same names (x ∷ xs) same = fold_same (with_name names x) xs (added (list_
 pub distinct_distinct : (names : List (List ℕ)) → distinct (distinct names) ≡ distinct names
 unfolding distinct
 distinct_distinct names = fold_same [] names refl
-
--- texts that were seen
-pub list_any-bytes : (p : List ℕ → Bool) (ks : List (String Global)) → list_any (λ k. p (string_bytes k)) ks ≡ list_any p (map string_bytes ks)
-list_any-bytes p [] = refl
-list_any-bytes p (k ∷ ks) = ap (λ b. p (string_bytes k) || b) (list_any-bytes p ks)

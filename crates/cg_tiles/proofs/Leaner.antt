@@ -15,12 +15,15 @@ use Rattle.cg_model.proofs.Options.{cond_none}
 use Rattle.cg_parts.specs.Parts.{entries}
 use Rattle.cg_parts.specs.Rules.{links, too_large, bad_name, has_bad_name, repeated_name, wrong_driver, fault_before_loops}
 use Rattle.cg_arch.specs.Answer.{IsFault, AreValid, early, a_loop, late}
-use Rattle.cg_tiles.specs.Written.{Part, WrittenPart, Tile, WrittenArch}
-use Rattle.cg_tiles.specs.declared.written.Part.TheVariants as part
-use Rattle.cg_tiles.specs.declared.grid.Cell.{Cell}
-use Rattle.cg_tiles.specs.declared.grid.Grid.{Grid}
-use Rattle.cg_tiles.specs.Rules.{tile_of}
-use Rattle.cg_tiles.specs.Flat.{drivers_of, element_of, flat_name, parts_for, cell_elements, row_elements, grid_elements, grid_of, parts_of}
+use Rattle.cg_grid.specs.declared.written.Part.{Part}
+use Rattle.cg_grid.specs.declared.written.WrittenPart.{WrittenPart}
+use Rattle.cg_grid.specs.declared.written.Tile.{Tile}
+use Rattle.cg_grid.specs.declared.written.WrittenArch.{WrittenArch}
+use Rattle.cg_grid.specs.declared.written.Part.TheVariants as part
+use Rattle.cg_grid.specs.declared.grid.Cell.{Cell}
+use Rattle.cg_grid.specs.declared.grid.Grid.{Grid}
+use Rattle.cg_grid.specs.Rules.{tile_of}
+use Rattle.cg_tiles.specs.Elements.{drivers_of, element_of, flat_name, parts_for, cell_elements, row_elements, grid_elements, grid_of, parts_of}
 use Rattle.cg_tiles.specs.Lean.{short_name, lean_part, lean_written, lean_tile, lean}
 use Rattle.cg_tiles.specs.Alike.{AnswersFor}
 use Rattle.cg_tiles.proofs.References.{drivers-once, ports-once}

@@ -1,12 +1,9 @@
 pub mod Alike
 pub mod Counted
 pub mod Distinct
-pub mod Fronts
-pub mod ItemLists
 pub mod Leaner
 pub mod Never
 pub mod NotBoth
-pub mod Places
 pub mod References
 pub mod Solved
 pub mod TooMany

@@ -6,11 +6,16 @@ use Rattle.cg_parts.specs.declared.parts.Parts.{Parts}
 use Rattle.cg_parts.specs.declared.fault.ArchFault.TheVariants as arch
 use Rattle.cg_parts.specs.declared.fault.TooLargePlace.TheVariants as large
 use Rattle.cg_toml.specs.Bytes.{table_of}
-use Rattle.cg_tiles.specs.Written.{PartPlace, TilesPlace, WrittenArch, written_of}
-use Rattle.cg_tiles.specs.Rules.{TilesFault, Cell, first_fault, unknown_key, unknown_tile, ragged_row, first_part, applies, has_large_grid}
-use Rattle.cg_tiles.specs.declared.rules.PartRule.TheVariants.{UnknownOp}
-use Rattle.cg_tiles.specs.declared.fault.TilesFault.TheVariants as fault
-use Rattle.cg_tiles.specs.Flat.{parts_of}
+use Rattle.cg_grid.specs.declared.fault.PartPlace.{PartPlace}
+use Rattle.cg_grid.specs.declared.fault.TilesPlace.{TilesPlace}
+use Rattle.cg_grid.specs.declared.written.WrittenArch.{WrittenArch}
+use Rattle.cg_grid.specs.Written.{written_of}
+use Rattle.cg_grid.specs.declared.fault.TilesFault.{TilesFault}
+use Rattle.cg_grid.specs.declared.grid.Cell.{Cell}
+use Rattle.cg_grid.specs.Rules.{first_fault, unknown_key, unknown_tile, ragged_row, first_part, applies, has_large_grid}
+use Rattle.cg_grid.specs.declared.rules.PartRule.TheVariants.{UnknownOp}
+use Rattle.cg_grid.specs.declared.fault.TilesFault.TheVariants as fault
+use Rattle.cg_tiles.specs.Elements.{parts_of}
 use Rattle.cg_tiles.specs.Answer.{unless, judged, parts_written, parts_in, parts_spelled, IsRefused}
 
 lowest : (key : Option TilesPlace) (cell : Option Cell) (row : Option ℕ) (op : Option PartPlace) (large_one : Bool)

@@ -6,11 +6,12 @@ use Rattle.std.proofs.lemmas.List.Folds.{list_any-append}
 use Rattle.std.proofs.lemmas.List.Sums.{fold-append}
 use Rattle.std.proofs.lemmas.Slice.Eq.{bytes_eq-Decides}
 use Rattle.cg_parts.specs.Parts.{with_name, distinct}
-use Rattle.cg_tiles.specs.Written.{Side, Reference}
-use Rattle.cg_tiles.specs.declared.written.Side.TheVariants.{Here, North, East, South, West, Anywhere}
-use Rattle.cg_tiles.specs.declared.grid.Cell.{Cell}
-use Rattle.cg_tiles.specs.declared.grid.Grid.{Grid}
-use Rattle.cg_tiles.specs.Flat.{name_on, driver_of, drivers_of}
+use Rattle.cg_grid.specs.declared.written.Side.{Side}
+use Rattle.cg_grid.specs.declared.written.Reference.{Reference}
+use Rattle.cg_grid.specs.declared.written.Side.TheVariants.{Here, North, East, South, West, Anywhere}
+use Rattle.cg_grid.specs.declared.grid.Cell.{Cell}
+use Rattle.cg_grid.specs.declared.grid.Grid.{Grid}
+use Rattle.cg_tiles.specs.Elements.{name_on, driver_of, drivers_of}
 use Rattle.cg_tiles.specs.Lean.{letter, key_of, is_same, with_reference, references_once}
 
 -- ---- names that stand in a list stay there
@@ -131,8 +132,3 @@ pub ports-once : (grid : Grid) (cell : Cell) (ports : List (List Reference)) →
 ports-once grid cell [] = refl
 ports-once grid cell (x ∷ xs) =
     ap (λ names. names ∷ map (drivers_of grid cell) (map references_once xs)) (drivers-once grid cell x) ∙ ap (λ rest. drivers_of grid cell x ∷ rest) (ports-once grid cell xs)
-
--- a test of keys
-pub list_any-keys : (p : List ℕ → Bool) (refs : List Reference) → list_any (λ r. p (key_of r)) refs ≡ list_any p (map key_of refs)
-list_any-keys p [] = refl
-list_any-keys p (r ∷ rs) = ap (λ b. p (key_of r) || b) (list_any-keys p rs)

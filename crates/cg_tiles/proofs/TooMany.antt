@@ -8,10 +8,10 @@ use Rattle.cg_parts.specs.declared.fault.TooLargePlace.TheVariants as large
 use Rattle.cg_parts.specs.Parts.{entries}
 use Rattle.cg_parts.specs.Rules.{links, too_large, fault_before_loops, bad_name, repeated_name, wrong_driver}
 use Rattle.cg_arch.specs.Answer.{early}
-use Rattle.cg_tiles.specs.Written.{WrittenArch}
-use Rattle.cg_tiles.specs.Rules.{first_fault}
-use Rattle.cg_tiles.specs.declared.fault.TilesFault.TheVariants as fault
-use Rattle.cg_tiles.specs.Flat.{parts_of, grid_of}
+use Rattle.cg_grid.specs.declared.written.WrittenArch.{WrittenArch}
+use Rattle.cg_grid.specs.Rules.{first_fault}
+use Rattle.cg_grid.specs.declared.fault.TilesFault.TheVariants as fault
+use Rattle.cg_tiles.specs.Elements.{parts_of, grid_of}
 use Rattle.cg_tiles.specs.Lean.{lean}
 use Rattle.cg_tiles.specs.Counts.{grid_resources, grid_links}
 use Rattle.cg_tiles.specs.Answer.{unless, judged, IsRefused}

@@ -7,10 +7,13 @@ use Rattle.cg_parts.specs.declared.fault.ArchFault.{ArchFault}
 use Rattle.cg_parts.specs.declared.fault.ArchFault.TheVariants as arch
 use Rattle.cg_arch.specs.Answer.{IsFault, AreValid}
 use Rattle.cg_toml.specs.Bytes.{table_of}
-use Rattle.cg_tiles.specs.Written.{WrittenArch, TilesPlace, written_of}
-use Rattle.cg_tiles.specs.Rules.{TilesFault, first_fault}
-use Rattle.cg_tiles.specs.Flat.{parts_of}
-use Rattle.cg_tiles.specs.declared.fault.TilesFault.TheVariants as fault
+use Rattle.cg_grid.specs.declared.written.WrittenArch.{WrittenArch}
+use Rattle.cg_grid.specs.declared.fault.TilesPlace.{TilesPlace}
+use Rattle.cg_grid.specs.Written.{written_of}
+use Rattle.cg_grid.specs.declared.fault.TilesFault.{TilesFault}
+use Rattle.cg_grid.specs.Rules.{first_fault}
+use Rattle.cg_tiles.specs.Elements.{parts_of}
+use Rattle.cg_grid.specs.declared.fault.TilesFault.TheVariants as fault
 
 abbrev pub unless : Option TilesFault → Parts → Result Parts TilesFault
 unless None parts = Ok parts

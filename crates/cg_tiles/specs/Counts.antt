@@ -1,9 +1,14 @@
 -- How many resources and links the tiles on a grid stand for, by what is written.
 use Rattle.std.specs.Prelude.{ℕ, ◌+◌, List, [], ◌∷◌, length, sum_by}
-use Rattle.cg_tiles.specs.Written.{Reference, Part, WrittenPart, Tile, WrittenArch}
-use Rattle.cg_tiles.specs.declared.written.Part.TheVariants as part
-use Rattle.cg_tiles.specs.declared.grid.Cell.{Cell}
-use Rattle.cg_tiles.specs.Flat.{Grid, drivers_of, parts_for}
+use Rattle.cg_grid.specs.declared.written.Reference.{Reference}
+use Rattle.cg_grid.specs.declared.written.Part.{Part}
+use Rattle.cg_grid.specs.declared.written.WrittenPart.{WrittenPart}
+use Rattle.cg_grid.specs.declared.written.Tile.{Tile}
+use Rattle.cg_grid.specs.declared.written.WrittenArch.{WrittenArch}
+use Rattle.cg_grid.specs.declared.written.Part.TheVariants as part
+use Rattle.cg_grid.specs.declared.grid.Cell.{Cell}
+use Rattle.cg_grid.specs.declared.grid.Grid.{Grid}
+use Rattle.cg_tiles.specs.Elements.{drivers_of, parts_for}
 
 -- ---- resources
 

@@ -2,9 +2,14 @@
 use Rattle.std.specs.Prelude.{ℕ, Bool, List, [], ◌∷◌, ◌++◌, map, fold, length, nat_lt, codes, if◌then◌else◌}
 use Rattle.std.specs.List.{list_any}
 use Rattle.std.specs.Str.{bytes_eq}
-use Rattle.cg_tiles.specs.Written.{Side, Reference, Part, WrittenPart, Tile, WrittenArch}
-use Rattle.cg_tiles.specs.declared.written.Side.TheVariants.{Here, North, East, South, West, Anywhere}
-use Rattle.cg_tiles.specs.declared.written.Part.TheVariants as part
+use Rattle.cg_grid.specs.declared.written.Side.{Side}
+use Rattle.cg_grid.specs.declared.written.Reference.{Reference}
+use Rattle.cg_grid.specs.declared.written.Part.{Part}
+use Rattle.cg_grid.specs.declared.written.WrittenPart.{WrittenPart}
+use Rattle.cg_grid.specs.declared.written.Tile.{Tile}
+use Rattle.cg_grid.specs.declared.written.WrittenArch.{WrittenArch}
+use Rattle.cg_grid.specs.declared.written.Side.TheVariants.{Here, North, East, South, West, Anywhere}
+use Rattle.cg_grid.specs.declared.written.Part.TheVariants as part
 
 -- a letter for each side
 abbrev pub letter : Side → ℕ

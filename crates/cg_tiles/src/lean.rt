@@ -2,7 +2,7 @@
 ghost use Rattle.std.specs.Prelude.{◌≡◌, IfOk, OnOk, map, string_bytes};
 ghost use Rattle.cg_tiles.specs.Lean as spec;
 
-use crate::written::{Part, Reference, References, Side, Tile, WrittenArch, WrittenPart};
+use cg_grid::{Part, Reference, References, Side, Tile, WrittenArch, WrittenPart};
 use cg_model::{Items, Name};
 use indexmap::IndexSet;
 use std::alloc::{AllocError, Global};

@@ -1,22 +1,13 @@
-//! Architectures as a designer writes them: a TOML table of tiles on a grid.
+//! Architectures as a designer writes them: the one that the tiles of a file stand for.
 #![tactic(auto)]
 
 mod counting;
-mod fault;
-mod flat;
-mod grid;
+mod elements;
 mod lean;
-mod part_reading;
 mod read;
-mod reading;
 mod room;
-mod rules;
-mod texts;
-mod written;
 
 pub use cg_arch::Arch;
+pub use cg_grid::{Cell, PartPlace, TilesFault, TilesPlace, tiles_fault_text};
 pub use cg_parts::ArchFault;
-pub use fault::{PartPlace, TilesFault, TilesPlace};
-pub use grid::Cell;
 pub use read::read_arch;
-pub use texts::tiles_fault_text;

@@ -5,18 +5,16 @@ ghost use Rattle.cg_model.specs.Array.{IsArch};
 ghost use Rattle.cg_parts.specs.declared.parts.Parts.{Parts};
 ghost use Rattle.cg_tiles.specs.Alike.{AnswersFor};
 ghost use Rattle.cg_tiles.specs.Answer as spec;
-ghost use Rattle.cg_tiles.specs.Written as spelled;
+ghost use Rattle.cg_grid.specs.Written as spelled;
 
 use crate::counting::has_many_resources;
-use crate::fault::TilesFault;
-use crate::flat::parts_of;
+use crate::elements::parts_of;
 use crate::lean::lean;
-use crate::reading::written_of;
 use crate::room::MakingFault;
-use crate::rules::first_fault;
-use crate::written::WrittenArch;
 use cg_arch::{Arch, validate};
+use cg_grid::{TilesFault, WrittenArch, first_fault, written_of};
 use cg_parts::{ArchFault, Parts, TooLargePlace};
+use cg_reading::Misfit;
 use cg_toml::{TomlFault, toml_table};
 use std::alloc::Global;
 use toml::Value;
@@ -66,9 +64,10 @@ fn written_in(alloc: Global, value: &Value) -> Result<WrittenArch, TilesFault>
     ensures read { IfOk result (λ written. spec.parts_written (spelled.written_of (view value.now)) ≡ spec.judged written) }
     ensures refused { IfErr result (λ fault. fault ≢ TilesFault.Memory → spec.parts_written (spelled.written_of (view value.now)) ≡ Err fault) }
 {
-    match written_of(alloc, value)? {
+    match written_of(alloc, value) {
         Ok(written) => Ok(written),
-        Err(place) => Err(TilesFault::WrongShape(place)),
+        Err(Misfit::WrongShape(place)) => Err(TilesFault::WrongShape(place)),
+        Err(Misfit::Memory) => Err(TilesFault::Memory),
     }
 }
 

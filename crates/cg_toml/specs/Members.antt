@@ -1,9 +1,8 @@
 -- What readers of formats ask of a TOML value.
-use Rattle.std.specs.Prelude.{ℕ, ◌^◌, ◌+◌, ◌||◌, ℤ, pos, negsuc, Bool, false, not, List, [], ◌∷◌, Option, Some, None, Result, Ok, Err, nat_lt, option_map, option_and_then, if◌then◌else◌}
+use Rattle.std.specs.Prelude.{ℕ, ◌^◌, ℤ, pos, negsuc, Bool, false, List, [], ◌∷◌, Option, Some, None, nat_lt, option_map, option_and_then, if◌then◌else◌}
 use Rattle.std.specs.Option.{option_map_or}
-use Rattle.std.specs.List.{list_all}
-use Rattle.std.specs.Str.{bytes_eq}
 use Rattle.toml.specs.Data.{Data, Items, no_items, item, Members, no_members, member, get, as_integer, as_str, as_bool, as_array, as_table}
+use Rattle.cg_reading.specs.Keys.{has_other}
 
 -- an integer that is a word
 abbrev pub fitting : ℤ → Option ℕ
@@ -30,43 +29,32 @@ flag_or key default d = option_map_or as_bool (get key d) (Some default)
 abbrev pub text_at : List ℕ → Data → Option (List ℕ)
 text_at key d = option_and_then as_str (get key d)
 
+-- items, as a list
+abbrev pub listed : Items → List Data
+listed no_items = []
+listed (item d ds) = d ∷ listed ds
+
+-- the items of an array
+abbrev pub items_in : Data → Option (List Data)
+items_in d = option_map listed (as_array d)
+
 -- the items of the array at a key
-abbrev pub items_at : List ℕ → Data → Option Items
-items_at key d = option_and_then as_array (get key d)
+abbrev pub items_at : List ℕ → Data → Option (List Data)
+items_at key d = option_and_then items_in (get key d)
 
 -- the same, and no items where the key is missing
-abbrev pub items_or_none : List ℕ → Data → Option Items
-items_or_none key d = option_map_or as_array (get key d) (Some no_items)
+abbrev pub items_or_none : List ℕ → Data → Option (List Data)
+items_or_none key d = option_map_or items_in (get key d) (Some [])
 
 -- the entries of the table at a key, in the order of their keys' bytes
 abbrev pub members_at : List ℕ → Data → Option Members
 members_at key d = option_and_then as_table (get key d)
 
--- what each item reads as, where every one does
-abbrev pub all_of : {T : Type 0} → (Data → Option T) → Items → Option (List T)
-all_of read no_items = Some []
-all_of read (item d ds) = option_and_then (λ x. option_map (λ xs. x ∷ xs) (all_of read ds)) (read d)
-
--- an item, before those that follow; or the number of the first one that doesn't read
-abbrev pub and_rest : {T : Type 0} → ℕ → Option T → Result (List T) ℕ → Result (List T) ℕ
-and_rest k None rest = Err k
-and_rest k (Some x) (Ok xs) = Ok (x ∷ xs)
-and_rest k (Some x) (Err j) = Err j
-
--- what each item reads as, or the number of the first one that doesn't read; the first has number k
-abbrev pub all_or_first : {T : Type 0} → (Data → Option T) → ℕ → Items → Result (List T) ℕ
-all_or_first read k no_items = Ok []
-all_or_first read k (item d ds) = and_rest k (read d) (all_or_first read (k + 1) ds)
-
--- the key is none of those
-abbrev pub is_unlisted : List (List ℕ) → List ℕ → Bool
-is_unlisted known key = list_all (λ other. not (bytes_eq other key)) known
-
--- one of the entries has another key than those
-abbrev pub other_member : List (List ℕ) → Members → Bool
-other_member known no_members = false
-other_member known (member key d ms) = is_unlisted known key || other_member known ms
+-- the keys of a table's entries
+abbrev pub keys_in : Members → List (List ℕ)
+keys_in no_members = []
+keys_in (member key d ms) = key ∷ keys_in ms
 
 -- a table has a key that isn't one of those
 abbrev pub has_other_keys : List (List ℕ) → Data → Bool
-has_other_keys known d = option_map_or (other_member known) (as_table d) false
+has_other_keys known d = option_map_or (λ ms. has_other known (keys_in ms)) (as_table d) false

@@ -9,7 +9,8 @@ mod members;
 mod size;
 
 pub use members::{
-    flag_or, has_other_keys, items, list_at, list_or_none, table_at, text_at, word_at, word_or,
+    flag_or, has_other_keys, items_at, items_in, items_or_none, members_at, text_at, word_at,
+    word_or,
 };
 pub use size::MOST_MEMORY;
 use size::memory_for;

@@ -1,6 +1,6 @@
 use Rattle.std.proofs.Common.{◌≡◌, ◌+◌, take, sum_by}
 use Rattle.cg_tiles.specs.Counts.{part_resources}
-use Rattle.cg_tiles.specs.Flat.{parts_for}
+use Rattle.cg_tiles.specs.Elements.{parts_for}
 use Rattle.cg_tiles.proofs.counting.room_after_row.Given as goal
 
 abbrev pub invariant-loop-letter : goal.invariant-loop-letter

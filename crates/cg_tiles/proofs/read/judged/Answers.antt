@@ -1,6 +1,6 @@
 use Rattle.std.proofs.Common.{◌≡◌, ◌∙◌, None, Err, ap, sym, subst}
-use Rattle.cg_tiles.specs.Rules.{first_fault}
-use Rattle.cg_tiles.specs.Flat.{parts_of}
+use Rattle.cg_grid.specs.Rules.{first_fault}
+use Rattle.cg_tiles.specs.Elements.{parts_of}
 use Rattle.cg_tiles.specs.Lean.{lean}
 use Rattle.cg_tiles.specs.Alike.{AnswersFor}
 use Rattle.cg_tiles.specs.Answer.{judged, IsRefused}

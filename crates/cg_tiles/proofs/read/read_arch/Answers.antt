@@ -1,6 +1,6 @@
 use Rattle.std.proofs.Common.{◌≡◌, ◌∙◌, sym}
 use Rattle.cg_parts.specs.declared.fault.ArchFault.TheVariants as arch
-use Rattle.cg_tiles.specs.declared.fault.TilesFault.TheVariants as fault
+use Rattle.cg_grid.specs.declared.fault.TilesFault.TheVariants as fault
 use Rattle.cg_tiles.proofs.Never.{never_memory}
 use Rattle.cg_tiles.proofs.read.read_arch.Goals as goal
 

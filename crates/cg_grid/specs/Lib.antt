@@ -1,0 +1,5 @@
+pub mod Grid
+pub mod Parts
+pub mod Rules
+pub mod Texts
+pub mod Written

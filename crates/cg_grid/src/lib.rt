@@ -1,0 +1,17 @@
+//! Architecture files: what a TOML table of tiles on a grid writes, the faults in it, and the neighbours of cells.
+#![tactic(auto)]
+
+mod fault;
+mod grid;
+mod part_reading;
+mod reading;
+mod rules;
+mod texts;
+mod written;
+
+pub use fault::{PartPlace, TilesFault, TilesPlace};
+pub use grid::{Cell, Grid, neighbour};
+pub use reading::written_of;
+pub use rules::{columns, first_fault, tile_of};
+pub use texts::tiles_fault_text;
+pub use written::{Header, Part, Reference, References, Side, Tile, WrittenArch, WrittenPart};

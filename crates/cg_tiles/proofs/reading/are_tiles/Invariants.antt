@@ -1,7 +1,0 @@
-use Rattle.std.proofs.Common.{◌≡◌}
-use Rattle.toml.specs.View.{members_view}
-use Rattle.cg_tiles.specs.Written.{are_tiles}
-use Rattle.cg_tiles.proofs.reading.are_tiles.Given as goal
-
-abbrev pub invariant-loop-key : goal.invariant-loop-key
-invariant-loop-key l = are_tiles (members_view l.key-iterator) ≡ are_tiles (members_view l.tiles.entries)

@@ -1,9 +1,0 @@
-use Rattle.std.proofs.Common.{◌≡◌, drop}
-use Rattle.toml.specs.View.{items_view}
-use Rattle.cg_toml.specs.Members.{all_of}
-use Rattle.cg_tiles.specs.Written.{row_in}
-use Rattle.cg_tiles.proofs.ItemLists.{and_then}
-use Rattle.cg_tiles.proofs.reading.rows_of.Given as goal
-
-abbrev pub invariant-loop-item : goal.invariant-loop-item
-invariant-loop-item l = and_then l.rows.items (all_of row_in (items_view (drop l.item-index l.list))) ≡ all_of row_in (items_view l.list)

@@ -1,6 +1,0 @@
-use Rattle.std.proofs.Common.{◌≡◌, drop}
-use Rattle.cg_tiles.specs.Rules.{unknown_tile}
-use Rattle.cg_tiles.proofs.rules.unknown_tile.Given as goal
-
-abbrev pub invariant-loop-row : goal.invariant-loop-row
-invariant-loop-row l = unknown_tile l.tiles l.row (drop l.row l.grid) ≡ unknown_tile l.tiles 0 l.grid

@@ -1,0 +1,261 @@
+//! From tiles on a grid to the parts that they stand for.
+ghost use Rattle.std.specs.Prelude.{◌≡◌, ◌+◌, ◌<◌, ◌≤◌, ◌++◌, IfOk, OnOk, IsErrOf, length, map, string_bytes, sum_by};
+ghost use Rattle.cg_model.specs.Limits.{most_links};
+ghost use Rattle.cg_parts.specs.Parts.{with_name};
+ghost use Rattle.cg_tiles.specs.Counts as counts;
+ghost use Rattle.cg_tiles.specs.Elements as spec;
+
+use crate::room::{MakingFault, Room};
+use cg_grid::{
+    Cell, Grid, Part, Reference, References, Side, WrittenArch, WrittenPart, columns, neighbour,
+    tile_of,
+};
+use cg_model::{Items, MOST_LINKS, Name};
+use cg_parts::{Element, Names, Parts};
+use indexmap::IndexSet;
+use std::alloc::{AllocError, Global};
+
+/// The parts that are written, unless there are more than 65,536 links into their resources.
+#[tactic(auto, unfolding(crate::specs::Elements::parts_of))]
+pub(crate) fn parts_of(alloc: Global, written: WrittenArch) -> Result<Parts, MakingFault>
+    ensures parts { IfOk result (λ parts. parts ≡ spec.parts_of written) }
+    ensures many { IsErrOf result MakingFault.TooManyLinks → most_links < counts.grid_links written (spec.grid_of written) 0 written.header.grid }
+{
+    let elements = elements_of(alloc, &written)?;
+    Ok(Parts {
+        name: written.header.name,
+        contexts: written.header.contexts,
+        memory: written.header.memory,
+        elements: Items::new(elements),
+        hub: written.header.hub,
+    })
+}
+
+/// The elements of all cells, by row and column.
+fn elements_of(alloc: Global, written: &WrittenArch) -> Result<Vec<Element>, MakingFault>
+    ensures elements { IfOk result (λ list. list.items ≡ spec.grid_elements written.now (spec.grid_of written.now) 0 written.now.header.grid) }
+    ensures many { IsErrOf result MakingFault.TooManyLinks → most_links < counts.grid_links written.now (spec.grid_of written.now) 0 written.now.header.grid }
+{
+    let rows = written.header.grid.as_slice();
+    let grid = Grid {
+        rows: rows.len(),
+        columns: columns(rows),
+        torus: written.header.torus,
+    };
+    let mut elements = Vec::new(alloc);
+    let mut room = Room {
+        links: MOST_LINKS,
+        text: 67_108_864,
+    };
+    for (row, cells) in rows.iter().enumerate() {
+        let cells = cells.as_str().as_bytes();
+        add_row(alloc, &mut elements, &mut room, written, grid, row, cells)?;
+    }
+    Ok(elements)
+}
+
+/// Adds the elements of a row.
+fn add_row(
+    alloc: Global,
+    elements: &mut Vec<Element>,
+    room: &mut Room,
+    written: &WrittenArch,
+    grid: Grid,
+    row: usize,
+    cells: &[u8],
+) -> Result<(), MakingFault>
+    ensures elements { OnOk result (elements.new.items ≡ elements.old.items ++ spec.row_elements written.now grid row 0 cells.now) }
+    ensures room { OnOk result (room.new.links + counts.row_links written.now grid row 0 cells.now ≡ room.old.links) }
+    ensures many { IsErrOf result MakingFault.TooManyLinks → room.old.links < counts.row_links written.now grid row 0 cells.now }
+{
+    for (column, letter) in cells.iter().enumerate() {
+        let cell = Cell { row, column };
+        add_cell(alloc, elements, room, written, grid, cell, *letter)?;
+    }
+    Ok(())
+}
+
+/// Adds the elements of a cell: the parts of its tile.
+fn add_cell(
+    alloc: Global,
+    elements: &mut Vec<Element>,
+    room: &mut Room,
+    written: &WrittenArch,
+    grid: Grid,
+    cell: Cell,
+    letter: u8,
+) -> Result<(), MakingFault>
+    ensures elements { OnOk result (elements.new.items ≡ elements.old.items ++ spec.cell_elements written.now grid cell letter) }
+    ensures room { OnOk result (room.new.links + counts.part_links grid cell (spec.parts_for written.now.tiles letter) ≡ room.old.links) }
+    ensures many { IsErrOf result MakingFault.TooManyLinks → room.old.links < counts.part_links grid cell (spec.parts_for written.now.tiles letter) }
+{
+    match tile_of(written.tiles.as_slice(), letter) {
+        Some(tile) => add_parts(alloc, elements, room, grid, cell, tile.parts.as_slice()),
+        None => Ok(()),
+    }
+}
+
+fn add_parts(
+    alloc: Global,
+    elements: &mut Vec<Element>,
+    room: &mut Room,
+    grid: Grid,
+    cell: Cell,
+    parts: &[WrittenPart],
+) -> Result<(), MakingFault>
+    ensures elements { OnOk result (elements.new.items ≡ elements.old.items ++ map (λ p. spec.element_of grid cell p.part) parts.now) }
+    ensures room { OnOk result (room.new.links + counts.part_links grid cell parts.now ≡ room.old.links) }
+    ensures many { IsErrOf result MakingFault.TooManyLinks → room.old.links < counts.part_links grid cell parts.now }
+{
+    for part in parts {
+        elements.push(element_of(alloc, room, grid, cell, &part.part)?)?;
+    }
+    Ok(())
+}
+
+/// What a part of a tile is in a cell.
+fn element_of(
+    alloc: Global,
+    room: &mut Room,
+    grid: Grid,
+    cell: Cell,
+    part: &Part,
+) -> Result<Element, MakingFault>
+    ensures element { IfOk result (λ element. element ≡ spec.element_of grid cell part.now) }
+    ensures room { OnOk result (room.new.links + counts.links_of grid cell part.now ≡ room.old.links) }
+    ensures many { IsErrOf result MakingFault.TooManyLinks → room.old.links < counts.links_of grid cell part.now }
+{
+    match part {
+        Part::Wire { name, from } => Ok(Element::Wire {
+            name: flat_name(alloc, cell, name.as_str())?,
+            drivers: drivers_of(alloc, room, grid, cell, from.as_slice())?,
+        }),
+        Part::Register { name, from } => Ok(Element::Register {
+            name: flat_name(alloc, cell, name.as_str())?,
+            drivers: drivers_of(alloc, room, grid, cell, from.as_slice())?,
+        }),
+        Part::Unit {
+            name,
+            ops,
+            latency,
+            ports,
+            ..
+        } => Ok(Element::Unit {
+            name: flat_name(alloc, cell, name.as_str())?,
+            ops: *ops,
+            latency: *latency,
+            ports: Items::new(ports_of(alloc, room, grid, cell, ports.as_slice())?),
+        }),
+    }
+}
+
+fn ports_of(
+    alloc: Global,
+    room: &mut Room,
+    grid: Grid,
+    cell: Cell,
+    ports: &[References],
+) -> Result<Vec<Names>, MakingFault>
+    ensures ports { IfOk result (λ list. list.items ≡ map (spec.drivers_of grid cell) ports.now) }
+    ensures room { OnOk result (room.new.links + sum_by (counts.list_links grid cell) ports.now ≡ room.old.links) }
+    ensures many { IsErrOf result MakingFault.TooManyLinks → room.old.links < sum_by (counts.list_links grid cell) ports.now }
+{
+    let mut list = Vec::new(alloc);
+    for references in ports {
+        list.push(drivers_of(alloc, room, grid, cell, references.as_slice())?)?;
+    }
+    Ok(list)
+}
+
+/// The names of the drivers that references in a cell name, equal ones once.
+fn drivers_of(
+    alloc: Global,
+    room: &mut Room,
+    grid: Grid,
+    cell: Cell,
+    references: &[Reference],
+) -> Result<Names, MakingFault>
+    ensures names { IfOk result (λ names. names ≡ spec.drivers_of grid cell references.now) }
+    ensures room { OnOk result (room.new.links + counts.list_links grid cell references.now ≡ room.old.links) }
+    ensures many { IsErrOf result MakingFault.TooManyLinks → room.old.links < counts.list_links grid cell references.now }
+{
+    let names = names_of(alloc, room, grid, cell, references)?;
+    if names.len() > room.links {
+        return Err(MakingFault::TooManyLinks);
+    }
+    room.links -= names.len();
+    Ok(Names::new(names))
+}
+
+/// The same names. They are given up where those found so far are too many for the room, and may be too many by one.
+#[tactic(auto, using(crate::proofs::Distinct::fold_longer), unfolding(cg_parts::specs::Parts::distinct))]
+fn names_of(
+    alloc: Global,
+    room: &mut Room,
+    grid: Grid,
+    cell: Cell,
+    references: &[Reference],
+) -> Result<Vec<Name>, MakingFault>
+    ensures names { IfOk result (λ names. names.items ≡ spec.drivers_of grid cell references.now) }
+    ensures links { room.new.links ≡ room.old.links }
+    ensures many { IsErrOf result MakingFault.TooManyLinks → room.old.links < counts.list_links grid cell references.now }
+{
+    let mut seen = IndexSet::new(alloc);
+    let mut names = Vec::new(alloc);
+    for reference in references {
+        if names.len() > room.links {
+            return Err(MakingFault::TooManyLinks);
+        }
+        if let Some(name) = driver_of(alloc, grid, cell, reference)? {
+            room.spend(name.as_str())?;
+            add_name(alloc, &mut seen, &mut names, name)?;
+        }
+    }
+    Ok(names)
+}
+
+/// Adds a name to those seen and kept, unless it stands there.
+fn add_name(
+    alloc: Global,
+    seen: &mut IndexSet<String>,
+    kept: &mut Vec<Name>,
+    name: Name,
+) -> Result<(), AllocError>
+    requires { map string_bytes seen.old.keys ≡ kept.old.items }
+    ensures seen { OnOk result (map string_bytes seen.new.keys ≡ kept.new.items) }
+    ensures kept { OnOk result (kept.new.items ≡ with_name kept.old.items name) }
+{
+    let added = seen.insert(name.as_str().to_string(alloc)?)?;
+    if added {
+        kept.push(name)?;
+    }
+    Ok(())
+}
+
+/// The flat name of the resource that a reference in a cell names, none off the grid.
+fn driver_of(
+    alloc: Global,
+    grid: Grid,
+    cell: Cell,
+    reference: &Reference,
+) -> Result<Option<Name>, AllocError>
+    ensures { IfOk result (λ name. name ≡ spec.driver_of grid cell reference.now) }
+{
+    let name = reference.name.as_str();
+    if matches!(reference.side, Side::Anywhere) {
+        return Ok(Some(Name::new(name.to_string(alloc)?)));
+    }
+    match neighbour(grid, cell, reference.side) {
+        Some(other) => Ok(Some(flat_name(alloc, other, name)?)),
+        None => Ok(None),
+    }
+}
+
+/// The flat name of what is called `name` in a cell.
+fn flat_name(alloc: Global, cell: Cell, name: &str) -> Result<Name, AllocError>
+    ensures { IfOk result (λ flat. flat ≡ spec.flat_name cell name.now) }
+{
+    let row = cell.row;
+    let column = cell.column;
+    Ok(Name::new(format!(in alloc; "r{row}c{column}_{name}")?))
+}
