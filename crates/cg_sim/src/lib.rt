@@ -1,2 +1,12 @@
 //! The array, cycle by cycle.
 #![tactic(auto)]
+
+mod effects;
+mod fault;
+mod plan;
+mod settle;
+mod texts;
+mod units;
+
+pub use fault::SimFault;
+pub use texts::sim_fault_text;

@@ -1,0 +1,5 @@
+mod Listed
+mod Kept
+mod Arguments
+mod Begun
+mod EachUnit

@@ -1,0 +1,5 @@
+pub mod Plan
+pub mod Settle
+pub mod Reserved
+pub mod Effects
+pub mod Texts
