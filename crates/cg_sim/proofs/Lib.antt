@@ -3,3 +3,6 @@ mod Kept
 mod Arguments
 mod Begun
 mod EachUnit
+mod Facts
+mod Slots
+mod Rooms

@@ -5,6 +5,7 @@ mod effects;
 mod fault;
 mod plan;
 mod settle;
+mod streams;
 mod texts;
 mod units;
 

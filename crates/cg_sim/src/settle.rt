@@ -1,9 +1,9 @@
 //! The words of a cycle, kind by kind: first the outs, then the registers, then the wires and ports.
 ghost use Rattle.std.specs.Prelude.{◌≡◌, ℕ, ◌<◌, ◌≤◌, ◌*◌, length, slice_index};
 ghost use Rattle.cg_sim.specs.Plan.{link};
-ghost use Rattle.cg_sim.specs.Settle.{terminals, delayed, chosen, AreReadable, Keeps, Follows};
+ghost use Rattle.cg_sim.specs.Settle.{terminals, delayed, chosen, AreReadable, Keeps, Follows, CanSettle, Settles, IsSettled};
 
-use crate::plan::{Links, Terminals};
+use crate::plan::{Links, Plan, Terminals};
 use cg_contexts::Contexts;
 
 /// The words of the outs: each has what its unit gave a latency ago. The results of the last four cycles stand together, unit by unit.
@@ -54,4 +54,25 @@ pub(crate) fn settle_nets<C: Contexts>(nets: &Links, contexts: &C, slot: u32, wo
         let driver = nets.drivers[entry.first + select];
         words[entry.resource as usize] = words[driver as usize];
     }
+}
+
+/// Finds the words of a cycle, from the results of the last four and the words of the last one.
+pub(crate) fn settle<C: Contexts>(
+    plan: &Plan,
+    contexts: &C,
+    slot: u32,
+    row: usize,
+    history: &[u32],
+    before: &[u32],
+    words: &mut [u32],
+)
+    requires row { row < 4 }
+    requires history { length history.now ≡ 4 * length plan.now.units.items }
+    requires before { length before.now ≡ length words.old }
+    requires readable { CanSettle (C.config contexts.now) slot plan.now (length words.old) }
+    ensures { (f : ℕ → ℕ) → Settles (C.config contexts.now) slot row plan.now history.now before.now words.old f → IsSettled plan.now words.old words.new f }
+{
+    settle_outs(&plan.units, row, history, words);
+    settle_registers(&plan.registers, contexts, slot, before, words);
+    settle_nets(&plan.nets, contexts, slot, words);
 }
