@@ -6,3 +6,6 @@ mod EachUnit
 mod Facts
 mod Slots
 mod Rooms
+mod Chosen
+mod Cycles
+mod Left

@@ -1,13 +1,14 @@
 //! The output streams of a run, with room for all that is sent.
-ghost use Rattle.std.specs.Prelude.{◌≡◌, ◌<◌, ◌≤◌, ℕ, [], true, false, IfOk, length, slice_index_or};
+ghost use Rattle.std.specs.Prelude.{◌≡◌, ◌<◌, ◌≤◌, ℕ, [], true, false, IfOk, length, slice_index_or, vec_capacity};
 ghost use Rattle.cg_model.specs.Config as configs;
 ghost use Rattle.cg_model.specs.Canonical.{IsCanonical, gives_output};
 ghost use Rattle.cg_contexts.specs.Known.{HasUnit};
-ghost use Rattle.cg_sim.specs.Reserved.{stream};
+ghost use Rattle.cg_sim.specs.Reserved.{stream, all_words};
 
 use crate::effects::Stream;
 use cg_arch::Arch;
 use cg_contexts::{Contexts, UnitFields};
+use cg_model::Words;
 use cg_pad::PORTS;
 use std::alloc::{AllocError, Global};
 
@@ -70,4 +71,17 @@ fn is_output(fields: &UnitFields) -> bool
         Some(op) => op.is_output(),
         None => false,
     }
+}
+
+/// The words of all streams, in a list that has room for them.
+pub(crate) fn all_words(streams: Vec<Stream>, room: Vec<Words>) -> Vec<Words>
+    requires empty { room.items ≡ [] }
+    requires enough { length streams.items ≤ vec_capacity room }
+    ensures { result.items ≡ all_words streams.items }
+{
+    let mut finished = room;
+    for stream in streams {
+        let _done = finished.push(stream.into_words());
+    }
+    finished
 }
