@@ -1,12 +1,11 @@
 -- What the entries of a plan read.
-use Rattle.std.proofs.Common.{◌≡◌, ℕ, zero, suc, ◌+◌, ◌-◌, ◌<◌, ◌≤◌, Bool, true, false, List, [], ◌∷◌, length, map, get_or, Option, Some, None, Contains, refl, sym, ap, ◌∙◌, subst, arith, ⊎_elim}
+use Rattle.std.proofs.Common.{◌≡◌, ℕ, zero, suc, ◌+◌, ◌-◌, ◌<◌, ◌≤◌, Bool, true, List, [], ◌∷◌, length, refl, sym, ap, ◌∙◌, subst, arith, ⊎_elim}
 use Rattle.std.specs.Prelude.{slice_index, slice_index_or, slice_get}
 use Rattle.std.proofs.lemmas.Bool.{cases_lt, true≢false}
 use Rattle.std.proofs.lemmas.List.{get_or_past, get_or_default, get_or-map, length-map}
 use Rattle.std.proofs.lemmas.Option.{slice_get-get_or, slice_get_past}
 use Rattle.cg_model.specs.declared.array.Kind.{Kind}
 use Rattle.cg_model.specs.declared.array.Kind.TheVariants.{Wire, Register, Port, Out}
-use Rattle.cg_model.specs.declared.array.Unit.{Unit}
 use Rattle.cg_model.specs.Array.{Arch, IsArch, resource, unit}
 use Rattle.cg_model.specs.Config.{Config, select}
 use Rattle.cg_model.specs.Canonical.{IsCanonical}
@@ -16,8 +15,8 @@ use Rattle.cg_sim.specs.declared.plan.Link.{Link}
 use Rattle.cg_sim.specs.declared.plan.Links.{Links}
 use Rattle.cg_sim.specs.declared.plan.Terminals.{Terminals}
 use Rattle.cg_sim.specs.declared.plan.Plan.{Plan}
-use Rattle.cg_sim.specs.Plan.{link, is_register, is_net, IsLinked, AreLinks, AreTerminals, IsPlan, terminals_of}
-use Rattle.cg_sim.specs.Settle.{terminals, chosen, IsReadable, AreReadable, CanSettle}
+use Rattle.cg_sim.specs.Plan.{link, is_register, is_net, IsLinked, AreLinks, IsPlan, terminals_of}
+use Rattle.cg_sim.specs.Settle.{terminals, AreReadable, CanSettle}
 use Rattle.cg_sim.specs.Effects.{on_ports}
 
 pub register_is : (k : Kind) → is_register k ≡ true → k ≡ Register

@@ -1,10 +1,10 @@
 -- What a run rests on of a canonical configuration.
-use Rattle.std.proofs.Common.{◌≡◌, ℕ, zero, suc, ◌+◌, ◌^◌, ◌<◌, ◌≤◌, Bool, true, false, not, ◌&&◌, ◌||◌, eqb, [], length, refl, sym, ap, subst, ◌∙◌, arith, ⊎_elim}
-use Rattle.std.specs.Prelude.{nat_le, slice_index_or}
-use Rattle.std.proofs.lemmas.Bool.{cases_lt, cases_Bool, eq-eqb, leb-true, and_parts, cond_both, not-true, true≢false}
+use Rattle.std.proofs.Common.{◌≡◌, ℕ, zero, suc, ◌<◌, ◌≤◌, Bool, true, false, ◌&&◌, ◌||◌, [], length, refl, sym, subst, ◌∙◌, arith, ⊎_elim}
+use Rattle.std.specs.Prelude.{slice_index_or}
+use Rattle.std.proofs.lemmas.Bool.{cases_lt, eq-eqb, leb-true, and_parts, cond_both, not-true, true≢false}
 use Rattle.std.proofs.lemmas.List.{get_or_past}
 use Rattle.cg_model.specs.declared.config.UnitFields.{UnitFields}
-use Rattle.cg_model.specs.Array.{Arch, IsArch}
+use Rattle.cg_model.specs.Array.{Arch}
 use Rattle.cg_model.specs.Config.{Config, fields, off}
 use Rattle.cg_model.specs.Canonical.{IsCanonical, is_on, gives_output, stage_of, last_stage, any_below, clash}
 use Rattle.cg_overlap.proofs.Canonical.{greatest_below}

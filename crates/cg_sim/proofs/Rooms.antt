@@ -1,6 +1,6 @@
 -- A stream has at most n words: each port has one output field, which is active in n rounds.
 use Rattle.std.proofs.Common.{◌≡◌, ℕ, zero, suc, ◌+◌, ◌-◌, ◌/◌, ◌%◌, ◌<◌, ◌≤◌, ◌⊎◌, List, [], ◌∷◌, ◌++◌, length, Option, Some, None, true, refl, sym, ap, ◌∙◌, subst, arith, ⊎_elim, inl, inr, append-nil, length-append}
-use Rattle.std.proofs.lemmas.Bool.{cases_eq, leb-true, ltb-true, and_parts, cond_both}
+use Rattle.std.proofs.lemmas.Bool.{cases_eq, leb-true, and_parts, cond_both}
 use Rattle.std.proofs.lemmas.Nat.{mod_below}
 use Rattle.std.proofs.lemmas.Option.{cond_some}
 use Rattle.cg_word.specs.declared.op.Op.{Op}

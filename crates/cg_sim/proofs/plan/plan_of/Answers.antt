@@ -1,4 +1,4 @@
-use Rattle.std.proofs.Common.{◌≡◌, ◌≢◌, ◌<◌, ◌+◌, ℕ, List, [], length, get_or, sym, ap, subst, ◌∙◌, refl, rules, true, false}
+use Rattle.std.proofs.Common.{◌≡◌, ◌≢◌, ◌<◌, ◌+◌, List, [], length, get_or, sym, ap, subst, ◌∙◌, refl, rules, false}
 use Rattle.std.specs.Prelude.{slice_index}
 use Rattle.std.proofs.lemmas.List.{get_or_read}
 use Rattle.cg_model.specs.declared.array.Kind.{Kind}
@@ -6,8 +6,8 @@ use Rattle.cg_model.specs.declared.array.Kind.TheVariants.{Wire, Register, Out}
 use Rattle.cg_model.specs.declared.array.Resource.{Resource}
 use Rattle.cg_model.specs.Array.{resource}
 use Rattle.cg_sim.specs.declared.plan.Links.{Links}
-use Rattle.cg_sim.specs.Plan.{is_register, is_net, AreListed, AreRising, AreTerminals}
-use Rattle.cg_sim.proofs.Listed.{listed_none, rising_none, listed_skip, listed_added, rising_more, all_listed, no_register, a_net}
+use Rattle.cg_sim.specs.Plan.{is_register, is_net, AreListed, AreRising}
+use Rattle.cg_sim.proofs.Listed.{listed_skip, listed_added, rising_more, all_listed, no_register, a_net}
 use Rattle.cg_sim.proofs.plan.plan_of.Goals as goal
 use Rattle.cg_sim.proofs.plan.plan_of.Goals.{in-Out, in-Register+in_ok-add-in-Register, in_default+in_ok-add-in_default}
 

@@ -1,4 +1,4 @@
-use Rattle.std.proofs.Common.{◌≡◌, ℕ, ◌<◌, true, false, length}
+use Rattle.std.proofs.Common.{◌≡◌, ℕ, ◌<◌, true, false}
 use Rattle.std.specs.Prelude.{slice_index_or}
 use Rattle.cg_model.specs.Config as configs
 use Rattle.cg_model.specs.Canonical.{gives_output}

@@ -1,4 +1,4 @@
-use Rattle.std.proofs.Common.{◌≡◌, ◌<◌, true, false, length, sym, subst, arith, rules, ⊎_elim}
+use Rattle.std.proofs.Common.{◌≡◌, true, false, sym, subst, arith, rules, ⊎_elim}
 use Rattle.std.specs.Prelude.{ℕ, slice_index_or}
 use Rattle.std.proofs.lemmas.Bool.{cases_lt}
 use Rattle.cg_model.specs.Config as configs

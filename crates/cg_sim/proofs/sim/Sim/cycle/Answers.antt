@@ -1,9 +1,8 @@
-use Rattle.std.proofs.Common.{◌≡◌, ◌<◌, ◌≤◌, ◌+◌, ◌*◌, ◌-◌, ◌%◌, ◌/◌, ◌^◌, ℕ, suc, true, List, length, Option, Vec, Global, sym, ap, subst, ◌∙◌, refl, arith, rules}
+use Rattle.std.proofs.Common.{◌≡◌, ◌<◌, ◌≤◌, ◌+◌, ◌%◌, ◌/◌, ℕ, suc, List, length, Option, Vec, Global, sym, ap, subst, ◌∙◌, refl, arith, rules}
 use Rattle.std.specs.Prelude.{slice_index}
 use Rattle.std.specs.Vec.{with_items}
 use Rattle.std.proofs.lemmas.List.{with_items_is}
 use Rattle.std.proofs.lemmas.Nat.{mod_below}
-use Rattle.std.proofs.Math.Nat.{div-le_self}
 use Rattle.cg_model.specs.Config.{fields}
 use Rattle.cg_model.specs.Work.{Work}
 use Rattle.cg_model.specs.Machine.{words_in, at_cycle}

@@ -1,4 +1,4 @@
-use Rattle.std.proofs.Common.{◌≡◌, List, ℕ, map, sym, ap, subst, ◌∙◌, rules}
+use Rattle.std.proofs.Common.{◌≡◌, List, ℕ, map, sym, ap, subst, ◌∙◌}
 use Rattle.cg_model.specs.Work.{Image}
 use Rattle.cg_model.specs.Machine.{cycles, machine_left}
 use Rattle.cg_sim.specs.Reserved.{Reserved}
