@@ -1,0 +1,13 @@
+pub mod Numbers
+pub mod Parts
+pub mod Codes
+pub mod Fields
+pub mod Units
+pub mod Room
+pub mod Slots
+pub mod Bytes
+pub mod None
+pub mod Kept
+pub mod Exact
+pub mod Bitwise
+pub mod First
