@@ -21,7 +21,7 @@ use Rattle.cg_flat.specs.Slots.{select_bits}
 use Rattle.cg_bits.specs.Spelling.{unit_bits, slots, magic, header, Spells}
 use Rattle.cg_bits.specs.Reading.{arg_in, unit_in, config_in, config_at, select_place, unit_place}
 use Rattle.cg_model.specs.Canonical.{AreFields, IsCanonical, mode_right, count_right, word_right, stage_right, port_right, immediate_right, last_stage, port_free, offered}
-use Rattle.cg_bits.specs.Faults.{same}
+use Rattle.std.specs.Prelude.{bytes_eq}
 use Rattle.cg_bits.specs.declared.fault.BitsFault.{BitsFault}
 use Rattle.cg_bits.specs.declared.fault.BitsFault.TheVariants.{Magic, Truncated, ArchMismatch, BadHeader, BadSelect, BadOp, NotOffered, NotCanonical, BadPadding, Trailing, RepeatedPort}
 use Rattle.cg_bits.specs.Faults
@@ -280,7 +280,7 @@ module _ (F : Format) (is : IsFormat F) (A : Arch) (room : HasRoom A) (digest : 
       let l = long_held in
       let front : take 4 bytes ≡ magic F = ap (take 4) read_spells.whole in
       let whole : take (length bytes) (magic F) ≡ magic F = take_all (length bytes) (magic F) (omega (arith, header_room)) in
-      unless_none _ Magic (ap (λ z. same z (take (length bytes) (magic F))) front ∙ ap (λ z. same (magic F) z) whole ∙ is_same (magic F))
+      unless_none _ Magic (ap (λ z. bytes_eq z (take (length bytes) (magic F))) front ∙ ap (λ z. bytes_eq (magic F) z) whole ∙ is_same (magic F))
     where
       header_room : 40 ≤ length bytes
       header_room = let l = long_held in omega arith
@@ -296,7 +296,7 @@ module _ (F : Format) (is : IsFormat F) (A : Arch) (room : HasRoom A) (digest : 
   no_digest : Faults.other_digest F A digest bytes ≡ []
   no_digest =
       let front : take 32 (drop 8 bytes) ≡ digest = ap (λ z. take 32 (drop 8 z)) read_spells.whole ∙ take_at digest read_spells.body 32 sized in
-      unless_none _ _ (ap (λ z. same z digest) front ∙ is_same digest)
+      unless_none _ _ (ap (λ z. bytes_eq z digest) front ∙ is_same digest)
 
   no_header : Faults.bad_header F A digest bytes ≡ []
   no_header =

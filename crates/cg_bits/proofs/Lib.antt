@@ -11,3 +11,4 @@ pub mod Kept
 pub mod Exact
 pub mod Bitwise
 pub mod First
+pub mod Breaches

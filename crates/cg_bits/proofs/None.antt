@@ -1,8 +1,10 @@
 -- When a list of complaints is empty.
 use Rattle.std.proofs.Common.{◌≡◌, ℕ, zero, suc, ◌+◌, ◌-◌, ◌<◌, ◌≤◌, Bool, true, false, cond, eqb, List, [], ◌∷◌, ◌++◌, length, map, get_or, replicate, refl, sym, ap, subst, ◌∙◌, arith, ⊎_elim}
 use Rattle.std.proofs.lemmas.Bool.{cases_lt, eqb-true, eq-eqb}
+use Rattle.std.specs.Prelude.{bytes_eq}
+use Rattle.std.proofs.lemmas.Slice.Eq.{bytes_eq-Decides}
 use Rattle.cg_bits.specs.Parts.{joined}
-use Rattle.cg_bits.specs.Faults.{unless, same}
+use Rattle.cg_bits.specs.Faults.{unless}
 
 pub none_both : {X : Type 0} (xs ys : List X) → xs ++ ys ≡ [] → (xs ≡ []) × (ys ≡ [])
 none_both [] ys e = (refl, e)
@@ -51,19 +53,11 @@ pub cond_none : {X : Type 0} (b : Bool) (xs : List X) → xs ≡ [] → cond b x
 cond_none true xs e = e
 cond_none false xs e = refl
 
-same_step : (x y : ℕ) (xs ys : List ℕ) (b : Bool) → (b ≡ true → x ≡ y) → (same xs ys ≡ true → xs ≡ ys) → cond b (same xs ys) false ≡ true → x ∷ xs ≡ y ∷ ys
-same_step x y xs ys true h k f = ap (λ z. z ∷ xs) (h refl) ∙ ap (λ zs. y ∷ zs) (k f)
-same_step x y xs ys false h k f = absurd cc
+pub same_is : (xs ys : List ℕ) → bytes_eq xs ys ≡ true → xs ≡ ys
+same_is xs ys e = (bytes_eq-Decides xs ys).0 e
 
-pub same_is : (xs ys : List ℕ) → same xs ys ≡ true → xs ≡ ys
-same_is [] [] e = refl
-same_is [] (y ∷ ys) e = absurd cc
-same_is (x ∷ xs) [] e = absurd cc
-same_is (x ∷ xs) (y ∷ ys) e = same_step x y xs ys (eqb x y) (eqb-true x y) (same_is xs ys) e
-
-pub is_same : (xs : List ℕ) → same xs xs ≡ true
-is_same [] = refl
-is_same (x ∷ xs) = ap (λ b. cond b (same xs xs) false) (eq-eqb x x refl) ∙ is_same xs
+pub is_same : (xs : List ℕ) → bytes_eq xs xs ≡ true
+is_same xs = (bytes_eq-Decides xs xs).1 refl
 
 pub all_false : (xs : List Bool) (n : ℕ) → length xs ≡ n → ((i : ℕ) → i < n → get_or xs i false ≡ false) → xs ≡ replicate n false
 all_false [] zero e h = refl

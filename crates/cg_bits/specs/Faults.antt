@@ -1,5 +1,5 @@
 -- What is wrong with bytes: all faults, by number and then by place. The first is the one that is answered.
-use Rattle.std.specs.Prelude.{◌≡◌, ℕ, ◌+◌, ◌*◌, ◌/◌, ◌-◌, nat_lt, nat_le, eqb, Bool, true, false, not, ◌||◌, if◌then◌else◌, List, [], ◌∷◌, ◌++◌, length, map, take, drop, Option, Some, None, slice_index_or}
+use Rattle.std.specs.Prelude.{◌≡◌, ℕ, ◌+◌, ◌*◌, ◌/◌, ◌-◌, nat_lt, nat_le, eqb, Bool, true, false, not, ◌||◌, if◌then◌else◌, List, [], ◌∷◌, ◌++◌, length, map, take, drop, Option, Some, None, slice_index_or, bytes_eq}
 use Rattle.cg_model.specs.declared.config.UnitFields.{UnitFields}
 use Rattle.cg_model.specs.Array.{Arch, resource, unit}
 use Rattle.cg_model.specs.Config.{Config, select, fields}
@@ -21,12 +21,6 @@ first (x ∷ xs) = Some x
 -- one complaint, unless it is right
 abbrev pub unless : {X : Type 0} → Bool → X → List X
 unless right x = if right then [] else x ∷ []
-
--- the same bytes
-abbrev pub same : List ℕ → List ℕ → Bool
-same [] [] = true
-same (x ∷ xs) (y ∷ ys) = if eqb x y then same xs ys else false
-same _ _ = false
 
 -- ---- the fields of a unit against the rules of canonical configurations, by the place of the field
 
@@ -65,11 +59,11 @@ module _ (F : Format) (A : Arch) (digest : List ℕ) (bytes : List ℕ) where
 
   -- B1: the first four bytes, or all where there are fewer, don't begin the magic
   abbrev pub wrong_magic : List BitsFault
-  wrong_magic = unless (same (take 4 bytes) (take (length bytes) (magic F))) Magic
+  wrong_magic = unless (bytes_eq (take 4 bytes) (take (length bytes) (magic F))) Magic
 
   -- B3
   abbrev pub other_digest : List BitsFault
-  other_digest = unless (same (take 32 (drop 8 bytes)) digest) (ArchMismatch (take 32 (drop 8 bytes)) digest)
+  other_digest = unless (bytes_eq (take 32 (drop 8 bytes)) digest) (ArchMismatch (take 32 (drop 8 bytes)) digest)
 
   -- B4: the interval is 0 or above the contexts, or stages is 0
   abbrev pub bad_header : List BitsFault

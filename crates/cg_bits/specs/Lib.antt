@@ -6,3 +6,4 @@ pub mod Reading
 pub mod Faults
 pub mod Answers
 pub mod Ranges
+pub mod Checks

@@ -2,7 +2,13 @@
 #![tactic(auto)]
 
 mod fault;
+mod field;
 mod format;
+mod reading;
+mod rules;
 
+pub use cg_contexts::{ArgFields, Contexts, UnitFields};
 pub use fault::BitsFault;
+pub use field::number_at;
 pub use format::{CGB2, Format};
+pub use reading::{NO_ARG, arg_at, op_of, unit_at};
