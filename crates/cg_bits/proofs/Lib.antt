@@ -12,3 +12,5 @@ pub mod Exact
 pub mod Bitwise
 pub mod First
 pub mod Breaches
+pub mod Places
+pub mod Outputs

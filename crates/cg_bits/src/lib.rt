@@ -1,9 +1,12 @@
 //! Configurations as bits.
 #![tactic(auto)]
 
+mod all_slots;
+mod checking;
 mod fault;
 mod field;
 mod format;
+mod ports;
 mod reading;
 mod rules;
 
