@@ -21,7 +21,8 @@ use Rattle.cg_flat.specs.Slots.{select_bits}
 use Rattle.cg_bits.specs.Spelling.{unit_bits, slots, magic, header, Spells}
 use Rattle.cg_bits.specs.Reading.{arg_in, unit_in, config_in, config_at, select_place, unit_place}
 use Rattle.cg_model.specs.Canonical.{AreFields, IsCanonical, mode_right, count_right, word_right, stage_right, port_right, immediate_right, last_stage, port_free, offered}
-use Rattle.std.specs.Prelude.{bytes_eq}
+use Rattle.std.specs.Prelude.{bytes_eq, nat_eq}
+use Rattle.std.specs.List.{starts_with}
 use Rattle.cg_bits.specs.declared.fault.BitsFault.{BitsFault}
 use Rattle.cg_bits.specs.declared.fault.BitsFault.TheVariants.{Magic, Truncated, ArchMismatch, BadHeader, BadSelect, BadOp, NotOffered, NotCanonical, BadPadding, Trailing, RepeatedPort}
 use Rattle.cg_bits.specs.Faults
@@ -118,7 +119,7 @@ module _ (F : Format) (is : IsFormat F) (A : Arch) (room : HasRoom A) (digest : 
   -- ---- the bytes
 
   magic_is : take 4 bytes ≡ magic F
-  magic_is = let l = long in same_is _ _ (none_unless _ _ none.magic_right) ∙ take_all (length bytes) (magic F) (omega arith)
+  magic_is = let l = long in same_is _ _ (none_unless _ _ none.magic_right) ∙ take_all (length (take 4 bytes)) (magic F) (omega (arith, length-take 4 bytes))
 
   digest_is : take 32 (drop 8 bytes) ≡ digest
   digest_is = same_is _ _ (none_unless _ _ none.digest_right)
@@ -279,8 +280,7 @@ module _ (F : Format) (is : IsFormat F) (A : Arch) (room : HasRoom A) (digest : 
   no_magic =
       let l = long_held in
       let front : take 4 bytes ≡ magic F = ap (take 4) read_spells.whole in
-      let whole : take (length bytes) (magic F) ≡ magic F = take_all (length bytes) (magic F) (omega (arith, header_room)) in
-      unless_none _ Magic (ap (λ z. bytes_eq z (take (length bytes) (magic F))) front ∙ ap (λ z. bytes_eq (magic F) z) whole ∙ is_same (magic F))
+      unless_none _ Magic (ap (λ z. starts_with nat_eq (magic F) z) front ∙ is_same (magic F))
     where
       header_room : 40 ≤ length bytes
       header_room = let l = long_held in omega arith

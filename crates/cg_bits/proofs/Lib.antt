@@ -14,3 +14,5 @@ pub mod First
 pub mod Breaches
 pub mod Places
 pub mod Outputs
+pub mod Linked
+pub mod Started

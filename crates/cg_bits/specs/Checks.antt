@@ -8,14 +8,14 @@ use Rattle.cg_model.specs.Canonical.{offered, stage_of, greatest_of, any_below, 
 use Rattle.cg_flat.specs.Slots.{select_bits}
 use Rattle.cg_bits.specs.declared.format.Format.{Format}
 use Rattle.cg_bits.specs.declared.fault.BitsFault.{BitsFault}
-use Rattle.cg_bits.specs.declared.fault.BitsFault.TheVariants as fault
+use Rattle.cg_bits.specs.declared.fault.BitsFault.TheVariants.{BadSelect, BadOp, NotOffered, NotCanonical, BadPadding, Trailing, RepeatedPort}
 use Rattle.cg_bits.specs.declared.checking.UnitCheck.{UnitCheck}
 use Rattle.cg_bits.specs.declared.checking.UnitCheck.TheVariants.{Code, Offer, Fields}
 use Rattle.cg_bits.specs.Numbers.{number_at, bits_of_bytes}
 use Rattle.cg_bits.specs.Parts.{joined}
 use Rattle.cg_bits.specs.Format.{ports, slot_len}
 use Rattle.cg_bits.specs.Reading.{unit_in, select_place, unit_place}
-use Rattle.cg_bits.specs.Faults.{first, unless, unit_breaches}
+use Rattle.cg_bits.specs.Faults.{first, unless, unit_breaches, wrong_magic, too_short, other_digest, bad_header}
 use Rattle.cg_bits.specs.Ranges.{IsFormat}
 
 -- ---- an argument, where it is told whether the operation has it and whether one before it is fixed
@@ -105,7 +105,7 @@ pub record AreSlots (F : Format) (A : Arch) (body : List ℕ) (ii len : ℕ) : T
   pub known : IsFormat F
   pub len_is : len ≡ slot_len F A
   pub whole : ii * len ≤ 8 * length body
-  pub few : ii * len < 2 ^ 40
+  pub few : ii * len < 2 ^ 48
 
 module _ (F : Format) (A : Arch) (body : List ℕ) (ii : ℕ) where
   abbrev pub bits : List Bool
@@ -118,6 +118,28 @@ module _ (F : Format) (A : Arch) (body : List ℕ) (ii : ℕ) where
   -- those that are set
   abbrev pub padding_faults : List ℕ
   padding_faults = joined (λ i. unless (not (slice_index_or bits (ii * slot_len F A + i) false)) (320 + (ii * slot_len F A + i))) spare
+
+-- ---- the list of faults, in three parts
+
+-- B1 to B4: the header, and that the slots are there
+abbrev pub start_faults : Format → Arch → List ℕ → List ℕ → List BitsFault
+start_faults F A digest bytes =
+    wrong_magic F A digest bytes ++ (too_short F A digest bytes ++ (other_digest F A digest bytes ++ bad_header F A digest bytes))
+
+-- B5 to B8: the fields of each resource and unit, one number after the other
+abbrev pub field_faults : Format → Arch → List Bool → ℕ → ℕ → List BitsFault
+field_faults F A bits ii stages =
+    map BadSelect (joined (select_faults F A bits) ii)
+    ++ (map BadOp (joined (slot_faults F A bits Code) ii)
+    ++ (map NotOffered (joined (slot_faults F A bits Offer) ii)
+    ++ map NotCanonical (unless (eqb stages (1 + greatest_of (slot_stage F A bits) ii)) 48 ++ joined (slot_faults F A bits Fields) ii)))
+
+-- B9 to B11: what follows the slots, and the ports that are given output
+abbrev pub end_faults : Format → Arch → List ℕ → ℕ → ℕ → List BitsFault
+end_faults F A body ii long =
+    map BadPadding (padding_faults F A body ii)
+    ++ (map Trailing (unless (nat_le long (40 + (ii * slot_len F A + 7) / 8)) (40 + (ii * slot_len F A + 7) / 8))
+    ++ map RepeatedPort (repeated_faults F A (bits_of_bytes body) ii))
 
 -- an answer about bytes: none of these faults, or their first
 abbrev pub Checks : {X : Type 0} → Result X BitsFault → List BitsFault → Type 0

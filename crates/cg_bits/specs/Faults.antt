@@ -1,5 +1,6 @@
 -- What is wrong with bytes: all faults, by number and then by place. The first is the one that is answered.
-use Rattle.std.specs.Prelude.{◌≡◌, ℕ, ◌+◌, ◌*◌, ◌/◌, ◌-◌, nat_lt, nat_le, eqb, Bool, true, false, not, ◌||◌, if◌then◌else◌, List, [], ◌∷◌, ◌++◌, length, map, take, drop, Option, Some, None, slice_index_or, bytes_eq}
+use Rattle.std.specs.Prelude.{◌≡◌, ℕ, ◌+◌, ◌*◌, ◌/◌, ◌-◌, nat_lt, nat_le, eqb, Bool, true, false, not, ◌||◌, if◌then◌else◌, List, [], ◌∷◌, ◌++◌, length, map, take, drop, Option, Some, None, slice_index_or, bytes_eq, nat_eq}
+use Rattle.std.specs.List.{starts_with}
 use Rattle.cg_model.specs.declared.config.UnitFields.{UnitFields}
 use Rattle.cg_model.specs.Array.{Arch, resource, unit}
 use Rattle.cg_model.specs.Config.{Config, select, fields}
@@ -59,7 +60,7 @@ module _ (F : Format) (A : Arch) (digest : List ℕ) (bytes : List ℕ) where
 
   -- B1: the first four bytes, or all where there are fewer, don't begin the magic
   abbrev pub wrong_magic : List BitsFault
-  wrong_magic = unless (bytes_eq (take 4 bytes) (take (length bytes) (magic F))) Magic
+  wrong_magic = unless (starts_with nat_eq (magic F) (take 4 bytes)) Magic
 
   -- B3
   abbrev pub other_digest : List BitsFault

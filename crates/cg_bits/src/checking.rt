@@ -39,7 +39,7 @@ pub(crate) fn unit_fault(
     requires known { IsFormat format }
     requires few { length unit.now.ports ≤ 3 }
     requires inside { at + (args_at format + length unit.now.ports * arg_len) ≤ 8 * length body.now }
-    requires counted { at < 2 ^ 40 }
+    requires counted { at < 2 ^ 50 }
     ensures { result ≡ first (unit_faults check format unit.now (bits_of_bytes body.now) at) }
 {
     let ports = unit.ports.as_slice().len();
@@ -56,7 +56,7 @@ pub(crate) fn unit_fault(
 fn bad_code(format: Format, body: &[u8], at: usize) -> Option<usize>
     requires known { IsFormat format }
     requires inside { at + args_at format ≤ 8 * length body.now }
-    requires counted { at < 2 ^ 40 }
+    requires counted { at < 2 ^ 50 }
     ensures { result ≡ first (unless (nat_le (number_at (bits_of_bytes body.now) at format.op_bits) format.greatest) (320 + at)) }
 {
     if number_at(body, at, format.op_bits) > format.greatest {
@@ -69,7 +69,7 @@ fn bad_code(format: Format, body: &[u8], at: usize) -> Option<usize>
 fn not_offered(format: Format, unit: &Unit, body: &[u8], at: usize) -> Option<usize>
     requires known { IsFormat format }
     requires inside { at + args_at format ≤ 8 * length body.now }
-    requires counted { at < 2 ^ 40 }
+    requires counted { at < 2 ^ 50 }
     ensures { result ≡ first (unless (offered unit.now.ops (op_of format (number_at (bits_of_bytes body.now) at format.op_bits))) (320 + at)) }
 {
     match op_of(format, number_at(body, at, format.op_bits)) {

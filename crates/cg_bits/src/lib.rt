@@ -2,10 +2,12 @@
 #![tactic(auto)]
 
 mod all_slots;
+mod check;
 mod checking;
 mod fault;
 mod field;
 mod format;
+mod header;
 mod ports;
 mod reading;
 mod rules;
