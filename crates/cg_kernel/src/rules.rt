@@ -320,7 +320,8 @@ pub fn applies_to_file(rule: Rule, written: &WrittenKernel) -> bool
     match rule {
         Rule::UnknownKey => written.other_keys,
         Rule::TooLarge => {
-            written.nodes.as_slice().len() > MOST_NODES || written.order.as_slice().len() > MOST_ORDER_EDGES
+            written.nodes.as_slice().len() > MOST_NODES
+                || written.order.as_slice().len() > MOST_ORDER_EDGES
         }
         _ => false,
     }
