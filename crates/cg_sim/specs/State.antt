@@ -2,6 +2,7 @@
 use Rattle.std.specs.Prelude.{◌≡◌, ℕ, ◌+◌, ◌-◌, ◌*◌, ◌/◌, ◌%◌, ◌<◌, ◌≤◌, ◌^◌, true, List, [], length, slice_index, vec_capacity}
 use Rattle.std.specs.declared.vec.Vec.{Vec}
 use Rattle.std.specs.declared.alloc.Global.{Global}
+use Rattle.cg_model.specs.Limits.{most_turns}
 use Rattle.cg_model.specs.Array.{Arch, IsArch}
 use Rattle.cg_model.specs.Config.{Config, fields}
 use Rattle.cg_model.specs.Canonical.{IsCanonical, gives_output}
@@ -36,7 +37,8 @@ pub record IsState (A : Arch) (C : Config) (n : ℕ) (image : Image) (c : ℕ) (
 pub record IsRunning (run : Run) (ii len slot round row : ℕ) (plan : Plan) (words before history : List ℕ) (e : Effects) (finished : Vec (List ℕ) Global) : Type 0 where
   pub valid : IsArch run.arch
   pub canonical : IsCanonical run.arch run.config
-  pub turns : run.n ≤ 1000000
+  pub turns : run.n ≤ most_turns
+  pub fits : length run.image.memory ≤ run.arch.memory
   pub plan_is : IsPlan run.arch plan
   pub ii_is : ii ≡ run.config.ii
   pub length_is : len ≡ all_cycles run

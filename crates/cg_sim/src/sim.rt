@@ -1,6 +1,7 @@
 //! A run of the array.
 ghost use Rattle.std.specs.Prelude.{◌≡◌, ◌<◌, ◌≤◌, ◌+◌, ◌/◌, ◌%◌, ◌^◌, ℕ};
 ghost use Rattle.cg_model.specs.Config as configs;
+ghost use Rattle.cg_model.specs.Limits.{most_turns};
 ghost use Rattle.cg_model.specs.Machine.{cycles};
 
 use crate::effects::{Effects, store_all};
@@ -11,14 +12,11 @@ use crate::streams::{all_words, reserve_streams};
 use crate::units::begin_units;
 use cg_arch::Arch;
 use cg_contexts::Contexts;
-use cg_model::Words;
+use cg_model::{MOST_TURNS, Words};
 use cg_pad::{Image, PORTS, Scratchpad, Streams};
 use std::alloc::{AllocError, Global};
 use std::marker::Model;
 use std::mem::swap;
-
-/// The greatest number of turns that are run.
-const MOST_TURNS: u32 = 1_000_000;
 
 /// A run of an array under a configuration, from an image. Contracts see what runs and how many cycles are over.
 #[derive(Drop)]
@@ -55,7 +53,9 @@ impl<'a, C: Contexts> Model for Sim<'a, C> {
 impl<'a, C: Contexts> Sim<'a, C> {
     ghost use Rattle.std.specs.Prelude.{◌≡◌, ◌<◌, ◌≤◌, ◌+◌, ◌-◌, ◌↔◌, ℕ, Err, IfOk, length};
     ghost use Rattle.cg_model.specs.Canonical.{IsCanonical};
+    ghost use Rattle.cg_model.specs.Limits.{most_turns};
     ghost use Rattle.cg_model.specs.Machine.{machine_left, word};
+    ghost use Rattle.cg_pad.specs.Bytes.{IsStorable};
     ghost use Rattle.cg_sim.specs.Run.{start_of, state, all_cycles};
 
     /// Begins a run of `n` turns. It takes all memory of the run; no later call takes any.
@@ -68,8 +68,8 @@ impl<'a, C: Contexts> Sim<'a, C> {
     ) -> Result<Sim<'a, C>, SimFault>
         requires { IsCanonical arch.now (C.config contexts.now) }
         ensures ok { IfOk result (λ s. s ≡ start_of arch.now (C.config contexts.now) n image.now) }
-        ensures many { (t : ℕ) → (result ≡ Err (SimFault.TooManyTurns t)) ↔ ((t ≡ n) × (1000000 < n)) }
-        ensures large { (w : ℕ) → (result ≡ Err (SimFault.ImageTooLarge w)) ↔ ((w ≡ length image.now.memory) × (n ≤ 1000000) × (arch.now.memory < w)) }
+        ensures many { (t : ℕ) → (result ≡ Err (SimFault.TooManyTurns t)) ↔ ((t ≡ n) × (most_turns < n)) }
+        ensures large { (w : ℕ) → (result ≡ Err (SimFault.ImageTooLarge w)) ↔ ((w ≡ length image.now.memory) × (n ≤ most_turns) × (arch.now.memory < w)) }
     {
         if n > MOST_TURNS {
             return Err(SimFault::TooManyTurns(n));
@@ -89,7 +89,8 @@ impl<'a, C: Contexts> Sim<'a, C> {
         image: &'a Image,
     ) -> Result<Sim<'a, C>, AllocError>
         requires canonical { IsCanonical arch.now (C.config contexts.now) }
-        requires turns { n ≤ 1000000 }
+        requires turns { n ≤ most_turns }
+        requires fits { length image.now.memory ≤ arch.now.memory }
         ensures { IfOk result (λ s. s ≡ start_of arch.now (C.config contexts.now) n image.now) }
     {
         let resources = arch.resources().len();
@@ -201,7 +202,8 @@ impl<'a, C: Contexts> Sim<'a, C> {
     /// The memory and the output streams that the whole run leaves.
     pub fn into_image(self) -> Image
         requires { self.done ≡ all_cycles self }
-        ensures { result ≡ (machine_left self.entry.arch self.entry.config self.entry.n self.entry.image).image }
+        ensures image { result ≡ (machine_left self.entry.arch self.entry.config self.entry.n self.entry.image).image }
+        ensures storable { IsStorable result }
     {
         let Sim {
             effects,
@@ -235,7 +237,7 @@ fn next_slot(slot: u32, round: u32, ii: u32) -> (u32, u32)
 
 /// How many cycles `n` turns take.
 fn length_in_cycles(n: u32, stages: u32, ii: u32) -> u64
-    requires turns { n ≤ 1000000 }
+    requires turns { n ≤ most_turns }
     requires stages { (0 < stages) × (stages ≤ 65535) }
     requires ii { ii ≤ 64 }
     ensures value { (C : configs.Config) → C.ii ≡ ii → C.stages ≡ stages → result ≡ cycles C n }

@@ -1,5 +1,6 @@
 //! The units of a cycle, in order.
 ghost use Rattle.std.specs.Prelude.{◌≡◌, ◌<◌, ◌≤◌, ◌+◌, ◌*◌, ◌^◌, ℕ, length, slice_index, vec_len, vec_capacity};
+ghost use Rattle.cg_model.specs.Limits.{most_turns};
 ghost use Rattle.cg_model.specs.Config as configs;
 ghost use Rattle.cg_model.specs.Machine.{begun, argument, arguments};
 ghost use Rattle.cg_contexts.specs.Known.{HasUnit};
@@ -113,7 +114,7 @@ pub(crate) fn begin_units<C: Contexts>(
     history: &mut [u32],
     effects: &mut Effects,
 )
-    requires turns { n ≤ 1000000 }
+    requires turns { n ≤ most_turns }
     requires known { (x : ℕ) → x < length units.now → HasUnit (C.config contexts.now) x slot }
     requires stages { (x : ℕ) → x < length units.now → (configs.fields (C.config contexts.now) x slot).stage ≤ 65534 }
     requires ports { (x p : ℕ) → x < length units.now → p < 3 → slice_index (terminals units.now x).ports p < length words.now }

@@ -149,6 +149,7 @@ invariant_of-self g c =
       valid = inv.valid;
       canonical = inv.canonical;
       turns = inv.turns;
+      fits = inv.fits;
       plan_is = inv.plan_is;
       ii_is = inv.ii_is;
       length_is = inv.length_is;

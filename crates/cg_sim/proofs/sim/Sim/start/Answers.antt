@@ -26,6 +26,7 @@ invariant_of-result g c =
       valid = c.units-units.ensures.valid;
       canonical = c.requires.canonical;
       turns = c.requires.turns;
+      fits = c.requires.fits;
       plan_is = c.in_ok-plan.ensures;
       ii_is = c.ii-ii.ensures;
       length_is = c.length_in_cycles-length.ensures.value C (sym c.ii-ii.ensures) (sym c.stages.ensures);
