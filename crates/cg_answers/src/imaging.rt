@@ -1,6 +1,7 @@
 //! `turns KERNEL TURNS IN OUT`.
 ghost use Rattle.std.specs.Prelude.{◌≡◌, ◌<◌, ◌≤◌, Some, IfOk, IfSome, length, string_bytes};
 ghost use Rattle.cg_model.specs.Kernel.{size, node as node_of};
+ghost use Rattle.cg_model.specs.Limits.{most_memory, most_turns};
 ghost use Rattle.cg_ending.specs.Outcome.{file_of, outcome_of};
 ghost use Rattle.cg_answers.specs.TurnsOnImage.{IsImaged, IsOnImage, IsTurnsOnImage, image_report, pair_status};
 ghost use Rattle.cg_pad.specs.Bytes as images;
@@ -21,7 +22,7 @@ pub(crate) fn turns_on_image(
     input: &File,
     out: &str,
 ) -> Result<Outcome, AllocError>
-    requires { turns ≤ 1000000 }
+    requires { turns ≤ most_turns }
     ensures { IfOk result (λ o. IsTurnsOnImage turns (file_of file.now) (file_of input.now) out.now (outcome_of o)) }
 {
     match read_kernel(alloc, file.bytes.as_slice()) {
@@ -41,7 +42,7 @@ fn on_image(
     input: &File,
     out: &str,
 ) -> Result<Outcome, AllocError>
-    requires { turns ≤ 1000000 }
+    requires { turns ≤ most_turns }
     ensures { IfOk result (λ o. IsOnImage turns kernel.now (file_of input.now) out.now (images.answer_of input.now.bytes.items) (outcome_of o)) }
 {
     match read_image(alloc, input.bytes.as_slice()) {
@@ -62,8 +63,8 @@ fn imaged(
     image: &Image,
     out: &str,
 ) -> Result<Outcome, AllocError>
-    requires turns { turns ≤ 1000000 }
-    requires memory { length image.now.memory ≤ 1048576 }
+    requires turns { turns ≤ most_turns }
+    requires memory { length image.now.memory ≤ most_memory }
     ensures { IfOk result (λ o. IsImaged turns kernel.now image.now out.now (outcome_of o)) }
 {
     let done = run(alloc, kernel, turns, image)?;

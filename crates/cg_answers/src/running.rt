@@ -1,5 +1,6 @@
 //! A run of few enough turns.
 ghost use Rattle.std.specs.Prelude.{◌≡◌, ◌≤◌, ℕ, IfOk};
+ghost use Rattle.cg_model.specs.Limits.{most_turns};
 ghost use Rattle.cg_model.specs.Turns.{turns_left};
 ghost use Rattle.cg_turns.specs.Done.{left_of, IsSmall};
 ghost use Rattle.cg_turns.specs.Pairs.{IsPairOf};
@@ -16,7 +17,7 @@ pub(crate) fn run(
     turns: u32,
     image: &Image,
 ) -> Result<TurnsDone, AllocError>
-    requires { turns ≤ 1000000 }
+    requires { turns ≤ most_turns }
     ensures done { IfOk result (λ d. left_of d ≡ turns_left kernel.now turns image.now) }
     ensures pair { IfOk result (λ d. IsPairOf kernel.now turns image.now d.pair) }
     ensures small { IfOk result (λ d. IsSmall image.now turns d.image) }

@@ -1,5 +1,6 @@
 //! `turns KERNEL TURNS`.
 ghost use Rattle.std.specs.Prelude.{◌≡◌, ◌≤◌, IfOk};
+ghost use Rattle.cg_model.specs.Limits.{most_turns};
 ghost use Rattle.cg_ending.specs.Outcome.{file_of, outcome_of};
 ghost use Rattle.cg_answers.specs.Turns.{turned, turns_of};
 
@@ -12,7 +13,7 @@ use std::alloc::{AllocError, Global};
 
 #[tactic(auto, unfolding(crate::specs::Turns::turns_of))]
 pub(crate) fn turns(alloc: Global, turns: u32, file: &File) -> Result<Outcome, AllocError>
-    requires { turns ≤ 1000000 }
+    requires { turns ≤ most_turns }
     ensures { IfOk result (λ o. outcome_of o ≡ turns_of turns (file_of file.now)) }
 {
     match read_kernel(alloc, file.bytes.as_slice()) {
@@ -27,7 +28,7 @@ pub(crate) fn turns(alloc: Global, turns: u32, file: &File) -> Result<Outcome, A
 
 /// The turns were run, on an image without words.
 fn turned(alloc: Global, turns: u32, kernel: &Kernel) -> Result<Outcome, AllocError>
-    requires { turns ≤ 1000000 }
+    requires { turns ≤ most_turns }
     ensures { IfOk result (λ o. outcome_of o ≡ turned turns kernel.now) }
 {
     let image = Image::empty(alloc)?;

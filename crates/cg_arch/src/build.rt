@@ -4,6 +4,7 @@ ghost use Rattle.std.specs.List.{range_with_len};
 ghost use Rattle.cg_parts.specs.Parts.{entries, entries_of};
 ghost use Rattle.cg_parts.specs.Numbers.{IsNumbering};
 ghost use Rattle.cg_arch.specs.Flat as spec;
+ghost use Rattle.cg_model.specs.Limits.{most_resources};
 
 use cg_flat::Flat;
 use cg_model::{Name, Resource, Unit, Words};
@@ -19,22 +20,15 @@ pub(crate) fn flat_of(
     numbers: &Numbers,
 ) -> Result<Flat, AllocError>
     requires resources { resources.now ≡ entries parts.now.elements }
-    requires few { length resources.now ≤ 4096 }
+    requires few { length resources.now ≤ most_resources }
     requires numbers { IsNumbering numbers.now resources.now }
     ensures { IfOk result (λ flat. flat ≡ spec.arch_of parts.now) }
 {
-    let name = copy_of(alloc, &parts.name)?;
+    let name = Name::copy_of(alloc, parts.name.as_str())?;
     let numbered = resources_of(alloc, resources, numbers)?;
     let units = units_of(alloc, parts.elements.as_slice())?;
     let hub = numbers_of(alloc, parts.hub.as_slice(), resources, numbers)?;
     Ok(Flat::new(name, parts.contexts, parts.memory, numbered, units, hub))
-}
-
-/// A copy of a name.
-pub(crate) fn copy_of(alloc: Global, name: &Name) -> Result<Name, AllocError>
-    ensures { IfOk result (λ copy. copy ≡ name.now) }
-{
-    Ok(Name::new(name.as_str().to_string(alloc)?))
 }
 
 /// The resources with their drivers by number.
@@ -43,7 +37,7 @@ fn resources_of(
     resources: &[Entry],
     numbers: &Numbers,
 ) -> Result<Vec<Resource>, AllocError>
-    requires few { length resources.now ≤ 4096 }
+    requires few { length resources.now ≤ most_resources }
     requires numbers { IsNumbering numbers.now resources.now }
     ensures { IfOk result (λ list. list.items ≡ map (spec.resource_of resources.now) resources.now) }
 {
@@ -60,12 +54,12 @@ fn resource_of(
     resources: &[Entry],
     numbers: &Numbers,
 ) -> Result<Resource, AllocError>
-    requires few { length resources.now ≤ 4096 }
+    requires few { length resources.now ≤ most_resources }
     requires numbers { IsNumbering numbers.now resources.now }
     ensures { IfOk result (λ made. made ≡ spec.resource_of resources.now resource.now) }
 {
     let name = match &resource.name {
-        Some(name) => copy_of(alloc, name)?,
+        Some(name) => Name::copy_of(alloc, name.as_str())?,
         None => Name::new(String::new(alloc)),
     };
     let drivers = numbers_of(alloc, resource.drivers.as_slice(), resources, numbers)?;
@@ -83,7 +77,7 @@ fn numbers_of(
     resources: &[Entry],
     numbers: &Numbers,
 ) -> Result<Vec<u32>, AllocError>
-    requires few { length resources.now ≤ 4096 }
+    requires few { length resources.now ≤ most_resources }
     requires numbers { IsNumbering numbers.now resources.now }
     ensures { IfOk result (λ list. list.items ≡ map (spec.number_in resources.now) names.now) }
 {
@@ -95,7 +89,7 @@ fn numbers_of(
 }
 
 fn number_of(name: &str, resources: &[Entry], numbers: &Numbers) -> u32
-    requires few { length resources.now ≤ 4096 }
+    requires few { length resources.now ≤ most_resources }
     requires numbers { IsNumbering numbers.now resources.now }
     ensures { result ≡ spec.number_in resources.now name.now }
 {
@@ -110,7 +104,7 @@ fn number_of(name: &str, resources: &[Entry], numbers: &Numbers) -> u32
 
 /// The units of the elements.
 fn units_of(alloc: Global, elements: &[Element]) -> Result<Vec<Unit>, AllocError>
-    requires { length (entries elements.now) ≤ 4096 }
+    requires { length (entries elements.now) ≤ most_resources }
     ensures { IfOk result (λ units. units.items ≡ spec.units_from 0 elements.now) }
 {
     let mut units = Vec::new(alloc);
@@ -129,7 +123,7 @@ fn add_unit(
     element: &Element,
     first: u32,
 ) -> Result<u32, AllocError>
-    requires { first + length (entries_of element.now) ≤ 4096 }
+    requires { first + length (entries_of element.now) ≤ most_resources }
     ensures units { OnOk result (units.new.items ≡ units.old.items ++ spec.units_of first element.now) }
     ensures next { IfOk result (λ next. next ≡ first + length (entries_of element.now)) }
 {
@@ -143,7 +137,7 @@ fn add_unit(
         } => {
             let out = first + ports.as_slice().len() as u32;
             units.push(Unit {
-                name: copy_of(alloc, name)?,
+                name: Name::copy_of(alloc, name.as_str())?,
                 ops: *ops,
                 latency: *latency,
                 ports: Words::new(numbers_between(alloc, first, out)?),

@@ -8,7 +8,6 @@ ghost use Rattle.cg_parts.specs.Parts.{entries};
 ghost use Rattle.cg_parts.specs.Numbers.{IsNumbering};
 ghost use Rattle.cg_arch.specs.Hub as spec;
 
-use crate::build::copy_of;
 use cg_flat::Flat;
 use cg_model::{Kind, Name, Unit};
 use cg_parts::{ArchFault, Entry, HubPlace, Numbers, Parts, number_in};
@@ -28,7 +27,10 @@ pub(crate) fn hub_fault(
     ensures { IfOk result (λ found. found ≡ spec.hub_fault parts.now flat.now) }
 {
     if let Some(name) = first_bad_entry(parts.hub.as_slice(), resources, numbers) {
-        return Ok(Some(ArchFault::HubIncomplete(HubPlace::Entry(copy_of(alloc, name)?))));
+        return Ok(Some(ArchFault::HubIncomplete(HubPlace::Entry(Name::copy_of(
+            alloc,
+            name.as_str(),
+        )?))));
     }
     match missing_link(alloc, flat)? {
         Some(place) => Ok(Some(ArchFault::HubIncomplete(place))),
@@ -159,7 +161,7 @@ pub(crate) fn name_of(alloc: Global, flat: &Flat, number: u32) -> Result<Name, A
     ensures { IfOk result (λ name. name ≡ (resource flat.now number).name) }
 {
     match flat.resources().get(number as usize) {
-        Some(resource) => copy_of(alloc, &resource.name),
+        Some(resource) => Name::copy_of(alloc, resource.name.as_str()),
         None => Ok(Name::new(String::new(alloc))),
     }
 }

@@ -1,18 +1,15 @@
 -- What the words say is what the texts of `clap`'s rows say, judged.
-use Rattle.std.proofs.Common.{◌≡◌, ℕ, List, [], ◌∷◌, Bool, true, false, not, ◌&&◌, cond, Option, Some, None, String, Global, string_bytes, length, nat_lt, nat_le, ◌==◌, arith, map, codes, option_map, option_and_then, ap, subst, sym, refl, ◌∙◌}
+use Rattle.std.proofs.Common.{◌≡◌, List, [], ◌∷◌, ◌++◌, Bool, true, false, ◌&&◌, cond, Option, Some, None, String, Global, string_bytes, map, codes, option_map, option_and_then, ap, subst, sym, refl, ◌∙◌}
 use Rattle.std.specs.List.{list_all, AllByRecursion}
-use Rattle.std.specs.Char.{is_ascii_digit}
 use Rattle.std.specs.Str.{bytes_eq}
-use Rattle.std.specs.Str.Parse.{digits_value}
-use Rattle.std.proofs.lemmas.Bool.Decides.{nat_tests}
 use Rattle.std.proofs.lemmas.Slice.Eq.{bytes_eq-Decides}
 use Rattle.std.proofs.lemmas.Option.{same_Some}
 use Rattle.clap.specs.Lexer.{long_of, short_of}
 use Rattle.clap.specs.Words.{Kinds, Row, HasKind, kind_of, fault_of, matches_of}
 use Rattle.clap.specs.declared.error.Error.{Error}
 use Rattle.clap.specs.declared.error.kind.ErrorKind.TheVariants as kind
-use Rattle.cg_command.specs.Words.{Text, Part, plain, named, options, is_file, is_number, number_up_to, positive, interval_of, seed_of, moves_of, plain_words, values_of, at_most_once, Said, all_said, said_by, said_of}
-use Rattle.cg_command.specs.Matches.{row_texts, file_of, judged, said_in_rows, words_app}
+use Rattle.cg_command.specs.Words.{Text, Part, plain, named, Given, Arguments, options, is_file, plain_words, values_of, given_values, given_by, arguments_by, arguments_of}
+use Rattle.cg_command.specs.Matches.{row_texts, has_file, judged, arguments_in_rows, words_app}
 use Rattle.cg_command.proofs.Uses.{before, is_dashes, known, option_said, word_said, value_said, uses}
 use Rattle.cg_command.proofs.Parts.{are_files, checked, Checked, parts-uses, left_true}
 use Rattle.cg_command.proofs.Walk.{known-true, same-text, texts_for, texts-made, made, run, run-none, unless, taken, strings-refuse, refused-unless}
@@ -145,124 +142,105 @@ every P (p ∷ os) all name o is = by (bytes_eq p name) (every P os all.1 name o
     by true more s = subst P (same_Some p o s) all.0
     by false more s = more s
 
--- ---- a text that could name no file is no value
-
-abbrev RefusesOthers : {T : Type 0} → (Text → Option T) → Type 0
-RefusesOthers read = (text : Text) → is_file text ≡ false → read text ≡ None
-
-no_digit : (b : ℕ) → not (b == 45) ≡ false → is_ascii_digit b ≡ false
-no_digit b is = let same : b ≡ 45 = is_hyphen (b == 45) refl is in ap is_ascii_digit same
-  where
-    is_hyphen : (d : Bool) → (b == 45) ≡ d → not d ≡ false → b ≡ 45
-    is_hyphen true e h = grind (arith, nat_tests)
-    is_hyphen false e h = cc
-
-no_number : (text : Text) → is_file text ≡ false → is_number text ≡ false
-no_number [] is = refl
-no_number (b ∷ bs) is =
-    ap (λ d. nat_lt 0 (length (b ∷ bs)) && (nat_le (length (b ∷ bs)) 20 && (d && list_all is_ascii_digit bs))) (no_digit b is)
-    ∙ by (nat_lt 0 (length (b ∷ bs))) (nat_le (length (b ∷ bs)) 20)
-  where
-    by : (x y : Bool) → (x && (y && false)) ≡ false
-    by true true = refl
-    by true false = refl
-    by false y = refl
-
-refuses-number : (most : ℕ) (text : Text) → is_file text ≡ false → number_up_to most text ≡ None
-refuses-number most text is = ap (λ b. cond (b && nat_le (digits_value 10 text) most) (Some (digits_value 10 text)) None) (no_number text is)
-
-refuses-interval : (text : Text) → is_file text ≡ false → interval_of text ≡ None
-refuses-interval text is = ap (option_and_then positive) (refuses-number 64 text is)
-
-refuses-file : (text : Text) → is_file text ≡ false → file_of text ≡ None
-refuses-file text is = ap (λ b. cond b (Some text) None) is
-
-once-files : {T : Type 0} (read : Text → Option T) → RefusesOthers read → (texts : List Text) (r : Option T) → at_most_once read texts ≡ Some r → list_all is_file texts ≡ true
-once-files read refuses [] r is = refl
-once-files read refuses (text ∷ []) r is = by (is_file text) refl
-  where
-    by : (b : Bool) → is_file text ≡ b → (b && true) ≡ true
-    by true e = refl
-    by false e = let bad : None ≡ Some r = sym (ap (option_map Some) (refuses text e)) ∙ is in cc
-once-files read refuses (text ∷ other ∷ texts) r is = cc
-
-once-same : (texts : List Text) → list_all is_file texts ≡ true → at_most_once file_of texts ≡ at_most_once Some texts
-once-same [] is = refl
-once-same (text ∷ []) is = ap (λ b. option_map Some (cond b (Some text) None)) (left_true (is_file text) true is)
-once-same (text ∷ other ∷ texts) is = refl
-
 -- ---- all that is said
 
-unsaid : (b : Bool) (words : List Text) (ii seed moves : Option (Option ℕ)) (mapping : Option (Option Text))
-    → (b ≡ true → (i s m : Option ℕ) (f : Option Text) → ii ≡ Some i → seed ≡ Some s → moves ≡ Some m → mapping ≡ Some f → ⊥)
-    → cond b (all_said words ii seed moves mapping) None ≡ None
-unsaid false words ii seed moves mapping h = refl
-unsaid true words None seed moves mapping h = refl
-unsaid true words (Some i) None moves mapping h = refl
-unsaid true words (Some i) (Some s) None mapping h = refl
-unsaid true words (Some i) (Some s) (Some m) None h = refl
-unsaid true words (Some i) (Some s) (Some m) (Some f) h = absurd (h refl i s m f refl refl refl refl)
+files-append : {T : Type 0} (p : T → Bool) (xs ys : List T) → list_all p (xs ++ ys) ≡ (list_all p xs && list_all p ys)
+files-append p [] ys = refl
+files-append p (x ∷ xs) ys = by (p x) (files-append p xs ys)
+  where
+    by : (b : Bool) → list_all p (xs ++ ys) ≡ (list_all p xs && list_all p ys) → (b && list_all p (xs ++ ys)) ≡ ((b && list_all p xs) && list_all p ys)
+    by true h = h
+    by false h = refl
 
-abbrev judged_parts : List Part → Option Said
-judged_parts parts = judged (plain_words parts) (values_of (codes "ii") parts) (values_of (codes "seed") parts) (values_of (codes "moves") parts) (values_of (codes "mapping") parts)
+given-values : (name : Text) (values : List Text) → list_all has_file (given_values name values) ≡ list_all is_file values
+given-values name [] = refl
+given-values name (value ∷ values) = ap (λ b. is_file value && b) (given-values name values)
 
-judged-parts : (parts : List Part) → AllNamed parts → judged_parts parts ≡ option_and_then said_by (checked parts)
+given-files : (f : Text → List Text) (names : List Text) → list_all has_file (given_by f names) ≡ list_all (λ name. list_all is_file (f name)) names
+given-files f [] = refl
+given-files f (name ∷ names) =
+    files-append has_file (given_values name (f name)) (given_by f names)
+    ∙ ap (λ b. b && list_all has_file (given_by f names)) (given-values name (f name))
+    ∙ ap (λ b. list_all is_file (f name) && b) (given-files f names)
+
+given-same : (f g : Text → List Text) (names : List Text) → AllByRecursion (λ name. f name ≡ g name) names → given_by f names ≡ given_by g names
+given-same f g [] all = refl
+given-same f g (name ∷ names) all =
+    ap (λ values. given_values name values ++ given_by f names) all.0
+    ∙ ap (λ rest. given_values name (g name) ++ rest) (given-same f g names all.1)
+
+all-true : (p : Text → Bool) (names : List Text) → ((name : Text) → p name ≡ true) → list_all p names ≡ true
+all-true p [] h = refl
+all-true p (name ∷ names) h = both_true _ _ (h name) (all-true p names h)
+
+each-true : (p : Text → Bool) (names : List Text) → list_all p names ≡ true → AllByRecursion (λ name. p name ≡ true) names
+each-true p [] h = tt
+each-true p (name ∷ names) h = (left_true _ _ h, each-true p names (right_true (p name) (list_all p names) h))
+
+abbrev judged_parts : List Part → Option Arguments
+judged_parts parts = judged (plain_words parts) (given_by (λ name. values_of name parts) options)
+
+judged-parts : (parts : List Part) → AllNamed parts → judged_parts parts ≡ option_map arguments_by (checked parts)
 judged-parts parts all = by (are_files parts) refl
   where
-    by : (b : Bool) → are_files parts ≡ b → judged_parts parts ≡ option_and_then said_by (cond b (Some parts) None)
-    by true e =
-        ap (λ b. cond b (all_said (plain_words parts) (at_most_once interval_of (values_of (codes "ii") parts)) (at_most_once seed_of (values_of (codes "seed") parts)) (at_most_once moves_of (values_of (codes "moves") parts)) (at_most_once file_of (values_of (codes "mapping") parts))) None) (files-words parts e)
-        ∙ ap (all_said (plain_words parts) (at_most_once interval_of (values_of (codes "ii") parts)) (at_most_once seed_of (values_of (codes "seed") parts)) (at_most_once moves_of (values_of (codes "moves") parts))) (once-same (values_of (codes "mapping") parts) (files-values (codes "mapping") parts e))
-    by false e =
-        unsaid (list_all is_file (plain_words parts)) (plain_words parts) (at_most_once interval_of (values_of (codes "ii") parts)) (at_most_once seed_of (values_of (codes "seed") parts)) (at_most_once moves_of (values_of (codes "moves") parts)) (at_most_once file_of (values_of (codes "mapping") parts))
-        (λ words i s m f ii seed moves mapping.
-        let P : Text → Type 0 = λ name. list_all is_file (values_of name parts) ≡ true in
-        let each : AllByRecursion P options = (once-files interval_of refuses-interval (values_of (codes "ii") parts) i ii, (once-files seed_of (refuses-number 18446744073709551615) (values_of (codes "seed") parts) s seed, (once-files moves_of (refuses-number 1000000) (values_of (codes "moves") parts) m moves, (once-files file_of refuses-file (values_of (codes "mapping") parts) f mapping, tt)))) in
-        let bad : false ≡ true = sym e ∙ all-files parts all words (λ name is. every P options each name name is) in cc)
+    said : Arguments
+    said = arguments_by parts
 
-rows-parts : (parts : List Part) → AllNamed parts → said_in_rows (made [] parts) ≡ option_and_then said_by (checked parts)
-unfolding said_in_rows
+    by : (b : Bool) → are_files parts ≡ b → judged_parts parts ≡ option_map arguments_by (cond b (Some parts) None)
+    by true e =
+        let values = given-files (λ name. values_of name parts) options ∙ all-true (λ name. list_all is_file (values_of name parts)) options (λ name. files-values name parts e) in
+        ap (λ b. cond b (Some said) None) (both_true (list_all is_file (plain_words parts)) (list_all has_file (given_by (λ name. values_of name parts) options)) (files-words parts e) values)
+    by false e = unsaid (list_all is_file (plain_words parts)) (list_all has_file (given_by (λ name. values_of name parts) options)) refl refl
+      where
+        unsaid : (x y : Bool) → list_all is_file (plain_words parts) ≡ x → list_all has_file (given_by (λ name. values_of name parts) options) ≡ y → cond (x && y) (Some said) None ≡ None
+        unsaid false y words values = refl
+        unsaid true false words values = refl
+        unsaid true true words values =
+            let P : Text → Type 0 = λ name. list_all is_file (values_of name parts) ≡ true in
+            let each : AllByRecursion P options = each-true (λ name. list_all is_file (values_of name parts)) options (sym (given-files (λ name. values_of name parts) options) ∙ values) in
+            let bad : false ≡ true = sym e ∙ all-files parts all words (λ name is. every P options each name name is) in cc
+
+rows-parts : (parts : List Part) → AllNamed parts → arguments_in_rows (made [] parts) ≡ option_map arguments_by (checked parts)
+unfolding arguments_in_rows
 rows-parts parts all =
     let rows = made [] parts in
     let words_are : row_texts (codes "words") rows ≡ plain_words parts = texts-made (codes "words") parts ∙ texts-words parts all in
     let values_are : (id : Text) → bytes_eq (codes "words") id ≡ false → row_texts id rows ≡ values_of id parts = λ id other. texts-made id parts ∙ texts-values id other parts in
-    ap (λ ts. judged ts (row_texts (codes "ii") rows) (row_texts (codes "seed") rows) (row_texts (codes "moves") rows) (row_texts (codes "mapping") rows)) words_are
-    ∙ ap (λ ts. judged (plain_words parts) ts (row_texts (codes "seed") rows) (row_texts (codes "moves") rows) (row_texts (codes "mapping") rows)) (values_are (codes "ii") refl)
-    ∙ ap (λ ts. judged (plain_words parts) (values_of (codes "ii") parts) ts (row_texts (codes "moves") rows) (row_texts (codes "mapping") rows)) (values_are (codes "seed") refl)
-    ∙ ap (λ ts. judged (plain_words parts) (values_of (codes "ii") parts) (values_of (codes "seed") parts) ts (row_texts (codes "mapping") rows)) (values_are (codes "moves") refl)
-    ∙ ap (judged (plain_words parts) (values_of (codes "ii") parts) (values_of (codes "seed") parts) (values_of (codes "moves") parts)) (values_are (codes "mapping") refl)
+    ap (λ ts. judged ts (given_by (λ name. row_texts name rows) options)) words_are
+    ∙ ap (judged (plain_words parts)) (given-same (λ name. row_texts name rows) (λ name. values_of name parts) options
+    (values_are (codes "ii") refl, (values_are (codes "seed") refl, (values_are (codes "moves") refl, (values_are (codes "mapping") refl, tt)))))
     ∙ judged-parts parts all
 
-abbrev in_rows : Option (List Part) → Option Said
-in_rows read = option_and_then (λ parts. said_in_rows (made [] parts)) read
+abbrev in_rows : Option (List Part) → Option Arguments
+in_rows read = option_and_then (λ parts. arguments_in_rows (made [] parts)) read
 
-said_of-uses : (words : List Text) → said_of words ≡ in_rows (uses options false None words)
-unfolding said_of
-said_of-uses words = ap (option_and_then said_by) (parts-uses None words) ∙ by (uses options false None words) (names-uses None words tt)
+arguments-uses : (words : List Text) → arguments_of words ≡ in_rows (uses options false None words)
+unfolding arguments_of
+arguments-uses words = ap (option_map arguments_by) (parts-uses None words) ∙ by (uses options false None words) (names-uses None words tt)
   where
-    by : (read : Option (List Part)) → Names read → option_and_then said_by (Checked read) ≡ in_rows read
+    by : (read : Option (List Part)) → Names read → option_map arguments_by (Checked read) ≡ in_rows read
     by None h = refl
     by (Some parts) h = sym (rows-parts parts h)
 
 -- what is said where `clap` takes the words
-pub said_of-rows : (vs : List (String Global)) (rows : List Row) → fault_of words_app (map string_bytes vs) ≡ [] → rows ≡ matches_of words_app (map string_bytes vs)
-    → said_of (map string_bytes vs) ≡ said_in_rows rows
+pub arguments-rows : (vs : List (String Global)) (rows : List Row) → fault_of words_app (map string_bytes vs) ≡ [] → rows ≡ matches_of words_app (map string_bytes vs)
+    → arguments_of (map string_bytes vs) ≡ arguments_in_rows rows
 unfolding words_app
-said_of-rows vs rows none is =
+arguments-rows vs rows none is =
     let words = map string_bytes vs in
-    said_of-uses words
+    arguments-uses words
     ∙ by (uses options false None words) (ap (λ (ks : Kinds). unless ks (Some (matches_of words_app words))) (sym none) ∙ taken options words refl (strings-refuse options vs))
   where
-    by : (read : Option (List Part)) → Some (matches_of words_app (map string_bytes vs)) ≡ option_and_then (λ more. run [] more) read → in_rows read ≡ said_in_rows rows
+    by : (read : Option (List Part)) → Some (matches_of words_app (map string_bytes vs)) ≡ option_and_then (λ more. run [] more) read → in_rows read ≡ arguments_in_rows rows
     by None h = cc
-    by (Some parts) h = ap said_in_rows (sym (is ∙ same_Some _ _ (h ∙ run-none parts)))
+    by (Some parts) h = ap arguments_in_rows (sym (is ∙ same_Some _ _ (h ∙ run-none parts)))
 
 -- nothing is said where `clap` refuses the words
-pub said_of-refused : (vs : List (String Global)) (e : Error) → HasKind (fault_of words_app (map string_bytes vs)) e → (kind_of e ≡ kind.OutOfMemory → ⊥) → said_of (map string_bytes vs) ≡ None
+pub arguments-refused : (vs : List (String Global)) (e : Error) → HasKind (fault_of words_app (map string_bytes vs)) e → (kind_of e ≡ kind.OutOfMemory → ⊥) → arguments_of (map string_bytes vs) ≡ None
 unfolding words_app
-said_of-refused vs e has other =
+arguments-refused vs e has other =
     let words = map string_bytes vs in
-    said_of-uses words
+    arguments-uses words
     ∙ by (uses options false None words) (sym (taken options words refl (strings-refuse options vs)) ∙ refused-unless (fault_of words_app words) (matches_of words_app words) e has other)
   where
     by : (read : Option (List Part)) → option_and_then (λ more. run [] more) read ≡ None → in_rows read ≡ None

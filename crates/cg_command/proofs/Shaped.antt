@@ -3,8 +3,9 @@ use Rattle.std.proofs.Common.{◌≡◌, ℕ, ◌≤◌, ◌&&◌, Bool, true, f
 use Rattle.std.specs.Str.{bytes_eq}
 use Rattle.std.specs.Str.Parse.{digits_value}
 use Rattle.std.proofs.lemmas.Bool.{leb-true}
-use Rattle.cg_command.specs.declared.plans.Command.TheVariants.{Turns, TurnsOnImage, Flat}
-use Rattle.cg_command.specs.Words.{Text, Said, Plan, HasShape, is_number, number_up_to, turns_of, turns_plan, flat_plan, has_options, without_options, command_plan, said_of, plan_of}
+use Rattle.cg_model.specs.Limits.{most_turns}
+use Rattle.cg_command.specs.declared.plans.Command.TheVariants.{Turns, TurnsOnImage, Flat, Run}
+use Rattle.cg_command.specs.Words.{Text, Arguments, Plan, HasShape, is_number, number_up_to, turns_of, turns_plan, flat_plan, run_plan, is_empty, without_options, command_plan, arguments_of, plan_of}
 
 -- the plan has the shape of its command
 abbrev pub IsShaped : Plan → Type 0
@@ -40,10 +41,10 @@ numbered_shaped (Some n) plan each = one_shaped (plan n) (each n refl)
 turns_shaped : (words : List Text) → AreShaped (turns_plan words)
 turns_shaped [] = none_shaped
 turns_shaped (a ∷ []) = none_shaped
-turns_shaped (kernel ∷ turns ∷ []) = numbered_shaped (turns_of turns) (λ n. record { command = Turns n; inputs = kernel ∷ []; outputs = [] }) (λ n e. (refl, refl, number_few 1000000 turns n e))
+turns_shaped (kernel ∷ turns ∷ []) = numbered_shaped (turns_of turns) (λ n. record { command = Turns n; inputs = kernel ∷ []; outputs = [] }) (λ n e. (refl, refl, number_few most_turns turns n e))
 turns_shaped (a ∷ b ∷ c ∷ []) = none_shaped
 turns_shaped (kernel ∷ turns ∷ input ∷ output ∷ []) =
-    numbered_shaped (turns_of turns) (λ n. record { command = TurnsOnImage n; inputs = kernel ∷ input ∷ []; outputs = output ∷ [] }) (λ n e. (refl, refl, number_few 1000000 turns n e))
+    numbered_shaped (turns_of turns) (λ n. record { command = TurnsOnImage n; inputs = kernel ∷ input ∷ []; outputs = output ∷ [] }) (λ n e. (refl, refl, number_few most_turns turns n e))
 turns_shaped (a ∷ b ∷ c ∷ d ∷ e ∷ more) = none_shaped
 
 flat_shaped : (words : List Text) → AreShaped (flat_plan words)
@@ -52,16 +53,26 @@ flat_shaped (a ∷ []) = none_shaped
 flat_shaped (arch ∷ out ∷ []) = one_shaped (record { command = Flat; inputs = arch ∷ []; outputs = out ∷ [] }) (refl, refl)
 flat_shaped (a ∷ b ∷ c ∷ more) = none_shaped
 
-without_shaped : (plan : List Text → Option Plan) (said : Said) → AreShaped (plan said.words) → AreShaped (without_options plan said)
-without_shaped plan said is = either_shaped (has_options said) None (plan said.words) none_shaped is
+run_shaped : (words : List Text) → AreShaped (run_plan words)
+run_shaped [] = none_shaped
+run_shaped (a ∷ []) = none_shaped
+run_shaped (a ∷ b ∷ []) = none_shaped
+run_shaped (a ∷ b ∷ c ∷ []) = none_shaped
+run_shaped (a ∷ b ∷ c ∷ d ∷ []) = none_shaped
+run_shaped (arch ∷ bits ∷ turns ∷ input ∷ output ∷ []) =
+    numbered_shaped (turns_of turns) (λ n. record { command = Run n; inputs = arch ∷ bits ∷ input ∷ []; outputs = output ∷ [] }) (λ n e. (refl, refl, number_few most_turns turns n e))
+run_shaped (a ∷ b ∷ c ∷ d ∷ e ∷ f ∷ more) = none_shaped
 
-command_shaped : (name : Text) (said : Said) → AreShaped (command_plan name said)
+without_shaped : (plan : List Text → Option Plan) (said : Arguments) → AreShaped (plan said.words) → AreShaped (without_options plan said)
+without_shaped plan said is = either_shaped (is_empty said.options) (plan said.words) None is none_shaped
+
+command_shaped : (name : Text) (said : Arguments) → AreShaped (command_plan name said)
 command_shaped name said =
-    either_shaped (bytes_eq name (codes "turns")) (without_options turns_plan said) (cond (bytes_eq name (codes "flat")) (without_options flat_plan said) None)
-    (without_shaped turns_plan said (turns_shaped said.words))
-    (either_shaped (bytes_eq name (codes "flat")) (without_options flat_plan said) None (without_shaped flat_plan said (flat_shaped said.words)) none_shaped)
+    either_shaped (bytes_eq name (codes "turns")) (without_options turns_plan said) _ (without_shaped turns_plan said (turns_shaped said.words))
+    (either_shaped (bytes_eq name (codes "flat")) (without_options flat_plan said) _ (without_shaped flat_plan said (flat_shaped said.words))
+    (either_shaped (bytes_eq name (codes "run")) (without_options run_plan said) None (without_shaped run_plan said (run_shaped said.words)) none_shaped))
 
-said_shaped : (name : Text) (o : Option Said) → AreShaped (option_and_then (command_plan name) o)
+said_shaped : (name : Text) (o : Option Arguments) → AreShaped (option_and_then (command_plan name) o)
 said_shaped name None = none_shaped
 said_shaped name (Some said) = command_shaped name said
 
@@ -69,4 +80,4 @@ said_shaped name (Some said) = command_shaped name said
 pub plan_shaped : (words : List Text) (plan : Plan) → plan_of words ≡ Some plan → IsShaped plan
 unfolding plan_of
 plan_shaped [] plan e = none_shaped plan e
-plan_shaped (name ∷ words) plan e = said_shaped name (said_of words) plan e
+plan_shaped (name ∷ words) plan e = said_shaped name (arguments_of words) plan e

@@ -1,10 +1,10 @@
 -- What `clap` is asked, and what its matches say.
-use Rattle.std.specs.Prelude.{◌∷◌, [], List, true, Option, Some, None, codes, unwrap_or, map, if◌then◌else◌}
+use Rattle.std.specs.Prelude.{◌∷◌, [], List, Bool, true, ◌&&◌, Option, Some, None, codes, unwrap_or, map, if◌then◌else◌}
 use Rattle.std.specs.List.{list_all}
 use Rattle.clap.specs.Words.{App, Row, Rule, Text, new_rule, all_of}
 use Rattle.clap.specs.Simple.{Shape, new_shape}
 use Rattle.clap.specs.declared.builder.ArgAction.TheVariants.{Append}
-use Rattle.cg_command.specs.Words.{Said, options, is_file, at_most_once, interval_of, seed_of, moves_of, all_said}
+use Rattle.cg_command.specs.Words.{Given, Arguments, options, is_file, given_by}
 
 -- the positional that takes each plain word
 abbrev pub words_rule : Rule
@@ -30,23 +30,14 @@ words_app = asked_app options
 abbrev pub row_texts : Text → List Row → List Text
 row_texts id rows = unwrap_or (all_of id rows) []
 
--- the lone text, if there is one
-abbrev pub at_most_one : List Text → Option (Option Text)
-at_most_one [] = Some None
-at_most_one (text ∷ []) = Some (Some text)
-at_most_one (text ∷ other ∷ more) = None
+-- the value may name a file
+abbrev pub has_file : Given → Bool
+has_file g = is_file g.value
 
--- a text that may name a file
-abbrev pub file_of : Text → Option Text
-file_of text = if is_file text then Some text else None
-
--- what the texts say, where each fits
-abbrev pub judged : List Text → List Text → List Text → List Text → List Text → Option Said
-judged words iis seeds moves mappings =
-    if list_all is_file words
-    then all_said words (at_most_once interval_of iis) (at_most_once seed_of seeds) (at_most_once moves_of moves) (at_most_once file_of mappings)
-    else None
+-- plain words and options, where each word and each value may name a file
+abbrev pub judged : List Text → List Given → Option Arguments
+judged words given = if list_all is_file words && list_all has_file given then Some (record { words = words; options = given }) else None
 
 -- what `clap`'s rows say
-unfoldable pub said_in_rows : List Row → Option Said
-said_in_rows rows = judged (row_texts (codes "words") rows) (row_texts (codes "ii") rows) (row_texts (codes "seed") rows) (row_texts (codes "moves") rows) (row_texts (codes "mapping") rows)
+unfoldable pub arguments_in_rows : List Row → Option Arguments
+arguments_in_rows rows = judged (row_texts (codes "words") rows) (given_by (λ name. row_texts name rows) options)

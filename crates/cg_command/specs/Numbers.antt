@@ -3,6 +3,7 @@ use Rattle.std.specs.Prelude.{ℕ, Bool, ◌&&◌, List, length, Option, Some, N
 use Rattle.std.specs.Char.{is_ascii_digit}
 use Rattle.std.specs.List.{list_all}
 use Rattle.std.specs.Str.Parse.{digits_value}
+use Rattle.cg_model.specs.Limits.{most_contexts, most_moves, most_turns}
 
 -- the bytes of a word
 abbrev pub Text : Type 0
@@ -22,11 +23,11 @@ positive n = if nat_lt 0 n then Some n else None
 
 -- TURNS: 0 to 1,000,000
 abbrev pub turns_of : Text → Option ℕ
-turns_of word = number_up_to 1000000 word
+turns_of word = number_up_to most_turns word
 
 -- `--ii`: 1 to 64
 abbrev pub interval_of : Text → Option ℕ
-interval_of word = option_and_then positive (number_up_to 64 word)
+interval_of word = option_and_then positive (number_up_to most_contexts word)
 
 -- `--seed`: 0 to 18,446,744,073,709,551,615
 abbrev pub seed_of : Text → Option ℕ
@@ -34,4 +35,4 @@ seed_of word = number_up_to 18446744073709551615 word
 
 -- `--moves`: 0 to 1,000,000
 abbrev pub moves_of : Text → Option ℕ
-moves_of word = number_up_to 1000000 word
+moves_of word = number_up_to most_moves word

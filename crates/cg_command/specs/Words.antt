@@ -1,12 +1,14 @@
 -- What the words of a command line ask.
-use Rattle.std.specs.Prelude.{◌≡◌, ◌≤◌, ◌==◌, ℕ, Bool, false, not, ◌||◌, List, [], ◌∷◌, take, drop, find, map, Option, Some, None, is_some, option_map, option_and_then, if◌then◌else◌, codes, string_bytes}
+use Rattle.std.specs.Prelude.{◌≡◌, ◌≤◌, ◌==◌, ℕ, Bool, true, false, not, List, [], ◌∷◌, ◌++◌, take, drop, find, map, Option, Some, None, option_map, option_and_then, if◌then◌else◌, codes, string_bytes}
 use Rattle.std.specs.List.{list_any, before_first, after_first}
 use Rattle.std.specs.Str.{bytes_eq}
+use Rattle.cg_model.specs.Limits.{most_turns}
 pub use Rattle.cg_command.specs.Numbers.{Text, is_number, number_up_to, positive, turns_of, interval_of, seed_of, moves_of}
 use Rattle.cg_command.specs.declared.plans.Command.{Command}
-use Rattle.cg_command.specs.declared.plans.Command.TheVariants.{Turns, TurnsOnImage, Flat}
+use Rattle.cg_command.specs.declared.plans.Command.TheVariants.{Turns, TurnsOnImage, Flat, Run}
 use Rattle.cg_command.specs.declared.plans.Plan.{Plan as PlanValue}
-use Rattle.cg_command.specs.declared.options.Said.{Said as SaidValue}
+use Rattle.cg_command.specs.declared.arguments.Arguments.{Arguments as ArgumentsValue}
+use Rattle.cg_command.specs.declared.arguments.Given.{Given as GivenValue}
 
 -- ---- plain words and options
 
@@ -77,17 +79,22 @@ parts_of None (word ∷ words) =
 
 -- ---- what was said
 
--- the plain words, and the value of each option
-pub record Said : Type 0 where
+-- an option with a value
+pub record Given : Type 0 where
+  pub name : Text
+  pub value : Text
+
+-- the plain words in order, and the options with their values, those of one name in order
+pub record Arguments : Type 0 where
   pub words : List Text
-  pub interval : Option ℕ
-  pub seed : Option ℕ
-  pub moves : Option ℕ
-  pub mapping : Option Text
+  pub options : List Given
 
 -- what a value of the program says
-abbrev pub heard : SaidValue → Said
-heard s = record { words = map (λ word. word.now) s.words.items; interval = s.interval; seed = s.seed; moves = s.moves; mapping = option_map (λ word. word.now) s.mapping }
+abbrev pub heard_option : GivenValue → Given
+heard_option g = record { name = g.name.now; value = g.value.now }
+
+abbrev pub heard : ArgumentsValue → Arguments
+heard a = record { words = map (λ word. word.now) a.words.items; options = map heard_option a.options.items }
 
 -- the plain words, in order
 abbrev pub plain_words : List Part → List Text
@@ -101,28 +108,22 @@ values_of name [] = []
 values_of name (plain word ∷ parts) = values_of name parts
 values_of name (named other value ∷ parts) = if bytes_eq other name then value ∷ values_of name parts else values_of name parts
 
--- what the value of an option reads as, where it comes at most once and reads
-abbrev pub at_most_once : {T : Type 0} → (Text → Option T) → List Text → Option (Option T)
-at_most_once read [] = Some None
-at_most_once read (value ∷ []) = option_map Some (read value)
-at_most_once read (value ∷ other ∷ more) = None
+-- the option of that name, with each of these values
+abbrev pub given_values : Text → List Text → List Given
+given_values name values = map (λ value. record { name = name; value = value }) values
 
--- all of it, where each option fits
-abbrev pub all_said : List Text → Option (Option ℕ) → Option (Option ℕ) → Option (Option ℕ) → Option (Option Text) → Option Said
-all_said words (Some interval) (Some seed) (Some moves) (Some mapping) = Some (record { words = words; interval = interval; seed = seed; moves = moves; mapping = mapping })
-all_said words _ _ _ _ = None
+-- the options of these names, each with its values
+abbrev pub given_by : (Text → List Text) → List Text → List Given
+given_by values [] = []
+given_by values (name ∷ names) = given_values name (values name) ++ given_by values names
 
 -- what the parts say
-abbrev pub said_by : List Part → Option Said
-said_by parts = all_said (plain_words parts)
-    (at_most_once interval_of (values_of (codes "ii") parts))
-    (at_most_once seed_of (values_of (codes "seed") parts))
-    (at_most_once moves_of (values_of (codes "moves") parts))
-    (at_most_once Some (values_of (codes "mapping") parts))
+abbrev pub arguments_by : List Part → Arguments
+arguments_by parts = record { words = plain_words parts; options = given_by (λ name. values_of name parts) options }
 
 -- what the words after a command's name say, None where they fit no command
-unfoldable pub said_of : List Text → Option Said
-said_of words = option_and_then said_by (parts_of None words)
+unfoldable pub arguments_of : List Text → Option Arguments
+arguments_of words = option_map arguments_by (parts_of None words)
 
 -- ---- commands
 
@@ -149,28 +150,37 @@ abbrev pub flat_plan : List Text → Option Plan
 flat_plan (arch ∷ out ∷ []) = Some (record { command = Flat; inputs = arch ∷ []; outputs = out ∷ [] })
 flat_plan _ = None
 
--- an option was given
-abbrev pub has_options : Said → Bool
-has_options said = is_some said.interval || (is_some said.seed || (is_some said.moves || is_some said.mapping))
+-- run ARCH BITS TURNS IN OUT
+abbrev pub run_plan : List Text → Option Plan
+run_plan (arch ∷ bits ∷ turns ∷ input ∷ output ∷ []) =
+    option_map (λ n. record { command = Run n; inputs = arch ∷ bits ∷ input ∷ []; outputs = output ∷ [] }) (turns_of turns)
+run_plan _ = None
+
+-- no option was given
+abbrev pub is_empty : List Given → Bool
+is_empty [] = true
+is_empty (g ∷ gs) = false
 
 -- the plan of a command that takes no option
-abbrev pub without_options : (List Text → Option Plan) → Said → Option Plan
-without_options plan said = if has_options said then None else plan said.words
+abbrev pub without_options : (List Text → Option Plan) → Arguments → Option Plan
+without_options plan said = if is_empty said.options then plan said.words else None
 
 -- the plan of the command of this name
-abbrev pub command_plan : Text → Said → Option Plan
+abbrev pub command_plan : Text → Arguments → Option Plan
 command_plan name said =
     if bytes_eq name (codes "turns") then without_options turns_plan said
     else (if bytes_eq name (codes "flat") then without_options flat_plan said
-    else None)
+    else (if bytes_eq name (codes "run") then without_options run_plan said
+    else None))
 
 -- what the words ask, None where they fit no command
 unfoldable pub plan_of : List Text → Option Plan
 plan_of [] = None
-plan_of (name ∷ words) = option_and_then (command_plan name) (said_of words)
+plan_of (name ∷ words) = option_and_then (command_plan name) (arguments_of words)
 
 -- how many files a command reads and writes, and the range of its number
 abbrev pub HasShape : Command → ℕ → ℕ → Type 0
-HasShape (Turns turns) inputs outputs = (inputs ≡ 1) × (outputs ≡ 0) × (turns ≤ 1000000)
-HasShape (TurnsOnImage turns) inputs outputs = (inputs ≡ 2) × (outputs ≡ 1) × (turns ≤ 1000000)
+HasShape (Turns turns) inputs outputs = (inputs ≡ 1) × (outputs ≡ 0) × (turns ≤ most_turns)
+HasShape (TurnsOnImage turns) inputs outputs = (inputs ≡ 2) × (outputs ≡ 1) × (turns ≤ most_turns)
 HasShape Flat inputs outputs = (inputs ≡ 1) × (outputs ≡ 1)
+HasShape (Run turns) inputs outputs = (inputs ≡ 3) × (outputs ≡ 1) × (turns ≤ most_turns)

@@ -1,9 +1,10 @@
 //! The words of a command line: a command with the names of its files and its numbers.
 #![tactic(auto)]
 
+mod arguments;
 mod numbers;
-mod options;
 mod plans;
 
-pub use options::{Said, said_of};
+pub use arguments::{Arguments, Given, arguments_of};
+pub use numbers::{interval_of, moves_of, seed_of};
 pub use plans::{Command, Plan, plan_words};

@@ -2,22 +2,16 @@
 ghost use Rattle.std.specs.Prelude.{◌≡◌, ◌≤◌, IfSome};
 ghost use Rattle.std.specs.Char.{is_ascii_digit};
 ghost use Rattle.std.specs.List.{list_all};
+ghost use Rattle.cg_model.specs.Limits.{most_turns};
 ghost use Rattle.cg_command.specs.Words as spec;
 
-/// The greatest interval that may be asked for.
-const MOST_INTERVAL: u64 = 64;
-
-/// The greatest number of turns that may be asked for.
-const MOST_TURNS: u64 = 1_000_000;
-
-/// The greatest number of moves that may be asked for.
-const MOST_MOVES: u64 = 1_000_000;
+use cg_model::{MOST_CONTEXTS, MOST_MOVES, MOST_TURNS};
 
 /// The interval that a word writes.
 pub fn interval_of(word: &str) -> Option<u32>
     ensures { result ≡ spec.interval_of word.now }
 {
-    match number_up_to(word, MOST_INTERVAL) {
+    match number_up_to(word, u64::from(MOST_CONTEXTS)) {
         Some(interval) if interval > 0 => Some(interval as u32),
         _ => None,
     }
@@ -34,7 +28,7 @@ pub fn seed_of(word: &str) -> Option<u64>
 pub fn moves_of(word: &str) -> Option<u32>
     ensures { result ≡ spec.moves_of word.now }
 {
-    match number_up_to(word, MOST_MOVES) {
+    match number_up_to(word, u64::from(MOST_MOVES)) {
         Some(moves) => Some(moves as u32),
         None => None,
     }
@@ -43,9 +37,9 @@ pub fn moves_of(word: &str) -> Option<u32>
 /// The number of turns that a word writes.
 pub fn turns_of(word: &str) -> Option<u32>
     ensures value { result ≡ spec.turns_of word.now }
-    ensures within { IfSome result (λ turns. turns ≤ 1000000) }
+    ensures within { IfSome result (λ turns. turns ≤ most_turns) }
 {
-    match number_up_to(word, MOST_TURNS) {
+    match number_up_to(word, u64::from(MOST_TURNS)) {
         Some(turns) => Some(turns as u32),
         None => None,
     }

@@ -3,8 +3,8 @@ ghost use Rattle.std.specs.Prelude.{◌≡◌, IfOk, IfSome, map, option_map, st
 ghost use Rattle.cg_command.specs.Words as spec;
 ghost use Rattle.cg_command.specs.Words.{HasShape};
 
+use crate::arguments::{Arguments, arguments_of};
 use crate::numbers::turns_of;
-use crate::options::{Said, said_of};
 use std::alloc::{AllocError, Global};
 
 /// A command, with its numbers.
@@ -16,6 +16,8 @@ pub enum Command {
     TurnsOnImage { turns: u32 },
     /// `flat ARCH OUT`: the flat text of an architecture.
     Flat,
+    /// `run ARCH BITS TURNS IN OUT`: so many turns of the array under a configuration, from an image, and the result image.
+    Run { turns: u32 },
 }
 
 /// A command with the names of its files: the inputs in the order of reading, the outputs in
@@ -38,29 +40,30 @@ pub fn plan_words(alloc: Global, words: &[String]) -> Result<Option<Plan>, Alloc
     let Some((name, rest)) = words.split_first() else {
         return Ok(None);
     };
-    match said_of(alloc, rest)? {
+    match arguments_of(alloc, rest)? {
         Some(said) => command_plan(alloc, name.as_str(), &said),
         None => Ok(None),
     }
 }
 
-fn command_plan(alloc: Global, name: &str, said: &Said) -> Result<Option<Plan>, AllocError>
+fn command_plan(alloc: Global, name: &str, said: &Arguments) -> Result<Option<Plan>, AllocError>
     ensures plan { IfOk result
         (λ p. option_map spec.planned p ≡ spec.command_plan name.now (spec.heard said.now)) }
     ensures shape { IfOk result (λ p. IfSome p
         (λ plan. HasShape plan.command (vec_len plan.inputs) (vec_len plan.outputs))) }
 {
     match name {
-        "turns" if !has_options(said) => turns_plan(alloc, said.words.as_slice()),
-        "flat" if !has_options(said) => flat_plan(alloc, said.words.as_slice()),
+        "turns" if has_no_options(said) => turns_plan(alloc, said.words.as_slice()),
+        "flat" if has_no_options(said) => flat_plan(alloc, said.words.as_slice()),
+        "run" if has_no_options(said) => run_plan(alloc, said.words.as_slice()),
         _ => Ok(None),
     }
 }
 
-fn has_options(said: &Said) -> bool
-    ensures { result ≡ spec.has_options (spec.heard said.now) }
+fn has_no_options(said: &Arguments) -> bool
+    ensures { result ≡ spec.is_empty (spec.heard said.now).options }
 {
-    said.interval.is_some() || said.seed.is_some() || said.moves.is_some() || said.mapping.is_some()
+    matches!(said.options.as_slice(), [])
 }
 
 fn turns_plan(alloc: Global, words: &[&str]) -> Result<Option<Plan>, AllocError>
@@ -109,6 +112,31 @@ fn flat_plan(alloc: Global, words: &[&str]) -> Result<Option<Plan>, AllocError>
             inputs: vec![in alloc; String::from_str(alloc, arch)?]?,
             outputs: vec![in alloc; String::from_str(alloc, out)?]?,
         })),
+        _ => Ok(None),
+    }
+}
+
+fn run_plan(alloc: Global, words: &[&str]) -> Result<Option<Plan>, AllocError>
+    ensures plan { IfOk result
+        (λ p. option_map spec.planned p ≡ spec.run_plan (map (λ word. word.now) words.now)) }
+    ensures shape { IfOk result (λ p. IfSome p
+        (λ plan. HasShape plan.command (vec_len plan.inputs) (vec_len plan.outputs))) }
+{
+    match words {
+        [arch, bits, turns, input, output] => {
+            let Some(turns) = turns_of(turns) else {
+                return Ok(None);
+            };
+            Ok(Some(Plan {
+                command: Command::Run { turns },
+                inputs: vec![in alloc;
+                    String::from_str(alloc, arch)?,
+                    String::from_str(alloc, bits)?,
+                    String::from_str(alloc, input)?,
+                ]?,
+                outputs: vec![in alloc; String::from_str(alloc, output)?]?,
+            }))
+        }
         _ => Ok(None),
     }
 }

@@ -5,6 +5,7 @@ use Rattle.std.specs.Prelude.{◌≡◌, ◌≢◌, ℕ, suc, ◌+◌, ◌<◌, 
 use Rattle.cg_word.specs.declared.op.Op.{Op}
 use Rattle.cg_word.specs.Word.{arity}
 use Rattle.cg_model.specs.Names.{IsName}
+use Rattle.cg_model.specs.Limits.{most_resources, most_links, most_units, most_memory, most_contexts}
 pub use Rattle.cg_model.specs.declared.array.Kind.{Kind}
 pub use Rattle.cg_model.specs.declared.array.Kind.TheVariants.{Wire, Register, Port, Out}
 pub use Rattle.cg_model.specs.declared.array.Resource.{Resource}
@@ -62,11 +63,11 @@ links (r ∷ rs) = length r.drivers + links rs
 
 -- what a valid architecture counts at most (A1), and its contexts (A8)
 pub record IsSmall (A : Arch) : Type 0 where
-  pub resources : length A.resources ≤ 4096
-  pub links : links A.resources ≤ 65536
-  pub units : length A.units ≤ 1024
-  pub memory : A.memory ≤ 1048576
-  pub contexts : (0 < A.contexts) × (A.contexts ≤ 64)
+  pub resources : length A.resources ≤ most_resources
+  pub links : links A.resources ≤ most_links
+  pub units : length A.units ≤ most_units
+  pub memory : A.memory ≤ most_memory
+  pub contexts : (0 < A.contexts) × (A.contexts ≤ most_contexts)
 
 -- its names: those of the architecture and of its wires, registers and units have at most 40
 -- characters (A2); ports and outs are named after their unit, and no two names are equal (A3)

@@ -6,6 +6,7 @@ use Rattle.cg_word.specs.Word.{arity, words, is_output, has_port}
 use Rattle.cg_word.specs.Sets.{among}
 use Rattle.cg_model.specs.Array.{Arch, resource, unit}
 use Rattle.cg_model.specs.Config.{Config, UnitFields, arg, select, fields}
+use Rattle.cg_model.specs.Limits.{latest_time}
 
 -- ---- what the fields of a unit say, by its operation
 
@@ -38,7 +39,7 @@ offered ops (Some op) = among ops op
 
 -- a stage is at most 65,534, and 0 under an off unit
 abbrev pub stage_right : UnitFields → Bool
-stage_right f = nat_le f.stage 65534 && (is_on f.op || eqb f.stage 0)
+stage_right f = nat_le f.stage latest_time && (is_on f.op || eqb f.stage 0)
 
 -- the port is 0 where the operation names none
 abbrev pub port_right : UnitFields → Bool

@@ -5,6 +5,7 @@ use Rattle.std.specs.Prelude.{◌≡◌, ℕ, ◌<◌, ◌≤◌, true, false, L
 use Rattle.cg_word.specs.declared.op.Op.TheVariants.{Const}
 use Rattle.cg_word.specs.Word.{arity, words, has_value, has_port, is_output}
 use Rattle.cg_model.specs.Names.{IsName}
+use Rattle.cg_model.specs.Limits.{most_nodes, most_order_edges}
 pub use Rattle.cg_model.specs.declared.kernel.Operand.{Operand}
 pub use Rattle.cg_model.specs.declared.kernel.Operand.TheVariants.{Const as Constant, Edge}
 pub use Rattle.cg_model.specs.declared.kernel.Node.{Node}
@@ -47,7 +48,7 @@ pub record IsWired (K : Kernel) : Type 0 where
 -- at most 4,096 order edges (K4) join nodes (K9), within a turn an earlier to a later one (K11),
 -- over at most 255 turns (K12)
 pub record IsOrder (K : Kernel) : Type 0 where
-  pub few : length K.order ≤ 4096
+  pub few : length K.order ≤ most_order_edges
   pub known : (e u v d : ℕ) → HasOrder K e u v d → (u < size K) × (v < size K)
   pub forward : (e u v : ℕ) → HasOrder K e u v 0 → u < v
   pub near : (e u v d : ℕ) → HasOrder K e u v d → d ≤ 255
@@ -61,7 +62,7 @@ pub record IsNamed (K : Kernel) : Type 0 where
 -- a valid kernel: none of the faults K4 to K16 applies
 pub record IsKernel (K : Kernel) : Type 0 where
   -- K4
-  pub few : size K ≤ 1024
+  pub few : size K ≤ most_nodes
   pub named : IsNamed K
   pub wired : IsWired K
   pub order : IsOrder K

@@ -1,5 +1,6 @@
 pub mod Names
 pub mod First
+pub mod Limits
 pub mod Work
 pub mod Kernel
 pub mod Turns
@@ -7,6 +8,7 @@ pub mod Order
 pub mod Array
 pub mod Mapping
 pub mod Config
+pub mod Configured
 pub mod Canonical
 pub mod Machine
 pub mod Equations

@@ -5,6 +5,7 @@ use Rattle.cg_model.specs.Kernel.{Kernel, Node, Operand, Constant, Edge, HasOper
 pub use Rattle.cg_model.specs.declared.mapping.Place.{Place}
 pub use Rattle.cg_model.specs.declared.mapping.Route.{Route}
 use Rattle.cg_model.specs.Array.{Arch, resource, unit, delay}
+use Rattle.cg_model.specs.Limits.{latest_time}
 
 -- an interval, a place for each node (its unit and its time in the first turn), and a route for
 -- each edge operand: in turn i the node at time t begins in cycle t + i * ii
@@ -93,25 +94,25 @@ pub record IsShaped (K : Kernel) (M : Mapping) : Type 0 where
   pub places : length M.places ≡ size K
   pub routes : map end_of M.routes ≡ ends_from 0 K.nodes
 
--- a legal mapping: the rules L1 to L7
+-- a legal mapping of a kernel on an architecture: of the kernel's shape, so that each data edge has
+-- its route, and by the rules L1 to L7
 pub record IsLegal (A : Arch) (K : Kernel) (M : Mapping) : Type 0 where
+  pub shape : IsShaped K M
   -- L1: the interval is at least 1 and at most the number of contexts
   pub interval : 0 < M.ii
   pub contexts : M.ii ≤ A.contexts
   -- L2: every node stands on a unit that offers its operation, at a time up to 65,534
   pub units : (v : ℕ) → v < size K → (place M v).unit < length A.units
   pub offered : (v : ℕ) → v < size K → Contains (unit A (place M v).unit).ops (node K v).op
-  pub soon : (v : ℕ) → v < size K → (place M v).time ≤ 65534
+  pub soon : (v : ℕ) → v < size K → (place M v).time ≤ latest_time
   -- L3: a unit begins at most one node in each slot
   pub apart : (v w : ℕ) → v < size K → w < size K → (place M v).unit ≡ (place M w).unit →
       (place M v).time % M.ii ≡ (place M w).time % M.ii → v ≡ w
   -- L4: an order edge's target begins at least a cycle after its source, d turns later
   pub ordered : (e u v d : ℕ) → HasOrder K e u v d →
       (place M u).time + 1 ≤ (place M v).time + M.ii * d
-  -- L5: each data edge has a route, and each route brings its value to the port of that argument
-  -- just when the node that takes it begins, d turns later
-  pub routed : (v p u d : ℕ) (init : List ℕ) → v < size K → HasOperand K v p (Edge u d init) →
-      (path : List ℕ) × Contains M.routes (record { node = v; arg = p; path = path })
+  -- L5: each route brings its value to the port of that argument just when the node that takes it
+  -- begins, d turns later
   pub brings : (route : Route) (u d : ℕ) (init : List ℕ) →
       Contains M.routes route → HasOperand K route.node route.arg (Edge u d init) →
       (port : ℕ) × (slice_get (unit A (place M route.node).unit).ports route.arg ≡ Some port) ×

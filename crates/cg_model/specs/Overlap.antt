@@ -6,7 +6,7 @@ use Rattle.cg_model.specs.Kernel.{Kernel, size}
 use Rattle.cg_model.specs.Turns.{work, val, turns, turns_left}
 use Rattle.cg_model.specs.Array.{Arch}
 use Rattle.cg_model.specs.Mapping.{Mapping, Carries, Begins}
-use Rattle.cg_model.specs.Config.{configuration_of}
+use Rattle.cg_model.specs.Configured.{configuration_of}
 use Rattle.cg_model.specs.Machine.{word, begins, result, machine, machine_left}
 
 -- in a cycle a resource carries at most one value, and a unit begins at most one; a value is that of

@@ -6,6 +6,7 @@
 mod array;
 mod config;
 mod kernel;
+mod limits;
 mod lists;
 mod mapping;
 mod names;
@@ -13,6 +14,10 @@ mod names;
 pub use array::{Kind, Resource, Unit};
 pub use config::{ArgFields, UnitFields};
 pub use kernel::{Node, Operand, OrderEdge};
+pub use limits::{
+    LATEST_TIME, MOST_CONTEXTS, MOST_LINKS, MOST_MEMORY, MOST_MOVES, MOST_NODES, MOST_ORDER_EDGES,
+    MOST_RESOURCES, MOST_STREAM, MOST_TURNS, MOST_UNITS,
+};
 pub use lists::{Items, Name, Operands, Words};
 pub use mapping::{Place, Route};
 pub use names::{is_identifier, is_name};

@@ -1,7 +1,7 @@
 //! Lists and names, which contracts see as the list of their items and as their bytes.
 
 use crate::kernel::Operand;
-use std::alloc::AllocFailed;
+use std::alloc::{AllocError, AllocFailed, Global};
 use std::marker::Model;
 
 /// A list that is made from a `Vec` and gives it back.
@@ -71,13 +71,22 @@ impl Model for Name {
 }
 
 impl Name {
-    ghost use Rattle.std.specs.Prelude.{◌≡◌, string_bytes};
+    ghost use Rattle.std.specs.Prelude.{◌≡◌, IfOk, string_bytes};
 
     /// Takes the text over.
     pub fn new(text: String) -> Name
         ensures { result ≡ string_bytes text }
     {
         Name { text }
+    }
+
+    /// A copy of a text.
+    pub fn copy_of(alloc: Global, text: &str) -> Result<Name, AllocError>
+        ensures { IfOk result (λ name. name ≡ text.now) }
+    {
+        Ok(Name {
+            text: text.to_string(alloc)?,
+        })
     }
 
     /// Lends the text.

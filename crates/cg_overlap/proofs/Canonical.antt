@@ -18,7 +18,8 @@ use Rattle.cg_model.specs.declared.mapping.Route.{Route}
 use Rattle.cg_model.specs.Kernel.{Kernel, IsKernel, node, size}
 use Rattle.cg_model.specs.Array.{Arch, unit, resource, delay}
 use Rattle.cg_model.specs.Mapping.{Mapping, Position, IsLegal, place, positions, positions_on, positions_after, of_route, of_operand, leaves, Goes}
-use Rattle.cg_model.specs.Config.{Config, arg, select, fields, off, no_arg, node_on, node_fields, fields_by, configuration_of, select_in, selected, place_of, stages_of}
+use Rattle.cg_model.specs.Config.{Config, arg, select, fields, off, no_arg}
+use Rattle.cg_model.specs.Configured.{node_on, node_fields, fields_by, configuration_of, select_in, selected, place_of, stages_of}
 use Rattle.cg_overlap.proofs.Facts.{Contains-nil, Contains-cases, Contains-first, Contains-later, Contains-flat_map_from}
 use Rattle.cg_overlap.proofs.Selects.{node_found, fields_right}
 

@@ -13,7 +13,8 @@ use Rattle.cg_model.specs.declared.config.ArgFields.{ArgFields}
 use Rattle.cg_model.specs.declared.config.UnitFields.{UnitFields}
 use Rattle.cg_word.specs.Word.{arity, has_port}
 use Rattle.cg_word.specs.Sets.{among}
-use Rattle.cg_model.specs.Config.{arg, no_arg, constant, padded, arg_fields, node_fields}
+use Rattle.cg_model.specs.Config.{arg, no_arg}
+use Rattle.cg_model.specs.Configured.{constant, padded, arg_fields, node_fields}
 use Rattle.cg_model.specs.Canonical.{AreFields, fixed_below, immediate_right, mode_right, count_right, word_right}
 use Rattle.cg_model.specs.Kernel.{Kernel, IsKernel, HasOperand, node, size}
 use Rattle.cg_overlap.proofs.Starts.{get_or-padded, get_or-map_at}

@@ -9,7 +9,7 @@ use Rattle.cg_model.specs.Order.{IsUnaliased}
 use Rattle.cg_model.specs.Array.{Arch, IsArch}
 use Rattle.cg_model.specs.declared.mapping.Place.{Place}
 use Rattle.cg_model.specs.Mapping.{Mapping, place, IsLegal}
-use Rattle.cg_model.specs.Config.{configuration_of, stages_of}
+use Rattle.cg_model.specs.Configured.{configuration_of, stages_of}
 use Rattle.cg_model.specs.Machine.{at_cycle, machine, cycles}
 use Rattle.cg_model.proofs.Lengths.{memory_stays}
 use Rattle.cg_overlap.proofs.Sequence.{turn_below}

@@ -11,7 +11,7 @@ use Rattle.cg_model.specs.Turns.{before, work, val}
 use Rattle.cg_model.specs.Order.{IsUnaliased}
 use Rattle.cg_model.specs.Array.{Arch, IsArch}
 use Rattle.cg_model.specs.Mapping.{Mapping, place, IsLegal}
-use Rattle.cg_model.specs.Config.{configuration_of}
+use Rattle.cg_model.specs.Configured.{configuration_of}
 use Rattle.cg_model.specs.Machine.{at_cycle, begins, result, result_of}
 use Rattle.cg_model.proofs.Lengths.{memory_stays}
 use Rattle.cg_overlap.proofs.Sequence.{step_node, step_turn, step_within, step_of, turn_below, positive_from, work_is}

@@ -11,7 +11,6 @@ use Rattle.cg_model.specs.Kernel.{Kernel, node, size}
 use Rattle.cg_model.specs.Array.{Arch, resource, unit, delay}
 use Rattle.cg_model.specs.Mapping.{Mapping, Position, Goes, Brings, IsLegal, IsShaped, place, positions, leaves}
 use Rattle.cg_overlap.proofs.Facts.{Contains-first, Contains-later}
-use Rattle.cg_overlap.proofs.Shape.{routed}
 use Rattle.cg_overlap.proofs.Tests.{all_true, part, every, every_it, has, has_it, has_of, all_below, all_below_it, given, given_it, same_from, from_is}
 use Rattle.cg_overlap.proofs.KernelTest.{member}
 
@@ -91,6 +90,7 @@ rules A K M =
 pub legal_by : (A : Arch) (K : Kernel) (M : Mapping) → IsShaped K M → all_true (rules A K M) ≡ true → IsLegal A K M
 legal_by A K M shaped h =
     record {
+      shape = shaped;
       interval = ltb-true _ _ (and_parts _ _ (part _ 0 h)).0;
       contexts = leb-true _ _ (and_parts _ _ (part _ 0 h)).1;
       units = λ v l. ltb-true _ _ (and_parts _ _ (all_below_it _ _ v (part _ 1 h) l)).0;
@@ -98,7 +98,6 @@ legal_by A K M shaped h =
       soon = λ v l. leb-true _ _ (and_parts _ _ (and_parts _ _ (all_below_it _ _ v (part _ 1 h) l)).1).1;
       apart = λ v w lv lw e f. eqb-true _ _ (given_it _ _ (all_below_it _ _ w (all_below_it _ _ v (part _ 2 h) lv) lw) (and_from _ _ (eq-eqb _ _ e) (eq-eqb _ _ f)));
       ordered = λ e u v d m. leb-true _ _ (every_it _ _ (record { from = u; to = v; distance = d }) (part _ 3 h) (member _ e _ m));
-      routed = routed K M shaped;
       brings = λ route u d init m e.
           arrives_it A M u route.path _ _ (subst (λ o. brought_for A M route o ≡ true) e (every_it _ _ route (part _ 4 h) m));
       alone = λ p q mp mq e f.

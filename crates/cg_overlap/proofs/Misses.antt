@@ -8,7 +8,8 @@ use Rattle.cg_model.specs.Turns.{before, turns, work}
 use Rattle.cg_model.specs.Order.{IsUnaliased}
 use Rattle.cg_model.specs.Array.{Arch, IsArch}
 use Rattle.cg_model.specs.Mapping.{Mapping, place, IsLegal}
-use Rattle.cg_model.specs.Config.{Config, configuration_of}
+use Rattle.cg_model.specs.Config.{Config}
+use Rattle.cg_model.specs.Configured.{configuration_of}
 use Rattle.cg_model.specs.Machine.{missed_after, missed_by_units, at_cycle, begins, machine, cycles}
 use Rattle.cg_model.proofs.Lengths.{memory_stays}
 use Rattle.cg_overlap.proofs.Single.{one_start}

@@ -11,7 +11,7 @@ use Rattle.std.proofs.lemmas.Nat.{mod_below}
 use Rattle.std.proofs.lemmas.Bool.{true≢false}
 use Rattle.cg_model.specs.Array.{Arch, IsArch}
 use Rattle.cg_model.specs.Mapping.{Mapping, Begins, place, IsLegal}
-use Rattle.cg_model.specs.Config.{configuration_of}
+use Rattle.cg_model.specs.Configured.{configuration_of}
 use Rattle.cg_model.specs.Machine.{begins, result, machine}
 use Rattle.cg_model.specs.Overlap.{Follows, LeavesTheSame}
 use Rattle.cg_overlap.proofs.Sequence.{operand_within, positive_from}

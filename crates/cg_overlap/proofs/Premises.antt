@@ -6,7 +6,7 @@ use Rattle.cg_model.specs.Order.{HasNoAccess}
 use Rattle.cg_model.specs.Array.{IsArch, links, owner}
 use Rattle.cg_model.specs.Mapping.{IsLegal, IsShaped, positions}
 use Rattle.cg_model.specs.Canonical.{IsCanonical, any_below}
-use Rattle.cg_model.specs.Config.{configuration_of}
+use Rattle.cg_model.specs.Configured.{configuration_of}
 use Rattle.cg_model.specs.Overlap.{Follows, LeavesTheSame}
 use Rattle.cg_model.proofs.Rows.{sum, fib, astray, swap, swap_unordered, odd, odd_inside, idle, eager}
 use Rattle.cg_overlap.proofs.Canonical.{canonical}

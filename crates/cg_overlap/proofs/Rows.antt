@@ -11,7 +11,8 @@ use Rattle.cg_model.specs.declared.array.Kind.TheVariants.{Wire, Register, Port,
 use Rattle.cg_model.specs.Array.{Arch, owner}
 use Rattle.cg_model.specs.Mapping.{Mapping, positions}
 use Rattle.cg_model.specs.declared.config.ArgFields.{ArgFields}
-use Rattle.cg_model.specs.Config.{configuration_of, no_arg}
+use Rattle.cg_model.specs.Config.{no_arg}
+use Rattle.cg_model.specs.Configured.{configuration_of}
 use Rattle.cg_model.specs.Machine.{word, machine_left, cycles, at_cycle, word_by, memory_by, sent_by_units, missed_by_units}
 use Rattle.cg_model.proofs.Rows.{empty, holding, four_words, leaving, sum, astray, swap, swap_unordered, odd, odd_inside}
 

@@ -5,7 +5,8 @@ use Rattle.std.proofs.lemmas.Bool.{cond_both, and_parts, and_from, true≢false,
 use Rattle.cg_model.specs.Kernel.{Kernel, node, size}
 use Rattle.cg_model.specs.Array.{Arch, resource}
 use Rattle.cg_model.specs.Mapping.{Mapping, Position, place, positions, IsLegal}
-use Rattle.cg_model.specs.Config.{select, fields, select_in, selected, place_of, node_on, node_fields, fields_by, configuration_of, off}
+use Rattle.cg_model.specs.Config.{select, fields, off}
+use Rattle.cg_model.specs.Configured.{select_in, selected, place_of, node_on, node_fields, fields_by, configuration_of}
 use Rattle.cg_model.specs.Machine.{driver}
 use Rattle.std.specs.List.{range_with_len}
 use Rattle.std.specs.Prelude.{map, slice_index_or, length}

@@ -17,7 +17,8 @@ use Rattle.cg_model.specs.Turns.{operand, work_of, val}
 use Rattle.cg_model.specs.Array.{Arch, IsArch, unit}
 use Rattle.cg_model.specs.Mapping.{Mapping, place, IsLegal}
 use Rattle.cg_model.specs.declared.config.UnitFields.{UnitFields}
-use Rattle.cg_model.specs.Config.{fields, padded, configuration_of, constant, arg_fields, no_arg, node_fields, node_on, fields_by}
+use Rattle.cg_model.specs.Config.{fields, no_arg}
+use Rattle.cg_model.specs.Configured.{padded, configuration_of, constant, arg_fields, node_fields, node_on, fields_by}
 use Rattle.cg_model.specs.Machine.{driven, argument, arguments, active, begun, word, begins, result}
 use Rattle.cg_overlap.proofs.Facts.{slot_of, round_of, turn_of}
 use Rattle.cg_overlap.proofs.Selects.{fields_at, fields_right, node_found}

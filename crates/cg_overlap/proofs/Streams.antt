@@ -11,7 +11,7 @@ use Rattle.cg_model.specs.Turns.{before, turns, work}
 use Rattle.cg_model.specs.Order.{IsUnaliased}
 use Rattle.cg_model.specs.Array.{Arch, IsArch}
 use Rattle.cg_model.specs.Mapping.{Mapping, place, IsLegal}
-use Rattle.cg_model.specs.Config.{configuration_of}
+use Rattle.cg_model.specs.Configured.{configuration_of}
 use Rattle.cg_model.specs.Machine.{sent_after, sent_by_units, at_cycle, begins, machine, cycles}
 use Rattle.cg_overlap.proofs.Appends.{first, appended}
 use Rattle.cg_overlap.proofs.Sequence.{step_node, step_within, step_of, turn_below, positive_from}

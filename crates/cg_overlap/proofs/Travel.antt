@@ -8,11 +8,13 @@ use Rattle.cg_model.specs.Kernel.{Kernel, HasOperand, node, size}
 use Rattle.cg_model.specs.Array.{Arch, IsArch, resource, unit, delay}
 use Rattle.cg_model.specs.declared.mapping.Route.{Route}
 use Rattle.cg_model.specs.Mapping.{Mapping, Position, place, positions, positions_on, positions_after, of_operand, of_route, leaves, Goes, IsLegal, Carries}
-use Rattle.cg_model.specs.Config.{configuration_of, select}
+use Rattle.cg_model.specs.Config.{select}
+use Rattle.cg_model.specs.Configured.{configuration_of}
 use Rattle.cg_model.specs.Machine.{driver, driven, word, result}
 use Rattle.cg_overlap.proofs.Facts.{Contains-nil, Contains-first, Contains-later, Contains-cases, Contains-flat_map, Contains-flat_map_from, slot_of}
 use Rattle.cg_overlap.proofs.Wires.{hop, given, driven_within}
 use Rattle.cg_overlap.proofs.Selects.{select_right, chosen}
+use Rattle.cg_overlap.proofs.Shape.{routed}
 
 pub config_ii : (A : Arch) (K : Kernel) (M : Mapping) → (configuration_of A K M).ii ≡ M.ii
 unfolding configuration_of
@@ -79,7 +81,7 @@ module _ (A : Arch) (K : Kernel) (M : Mapping) (n : ℕ) (image : Image) (is : I
       result A (configuration_of A K M) n image (place M u).unit ((place M u).time + i * M.ii) ≡ x →
       driven (λ q. word A (configuration_of A K M) n image q ((place M v).time + M.ii * d + i * M.ii)) (slice_get (unit A (place M v).unit).ports p) ≡ x
   brought v p u d init i x lv lu o h =
-      let (path, m) = legal.routed v p u d init lv o in
+      let (path, m) = routed K M legal.shape v p u d init lv o in
       let (port, at, (rest, e, on)) = legal.brings (record { node = v; arg = p; path = path }) u d init m o in
       ap (driven (λ q. word A (configuration_of A K M) n image q ((place M v).time + M.ii * d + i * M.ii))) at
       ∙ arrives rest u (unit A (place M u).unit).out (leaves A M u) _ _ i x on

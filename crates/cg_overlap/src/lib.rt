@@ -12,7 +12,8 @@ ghost use Rattle.cg_model.specs.Kernel.{Kernel, IsKernel, HasOperand, size};
 ghost use Rattle.cg_model.specs.Order.{IsUnaliased, HasNoAccess};
 ghost use Rattle.cg_model.specs.Array.{Arch, IsArch};
 ghost use Rattle.cg_model.specs.Mapping.{Mapping, IsLegal, IsShaped, Begins};
-ghost use Rattle.cg_model.specs.Config.{Config, configuration_of};
+ghost use Rattle.cg_model.specs.Config.{Config};
+ghost use Rattle.cg_model.specs.Configured.{configuration_of};
 ghost use Rattle.cg_model.specs.Canonical.{IsCanonical};
 ghost use Rattle.cg_model.specs.Machine.{at_cycle, word, begins, result as unit_result};
 ghost use Rattle.cg_model.specs.Equations.{IsRun, AreSame};
@@ -72,11 +73,11 @@ pub fn runs()
 /// The configuration of a legal mapping is canonical, so a file of bits spells it.
 pub fn configures()
     ensures { (A : Arch) (K : Kernel) (M : Mapping) →
-        IsKernel K → IsLegal A K M → IsShaped K M →
+        IsKernel K → IsLegal A K M →
         IsCanonical A (configuration_of A K M) }
 {}
 
-/// A mapping of the right shape has a route for each edge operand, which is the first half of L5.
+/// A mapping of the right shape has a route for each edge operand.
 pub fn shapes()
     ensures { (K : Kernel) (M : Mapping) → IsShaped K M →
         (v p u d : ℕ) (init : List ℕ) → v < size K → HasOperand K v p (Edge u d init) →

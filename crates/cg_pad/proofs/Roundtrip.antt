@@ -6,9 +6,10 @@ use Rattle.std.specs.Int.{to_be_bytes, from_be_bytes, w32}
 use Rattle.std.proofs.lemmas.Nat.{from_be_bytes-to_be_bytes_4, be_bytes_4}
 use Rattle.std.proofs.lemmas.Bool.{le-ltb}
 use Rattle.cg_model.specs.Work.{Image, IsImage}
+use Rattle.cg_model.specs.Limits.{most_memory, most_stream}
 use Rattle.cg_pad.specs.declared.fault.ImageFault.{ImageFault}
-use Rattle.cg_pad.specs.declared.fault.ImageFault.TheVariants.{Magic, Truncated, MemoryTooLarge, StreamTooLarge}
-use Rattle.cg_pad.specs.Bytes.{with_first, magic, block_bytes, image_bytes, AreBytes, IsStorable, or_truncated, and_then, take_number, take_words, read_block, read_streams, read_blocks, at_end, answer_of}
+use Rattle.cg_pad.specs.declared.fault.ImageFault.TheVariants.{Magic, Truncated}
+use Rattle.cg_pad.specs.Bytes.{with_first, magic, block_bytes, image_bytes, AreBytes, IsStorable, or_truncated, and_then, take_number, take_words, read_block, read_streams, read_blocks, at_end, answer_of, memory_too_large, stream_too_large}
 
 -- ---- what is written reads back
 
@@ -32,8 +33,8 @@ streams_back : (ss : List (List ℕ)) (size port : ℕ) (rest : List ℕ) → ((
 unfolding read_streams
 streams_back [] size port rest few h = refl
 streams_back (s ∷ ss) size port rest few h =
-    ap (λ bytes. and_then (read_block 1000000 (StreamTooLarge port) size bytes) (λ p. and_then (read_streams size (port + 1) (length ss) p.1) (λ q. Ok (with_first p.0 q)))) (append_assoc (block_bytes s) (flat_map block_bytes ss) rest)
-    ∙ rw (block_back 1000000 (StreamTooLarge port) size s (flat_map block_bytes ss ++ rest) (few 0) (omega arith) (h 0))
+    ap (λ bytes. and_then (read_block most_stream (stream_too_large port) size bytes) (λ p. and_then (read_streams size (port + 1) (length ss) p.1) (λ q. Ok (with_first p.0 q)))) (append_assoc (block_bytes s) (flat_map block_bytes ss) rest)
+    ∙ rw (block_back most_stream (stream_too_large port) size s (flat_map block_bytes ss ++ rest) (few 0) (omega arith) (h 0))
     (ap (λ r. and_then r (λ q. Ok (with_first s q))) (streams_back ss size (port + 1) rest (λ p. few (suc p)) (λ p. h (suc p))))
 
 pub written : (image : Image) → IsImage image → IsStorable image → answer_of (image_bytes image) ≡ Ok image
@@ -42,7 +43,7 @@ written image is fits =
     let body = block_bytes image.memory ++ flat_map block_bytes image.streams in
     let size = length (magic ++ body) in
     let long : nat_lt size 4 ≡ false = le-ltb size 4 (omega arith) in
-    let memory = block_back 1048576 MemoryTooLarge size image.memory (flat_map block_bytes image.streams) fits.memory (omega arith) is.memory in
+    let memory = block_back most_memory memory_too_large size image.memory (flat_map block_bytes image.streams) fits.memory (omega arith) is.memory in
     let whole : read_streams size 0 16 (flat_map block_bytes image.streams) ≡ Ok (image.streams, []) =
     ap (λ n. read_streams size 0 n (flat_map block_bytes image.streams)) (sym is.sixteen) ∙ ap (read_streams size 0 (length image.streams)) (sym (append-nil (flat_map block_bytes image.streams))) ∙ streams_back image.streams size 0 [] fits.streams is.streams in
     rw (long, memory, whole) refl
@@ -145,10 +146,10 @@ module _ (size port n : ℕ) (again : (bytes : List ℕ) (ss : List (List ℕ)) 
         left = more.left;
       })
 
-  by_first : AreBytes bytes → (o : Result (List ℕ × List ℕ) ImageFault) → read_block 1000000 (StreamTooLarge port) size bytes ≡ o
+  by_first : AreBytes bytes → (o : Result (List ℕ × List ℕ) ImageFault) → read_block most_stream (stream_too_large port) size bytes ≡ o
       → and_then o (λ p. and_then (read_streams size (port + 1) n p.1) (λ q. Ok (with_first p.0 q))) ≡ Ok (ss, rest) → Were (flat_map block_bytes ss) rest bytes
   by_first h (Err e) t f = cc
-  by_first h (Ok p) t f = by_more p.0 p.1 (block_read 1000000 (StreamTooLarge port) size bytes p.0 p.1 h t) (read_streams size (port + 1) n p.1) refl f
+  by_first h (Ok p) t f = by_more p.0 p.1 (block_read most_stream (stream_too_large port) size bytes p.0 p.1 h t) (read_streams size (port + 1) n p.1) refl f
 
 streams_read : (n size port : ℕ) (bytes : List ℕ) (ss : List (List ℕ)) (rest : List ℕ) → AreBytes bytes → read_streams size port n bytes ≡ Ok (ss, rest) → Were (flat_map block_bytes ss) rest bytes
 unfolding read_streams
@@ -157,7 +158,7 @@ streams_read zero size port bytes ss rest h e =
     let none : [] ≡ ss = ap (λ p. p.0) pair in
     let same : bytes ≡ rest = ap (λ p. p.1) pair in
     rw (← none, ← same) (record { are = refl; left = h })
-streams_read (suc n) size port bytes ss rest h e = by_first size port n (streams_read n size (port + 1)) bytes ss rest h (read_block 1000000 (StreamTooLarge port) size bytes) refl e
+streams_read (suc n) size port bytes ss rest h e = by_first size port n (streams_read n size (port + 1)) bytes ss rest h (read_block most_stream (stream_too_large port) size bytes) refl e
 
 -- the blocks of an image
 module _ (size : ℕ) (bytes : List ℕ) (image : Image) where
@@ -173,13 +174,13 @@ module _ (size : ℕ) (bytes : List ℕ) (image : Image) where
   by_streams memory rest one (Err e) t f = cc
   by_streams memory rest one (Ok q) t f = by_end memory rest one q.0 q.1 (streams_read 16 size 0 rest q.0 q.1 one.left t) f
 
-  by_memory : AreBytes bytes → (o : Result (List ℕ × List ℕ) ImageFault) → read_block 1048576 MemoryTooLarge size bytes ≡ o
+  by_memory : AreBytes bytes → (o : Result (List ℕ × List ℕ) ImageFault) → read_block most_memory memory_too_large size bytes ≡ o
       → and_then o (λ p. and_then (read_streams size 0 16 p.1) (λ q. at_end size (record { memory = p.0; streams = q.0 }) q.1)) ≡ Ok image → block_bytes image.memory ++ flat_map block_bytes image.streams ≡ bytes
   by_memory h (Err e) t f = cc
-  by_memory h (Ok p) t f = by_streams p.0 p.1 (block_read 1048576 MemoryTooLarge size bytes p.0 p.1 h t) (read_streams size 0 16 p.1) refl f
+  by_memory h (Ok p) t f = by_streams p.0 p.1 (block_read most_memory memory_too_large size bytes p.0 p.1 h t) (read_streams size 0 16 p.1) refl f
 
 blocks_read : (size : ℕ) (bytes : List ℕ) (image : Image) → AreBytes bytes → read_blocks size bytes ≡ Ok image → block_bytes image.memory ++ flat_map block_bytes image.streams ≡ bytes
-blocks_read size bytes image h e = by_memory size bytes image h (read_block 1048576 MemoryTooLarge size bytes) refl e
+blocks_read size bytes image h e = by_memory size bytes image h (read_block most_memory memory_too_large size bytes) refl e
 
 both : (a b : Bool) → (a && b) ≡ true → (a ≡ true) × (b ≡ true)
 both true b h = (refl, h)

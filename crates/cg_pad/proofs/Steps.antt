@@ -1,8 +1,8 @@
 -- Steps of reading, one after the other.
 use Rattle.std.proofs.Common.{◌≡◌, ℕ, suc, ◌+◌, append_assoc, append-nil, List, [], ◌∷◌, ◌++◌, Option, Some, None, Result, Ok, Err, option_map, refl, ap}
+use Rattle.cg_model.specs.Limits.{most_stream}
 use Rattle.cg_pad.specs.declared.fault.ImageFault.{ImageFault}
-use Rattle.cg_pad.specs.declared.fault.ImageFault.TheVariants.{StreamTooLarge}
-use Rattle.cg_pad.specs.Bytes.{with_first, take_number, take_words, read_streams, read_block, and_then}
+use Rattle.cg_pad.specs.Bytes.{with_first, take_number, take_words, read_streams, read_block, and_then, stream_too_large}
 
 -- words, and then those that are taken
 abbrev pub after : List ℕ → Option (List ℕ × List ℕ) → Option (List ℕ × List ℕ)
@@ -33,13 +33,13 @@ streams_after_none (Err e) = refl
 streams_after_none (Ok q) = refl
 
 -- one stream more
-pub stream_more : (front : List (List ℕ)) (size port n k : ℕ) (ws bytes rest : List ℕ) → n ≡ suc k → Ok (ws, rest) ≡ read_block 1000000 (StreamTooLarge port) size bytes
+pub stream_more : (front : List (List ℕ)) (size port n k : ℕ) (ws bytes rest : List ℕ) → n ≡ suc k → Ok (ws, rest) ≡ read_block most_stream (stream_too_large port) size bytes
     → streams_after (front ++ ws ∷ []) (read_streams size (port + 1) k rest) ≡ streams_after front (read_streams size port n bytes)
 unfolding read_streams
 stream_more front size port n k ws bytes rest e t = rw (e, ← t) (streams_after_cons front ws (read_streams size (port + 1) k rest))
 
 -- a stream that was refused
-pub stream_refused : (front : List (List ℕ)) (size port n k : ℕ) (bytes : List ℕ) (fault : ImageFault) → n ≡ suc k → Err fault ≡ read_block 1000000 (StreamTooLarge port) size bytes
+pub stream_refused : (front : List (List ℕ)) (size port n k : ℕ) (bytes : List ℕ) (fault : ImageFault) → n ≡ suc k → Err fault ≡ read_block most_stream (stream_too_large port) size bytes
     → Err fault ≡ streams_after front (read_streams size port n bytes)
 unfolding read_streams
 stream_refused front size port n k bytes fault e t = rw (e, ← t) refl

@@ -5,7 +5,9 @@ use Rattle.std.specs.Int.{to_be_bytes, from_be_bytes, w32}
 use Rattle.std.specs.List.{flat_map, starts_with}
 use Rattle.cg_model.specs.Work.{Image}
 use Rattle.cg_pad.specs.declared.fault.ImageFault.{ImageFault}
-use Rattle.cg_pad.specs.declared.fault.ImageFault.TheVariants.{Magic, Truncated, MemoryTooLarge, StreamTooLarge, Trailing}
+use Rattle.cg_pad.specs.declared.fault.ImageFault.TheVariants.{Magic, Truncated, TooLarge, Trailing}
+use Rattle.cg_pad.specs.declared.fault.TooLargePlace.TheVariants as place
+use Rattle.cg_model.specs.Limits.{most_memory, most_stream}
 
 -- ---- writing
 
@@ -25,10 +27,14 @@ image_bytes image = magic ++ (block_bytes image.memory ++ flat_map block_bytes i
 abbrev pub AreBytes : List ℕ → Type 0
 AreBytes bytes = (k : ℕ) → slice_index bytes k < 256
 
+-- as many words of each stream as a file may have
+abbrev pub HasStorableStreams : Image → Type 0
+HasStorableStreams image = (port : ℕ) → length (slice_index_or image.streams port []) ≤ most_stream
+
 -- as many words as a file may have
 pub record IsStorable (image : Image) : Type 0 where
-  pub memory : length image.memory ≤ 1048576
-  pub streams : (port : ℕ) → length (slice_index_or image.streams port []) ≤ 1000000
+  pub memory : length image.memory ≤ most_memory
+  pub streams : HasStorableStreams image
 
 -- ---- reading, from left to right: a value and the bytes after it
 
@@ -54,6 +60,13 @@ abbrev pub and_then : {A B : Type 0} → Result A ImageFault → (A → Result B
 and_then (Ok x) f = f x
 and_then (Err e) f = Err e
 
+-- too many words of the memory, or of the stream of a port
+abbrev pub memory_too_large : ℕ → ImageFault
+memory_too_large n = TooLarge (place.Memory n)
+
+abbrev pub stream_too_large : ℕ → ℕ → ImageFault
+stream_too_large port n = TooLarge (place.Stream port n)
+
 -- a block of at most `most` words; a greater number of words is refused as soon as it is read
 abbrev pub read_block : ℕ → (ℕ → ImageFault) → ℕ → List ℕ → Result (List ℕ × List ℕ) ImageFault
 read_block most too_large size bytes =
@@ -63,7 +76,7 @@ read_block most too_large size bytes =
 unfoldable pub read_streams : ℕ → ℕ → ℕ → List ℕ → Result (List (List ℕ) × List ℕ) ImageFault
 read_streams size port zero bytes = Ok ([], bytes)
 read_streams size port (suc n) bytes =
-    and_then (read_block 1000000 (StreamTooLarge port) size bytes) (λ p. and_then (read_streams size (port + 1) n p.1) (λ q. Ok (with_first p.0 q)))
+    and_then (read_block most_stream (stream_too_large port) size bytes) (λ p. and_then (read_streams size (port + 1) n p.1) (λ q. Ok (with_first p.0 q)))
 
 -- nothing may follow
 abbrev pub at_end : ℕ → Image → List ℕ → Result Image ImageFault
@@ -73,7 +86,7 @@ at_end size image (b ∷ rest) = Err (Trailing (size - length (b ∷ rest)))
 -- the blocks of memory and streams
 abbrev pub read_blocks : ℕ → List ℕ → Result Image ImageFault
 read_blocks size bytes =
-    and_then (read_block 1048576 MemoryTooLarge size bytes)
+    and_then (read_block most_memory memory_too_large size bytes)
     (λ p. and_then (read_streams size 0 16 p.1) (λ q. at_end size (record { memory = p.0; streams = q.0 }) q.1))
 
 -- after the letters: as many of the first four bytes as there are must begin them

@@ -3,7 +3,16 @@
 use std::alloc::{AllocError, AllocFailed};
 use thiserror::Error;
 
-/// Why bytes are no image. The variants after `Memory` are I1 to I4, I3 in its two forms.
+/// Of what there are too many words, and the number that the bytes give.
+#[derive(Clone, Copy, Debug, PartialEq, Eq)]
+pub enum TooLargePlace {
+    /// The memory.
+    Memory(u32),
+    /// The stream of that port.
+    Stream(u32, u32),
+}
+
+/// Why bytes are no image. The variants after `Memory` are I1 to I4.
 #[derive(Clone, Copy, Debug, PartialEq, Eq, Error)]
 pub enum ImageFault {
     #[error("memory ran out")]
@@ -14,12 +23,9 @@ pub enum ImageFault {
     /// The bytes end early: how many there are.
     #[error("the bytes end after {0}")]
     Truncated(usize),
-    /// The number of memory words is too great: what it is.
-    #[error("{0} memory words")]
-    MemoryTooLarge(u32),
-    /// The number of words of a stream is too great: the port, and what it is.
-    #[error("{1} words in stream {0}")]
-    StreamTooLarge(u32, u32),
+    /// There are too many words.
+    #[error("too large")]
+    TooLarge(TooLargePlace),
     /// Bytes follow the last stream: the number of the first of them.
     #[error("a byte too many at {0}")]
     Trailing(usize),

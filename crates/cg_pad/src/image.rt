@@ -1,7 +1,7 @@
 //! Images of memory and streams.
 ghost use Rattle.std.specs.Prelude.{◌≡◌, [], IfOk, replicate};
 
-use cg_model::{Items, Words};
+use cg_model::{Items, MOST_MEMORY, MOST_STREAM, Words};
 use std::alloc::{AllocError, Global};
 use std::marker::Model;
 
@@ -30,7 +30,8 @@ impl Model for Image {
 }
 
 impl Image {
-    ghost use Rattle.std.specs.Prelude.{◌≡◌, [], IfOk, length, replicate};
+    ghost use Rattle.std.specs.Prelude.{◌≡◌, ◌↔◌, [], IfOk, IsTrue, length, replicate};
+    ghost use Rattle.cg_pad.specs.Bytes.{IsStorable, HasStorableStreams};
 
     /// An image without words.
     pub fn empty(alloc: Global) -> Result<Image, AllocError>
@@ -55,6 +56,24 @@ impl Image {
         ensures sixteen { length self.now.streams ≡ 16 }
     {
         self.streams.as_slice()
+    }
+
+    /// Whether a file can hold it: `write_image` asks for this.
+    pub fn is_storable(&self) -> bool
+        ensures { IsTrue result ↔ IsStorable self.now }
+    {
+        self.memory().len() <= MOST_MEMORY as usize && self.streams_are_storable()
+    }
+
+    fn streams_are_storable(&self) -> bool
+        ensures { IsTrue result ↔ HasStorableStreams self.now }
+    {
+        for stream in self.streams() {
+            if stream.as_slice().len() > MOST_STREAM as usize {
+                return false;
+            }
+        }
+        true
     }
 }
 

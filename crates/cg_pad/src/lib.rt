@@ -9,7 +9,8 @@ mod texts;
 mod work;
 mod writing;
 
-pub use fault::ImageFault;
+pub use cg_model::Words;
+pub use fault::{ImageFault, TooLargePlace};
 pub use image::{Image, PORTS, Streams, empty_streams};
 pub use reading::read_image;
 pub use scratchpad::Scratchpad;

@@ -1,25 +1,20 @@
 //! Images out of bytes.
 ghost use Rattle.std.specs.Prelude.{◌≡◌, ◌≤◌, IfOk, length};
 ghost use Rattle.cg_model.specs.Answers.{Gives};
+ghost use Rattle.cg_model.specs.Limits.{most_memory, most_stream};
 ghost use Rattle.cg_pad.specs.Bytes.{answer_of};
 
-use crate::fault::ImageFault;
+use crate::fault::{ImageFault, TooLargePlace};
 use crate::image::{Image, PORTS, Streams};
 use crate::writing::MAGIC;
-use cg_model::Words;
+use cg_model::{MOST_MEMORY, MOST_STREAM, Words};
 use std::alloc::{AllocError, Global};
-
-/// The greatest number of memory words of a file.
-const MOST_MEMORY: u32 = 1_048_576;
-
-/// The greatest number of words of a stream.
-const MOST_STREAM: u32 = 1_000_000;
 
 /// The image that the bytes spell: `CGI1`, the memory, and the sixteen streams, each as its number of words and the words.
 #[tactic(auto, unfolding(crate::specs::Bytes::answer_of))]
 pub fn read_image(alloc: Global, bytes: &[u8]) -> Result<Image, ImageFault>
     ensures answer { Gives ImageFault.Memory result (answer_of bytes.now) }
-    ensures small { IfOk result (λ image. length image.memory ≤ 1048576) }
+    ensures small { IfOk result (λ image. length image.memory ≤ most_memory) }
 {
     let mut cursor = Cursor {
         size: bytes.len(),
@@ -39,8 +34,8 @@ struct Cursor<'a> {
 impl Cursor<'_> {
     ghost use Rattle.std.specs.Prelude.{◌≡◌, ◌<◌, ◌≤◌, ℕ, IfOk, IfSome, length};
     ghost use Rattle.cg_model.specs.Answers.{Gives};
-    ghost use Rattle.cg_pad.specs.declared.fault.ImageFault.TheVariants.{MemoryTooLarge, StreamTooLarge};
-    ghost use Rattle.cg_pad.specs.Bytes.{take_number, take_words, or_truncated, read_magic, read_block, read_streams, at_end, read_blocks};
+    ghost use Rattle.cg_model.specs.Limits.{most_memory, most_stream};
+    ghost use Rattle.cg_pad.specs.Bytes.{take_number, take_words, or_truncated, read_magic, memory_too_large, stream_too_large, read_block, read_streams, at_end, read_blocks};
     ghost use Rattle.cg_pad.specs.Cursor.{with_rest, bytes_after, Takes};
 
     /// The letters `CGI1`.
@@ -62,7 +57,7 @@ impl Cursor<'_> {
 
     /// The memory and the streams, and then the end.
     fn image(&mut self, alloc: Global) -> Result<Image, ImageFault>
-        ensures small { IfOk result (λ image. length image.memory ≤ 1048576) }
+        ensures small { IfOk result (λ image. length image.memory ≤ most_memory) }
         ensures answer { Gives ImageFault.Memory result (read_blocks self.old.size self.old.rest.now) }
     {
         let memory = self.memory(alloc)?;
@@ -84,25 +79,25 @@ impl Cursor<'_> {
 
     /// The words of the memory.
     fn memory(&mut self, alloc: Global) -> Result<Words, ImageFault>
-        ensures answer { Gives ImageFault.Memory (with_rest result self.new.rest.now) (read_block 1048576 MemoryTooLarge self.old.size self.old.rest.now) }
+        ensures answer { Gives ImageFault.Memory (with_rest result self.new.rest.now) (read_block most_memory memory_too_large self.old.size self.old.rest.now) }
         ensures size { self.new.size ≡ self.old.size }
-        ensures small { IfOk result (λ words. length words ≤ 1048576) }
+        ensures small { IfOk result (λ words. length words ≤ most_memory) }
     {
         let count = self.count()?;
         if count > MOST_MEMORY {
-            return Err(ImageFault::MemoryTooLarge(count));
+            return Err(ImageFault::TooLarge(TooLargePlace::Memory(count)));
         }
         self.block(alloc, count)
     }
 
     /// The words of a stream.
     fn stream(&mut self, alloc: Global, port: u32) -> Result<Words, ImageFault>
-        ensures answer { Gives ImageFault.Memory (with_rest result self.new.rest.now) (read_block 1000000 (StreamTooLarge port) self.old.size self.old.rest.now) }
+        ensures answer { Gives ImageFault.Memory (with_rest result self.new.rest.now) (read_block most_stream (stream_too_large port) self.old.size self.old.rest.now) }
         ensures size { self.new.size ≡ self.old.size }
     {
         let count = self.count()?;
         if count > MOST_STREAM {
-            return Err(ImageFault::StreamTooLarge(port, count));
+            return Err(ImageFault::TooLarge(TooLargePlace::Stream(port, count)));
         }
         self.block(alloc, count)
     }

@@ -2,7 +2,7 @@
 ghost use Rattle.std.specs.Prelude.{◌≡◌, IfOk, string_bytes};
 ghost use Rattle.cg_pad.specs.Texts.{image_fault_text};
 
-use crate::fault::ImageFault;
+use crate::fault::{ImageFault, TooLargePlace};
 use std::alloc::{AllocError, Global};
 
 /// Code, name and place of a fault, as `I2 Truncated length 7`. Want of memory has none of them.
@@ -13,8 +13,10 @@ pub fn image_fault_text(alloc: Global, fault: ImageFault) -> Result<String, Allo
         ImageFault::Memory => Ok(String::new(alloc)),
         ImageFault::Magic => String::from_str(alloc, "I1 Magic byte 0"),
         ImageFault::Truncated(length) => format!(in alloc; "I2 Truncated length {length}"),
-        ImageFault::MemoryTooLarge(count) => format!(in alloc; "I3 TooLarge memory {count}"),
-        ImageFault::StreamTooLarge(port, count) => {
+        ImageFault::TooLarge(TooLargePlace::Memory(count)) => format!(in alloc;
+            "I3 TooLarge memory {count}"
+        ),
+        ImageFault::TooLarge(TooLargePlace::Stream(port, count)) => {
             format!(in alloc; "I3 TooLarge stream {port} {count}")
         }
         ImageFault::Trailing(byte) => format!(in alloc; "I4 Trailing byte {byte}"),

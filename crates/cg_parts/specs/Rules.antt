@@ -21,6 +21,7 @@ pub use Rattle.cg_parts.specs.declared.fault.NamePlace.{NamePlace}
 use Rattle.cg_parts.specs.declared.fault.NamePlace.TheVariants as place
 pub use Rattle.cg_parts.specs.declared.drivers.DriverRule.{DriverRule}
 use Rattle.cg_parts.specs.declared.drivers.DriverRule.TheVariants.{UnknownDriver, PortDrives}
+use Rattle.cg_model.specs.Limits.{most_resources, most_links, most_units, most_memory, most_contexts}
 
 -- ---- A1 TooLarge: too many resources, links, units or words of memory
 
@@ -37,10 +38,10 @@ is_unit (element.Unit name ops latency ports) = true
 -- what there is too much of, the first in this order
 abbrev pub too_large : Parts → List Entry → Option TooLargePlace
 too_large parts resources =
-    if nat_lt 4096 (length resources) then Some large.Resources else
-    (if nat_lt 65536 (links resources) then Some large.Links else
-    (if nat_lt 1024 (count_by is_unit parts.elements) then Some large.Units else
-    (if nat_lt 1048576 parts.memory then Some large.Memory else None)))
+    if nat_lt most_resources (length resources) then Some large.Resources else
+    (if nat_lt most_links (links resources) then Some large.Links else
+    (if nat_lt most_units (count_by is_unit parts.elements) then Some large.Units else
+    (if nat_lt most_memory parts.memory then Some large.Memory else None)))
 
 -- ---- A2 BadName: the architecture's or an element's name breaks the rule
 
@@ -116,7 +117,7 @@ bad_unit parts = option_map fault.BadUnit (first_from (λ number e. is_bad_unit 
 -- ---- A8 BadContexts: not 1 to 64 contexts
 
 abbrev pub bad_contexts : Parts → Option ArchFault
-bad_contexts parts = if nat_lt parts.contexts 1 || nat_lt 64 parts.contexts then Some (fault.BadContexts parts.contexts) else None
+bad_contexts parts = if nat_lt parts.contexts 1 || nat_lt most_contexts parts.contexts then Some (fault.BadContexts parts.contexts) else None
 
 -- A7, and A8 after it
 unfoldable pub unit_or_contexts_fault : Parts → Option ArchFault

@@ -1,6 +1,7 @@
 //! The faults A1 to A5: of sizes, names and drivers.
 ghost use Rattle.std.specs.Prelude.{◌≡◌, IfOk, count_by, nat_lt};
 ghost use Rattle.cg_model.specs.First.{first_from};
+ghost use Rattle.cg_model.specs.Limits.{most_links};
 ghost use Rattle.cg_parts.specs.Parts.{entries, name_of};
 ghost use Rattle.cg_parts.specs.Numbers.{IsNumbering};
 ghost use Rattle.cg_parts.specs.Rules as spec;
@@ -10,7 +11,7 @@ use crate::drivers::{DriverRule, first_wrong};
 use crate::entry::Entry;
 use crate::fault::{ArchFault, NamePlace, TooLargePlace};
 use crate::parts::{Element, Parts};
-use cg_model::is_name;
+use cg_model::{MOST_LINKS, MOST_MEMORY, MOST_RESOURCES, MOST_UNITS, is_name};
 use cg_names::Numbers;
 use std::alloc::{AllocError, Global};
 
@@ -67,24 +68,24 @@ fn wrong_driver(
 fn too_large(parts: &Parts, resources: &[Entry]) -> Option<TooLargePlace>
     ensures { result ≡ spec.too_large parts.now resources.now }
 {
-    if resources.len() > 4096 {
+    if resources.len() > MOST_RESOURCES {
         Some(TooLargePlace::Resources)
     } else if has_many_links(resources) {
         Some(TooLargePlace::Links)
-    } else if count_units(parts.elements.as_slice()) > 1024 {
+    } else if count_units(parts.elements.as_slice()) > MOST_UNITS {
         Some(TooLargePlace::Units)
-    } else if parts.memory > 1_048_576 {
+    } else if parts.memory > MOST_MEMORY {
         Some(TooLargePlace::Memory)
     } else {
         None
     }
 }
 
-/// Whether there are more than 65,536 links into the resources.
+/// Whether there are more links than allowed into the resources.
 fn has_many_links(resources: &[Entry]) -> bool
-    ensures { result ≡ nat_lt 65536 (spec.links resources.now) }
+    ensures { result ≡ nat_lt most_links (spec.links resources.now) }
 {
-    let mut room = 65_536;
+    let mut room = MOST_LINKS;
     for resource in resources {
         let drivers = resource.drivers.as_slice().len();
         if drivers > room {

@@ -9,7 +9,7 @@ ghost use Rattle.cg_names.specs.Numbers.{found_in};
 ghost use Rattle.cg_parts.specs.Numbers.{IsClaiming};
 ghost use Rattle.cg_parts.specs.Rules.{repeats_by, repeated_name};
 
-use crate::names::{copy_of, out_name, port_name_of};
+use crate::names::{out_name, port_name_of};
 use crate::parts::{Element, Names};
 use cg_model::Name;
 use cg_names::{Numbers, add_first, is_before, number_in};
@@ -23,10 +23,10 @@ fn claims_of(alloc: Global, element: &Element) -> Result<Vec<Name>, AllocError>
     let mut names = Vec::new(alloc);
     match element {
         Element::Wire { name, .. } | Element::Register { name, .. } => {
-            names.push(copy_of(alloc, name.as_str())?)?;
+            names.push(Name::copy_of(alloc, name.as_str())?)?;
         }
         Element::Unit { name, ports, .. } => {
-            names.push(copy_of(alloc, name.as_str())?)?;
+            names.push(Name::copy_of(alloc, name.as_str())?)?;
             names.push(out_name(alloc, name.as_str())?)?;
             add_port_names(alloc, &mut names, name.as_str(), ports.as_slice())?;
         }

@@ -7,7 +7,6 @@ ghost use Rattle.cg_parts.specs.Rules as spec;
 
 use crate::entry::Entry;
 use crate::fault::DriverPlace;
-use crate::names::copy_of;
 use crate::parts::{Element, Names};
 use cg_model::{Kind, Name};
 use cg_names::{Numbers, number_in};
@@ -35,7 +34,7 @@ pub(crate) fn first_wrong(
 {
     for (number, element) in elements.iter().enumerate() {
         if let Some(name) = wrong_of(rule, element, resources, numbers) {
-            let name = copy_of(alloc, name.as_str())?;
+            let name = Name::copy_of(alloc, name.as_str())?;
             return Ok(Some(DriverPlace {
                 element: number,
                 name,

@@ -3,7 +3,7 @@ ghost use Rattle.std.specs.Prelude.{◌≡◌, ◌++◌, ◌∷◌, [], Some, If
 ghost use Rattle.cg_parts.specs.Parts as spec;
 
 use crate::entry::Entry;
-use crate::names::{copy_of, distinct, out_name, port_name_of};
+use crate::names::{distinct, out_name, port_name_of};
 use crate::parts::{Element, Names};
 use cg_model::{Kind, Name};
 use std::alloc::{AllocError, Global};
@@ -58,7 +58,7 @@ fn add_entry(
     ensures { OnOk result (list.new.items ≡ list.old.items ++ record { name = Some name.now; kind = kind; drivers = spec.distinct drivers.now } ∷ []) }
 {
     let entry = Entry {
-        name: Some(copy_of(alloc, name)?),
+        name: Some(Name::copy_of(alloc, name)?),
         kind,
         drivers: distinct(alloc, drivers)?,
     };

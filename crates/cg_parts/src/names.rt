@@ -7,13 +7,6 @@ use cg_model::Name;
 use indexmap::IndexSet;
 use std::alloc::{AllocError, Global};
 
-/// A copy of a name.
-pub(crate) fn copy_of(alloc: Global, name: &str) -> Result<Name, AllocError>
-    ensures { IfOk result (λ copy. copy ≡ name.now) }
-{
-    Ok(Name::new(name.to_string(alloc)?))
-}
-
 /// The name of a unit's port, where it has one.
 pub(crate) fn port_name_of(
     alloc: Global,
@@ -64,7 +57,7 @@ fn add_distinct<'a>(
 {
     let (_index, added) = seen.insert_full(name)?;
     if added {
-        kept.push(copy_of(alloc, name)?)?;
+        kept.push(Name::copy_of(alloc, name)?)?;
     }
     Ok(())
 }

@@ -8,6 +8,7 @@ ghost use Rattle.cg_parts.specs.Rules as spec;
 
 use crate::fault::ArchFault;
 use crate::parts::{Element, Parts};
+use cg_model::MOST_CONTEXTS;
 use cg_word::{Op, OpSet};
 
 /// A7 at its first place, and else A8.
@@ -17,7 +18,7 @@ pub fn unit_or_contexts_fault(parts: &Parts) -> Option<ArchFault>
 {
     match first_bad_unit(parts.elements.as_slice()) {
         Some(number) => Some(ArchFault::BadUnit(number)),
-        None => if parts.contexts < 1 || parts.contexts > 64 {
+        None => if parts.contexts < 1 || parts.contexts > MOST_CONTEXTS {
             Some(ArchFault::BadContexts(parts.contexts))
         } else {
             None

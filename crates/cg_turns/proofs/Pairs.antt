@@ -2,7 +2,7 @@
 use Rattle.std.proofs.Common.{◌≡◌, ℕ, suc, ◌+◌, ◌*◌, ◌/◌, ◌%◌, ◌<◌, ◌≤◌, ◌⊎◌, inl, inr, List, length, sym, ap, ◌∙◌, subst, arith, ⊎_elim, refl, mul-le-mul_right, ◌≢◌, ◌∷◌, [], ◌++◌, take, set, get_or, length-set}
 use Rattle.std.specs.Prelude.{Contains, Option, Some, None, IfSome, replicate, slice_index_or}
 use Rattle.std.proofs.lemmas.Bool.{cases_lt, cases_eq, lt-ltb, le-ltb}
-use Rattle.std.proofs.lemmas.List.{get_or-set_same, get_or-set_other, take_more, get_or_default, get_or_read_under, get_or-replicate, length-replicate}
+use Rattle.std.proofs.lemmas.List.{get_or_append_left, get_or_push, length-append, get_or-set_same, get_or-set_other, take_more, get_or_default, get_or_read_under, get_or-replicate, length-replicate}
 use Rattle.std.proofs.lemmas.List.Elements.{Contains-push, Contains-push_cases, Contains-append_left}
 use Rattle.std.proofs.lemmas.Nat.{div-mul-add, mod-mul-add, div-add-mod'}
 use Rattle.cg_word.specs.declared.op.Op.{Op}
@@ -16,7 +16,8 @@ use Rattle.cg_turns.specs.declared.watch.Watch.{Watch}
 use Rattle.cg_turns.specs.Watched.{word_of, IsWatched, Watches, WatchesStep, IsReached}
 use Rattle.cg_turns.specs.declared.pair.Access.{Access}
 use Rattle.cg_turns.specs.declared.pair.UnorderedPair.{UnorderedPair}
-use Rattle.cg_turns.specs.Pairs.{step_of, IsRival, IsConflict, AreOrdered, IsPair, IsPairOf, IsPairSoFar, IsTrace, Takes, IsLatest, IsCompared, no_access, later_access, paired}
+use Rattle.cg_turns.specs.Pairs.{step_of, IsRival, IsConflict, AreOrdered, IsPair, IsPairOf}
+use Rattle.cg_turns.specs.Trace.{IsPairSoFar, IsOnce, IsTrace, Takes, IsLatest, IsCompared, no_access, later_access, paired}
 
 -- an access reaches one word
 one_word : (w : Work) (a b : ℕ) → Reaches w a → Reaches w b → a ≡ b
@@ -52,6 +53,7 @@ listed_later m i x e h = let p : i / m * m ≤ x.turn * m = mul-le-mul_right m h
 pub trace_idle : (K : Kernel) (image : Image) (s a : ℕ) (last : List Access) → (Reaches (work K image s) a → ⊥) → IsTrace K image s a last → IsTrace K image (s + 1) a last
 trace_idle K image s a last none t =
     record {
+      once = t.once;
       nodes = t.nodes;
       past = λ x h. let p : step_of (size K) x < s = t.past x h in let z : step_of (size K) x < s + 1 = omega arith in z;
       reach = t.reach;
@@ -85,6 +87,7 @@ module _ (K : Kernel) (image : Image) (a : ℕ) (last : List Access) (later : Ac
     trace_takes new k =
         let m = size K in
         record {
+          once = k.once t.once;
           nodes = λ x h. ⊎_elim (λ e. subst (λ z. z.node < m) (sym e) l) (λ h. t.nodes x h) (k.origin x h);
           past = λ x h. ⊎_elim (λ e. let z : step_of m x ≡ step_of m later = ap (step_of m) e in let y : step_of m x < step_of m later + 1 = omega arith in y) (λ h. let p : step_of m x < step_of m later = t.past x h in let y : step_of m x < step_of m later + 1 = omega arith in y) (k.origin x h);
           reach = λ x h. ⊎_elim (λ e. subst (λ z. Reaches (work K image (step_of m z)) a) (sym e) reached) (λ h. t.reach x h) (k.origin x h);
@@ -159,7 +162,7 @@ pair_found K image a last later l within r t (Some y) f x = found K image a last
 trace_empty : (K : Kernel) (image : Image) (a : ℕ) → IsTrace K image 0 a []
 trace_empty K image a =
     let none : (x : Access) → Contains [] x → ⊥ = λ x c. let z : c.0 < 0 = c.1 in omega arith in
-    record { nodes = λ x c. absurd (none x c); past = λ x c. absurd (none x c); reach = λ x c. absurd (none x c); whole = λ k l. absurd (omega arith) }
+    record { once = λ j k l. absurd (omega arith); nodes = λ x c. absurd (none x c); past = λ x c. absurd (none x c); reach = λ x c. absurd (none x c); whole = λ k l. absurd (omega arith) }
 
 -- after the last step
 pub pair_done : (K : Kernel) (n : ℕ) (image : Image) (p : Option UnorderedPair) → IsPairSoFar K image (n * size K) p → IsPairOf K n image p
@@ -218,6 +221,40 @@ module _ (K : Kernel) (later : Access) (last : List Access) (p : ℕ) (h : p < l
       rw (le-ltb (step_of m x) (step_of m y) b) best)
       (cases_lt (step_of m x) (step_of m y))
 
+-- an access of the same node in an access's place leaves the nodes as they are
+same_nodes : (x : Access) (old : List Access) (p : ℕ) → p < length old → (get_or old p no_access).node ≡ x.node → (j : ℕ) → (get_or (set old p x) j no_access).node ≡ (get_or old j no_access).node
+same_nodes x old p h e j =
+    ⊎_elim
+    (λ q. ap (λ z. (get_or (set old p x) z no_access).node) q ∙ ap (λ (z : Access). z.node) (get_or-set_same old p x no_access h) ∙ sym e ∙ ap (λ z. (get_or old z no_access).node) (sym q))
+    (λ q. ap (λ (z : Access). z.node) (get_or-set_other old p j x no_access q))
+    (cases_eq j p)
+
+once_set : (x : Access) (old : List Access) (p : ℕ) → p < length old → (get_or old p no_access).node ≡ x.node → IsOnce old → IsOnce (set old p x)
+once_set x old p h e once j k lj lk s =
+    let long = length-set old p x in
+    once j k (let b : j < length (set old p x) = lj in omega arith) (let b : k < length (set old p x) = lk in omega arith) (sym (same_nodes x old p h e j) ∙ s ∙ same_nodes x old p h e k)
+
+-- none of the first n accesses is of that node
+abbrev pub Lacks : List Access → ℕ → ℕ → Type 0
+Lacks last n node = (j : ℕ) → j < n → (get_or last j no_access).node ≡ node → ⊥
+
+once_push : (x : Access) (old : List Access) → Lacks old (length old) x.node → IsOnce old → IsOnce (old ++ x ∷ [])
+once_push x old lacks once j k lj lk s =
+    let long : length (old ++ x ∷ []) ≡ length old + 1 = length-append old (x ∷ []) in
+    let before : (i : ℕ) → i < length old → get_or (old ++ x ∷ []) i no_access ≡ get_or old i no_access = get_or_append_left old (x ∷ []) no_access in
+    let last : (i : ℕ) → i ≡ length old → get_or (old ++ x ∷ []) i no_access ≡ x = λ i e. get_or_push old x no_access i (sym e) in
+    let node : Access → ℕ = λ a. a.node in
+    ⊎_elim
+    (λ bj. ⊎_elim
+    (λ bk. once j k bj bk (sym (ap node (before j bj)) ∙ s ∙ ap node (before k bk)))
+    (λ bk. absurd (lacks j bj (sym (ap node (before j bj)) ∙ s ∙ ap node (last k (omega arith)))))
+    (cases_lt k (length old)))
+    (λ bj. ⊎_elim
+    (λ bk. absurd (lacks k bk (sym (ap node (before k bk)) ∙ sym s ∙ ap node (last j (omega arith)))))
+    (λ bk. omega arith)
+    (cases_lt k (length old)))
+    (cases_lt j (length old))
+
 pub takes_set : (x : Access) (old : List Access) (p : ℕ) → p < length old → (get_or old p no_access).node ≡ x.node → Takes x old (set old p x)
 takes_set x old p h e =
     let long = length-set old p x in
@@ -230,10 +267,11 @@ takes_set x old p h e =
           ⊎_elim (λ q. inl (sym c.2 ∙ ap (λ z. get_or (set old p x) z y) q ∙ get_or-set_same old p x y h))
           (λ q. inr (c.0, (let z : c.0 < length old = let b : c.0 < length (set old p x) = c.1 in omega arith in z), sym (get_or-set_other old p c.0 x y q) ∙ c.2))
           (cases_eq c.0 p);
+      once = once_set x old p h e;
     }
 
-pub takes_push : (x : Access) (old : List Access) → Takes x old (old ++ x ∷ [])
-takes_push x old = record { has = Contains-push old x; kept = λ y c d. Contains-append_left old (x ∷ []) y c; origin = λ y c. ⊎_elim (λ h. inr h) (λ e. inl (sym e)) (Contains-push_cases old x y c) }
+pub takes_push : (x : Access) (old : List Access) → Lacks old (length old) x.node → Takes x old (old ++ x ∷ [])
+takes_push x old lacks = record { once = once_push x old lacks; has = Contains-push old x; kept = λ y c d. Contains-append_left old (x ∷ []) y c; origin = λ y c. ⊎_elim (λ h. inr h) (λ e. inl (sym e)) (Contains-push_cases old x y c) }
 
 pub pair_stepped : (K : Kernel) (image : Image) (a : ℕ) (last : List Access) (later : Access) → later.node < size K → a < length image.memory → Reaches (work K image (step_of (size K) later)) a → IsTrace K image (step_of (size K) later) a last →
     (p q : Option UnorderedPair) → IsPairSoFar K image (step_of (size K) later) p → IsCompared K later last p q → IsPairSoFar K image (step_of (size K) later + 1) q

@@ -3,4 +3,5 @@ pub mod Frame
 pub mod Step
 pub mod Done
 pub mod Pairs
+pub mod Trace
 pub mod Watched

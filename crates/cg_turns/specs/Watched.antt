@@ -4,7 +4,7 @@ use Rattle.cg_model.specs.Kernel.{Kernel}
 use Rattle.cg_model.specs.Work.{Image, Work, Reaches}
 use Rattle.cg_turns.specs.declared.pair.Access.{Access}
 use Rattle.cg_turns.specs.declared.watch.Watch.{Watch}
-use Rattle.cg_turns.specs.Pairs.{IsTrace, IsPairSoFar, Takes, IsCompared}
+use Rattle.cg_turns.specs.Trace.{IsTrace, IsPairSoFar, Takes, IsCompared}
 
 -- the last accesses of a word
 abbrev pub word_of : Watch → ℕ → List Access

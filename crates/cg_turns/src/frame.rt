@@ -1,6 +1,7 @@
 //! What a run keeps from step to step.
 ghost use Rattle.std.specs.Prelude.{◌≡◌, ◌<◌, ◌≤◌, ◌+◌, ◌*◌, ◌%◌, ◌^◌, IfOk, OnOk, length};
 ghost use Rattle.cg_model.specs.Kernel.{IsKernel, size};
+ghost use Rattle.cg_model.specs.Limits.{most_nodes, most_turns};
 ghost use Rattle.cg_turns.specs.Frame.{IsAt};
 ghost use Rattle.cg_turns.specs.Step.{Steps, work_in};
 ghost use Rattle.cg_turns.specs.Watched.{IsReached, IsWatched};
@@ -92,10 +93,10 @@ pub(crate) fn one_turn(
     requires watched { IsWatched kernel.now image.now (turn * size kernel.now + 0) watch.old }
     requires at { IsAt kernel.now image.now turn 0 frame.old }
     requires row { row ≡ turn % 5 }
-    requires turn { turn < 1000000 }
-    requires outside { frame.old.outside ≤ 1024 * turn }
+    requires turn { turn < most_turns }
+    requires outside { frame.old.outside ≤ most_nodes * turn }
     ensures at { OnOk result (IsAt kernel.now image.now turn (size kernel.now) frame.new) }
-    ensures outside { OnOk result (frame.new.outside ≤ 1024 * turn + 1024) }
+    ensures outside { OnOk result (frame.new.outside ≤ most_nodes * turn + most_nodes) }
     ensures watched { OnOk result (IsWatched kernel.now image.now (turn * size kernel.now + size kernel.now) watch.new) }
 {
     let size = kernel.nodes().len();

@@ -21,7 +21,7 @@ impl Model for LastAccesses {
 
 impl LastAccesses {
     ghost use Rattle.std.specs.Prelude.{◌≡◌, [], OnOk};
-    ghost use Rattle.cg_turns.specs.Pairs.{Takes};
+    ghost use Rattle.cg_turns.specs.Trace.{Takes};
 
     /// No access.
     pub(crate) fn new(alloc: Global) -> LastAccesses
@@ -48,7 +48,7 @@ impl LastAccesses {
 }
 
 ghost use Rattle.std.specs.Prelude.{OnOk};
-ghost use Rattle.cg_turns.specs.Pairs.{Takes};
+ghost use Rattle.cg_turns.specs.Trace.{Takes};
 
 /// Writes an access over the one of its node, or adds it.
 fn take_in(accesses: &mut Vec<Access>, access: Access) -> Result<(), AllocError>

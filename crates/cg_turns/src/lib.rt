@@ -9,6 +9,7 @@ mod turns;
 mod watch;
 mod window;
 
+pub use cg_distance::{DistanceTable, min_distance};
 pub use fault::TurnsFault;
 pub use pair::{Access, UnorderedPair};
 pub use turns::{TurnsDone, run_turns};

@@ -2,8 +2,10 @@
 ghost use Rattle.std.specs.Prelude.{◌≡◌, ◌<◌, ◌≤◌, ◌+◌, ◌*◌, ◌↔◌, ℕ, false, IsTrue, Contains};
 ghost use Rattle.cg_word.specs.Word as word;
 ghost use Rattle.cg_model.specs.Kernel.{size, node as node_of};
+ghost use Rattle.cg_model.specs.Limits.{most_nodes};
 ghost use Rattle.cg_model.specs.Order.{IsOrdered};
-ghost use Rattle.cg_turns.specs.Pairs.{step_of, later_access, IsRival, IsLatest, IsCompared};
+ghost use Rattle.cg_turns.specs.Pairs.{step_of, IsRival};
+ghost use Rattle.cg_turns.specs.Trace.{later_access, IsLatest, IsCompared};
 ghost use Rattle.cg_turns.specs.declared.pair.Access.{Access as AccessOf};
 
 use cg_distance::DistanceTable;
@@ -50,7 +52,7 @@ fn is_rival(kernel: &Kernel, earlier: u32, later: u32) -> bool
 
 /// The number of an access's step.
 fn step_number(size: usize, access: Access) -> u64
-    requires { size ≤ 1024 }
+    requires { size ≤ most_nodes }
     ensures { result ≡ step_of size access }
 {
     u64::from(access.turn) * size as u64 + u64::from(access.node)
@@ -69,7 +71,7 @@ fn is_unordered(kernel: &Kernel, table: &DistanceTable, earlier: Access, later: 
 
 /// The later of an access that may be known and another one.
 fn later_of(size: usize, known: Option<Access>, access: Access) -> Option<Access>
-    requires { size ≤ 1024 }
+    requires { size ≤ most_nodes }
     ensures { result ≡ later_access size known access }
 {
     match known {

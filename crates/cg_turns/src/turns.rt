@@ -1,5 +1,6 @@
 //! Turns, one after the other.
 ghost use Rattle.std.specs.Prelude.{◌≡◌, ◌<◌, ◌≤◌, ◌↔◌, ℕ, Err, IfOk, length};
+ghost use Rattle.cg_model.specs.Limits.{most_turns};
 ghost use Rattle.cg_model.specs.Turns.{turns_left};
 ghost use Rattle.cg_turns.specs.Done.{IsSmall, left_by, left_of};
 ghost use Rattle.cg_turns.specs.Pairs.{IsPairOf};
@@ -10,11 +11,9 @@ use crate::pair::UnorderedPair;
 use crate::watch::unwatched;
 use cg_distance::min_distance;
 use cg_kernel::Kernel;
+use cg_model::MOST_TURNS;
 use cg_pad::{Image, Streams};
 use std::alloc::{AllocError, Global};
-
-/// The greatest number of turns that are run.
-pub const MOST_TURNS: u32 = 1_000_000;
 
 /// What turns leave: the memory and the output streams, how often accesses reached outside the memory, and the first two accesses that no edges order.
 #[derive(Drop)]
@@ -36,7 +35,7 @@ pub fn run_turns(
     ensures done { IfOk result (λ d. left_of d ≡ turns_left kernel.now n image.now) }
     ensures pair { IfOk result (λ d. IsPairOf kernel.now n image.now d.pair) }
     ensures small { IfOk result (λ d. IsSmall image.now n d.image) }
-    ensures many { (t : ℕ) → (result ≡ Err (TurnsFault.TooManyTurns t)) ↔ ((t ≡ n) × (1000000 < n)) }
+    ensures many { (t : ℕ) → (result ≡ Err (TurnsFault.TooManyTurns t)) ↔ ((t ≡ n) × (most_turns < n)) }
 {
     if n > MOST_TURNS {
         return Err(TurnsFault::TooManyTurns(n));
@@ -45,7 +44,7 @@ pub fn run_turns(
 }
 
 fn run(alloc: Global, kernel: &Kernel, n: u32, image: &Image) -> Result<TurnsDone, AllocError>
-    requires { n ≤ 1000000 }
+    requires { n ≤ most_turns }
     ensures done { IfOk result (λ d. left_of d ≡ turns_left kernel.now n image.now) }
     ensures pair { IfOk result (λ d. IsPairOf kernel.now n image.now d.pair) }
     ensures small { IfOk result (λ d. IsSmall image.now n d.image) }

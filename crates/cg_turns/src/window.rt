@@ -2,6 +2,7 @@
 //!
 //! An edge goes back over at most four turns, so five rows of values are kept: that of turn `j` is row `j % 5`.
 ghost use Rattle.std.specs.Prelude.{◌≡◌, ◌<◌, ◌≤◌, ◌*◌, ℕ, Some, length, map, slice_get, slice_index};
+ghost use Rattle.cg_model.specs.Limits.{most_nodes};
 ghost use Rattle.cg_model.specs.declared.kernel.Operand.{Operand as OperandOf};
 ghost use Rattle.cg_turns.specs.Window.{operand_in, IsNear};
 
@@ -14,7 +15,7 @@ pub(crate) const ROWS: usize = 5;
 fn operand_word(operand: &Operand, row: usize, size: usize, turn: u32, window: &[u32]) -> u32
     requires near { IsNear size operand.now }
     requires row { row < 5 }
-    requires size { size ≤ 1024 }
+    requires size { size ≤ most_nodes }
     requires window { length window.now ≡ 5 * size }
     ensures { result ≡ operand_in window.now row size turn operand.now }
 {
@@ -48,7 +49,7 @@ pub(crate) fn argument(
 ) -> u32
     requires near { (p : ℕ) (o : OperandOf) → slice_get operands.now p ≡ Some o → IsNear size o }
     requires row { row < 5 }
-    requires size { size ≤ 1024 }
+    requires size { size ≤ most_nodes }
     requires window { length window.now ≡ 5 * size }
     ensures { result ≡ slice_index (map (operand_in window.now row size turn) operands.now) place }
 {

@@ -1,6 +1,6 @@
 //! Words that fit, and words that don't.
 
-use cg_command::{plan_words, said_of};
+use cg_command::{arguments_of, interval_of, moves_of, plan_words, seed_of};
 use std::alloc::{AllocError, Global};
 
 fn words_of(alloc: Global, line: &str) -> Result<Vec<String>, AllocError> {
@@ -13,11 +13,8 @@ fn words_of(alloc: Global, line: &str) -> Result<Vec<String>, AllocError> {
 
 fn said(alloc: Global, line: &str) -> Result<String, AllocError> {
     let words = words_of(alloc, line)?;
-    match said_of(alloc, words.as_slice())? {
-        Some(said) => format!(in alloc;
-            "{:?} {:?} {:?} {:?} {:?}",
-            said.words, said.interval, said.seed, said.moves, said.mapping
-        ),
+    match arguments_of(alloc, words.as_slice())? {
+        Some(arguments) => format!(in alloc; "{:?} {:?}", arguments.words, arguments.options),
         None => String::from_str(alloc, "refused"),
     }
 }
@@ -28,16 +25,12 @@ fn words_fit(rt: HostRuntime) -> Result<(), AllocError> {
     let rows = [
         (
             "--ii 64 k --moves=0 --seed 18446744073709551615 5",
-            "[\"k\", \"5\"] Some(64) Some(18446744073709551615) Some(0) None",
+            "[\"k\", \"5\"] [Given { name: \"ii\", value: \"64\" }, Given { name: \"seed\", value: \"18446744073709551615\" }, Given { name: \"moves\", value: \"0\" }]",
         ),
         (
-            "k --moves 0 --mapping=a=b -- 5",
-            "[\"k\", \"5\"] None None Some(0) Some(\"a=b\")",
+            "k --mapping=a=b --ii 2 --ii=3 -- 5",
+            "[\"k\", \"5\"] [Given { name: \"ii\", value: \"2\" }, Given { name: \"ii\", value: \"3\" }, Given { name: \"mapping\", value: \"a=b\" }]",
         ),
-        ("--seed 1 --seed 1", "refused"),
-        ("--ii 0", "refused"),
-        ("--ii 65", "refused"),
-        ("--seed 18446744073709551616", "refused"),
         ("k --seed", "refused"),
         ("--seed=", "refused"),
         ("--mapping ", "refused"),
@@ -55,4 +48,19 @@ fn words_fit(rt: HostRuntime) -> Result<(), AllocError> {
         assert!(rt; plan_words(alloc, words.as_slice())?.is_some(), "at {line}");
     }
     Ok(())
+}
+
+#[test]
+fn numbers_have_ranges(rt: HostRuntime) {
+    assert_eq!(rt; interval_of("0"), None);
+    assert_eq!(rt; interval_of("1"), Some(1));
+    assert_eq!(rt; interval_of("64"), Some(64));
+    assert_eq!(rt; interval_of("65"), None);
+    assert_eq!(rt;
+        seed_of("18446744073709551615"),
+        Some(18_446_744_073_709_551_615)
+    );
+    assert_eq!(rt; seed_of("18446744073709551616"), None);
+    assert_eq!(rt; moves_of("1000000"), Some(1_000_000));
+    assert_eq!(rt; moves_of("1000001"), None);
 }

@@ -4,4 +4,4 @@ use Rattle.cg_turns.proofs.last.take_in.Goals as goal
 
 pub returns-then-index-access : goal.returns-then-index-access
 returns-then-index-access c =
-    takes_read c.args.access c.index.result.now c.args.accesses.now.items c.loop-place.accesses.items c.loop-place.place c.loop-place.invariant (let long = ap length c.loop-place.invariant in let h : c.loop-place.place < length c.loop-place.accesses.items = search rules in h) c.index.ensures c.if-index-access.true
+    takes_read c.args.access c.index.result.now c.args.accesses.now.items c.loop-place.accesses.items c.loop-place.place c.loop-place.invariant.0 (let long = ap length c.loop-place.invariant.0 in let h : c.loop-place.place < length c.loop-place.accesses.items = search rules in h) c.index.ensures c.if-index-access.true

@@ -2,7 +2,7 @@ use Rattle.std.proofs.Common.{◌≡◌, ℕ, ◌+◌, length, arith, subst, sym
 use Rattle.std.proofs.lemmas.List.Elements.{Contains-get_or}
 use Rattle.std.proofs.Math.Seq.{take-length}
 use Rattle.cg_turns.specs.declared.pair.Access.{Access}
-use Rattle.cg_turns.specs.Pairs.{IsLatest, no_access, later_access}
+use Rattle.cg_turns.specs.Trace.{IsLatest, no_access, later_access}
 use Rattle.cg_turns.proofs.Pairs.{latest_passes, latest_meets}
 use Rattle.cg_turns.proofs.pair.latest_unordered.Goals as goal
 use Rattle.cg_turns.proofs.pair.latest_unordered.Goals.{then-is_unordered, else-is_unordered}

@@ -1,5 +1,5 @@
 use Rattle.std.proofs.Common.{take}
-use Rattle.cg_turns.specs.Pairs.{IsLatest}
+use Rattle.cg_turns.specs.Trace.{IsLatest}
 use Rattle.cg_turns.proofs.pair.latest_unordered.Given as goal
 
 abbrev pub invariant-loop-place : goal.invariant-loop-place

@@ -1,7 +1,8 @@
 use Rattle.std.proofs.Common.{◌≡◌, ℕ, ◌∙◌, subst, arith, rules, ◌≤◌, ◌+◌, ◌*◌, ap, sym, length}
 use Rattle.cg_model.specs.Kernel as plain
 use Rattle.cg_turns.specs.Watched.{IsWatched}
-use Rattle.cg_turns.specs.Pairs.{IsPairOf, IsPairSoFar}
+use Rattle.cg_turns.specs.Pairs.{IsPairOf}
+use Rattle.cg_turns.specs.Trace.{IsPairSoFar}
 use Rattle.cg_turns.proofs.Pairs.{watched_start, pair_done}
 use Rattle.cg_turns.proofs.Small.{left_small}
 use Rattle.cg_turns.proofs.Steps.{turned, finished}

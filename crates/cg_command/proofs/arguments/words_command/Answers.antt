@@ -3,7 +3,7 @@ use Rattle.std.proofs.lemmas.Result.{IfOk-weaker}
 use Rattle.clap.specs.Words.{app_of, new_app, with_rule}
 use Rattle.clap.specs.Simple.{app_of_fields, on_top}
 use Rattle.cg_command.specs.Matches.{words_app}
-use Rattle.cg_command.proofs.options.words_command.Goals as goal
+use Rattle.cg_command.proofs.arguments.words_command.Goals as goal
 
 pub returns : goal.returns
 unfolding words_app

@@ -5,7 +5,7 @@ use Rattle.clap.proofs.OnLiterals.{clap_on_literals}
 use Rattle.clap.proofs.WalkLemmas.{IfOk-both}
 use Rattle.cg_command.specs.Matches.{words_app}
 use Rattle.cg_command.proofs.Failures.{FailsBy-ok, FailsBy-err}
-use Rattle.cg_command.proofs.options.matches_of.Goals as goal
+use Rattle.cg_command.proofs.arguments.matches_of.Goals as goal
 
 simple : is_simple words_app ≡ true
 unfolding words_app clap_on_literals

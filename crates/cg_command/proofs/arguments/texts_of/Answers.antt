@@ -2,7 +2,7 @@ use Rattle.std.proofs.Common.{None, ap, map, ◌∙◌}
 use Rattle.std.proofs.lemmas.Result.{IfOk-weaker}
 use Rattle.clap.specs.Words.{found_of}
 use Rattle.cg_command.proofs.Walk.{texts-raw}
-use Rattle.cg_command.proofs.options.texts_of.Goals as goal
+use Rattle.cg_command.proofs.arguments.texts_of.Goals as goal
 
 pub returns-in-Some : goal.returns-in-Some
 returns-in-Some c =

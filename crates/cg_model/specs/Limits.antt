@@ -1,0 +1,44 @@
+-- The limits on what is read, mapped and run.
+use Rattle.std.specs.Prelude.{ℕ}
+
+-- ---- kernels and their turns
+
+abbrev pub most_nodes : ℕ
+most_nodes = 1024
+
+abbrev pub most_order_edges : ℕ
+most_order_edges = 4096
+
+abbrev pub most_turns : ℕ
+most_turns = 1000000
+
+-- ---- architectures and images
+
+abbrev pub most_contexts : ℕ
+most_contexts = 64
+
+abbrev pub most_resources : ℕ
+most_resources = 4096
+
+abbrev pub most_links : ℕ
+most_links = 65536
+
+abbrev pub most_units : ℕ
+most_units = 1024
+
+-- words of a memory
+abbrev pub most_memory : ℕ
+most_memory = 1048576
+
+-- words of a stream: one a turn
+abbrev pub most_stream : ℕ
+most_stream = most_turns
+
+-- ---- mappings
+
+abbrev pub most_moves : ℕ
+most_moves = 1000000
+
+-- the latest time of a node, and so the greatest stage
+abbrev pub latest_time : ℕ
+latest_time = 65534
