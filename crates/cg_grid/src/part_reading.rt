@@ -6,7 +6,7 @@ ghost use Rattle.toml.specs.View.{view};
 ghost use Rattle.cg_reading.specs.Reads.{IsRead};
 ghost use Rattle.cg_grid.specs.Parts as spec;
 
-use crate::reading::{TextReader, name_of};
+use crate::reading::TextReader;
 use crate::written::{Part, Reference, References, Side, WrittenPart};
 use cg_model::{Items, Name, is_identifier};
 use cg_parts::Names;
@@ -70,7 +70,7 @@ fn wire_in(alloc: Global, value: &Value) -> Result<Part, Misfit<()>>
 {
     let name = text_at(value, "wire").ok_or(WRONG_SHAPE)?;
     let from = references_at(alloc, value, "from")?;
-    let name = name_of(alloc, name)?;
+    let name = Name::copy_of(alloc, name)?;
     Ok(Part::Wire { name, from })
 }
 
@@ -79,7 +79,7 @@ fn register_in(alloc: Global, value: &Value) -> Result<Part, Misfit<()>>
 {
     let name = text_at(value, "reg").ok_or(WRONG_SHAPE)?;
     let from = references_at(alloc, value, "from")?;
-    let name = name_of(alloc, name)?;
+    let name = Name::copy_of(alloc, name)?;
     Ok(Part::Register { name, from })
 }
 
@@ -91,7 +91,7 @@ fn unit_in(alloc: Global, value: &Value) -> Result<Part, Misfit<()>>
     let latency = word_at(value, "latency").ok_or(WRONG_SHAPE)?;
     let ports = ports_at(alloc, value)?;
     Ok(Part::Unit {
-        name: name_of(alloc, name)?,
+        name: Name::copy_of(alloc, name)?,
         ops: ops_named(ops.as_slice()),
         other_ops: has_other_ops(ops.as_slice()),
         latency,
@@ -189,7 +189,7 @@ fn reference_of(alloc: Global, text: &str) -> Result<Reference, Misfit<()>>
     if !is_identifier(name) {
         return Err(WRONG_SHAPE);
     }
-    let name = name_of(alloc, name)?;
+    let name = Name::copy_of(alloc, name)?;
     Ok(Reference { side, name })
 }
 

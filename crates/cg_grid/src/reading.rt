@@ -1,5 +1,5 @@
 //! From a TOML table to what it writes of an architecture.
-ghost use Rattle.std.specs.Prelude.{◌≡◌, IfOk, map, option_map, slice_index};
+ghost use Rattle.std.specs.Prelude.{◌≡◌, map, option_map, slice_index};
 ghost use Rattle.std.specs.List.{list_all};
 ghost use Rattle.toml.specs.Data as toml;
 ghost use Rattle.toml.specs.View.{view, table_view};
@@ -16,7 +16,7 @@ use cg_toml::{
     flag_or, has_other_keys, items_at, items_in, items_or_none, members_at, text_at, word_at,
     word_or,
 };
-use std::alloc::{AllocError, Global};
+use std::alloc::Global;
 use toml::{Table, Value};
 
 /// A wrong shape of the file, outside of the parts of tiles.
@@ -62,7 +62,7 @@ fn header_in(alloc: Global, value: &Value) -> Result<Header, Misfit<()>>
         ],
     );
     Ok(Header {
-        name: name_of(alloc, name)?,
+        name: Name::copy_of(alloc, name)?,
         contexts,
         memory,
         torus,
@@ -102,7 +102,7 @@ impl ItemReader for TextReader {
 
     fn read(alloc: Global, value: &Value) -> Result<Name, Misfit<()>> {
         let text = value.as_str().ok_or(WRONG_SHAPE)?;
-        Ok(name_of(alloc, text)?)
+        Ok(Name::copy_of(alloc, text)?)
     }
 }
 
@@ -125,7 +125,7 @@ impl ItemReader for RowReader {
         if !is_row(text) {
             return Err(WRONG_SHAPE);
         }
-        Ok(name_of(alloc, text)?)
+        Ok(Name::copy_of(alloc, text)?)
     }
 }
 
@@ -215,10 +215,4 @@ fn items_of(value: &Value) -> &[Value]
         Some(items) => items,
         None => &[],
     }
-}
-
-pub(crate) fn name_of(alloc: Global, text: &str) -> Result<Name, AllocError>
-    ensures { IfOk result (λ name. name ≡ text.now) }
-{
-    Ok(Name::new(text.to_string(alloc)?))
 }

@@ -6,6 +6,7 @@ use Rattle.cg_word.specs.declared.op.Op.{Op}
 use Rattle.cg_word.specs.Word.{arity, code, has_value, has_port, is_output, op_named}
 use Rattle.cg_model.specs.Names.{is_name}
 use Rattle.cg_model.specs.First.{first_from, is_before}
+use Rattle.cg_model.specs.Limits.{most_nodes, most_order_edges}
 use Rattle.cg_names.specs.Numbers as numbers
 use Rattle.cg_kernel.specs.Written.{KernelPlace, Format, WrittenArg, WrittenNode, WrittenEdge, WrittenKernel}
 use Rattle.cg_kernel.specs.declared.fault.KernelFault.{KernelFault}
@@ -47,7 +48,7 @@ arg_has_other_keys (Source from distance init other) = other
 
 -- K4 TooLarge: more than 1,024 nodes or 4,096 order edges
 abbrev pub is_too_large : WrittenKernel → Bool
-is_too_large w = nat_lt 1024 (length w.nodes) || nat_lt 4096 (length w.order)
+is_too_large w = nat_lt most_nodes (length w.nodes) || nat_lt most_order_edges (length w.order)
 
 -- K5 BadName: the node's name breaks the rule: a letter or `_`, then letters, digits or `_`, 1 to 32 characters
 abbrev pub has_bad_name : WrittenNode → Bool

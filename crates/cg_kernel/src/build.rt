@@ -1,6 +1,7 @@
 //! From what a file writes to its kernel.
 ghost use Rattle.std.specs.Prelude.{◌≡◌, ◌≤◌, IfOk, length, map};
 ghost use Rattle.cg_model.specs.Kernel.{IsKernel};
+ghost use Rattle.cg_model.specs.Limits.{most_nodes};
 ghost use Rattle.cg_kernel.specs.Numbers.{IsIndex};
 ghost use Rattle.cg_kernel.specs.Answer as spec;
 
@@ -20,7 +21,7 @@ pub fn kernel_of(
     written: &WrittenKernel,
 ) -> Result<Kernel, AllocError>
     requires index { IsIndex numbers.now written.now.nodes }
-    requires few { length written.now.nodes ≤ 1024 }
+    requires few { length written.now.nodes ≤ most_nodes }
     requires valid { IsKernel (spec.kernel_of written.now) }
     ensures { IfOk result (λ kernel. kernel ≡ spec.kernel_of written.now) }
 {
@@ -35,7 +36,7 @@ fn nodes_of(
     written: &WrittenKernel,
 ) -> Result<Vec<Node>, AllocError>
     requires index { IsIndex numbers.now written.now.nodes }
-    requires few { length written.now.nodes ≤ 1024 }
+    requires few { length written.now.nodes ≤ most_nodes }
     ensures { IfOk result (λ nodes. nodes.items ≡ map (spec.node_of written.now) written.now.nodes) }
 {
     let mut nodes = Vec::new(alloc);
@@ -52,7 +53,7 @@ fn edges_of(
     written: &WrittenKernel,
 ) -> Result<Vec<OrderEdge>, AllocError>
     requires index { IsIndex numbers.now written.now.nodes }
-    requires few { length written.now.nodes ≤ 1024 }
+    requires few { length written.now.nodes ≤ most_nodes }
     ensures { IfOk result (λ order. order.items ≡ map (spec.edge_of written.now) written.now.order) }
 {
     let mut order = Vec::new(alloc);
@@ -70,7 +71,7 @@ fn node_of(
     node: &WrittenNode,
 ) -> Result<Node, AllocError>
     requires index { IsIndex numbers.now written.now.nodes }
-    requires few { length written.now.nodes ≤ 1024 }
+    requires few { length written.now.nodes ≤ most_nodes }
     ensures { IfOk result (λ made. made ≡ spec.node_of written.now node.now) }
 {
     let op = match op_of(written, node) {
@@ -82,7 +83,7 @@ fn node_of(
         None => 0,
     };
     Ok(Node {
-        name: Name::new(node.name.as_str().to_string(alloc)?),
+        name: Name::copy_of(alloc, node.name.as_str())?,
         op,
         port,
         operands: Items::new(operands_of(alloc, numbers, written, node.args.as_slice())?),
@@ -96,7 +97,7 @@ fn operands_of(
     args: &[WrittenArg],
 ) -> Result<Vec<Operand>, AllocError>
     requires index { IsIndex numbers.now written.now.nodes }
-    requires few { length written.now.nodes ≤ 1024 }
+    requires few { length written.now.nodes ≤ most_nodes }
     ensures { IfOk result (λ operands. operands.items ≡ map (spec.operand_of written.now) args.now) }
 {
     let mut operands = Vec::new(alloc);
@@ -113,7 +114,7 @@ fn operand_of(
     arg: &WrittenArg,
 ) -> Result<Operand, AllocError>
     requires index { IsIndex numbers.now written.now.nodes }
-    requires few { length written.now.nodes ≤ 1024 }
+    requires few { length written.now.nodes ≤ most_nodes }
     ensures { IfOk result (λ operand. operand ≡ spec.operand_of written.now arg.now) }
 {
     match arg {
@@ -133,7 +134,7 @@ fn operand_of(
 
 fn edge_of(numbers: &Numbers, written: &WrittenKernel, edge: &WrittenEdge) -> OrderEdge
     requires index { IsIndex numbers.now written.now.nodes }
-    requires few { length written.now.nodes ≤ 1024 }
+    requires few { length written.now.nodes ≤ most_nodes }
     ensures { result ≡ spec.edge_of written.now edge.now }
 {
     OrderEdge {
@@ -145,7 +146,7 @@ fn edge_of(numbers: &Numbers, written: &WrittenKernel, edge: &WrittenEdge) -> Or
 
 fn node_number(numbers: &Numbers, written: &WrittenKernel, name: &str) -> u32
     requires index { IsIndex numbers.now written.now.nodes }
-    requires few { length written.now.nodes ≤ 1024 }
+    requires few { length written.now.nodes ≤ most_nodes }
     ensures { result ≡ spec.node_number written.now name.now }
 {
     match number_in(numbers, name) {

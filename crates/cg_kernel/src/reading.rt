@@ -15,7 +15,7 @@ use cg_json::{
 use cg_model::Name;
 use cg_reading::{ItemReader, Misfit, WRONG_SHAPE, all_of, all_or_first};
 use serde_json::Value;
-use std::alloc::{AllocError, Global};
+use std::alloc::Global;
 
 /// A wrong shape of the file, outside of its nodes and order edges.
 const WRONG_FILE: Misfit<KernelPlace> = Misfit::WrongShape(KernelPlace::File);
@@ -98,8 +98,8 @@ impl ItemReader for NodeReader {
         let port = optional_word_at(value, "port").ok_or(WRONG_SHAPE)?;
         let other_keys = has_other_keys(value, &["name", "op", "args", "port"]);
         Ok(WrittenNode {
-            name: name_of(alloc, name)?,
-            op: name_of(alloc, op)?,
+            name: Name::copy_of(alloc, name)?,
+            op: Name::copy_of(alloc, op)?,
             args,
             port,
             other_keys,
@@ -129,8 +129,8 @@ impl ItemReader for EdgeReader {
         let distance = word_or(value, "distance", 0).ok_or(WRONG_SHAPE)?;
         let other_keys = has_other_keys(value, &["from", "to", "distance"]);
         Ok(WrittenEdge {
-            from: name_of(alloc, from)?,
-            to: name_of(alloc, to)?,
+            from: Name::copy_of(alloc, from)?,
+            to: Name::copy_of(alloc, to)?,
             distance,
             other_keys,
         })
@@ -170,15 +170,9 @@ fn source_in(alloc: Global, value: &Value) -> Result<WrittenArg, Misfit<()>>
     let init = all_of::<WordReader>(alloc, init)?;
     let other_keys = has_other_keys(value, &["from", "distance", "init"]);
     Ok(WrittenArg::Source {
-        from: name_of(alloc, from)?,
+        from: Name::copy_of(alloc, from)?,
         distance,
         init,
         other_keys,
     })
-}
-
-fn name_of(alloc: Global, text: &str) -> Result<Name, AllocError>
-    ensures { IfOk result (λ name. name ≡ text.now) }
-{
-    Ok(Name::new(text.to_string(alloc)?))
 }

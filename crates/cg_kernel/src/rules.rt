@@ -7,7 +7,7 @@ ghost use Rattle.cg_kernel.specs.Rules as spec;
 
 use crate::rule::Rule;
 use crate::written::{Format, WrittenArg, WrittenEdge, WrittenKernel, WrittenNode};
-use cg_model::is_name;
+use cg_model::{MOST_NODES, MOST_ORDER_EDGES, is_name};
 use cg_names::{Numbers, is_before, number_in};
 use cg_word::Op;
 
@@ -320,7 +320,8 @@ pub fn applies_to_file(rule: Rule, written: &WrittenKernel) -> bool
     match rule {
         Rule::UnknownKey => written.other_keys,
         Rule::TooLarge => {
-            written.nodes.as_slice().len() > 1024 || written.order.as_slice().len() > 4096
+            written.nodes.as_slice().len() > MOST_NODES
+                || written.order.as_slice().len() > MOST_ORDER_EDGES
         }
         _ => false,
     }

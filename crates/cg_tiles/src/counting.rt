@@ -1,17 +1,18 @@
 //! How many resources the tiles on a grid stand for, before these are made.
 ghost use Rattle.std.specs.Prelude.{◌≡◌, ◌+◌, ◌<◌, MatchOption, nat_lt, sum_by};
+ghost use Rattle.cg_model.specs.Limits.{most_resources};
 ghost use Rattle.cg_tiles.specs.Counts as spec;
 ghost use Rattle.cg_tiles.specs.Elements.{parts_for};
 
 use cg_grid::{Part, Tile, WrittenArch, WrittenPart, tile_of};
-use cg_model::Name;
+use cg_model::{MOST_RESOURCES, Name};
 
-/// Whether the cells of the grid stand for more than 4,096 resources.
+/// Whether the cells of the grid stand for more resources than allowed.
 pub(crate) fn has_many_resources(written: &WrittenArch) -> bool
-    ensures { result ≡ nat_lt 4096 (spec.grid_resources written.now.tiles written.now.header.grid) }
+    ensures { result ≡ nat_lt most_resources (spec.grid_resources written.now.tiles written.now.header.grid) }
 {
     let tiles = written.tiles.as_slice();
-    room_after_grid(4096, tiles, written.header.grid.as_slice()).is_none()
+    room_after_grid(MOST_RESOURCES, tiles, written.header.grid.as_slice()).is_none()
 }
 
 /// The room for resources that a grid leaves, none where it has too many.

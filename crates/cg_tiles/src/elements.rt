@@ -1,5 +1,6 @@
 //! From tiles on a grid to the parts that they stand for.
 ghost use Rattle.std.specs.Prelude.{◌≡◌, ◌+◌, ◌<◌, ◌≤◌, ◌++◌, IfOk, OnOk, IsErrOf, length, map, string_bytes, sum_by};
+ghost use Rattle.cg_model.specs.Limits.{most_links};
 ghost use Rattle.cg_parts.specs.Parts.{with_name};
 ghost use Rattle.cg_tiles.specs.Counts as counts;
 ghost use Rattle.cg_tiles.specs.Elements as spec;
@@ -9,16 +10,16 @@ use cg_grid::{
     Cell, Grid, Part, Reference, References, Side, WrittenArch, WrittenPart, columns, neighbour,
     tile_of,
 };
-use cg_model::{Items, Name};
+use cg_model::{Items, MOST_LINKS, Name};
 use cg_parts::{Element, Names, Parts};
 use indexmap::IndexSet;
 use std::alloc::{AllocError, Global};
 
-/// The parts that are written, unless there are more than 65,536 links into their resources.
+/// The parts that are written, unless there are more links than allowed into their resources.
 #[tactic(auto, unfolding(crate::specs::Elements::parts_of))]
 pub(crate) fn parts_of(alloc: Global, written: WrittenArch) -> Result<Parts, MakingFault>
     ensures parts { IfOk result (λ parts. parts ≡ spec.parts_of written) }
-    ensures many { IsErrOf result MakingFault.TooManyLinks → 65536 < counts.grid_links written (spec.grid_of written) 0 written.header.grid }
+    ensures many { IsErrOf result MakingFault.TooManyLinks → most_links < counts.grid_links written (spec.grid_of written) 0 written.header.grid }
 {
     let elements = elements_of(alloc, &written)?;
     Ok(Parts {
@@ -33,7 +34,7 @@ pub(crate) fn parts_of(alloc: Global, written: WrittenArch) -> Result<Parts, Mak
 /// The elements of all cells, by row and column.
 fn elements_of(alloc: Global, written: &WrittenArch) -> Result<Vec<Element>, MakingFault>
     ensures elements { IfOk result (λ list. list.items ≡ spec.grid_elements written.now (spec.grid_of written.now) 0 written.now.header.grid) }
-    ensures many { IsErrOf result MakingFault.TooManyLinks → 65536 < counts.grid_links written.now (spec.grid_of written.now) 0 written.now.header.grid }
+    ensures many { IsErrOf result MakingFault.TooManyLinks → most_links < counts.grid_links written.now (spec.grid_of written.now) 0 written.now.header.grid }
 {
     let rows = written.header.grid.as_slice();
     let grid = Grid {
@@ -43,7 +44,7 @@ fn elements_of(alloc: Global, written: &WrittenArch) -> Result<Vec<Element>, Mak
     };
     let mut elements = Vec::new(alloc);
     let mut room = Room {
-        links: 65_536,
+        links: MOST_LINKS,
         text: 67_108_864,
     };
     for (row, cells) in rows.iter().enumerate() {
@@ -205,7 +206,8 @@ fn names_of(
         if names.len() > room.links {
             return Err(MakingFault::TooManyLinks);
         }
-        if let Some(name) = driver_of(alloc, grid, cell, reference)? {
+        if let Some(other) = neighbour(grid, cell, reference.side) {
+            let name = driver_in(alloc, other, reference)?;
             room.spend(name.as_str())?;
             add_name(alloc, &mut seen, &mut names, name)?;
         }
@@ -231,22 +233,16 @@ fn add_name(
     Ok(())
 }
 
-/// The flat name of the resource that a reference in a cell names, none off the grid.
-fn driver_of(
-    alloc: Global,
-    grid: Grid,
-    cell: Cell,
-    reference: &Reference,
-) -> Result<Option<Name>, AllocError>
-    ensures { IfOk result (λ name. name ≡ spec.driver_of grid cell reference.now) }
+/// The flat name of the resource that a reference names, where its side is that cell.
+fn driver_in(alloc: Global, cell: Cell, reference: &Reference) -> Result<Name, AllocError>
+    ensures { IfOk result (λ name. name ≡ spec.name_in cell reference.now.side reference.now.name) }
 {
     let name = reference.name.as_str();
-    if matches!(reference.side, Side::Anywhere) {
-        return Ok(Some(Name::new(name.to_string(alloc)?)));
-    }
-    match neighbour(grid, cell, reference.side) {
-        Some(other) => Ok(Some(flat_name(alloc, other, name)?)),
-        None => Ok(None),
+    match reference.side {
+        Side::Anywhere => Name::copy_of(alloc, name),
+        Side::Here | Side::North | Side::East | Side::South | Side::West => {
+            flat_name(alloc, cell, name)
+        }
     }
 }
 
