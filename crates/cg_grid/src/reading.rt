@@ -1,5 +1,5 @@
 //! From a TOML table to what it writes of an architecture.
-ghost use Rattle.std.specs.Prelude.{◌≡◌, IfOk, map, option_map, slice_index};
+ghost use Rattle.std.specs.Prelude.{◌≡◌, map, option_map, slice_index};
 ghost use Rattle.std.specs.List.{list_all};
 ghost use Rattle.toml.specs.Data as toml;
 ghost use Rattle.toml.specs.View.{view, table_view};
@@ -16,7 +16,7 @@ use cg_toml::{
     flag_or, has_other_keys, items_at, items_in, items_or_none, members_at, text_at, word_at,
     word_or,
 };
-use std::alloc::{AllocError, Global};
+use std::alloc::Global;
 use toml::{Table, Value};
 
 /// A wrong shape of the file, outside of the parts of tiles.

@@ -2,6 +2,7 @@
 ghost use Rattle.std.specs.Prelude.{◌≡◌, ◌≤◌, IfOk, length, map};
 ghost use Rattle.cg_model.specs.Limits.{most_nodes};
 ghost use Rattle.cg_model.specs.Kernel.{IsKernel};
+ghost use Rattle.cg_model.specs.Limits.{most_nodes};
 ghost use Rattle.cg_kernel.specs.Numbers.{IsIndex};
 ghost use Rattle.cg_kernel.specs.Answer as spec;
 
@@ -83,7 +84,7 @@ fn node_of(
         None => 0,
     };
     Ok(Node {
-        name: Name::new(node.name.as_str().to_string(alloc)?),
+        name: Name::copy_of(alloc, node.name.as_str())?,
         op,
         port,
         operands: Items::new(operands_of(alloc, numbers, written, node.args.as_slice())?),

@@ -15,7 +15,7 @@ use cg_json::{
 use cg_model::Name;
 use cg_reading::{ItemReader, Misfit, WRONG_SHAPE, all_of, all_or_first};
 use serde_json::Value;
-use std::alloc::{AllocError, Global};
+use std::alloc::Global;
 
 /// A wrong shape of the file, outside of its nodes and order edges.
 const WRONG_FILE: Misfit<KernelPlace> = Misfit::WrongShape(KernelPlace::File);

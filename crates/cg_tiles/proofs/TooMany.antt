@@ -8,6 +8,7 @@ use Rattle.cg_parts.specs.declared.fault.TooLargePlace.TheVariants as large
 use Rattle.cg_parts.specs.Parts.{entries}
 use Rattle.cg_parts.specs.Rules.{links, too_large, fault_before_loops, bad_name, repeated_name, wrong_driver}
 use Rattle.cg_arch.specs.Answer.{early}
+use Rattle.cg_model.specs.Limits.{most_resources, most_links}
 use Rattle.cg_grid.specs.declared.written.WrittenArch.{WrittenArch}
 use Rattle.cg_grid.specs.Rules.{first_fault}
 use Rattle.cg_grid.specs.declared.fault.TilesFault.TheVariants as fault
@@ -42,15 +43,15 @@ links-of : (w : WrittenArch) → links (entries (parts_of w).elements) ≡ grid_
 unfolding parts_of
 links-of w = links-counted w (grid_of w) 0 w.header.grid
 
-pub refused-resources : (w : WrittenArch) → first_fault w ≡ None → nat_lt 4096 (grid_resources w.tiles w.header.grid) ≡ true
+pub refused-resources : (w : WrittenArch) → first_fault w ≡ None → nat_lt most_resources (grid_resources w.tiles w.header.grid) ≡ true
     → IsRefused (judged w) (fault.Parts (arch.TooLarge large.Resources))
-refused-resources w none many = refused w large.Resources none (let e : nat_lt 4096 (length (entries (parts_of w).elements)) ≡ true = ap (nat_lt 4096) (resources-of w) ∙ many in rw e refl)
+refused-resources w none many = refused w large.Resources none (let e : nat_lt most_resources (length (entries (parts_of w).elements)) ≡ true = ap (nat_lt most_resources) (resources-of w) ∙ many in rw e refl)
 
 -- by what is lean
-pub refused-links : (w u : WrittenArch) → u ≡ lean w → first_fault w ≡ None → nat_lt 4096 (grid_resources w.tiles w.header.grid) ≡ false → 65536 < grid_links u (grid_of u) 0 u.header.grid
+pub refused-links : (w u : WrittenArch) → u ≡ lean w → first_fault w ≡ None → nat_lt most_resources (grid_resources w.tiles w.header.grid) ≡ false → most_links < grid_links u (grid_of u) 0 u.header.grid
     → IsRefused (judged w) (fault.Parts (arch.TooLarge large.Links))
 refused-links w u is none few many = refused w large.Links none
-    (let e : nat_lt 4096 (length (entries (parts_of w).elements)) ≡ false = ap (nat_lt 4096) (resources-of w) ∙ few in
+    (let e : nat_lt most_resources (length (entries (parts_of w).elements)) ≡ false = ap (nat_lt most_resources) (resources-of w) ∙ few in
     let same : links (entries (parts_of w).elements) ≡ grid_links u (grid_of u) 0 u.header.grid = sym (lean-links w) ∙ ap (λ x. links (entries (parts_of x).elements)) (sym is) ∙ links-of u in
-    let m : nat_lt 65536 (links (entries (parts_of w).elements)) ≡ true = ap (nat_lt 65536) same ∙ lt-ltb 65536 (grid_links u (grid_of u) 0 u.header.grid) many in
+    let m : nat_lt most_links (links (entries (parts_of w).elements)) ≡ true = ap (nat_lt most_links) same ∙ lt-ltb most_links (grid_links u (grid_of u) 0 u.header.grid) many in
     rw (e, m) refl)

@@ -1,5 +1,5 @@
 -- The parts that tiles on a grid stand for: their elements by row, column and order in the tile.
-use Rattle.std.specs.Prelude.{ℕ, ◌+◌, List, [], ◌∷◌, ◌++◌, length, map, filter_map, Option, Some, codes, decimal, option_map}
+use Rattle.std.specs.Prelude.{ℕ, ◌+◌, List, [], ◌∷◌, ◌++◌, length, map, filter_map, Option, codes, decimal, option_map}
 use Rattle.std.specs.Option.{option_map_or}
 use Rattle.cg_parts.specs.Parts.{distinct}
 use Rattle.cg_parts.specs.declared.parts.Element.{Element}
@@ -22,10 +22,14 @@ use Rattle.cg_grid.specs.Grid.{neighbour}
 abbrev pub flat_name : Cell → List ℕ → List ℕ
 flat_name cell x = codes "r" ++ (decimal cell.row ++ (codes "c" ++ (decimal cell.column ++ (codes "_" ++ x))))
 
+-- the flat name of what is called x in a cell; x is itself a flat name where it may lie anywhere
+abbrev pub name_in : Cell → Side → List ℕ → List ℕ
+name_in cell Anywhere x = x
+name_in cell side x = flat_name cell x
+
 -- the flat name of the resource that a reference in a cell names, none off the grid
 abbrev pub name_on : Grid → Cell → Side → List ℕ → Option (List ℕ)
-name_on grid cell Anywhere x = Some x
-name_on grid cell side x = option_map (λ other. flat_name other x) (neighbour grid cell side)
+name_on grid cell side x = option_map (λ other. name_in other side x) (neighbour grid cell side)
 
 abbrev pub driver_of : Grid → Cell → Reference → Option (List ℕ)
 driver_of grid cell reference = name_on grid cell reference.side reference.name

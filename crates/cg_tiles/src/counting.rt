@@ -7,7 +7,7 @@ ghost use Rattle.cg_tiles.specs.Elements.{parts_for};
 use cg_grid::{Part, Tile, WrittenArch, WrittenPart, tile_of};
 use cg_model::{MOST_RESOURCES, Name};
 
-/// Whether the cells of the grid stand for more than 4,096 resources.
+/// Whether the cells of the grid stand for more resources than allowed.
 pub(crate) fn has_many_resources(written: &WrittenArch) -> bool
     ensures { result ≡ nat_lt most_resources (spec.grid_resources written.now.tiles written.now.header.grid) }
 {

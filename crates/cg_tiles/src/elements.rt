@@ -15,7 +15,7 @@ use cg_parts::{Element, Names, Parts};
 use indexmap::IndexSet;
 use std::alloc::{AllocError, Global};
 
-/// The parts that are written, unless there are more than 65,536 links into their resources.
+/// The parts that are written, unless there are more links than allowed into their resources.
 #[tactic(auto, unfolding(crate::specs::Elements::parts_of))]
 pub(crate) fn parts_of(alloc: Global, written: WrittenArch) -> Result<Parts, MakingFault>
     ensures parts { IfOk result (λ parts. parts ≡ spec.parts_of written) }
@@ -206,7 +206,8 @@ fn names_of(
         if names.len() > room.links {
             return Err(MakingFault::TooManyLinks);
         }
-        if let Some(name) = driver_of(alloc, grid, cell, reference)? {
+        if let Some(other) = neighbour(grid, cell, reference.side) {
+            let name = driver_in(alloc, other, reference)?;
             room.spend(name.as_str())?;
             add_name(alloc, &mut seen, &mut names, name)?;
         }
@@ -232,22 +233,16 @@ fn add_name(
     Ok(())
 }
 
-/// The flat name of the resource that a reference in a cell names, none off the grid.
-fn driver_of(
-    alloc: Global,
-    grid: Grid,
-    cell: Cell,
-    reference: &Reference,
-) -> Result<Option<Name>, AllocError>
-    ensures { IfOk result (λ name. name ≡ spec.driver_of grid cell reference.now) }
+/// The flat name of the resource that a reference names, where its side is that cell.
+fn driver_in(alloc: Global, cell: Cell, reference: &Reference) -> Result<Name, AllocError>
+    ensures { IfOk result (λ name. name ≡ spec.name_in cell reference.now.side reference.now.name) }
 {
     let name = reference.name.as_str();
-    if matches!(reference.side, Side::Anywhere) {
-        return Ok(Some(Name::new(name.to_string(alloc)?)));
-    }
-    match neighbour(grid, cell, reference.side) {
-        Some(other) => Ok(Some(flat_name(alloc, other, name)?)),
-        None => Ok(None),
+    match reference.side {
+        Side::Anywhere => Name::copy_of(alloc, name),
+        Side::Here | Side::North | Side::East | Side::South | Side::West => {
+            flat_name(alloc, cell, name)
+        }
     }
 }
 

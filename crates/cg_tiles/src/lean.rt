@@ -85,7 +85,7 @@ fn short_name(alloc: Global, name: Name) -> Result<Name, AllocError>
     ensures { IfOk result (λ short. short ≡ spec.short_name name) }
 {
     if name.as_str().len() > 40 {
-        Ok(Name::new(".".to_string(alloc)?))
+        Ok(Name::copy_of(alloc, ".")?)
     } else {
         Ok(name)
     }
