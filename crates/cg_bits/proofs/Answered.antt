@@ -42,3 +42,12 @@ config_is A C bytes valid sized bits = reads_back cgb2 is_cgb2 A (room_of A vali
 
 pub same_bytes : (A : Arch) (C : Config) (a b : List ℕ) → IsArch A → length (digest_of A) ≡ 32 → IsBytes a → IsBytes b → AreBits A C a → AreBits A C b → a ≡ b
 same_bytes A C a b valid sized fits fit s t = one_spelling cgb2 is_cgb2 A (room_of A valid) (digest_of A) sized C a b fits fit s.spelled t.spelled
+
+-- an answer of one kind, and of another
+pub none_answered : {X : Type 0} (x y : X) (faults : List BitsFault) → Ok y ≡ unless_fault faults x → faults ≡ []
+none_answered x y [] e = refl
+none_answered x y (f ∷ fs) e = absurd cc
+
+pub fault_answered : {X Y : Type 0} (x : X) (y : Y) (f : BitsFault) (faults : List BitsFault) → Err f ≡ unless_fault faults x → Err f ≡ unless_fault faults y
+fault_answered x y f [] e = absurd cc
+fault_answered x y f (g ∷ fs) e = let same : f ≡ g = cc in ap (λ z. Err z) same

@@ -87,6 +87,7 @@ pub(crate) fn check(format: Format, arch: &Arch, bytes: &[u8]) -> Result<(), Bit
 /// takes no memory, and never answers `Memory`.
 pub fn check_bits(arch: &Arch, bytes: &[u8]) -> Result<(), BitsFault>
     ensures answer { result ≡ unless_fault (faults_of arch.now bytes.now) tt }
+    ensures valid { IsArch arch.now }
     // Where there is no fault, they are a bitstream of the configuration that is read.
     ensures bits { IfOk result (λ _. AreBits arch.now (config_of arch.now bytes.now) bytes.now) }
     // A bitstream of any configuration has no fault, and it is that one which is read.
