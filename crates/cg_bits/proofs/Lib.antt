@@ -16,3 +16,4 @@ pub mod Places
 pub mod Outputs
 pub mod Linked
 pub mod Started
+pub mod Answered

@@ -36,7 +36,7 @@ total_within f zero i lt = absurd (omega arith)
 total_within f (suc n) i lt =
     ⊎_elim (λ l. let h = total_within f n i l in omega arith) (λ l. let e : n ≡ i = omega arith in subst (λ j. total f j + f j ≤ total f n + f n) e (omega arith)) (cases_lt i n)
 
-offered_arity : (ops : List Op) (o : Option Op) (n : ℕ) → ((op : Op) → among ops op ≡ true → arity op ≤ n) → offered ops o ≡ true → arity_of o ≤ n
+pub offered_arity : (ops : List Op) (o : Option Op) (n : ℕ) → ((op : Op) → among ops op ≡ true → arity op ≤ n) → offered ops o ≡ true → arity_of o ≤ n
 offered_arity ops None n h e = omega arith
 offered_arity ops (Some op) n h e = h op e
 

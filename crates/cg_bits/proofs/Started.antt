@@ -14,7 +14,8 @@ use Rattle.cg_bits.specs.Checks.{Checks, start_faults}
 use Rattle.cg_bits.specs.Format.{slot_len}
 use Rattle.cg_bits.proofs.Breaches.{skip, here}
 use Rattle.cg_bits.proofs.None.{none_both, none_unless, none_guard, both_none}
-use Rattle.cg_bits.proofs.Linked.{size_is}
+use Rattle.cg_bits.specs.Ranges.{IsFormat}
+use Rattle.cg_bits.proofs.Linked.{size_is, faults_are}
 
 -- the header's end, after its first bytes: too short, or a fault of the header, or too short for the slots
 abbrev pub after : Bool → Bool → BitsFault → List BitsFault → List BitsFault
@@ -95,3 +96,7 @@ started F A digest bytes e =
       contexts = ltb-false _ _ few.0;
       whole = leb-true _ _ (long_enough (eqb (length (D ++ H)) 0) (leb (Faults.size F A digest bytes) (length bytes)) (Truncated (length bytes)) long.1 empty);
     }
+
+-- no fault at all, so none of the header
+pub none_started : (F : Format) → IsFormat F → (A : Arch) (digest bytes : List ℕ) → Faults.faults F A digest bytes ≡ [] → IsStarted F A bytes
+none_started F is A digest bytes e = started F A digest bytes (none_both (start_faults F A digest bytes) _ (sym (faults_are F is A digest bytes) ∙ e)).0

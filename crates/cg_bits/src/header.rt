@@ -1,5 +1,6 @@
 //! The header of a bitstream.
 ghost use Rattle.std.specs.Prelude.{◌≡◌, ◌+◌, ◌*◌, ◌/◌, ◌<◌, ◌≤◌, ◌^◌, ◌++◌, length, take, drop, nat_eq, nat_lt, eqb, ◌||◌};
+ghost use Rattle.cg_model.specs.Array.{IsArch};
 ghost use Rattle.std.specs.List.{starts_with};
 ghost use Rattle.cg_bits.specs.Spelling.{magic};
 ghost use Rattle.cg_arch.specs.Kept.{digest_of};
@@ -13,8 +14,8 @@ use crate::fault::BitsFault;
 use crate::format::Format;
 use cg_arch::Arch;
 
-/// The bytes of a header.
-pub(crate) const HEADER: usize = 40;
+/// The length of the header, in bytes.
+pub const HEADER: usize = 40;
 
 /// The interval that a header says.
 pub fn ii_in(bytes: &[u8]) -> u32
@@ -38,17 +39,18 @@ pub(crate) fn slot_len(format: Format, arch: &Arch) -> usize
     requires { IsFormat format }
     ensures value { result ≡ slot_len format arch.now }
     ensures small { result < 2 ^ 32 }
+    ensures valid { IsArch arch.now }
 {
     arch.slot_bits() as usize - arch.units().len() * (6 - format.op_bits as usize)
 }
 
-/// The bytes of the header and of that many slots.
-pub(crate) fn size(format: Format, arch: &Arch, ii: u32) -> usize
-    requires known { IsFormat format }
-    requires small { ii < 65536 }
-    ensures { result ≡ 40 + (ii * slot_len format arch.now + 7) / 8 }
+/// The bytes of the header and of so many slots, of so many bits each.
+pub(crate) fn size(ii: u32, len: usize) -> usize
+    requires many { ii < 65536 }
+    requires long { len < 2 ^ 32 }
+    ensures { result ≡ 40 + (ii * len + 7) / 8 }
 {
-    HEADER + (ii as usize * slot_len(format, arch) + 7) / 8
+    HEADER + (ii as usize * len + 7) / 8
 }
 
 /// Whether the first bytes, as many as there are of four, are those of the format.
@@ -77,15 +79,20 @@ fn header_wrong(contexts: u32, ii: u32, stages: u32) -> bool
     ii == 0 || ii > contexts || stages == 0
 }
 
-/// The digest, the interval and the stages of a header against an architecture.
-fn check_header(format: Format, arch: &Arch, bytes: &[u8]) -> Result<(), BitsFault>
-    requires { 40 ≤ length bytes.now }
+/// The digest, the interval and the stages of a header against an architecture, whose digest is given.
+fn check_header(
+    format: Format,
+    arch: &Arch,
+    digest: &[u8; 32],
+    bytes: &[u8],
+) -> Result<(), BitsFault>
+    requires header { 40 ≤ length bytes.now }
+    requires digest { digest.now ≡ digest_of arch.now }
     ensures { Checks result (other_digest format arch.now (digest_of arch.now) bytes.now ++ bad_header format arch.now (digest_of arch.now) bytes.now) }
 {
     let file = digest_in(bytes);
-    let architecture = arch.digest();
-    if file != architecture {
-        return Err(BitsFault::ArchMismatch(file, architecture));
+    if file != *digest {
+        return Err(BitsFault::ArchMismatch(file, *digest));
     }
     let ii = ii_in(bytes);
     let stages = stages_in(bytes);
@@ -95,9 +102,19 @@ fn check_header(format: Format, arch: &Arch, bytes: &[u8]) -> Result<(), BitsFau
     Ok(())
 }
 
-/// The header, and whether the bytes hold the slots that it says.
-pub(crate) fn check_start(format: Format, arch: &Arch, bytes: &[u8]) -> Result<(), BitsFault>
-    requires { IsFormat format }
+/// The header against an architecture, whose digest is given, and whether the bytes hold the slots that it says, of so many
+/// bits each.
+pub(crate) fn check_start(
+    format: Format,
+    arch: &Arch,
+    digest: &[u8; 32],
+    len: usize,
+    bytes: &[u8],
+) -> Result<(), BitsFault>
+    requires known { IsFormat format }
+    requires digest { digest.now ≡ digest_of arch.now }
+    requires len { len ≡ slot_len format arch.now }
+    requires long { len < 2 ^ 32 }
     ensures { Checks result (start_faults format arch.now (digest_of arch.now) bytes.now) }
 {
     if !begins(format, bytes) {
@@ -106,8 +123,8 @@ pub(crate) fn check_start(format: Format, arch: &Arch, bytes: &[u8]) -> Result<(
     if bytes.len() < HEADER {
         return Err(BitsFault::Truncated(bytes.len()));
     }
-    check_header(format, arch, bytes)?;
-    if bytes.len() < size(format, arch, ii_in(bytes)) {
+    check_header(format, arch, digest, bytes)?;
+    if bytes.len() < size(ii_in(bytes), len) {
         return Err(BitsFault::Truncated(bytes.len()));
     }
     Ok(())

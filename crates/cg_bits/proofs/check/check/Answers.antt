@@ -20,8 +20,8 @@ body_is bytes = take_all (length bytes - 40) (drop 40 bytes) (omega (arith, leng
 few_bits : (i l : ℕ) → i < 65536 → l < 2 ^ 32 → i * l < 2 ^ 48
 few_bits i l a b = let h : l ≤ 2 ^ 32 = omega arith in let k = mul-le-mul_left i h in omega arith
 
-pub returns-in_err-check_start : goal.returns-in_err-check_start
-returns-in_err-check_start c =
+pub returns-in_err-check_start-clause-faults : goal.returns-in_err-check_start-clause-faults
+returns-in_err-check_start-clause-faults c =
     let F = c.args.format in
     let A = c.args.arch.now in
     let bytes = c.args.bytes.now in
@@ -35,18 +35,18 @@ invariant_of-slots c =
     let bytes = c.args.bytes.now in
     let s = started F A (digest_of A) bytes c.in_ok-check_start.ensures in
     let whole = s.whole in
-    let same : c.ii_in-ii.result * c.slot_len.result ≡ ii_in bytes * slot_len F A = ap (λ z. z * c.slot_len.result) c.ii_in-ii.ensures.value ∙ ap (λ z. ii_in bytes * z) c.slot_len.ensures.value in
+    let same : c.ii_in-ii.result * c.slot_len-len.result ≡ ii_in bytes * slot_len F A = ap (λ z. z * c.slot_len-len.result) c.ii_in-ii.ensures.value ∙ ap (λ z. ii_in bytes * z) c.slot_len-len.ensures.value in
     record {
       fit = record {
         known = c.requires;
-        len_is = c.slot_len.ensures.value;
+        len_is = c.slot_len-len.ensures.value;
         whole = rw (body_is bytes) (omega (arith, length-drop 40 bytes));
-        few = few_bits c.ii_in-ii.result c.slot_len.result c.ii_in-ii.ensures.small c.slot_len.ensures.small;
+        few = few_bits c.ii_in-ii.result c.slot_len-len.result c.ii_in-ii.ensures.small c.slot_len-len.ensures.small;
       };
     }
 
-pub returns-in_err-check_fields : goal.returns-in_err-check_fields
-returns-in_err-check_fields c =
+pub returns-in_err-check_fields-clause-faults : goal.returns-in_err-check_fields-clause-faults
+returns-in_err-check_fields-clause-faults c =
     let F = c.args.format in
     let A = c.args.arch.now in
     let bytes = c.args.bytes.now in
@@ -57,8 +57,8 @@ returns-in_err-check_fields c =
     rw (p.1, p.2) (ap first (faults_are F c.requires A (digest_of A) bytes)
     ∙ skip (start_faults F A (digest_of A) bytes) _ _ c.in_ok-check_start.ensures (here (field_faults F A (body_bits bytes) (ii_in bytes) (stages_in bytes)) _ _ (sym (ap first part) ∙ c.in_err-check_fields.ensures)))
 
-pub returns : goal.returns
-returns c =
+pub returns-clause-faults : goal.returns-clause-faults
+returns-clause-faults c =
     let F = c.args.format in
     let A = c.args.arch.now in
     let bytes = c.args.bytes.now in
