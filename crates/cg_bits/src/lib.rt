@@ -11,6 +11,7 @@ mod header;
 mod ports;
 mod reading;
 mod rules;
+mod texts;
 
 pub use cg_contexts::{ArgFields, Contexts, UnitFields};
 pub use check::check_bits;
@@ -19,3 +20,4 @@ pub use field::number_at;
 pub use format::{CGB2, Format};
 pub use header::{HEADER, ii_in, stages_in};
 pub use reading::{NO_ARG, arg_at, op_of, unit_at};
+pub use texts::bits_fault_text;

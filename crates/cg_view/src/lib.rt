@@ -5,7 +5,7 @@ mod config_view;
 mod context_view;
 mod unit_view;
 
-pub use cg_bits::{ArgFields, BitsFault, Contexts, UnitFields};
+pub use cg_bits::{ArgFields, BitsFault, Contexts, UnitFields, bits_fault_text};
 pub use config_view::ConfigView;
 pub use context_view::ContextView;
 pub use unit_view::UnitView;
