@@ -35,7 +35,7 @@ use Rattle.cg_answers.specs.Flat.{flat_by, IsFlattened}
 use Rattle.cg_answers.specs.Run.{run_by, run_by_bits, run_by_image, ran, too_large, IsArrayRun}
 use Rattle.cg_answers.specs.Commands.{IsAnswer, Leaves}
 use Rattle.cg_answers.proofs.Commands.{turns_is, on_image_is}
-use Rattle.cg_answers.proofs.Run.{valid_array, canonical_answer}
+use Rattle.cg_answers.proofs.Run.{valid_array, spelled_answer}
 
 -- ---- what was put and written
 
@@ -196,7 +196,7 @@ module _ (n : ℕ) (arch file input out : Name) (f g h : File) (o : Outcome) (be
       held = held;
       config = C;
       config_is = config_is;
-      canonical = canonical_answer A C g.bytes (valid_array f.bytes A given) config_is;
+      spelled = spelled_answer A C g.bytes (valid_array f.bytes A given) config_is;
       image_bytes = h.bytes;
       image_held = image_held;
       image = image;

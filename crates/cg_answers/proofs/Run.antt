@@ -4,23 +4,28 @@ use Rattle.std.proofs.lemmas.Bool.{le-ltb}
 use Rattle.cg_model.specs.Work.{Image}
 use Rattle.cg_model.specs.Array.{Arch, IsArch}
 use Rattle.cg_model.specs.Config.{Config}
-use Rattle.cg_model.specs.Canonical.{IsCanonical}
 use Rattle.cg_ending.specs.declared.outcome.Status.{Status}
 use Rattle.cg_ending.specs.declared.outcome.Status.TheVariants.{Done, Malformed}
 use Rattle.cg_ending.specs.Outcome.{Name, File, Outcome, names_of}
 use Rattle.cg_ending.specs.Status.{leaves_all}
 use Rattle.cg_level.proofs.Solved.{order_or_loop}
 use Rattle.cg_parts.specs.declared.parts.Parts.{Parts}
+use Rattle.sha2.proofs.Facts256.{length-sha256}
+use Rattle.cg_flat.specs.Text.{text_of}
 use Rattle.cg_arch.specs.Flat.{arch_of}
+use Rattle.cg_arch.specs.Kept.{digest_of}
 use Rattle.cg_arch.specs.Answer.{AreValid}
 use Rattle.cg_arch.proofs.Answered.{drivers_known, valid_by}
-use Rattle.cg_tiles.specs.declared.fault.TilesFault.{TilesFault}
-use Rattle.cg_tiles.specs.declared.fault.TilesFault.TheVariants as fault
+use Rattle.cg_grid.specs.declared.fault.TilesFault.{TilesFault}
+use Rattle.cg_grid.specs.declared.fault.TilesFault.TheVariants as fault
 use Rattle.cg_tiles.specs.Answer as tiles
 use Rattle.cg_tiles.specs.Answer.{AreValidBytes}
 use Rattle.cg_tiles.proofs.NotBoth.{not_both}
 use Rattle.cg_bits.specs.declared.fault.BitsFault.{BitsFault}
 use Rattle.cg_bits.specs.Answers as bits
+use Rattle.cg_bits.specs.Ranges.{IsBytes}
+use Rattle.cg_bits.specs.Spelling.{AreBits}
+use Rattle.cg_bits.proofs.Answered.{bits_of, none_answered}
 use Rattle.cg_pad.specs.declared.fault.ImageFault.{ImageFault}
 use Rattle.cg_pad.specs.Bytes as images
 use Rattle.cg_answers.specs.Run.{IsRun, IsRunnable, run_by, run_by_bits, run_by_image, ran, too_large}
@@ -43,6 +48,18 @@ valid_parts parts a =
 -- and a valid one
 pub valid_array : (bytes : List ℕ) (A : Arch) → AreValidBytes bytes A → IsArch A
 valid_array bytes A a = subst IsArch (sym a.valid.is) (valid_parts a.parts (subst (AreValid a.parts) a.valid.is a.valid))
+
+-- ---- the configuration
+
+-- bytes that are answered by a configuration spell it
+pub spelled_answer : (A : Arch) (C : Config) (bytes : List ℕ) → IsArch A → bits.answer_of A bytes ≡ Ok C → IsBytes bytes → AreBits A C bytes
+unfolding digest_of
+spelled_answer A C bytes valid e fits =
+    let none : bits.faults_of A bytes ≡ [] = none_answered (bits.config_of A bytes) C (bits.faults_of A bytes) (sym e) in
+    let read : bits.answer_of A bytes ≡ Ok (bits.config_of A bytes) = ap (λ fs. bits.unless_fault fs (bits.config_of A bytes)) none in
+    let ok : Ok (bits.config_of A bytes) ≡ Ok C = sym read ∙ e in
+    let same : bits.config_of A bytes ≡ C = cc in
+    subst (λ D. AreBits A D bytes) same (bits_of A bytes valid (length-sha256 (text_of A)) fits none)
 
 -- ---- status and writes
 

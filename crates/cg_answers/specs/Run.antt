@@ -3,20 +3,21 @@ use Rattle.std.specs.Prelude.{◌≡◌, ◌≢◌, ◌≤◌, ℕ, nat_lt, if�
 use Rattle.cg_model.specs.Work.{Image}
 use Rattle.cg_model.specs.Array.{Arch}
 use Rattle.cg_model.specs.Config.{Config}
-use Rattle.cg_model.specs.Canonical.{IsCanonical}
 use Rattle.cg_model.specs.Machine.{cycles, machine_left}
 use Rattle.cg_ending.specs.declared.outcome.Status.TheVariants.{Done}
 use Rattle.cg_files.specs.Held.{Holds, Appends}
 use Rattle.cg_ending.specs.Outcome.{Name, Bytes, File, Outcome, line_of}
 use Rattle.cg_ending.specs.Ends.{Moment}
 use Rattle.cg_ending.specs.Refusals.{malformed_of}
-use Rattle.cg_tiles.specs.declared.fault.TilesFault.{TilesFault}
-use Rattle.cg_tiles.specs.declared.fault.TilesFault.TheVariants as fault
+use Rattle.cg_grid.specs.declared.fault.TilesFault.{TilesFault}
+use Rattle.cg_grid.specs.declared.fault.TilesFault.TheVariants as fault
 use Rattle.cg_tiles.specs.Answer as tiles
 use Rattle.cg_tiles.specs.Answer.{AreValidBytes}
-use Rattle.cg_tiles.specs.Texts.{tiles_fault_text}
+use Rattle.cg_grid.specs.Texts.{tiles_fault_text}
 use Rattle.cg_bits.specs.declared.fault.BitsFault.{BitsFault}
 use Rattle.cg_bits.specs.Answers as bits
+use Rattle.cg_bits.specs.Ranges.{IsBytes}
+use Rattle.cg_bits.specs.Spelling.{AreBits}
 use Rattle.cg_bits.specs.Texts.{bits_fault_text}
 use Rattle.cg_pad.specs.declared.fault.ImageFault.{ImageFault}
 use Rattle.cg_pad.specs.Bytes as images
@@ -75,8 +76,8 @@ pub record IsRunnable (arch file input : File) : Type 0 where
   pub image_is : images.answer_of input.bytes ≡ Ok image
   pub fits : length image.memory ≤ array.memory
 
--- Done: an architecture, a canonical configuration of it and an image that fits its memory were read; what the array leaves
--- after the turns is held under the last name, and its cycles and its count were put
+-- Done: an architecture, a canonical configuration of it, which the bytes spell, and an image that fits its memory were read;
+-- what the array leaves after the turns is held under the last name, and its cycles and its count were put
 pub record IsArrayRun (n : ℕ) (arch file input out : Name) (before after : Moment) : Type 0 where
   pub arch_bytes : Bytes
   pub arch_held : Holds before.held arch arch_bytes
@@ -86,7 +87,7 @@ pub record IsArrayRun (n : ℕ) (arch file input out : Name) (before after : Mom
   pub held : Holds before.held file bytes
   pub config : Config
   pub config_is : bits.answer_of array bytes ≡ Ok config
-  pub canonical : IsCanonical array config
+  pub spelled : IsBytes bytes → AreBits array config bytes
   pub image_bytes : Bytes
   pub image_held : Holds before.held input image_bytes
   pub image : Image

@@ -1,8 +1,10 @@
 //! `run ARCH BITS TURNS IN OUT`.
-ghost use Rattle.std.specs.Prelude.{◌≡◌, ◌≤◌, Ok, IfOk};
+ghost use Rattle.std.specs.Prelude.{◌≡◌, ◌≤◌, ℕ, Ok, IfOk};
 ghost use Rattle.cg_model.specs.Limits.{most_turns};
 ghost use Rattle.cg_model.specs.Canonical.{IsCanonical};
 ghost use Rattle.cg_ending.specs.Outcome.{file_of, outcome_of};
+ghost use Rattle.cg_ending.specs.Refusals.{malformed_of};
+ghost use Rattle.cg_sim.specs.Texts.{sim_fault_text};
 ghost use Rattle.cg_pad.specs.Bytes as images;
 ghost use Rattle.cg_bits.specs.Answers as bits;
 ghost use Rattle.cg_answers.specs.Run.{IsRun, ran, run_by_bits, run_by_image, run_report};
@@ -54,7 +56,7 @@ fn run_on_array(
     match ConfigView::of(array, file.bytes.as_slice()) {
         Ok(config) => run_config(alloc, turns, array, &config, input, out),
         Err(fault) => {
-            let text = bits_fault_text(alloc, &fault)?;
+            let text = bits_fault_text(alloc, fault)?;
             malformed(alloc, file.name.as_str(), text.as_str())
         }
     }
@@ -100,8 +102,20 @@ fn run_image(
 {
     match Sim::new(alloc, array, config, turns, image) {
         Ok(sim) => ran(alloc, sim, out),
-        Err(SimFault::Memory) => Err(AllocError),
-        Err(fault) => {
+        Err(fault) => refused(alloc, fault, input),
+    }
+}
+
+/// Why few enough turns aren't run: the image has more words than the memory.
+fn refused(alloc: Global, fault: SimFault, input: &str) -> Result<Outcome, AllocError>
+    requires { (t : ℕ) → fault ≡ SimFault.TooManyTurns t → ⊥ }
+    ensures { IfOk result (λ o. (w : ℕ) × (fault ≡ SimFault.ImageTooLarge w)
+        × (outcome_of o ≡ malformed_of input.now (sim_fault_text fault))) }
+{
+    match fault {
+        SimFault::Memory => Err(AllocError),
+        SimFault::TooManyTurns(_) => unreachable!(),
+        SimFault::ImageTooLarge(_) => {
             let text = sim_fault_text(alloc, fault)?;
             malformed(alloc, input, text.as_str())
         }
@@ -111,7 +125,7 @@ fn run_image(
 /// The image fits the memory: all cycles are run, and what they leave is written.
 fn ran(alloc: Global, sim: Sim<'_, ConfigView<'_>>, out: &str) -> Result<Outcome, AllocError>
     requires { sim.done ≡ 0 }
-    ensures { IfOk result (λ o. outcome_of o ≡ ran sim.n sim.arch sim.config sim.image out.now) }
+    ensures { IfOk result (λ o. outcome_of o ≡ ran sim.entry.n sim.entry.arch sim.entry.config sim.entry.image out.now) }
 {
     let mut sim = sim;
     let cycles = sim.left();
