@@ -7,6 +7,8 @@ mod plan;
 mod settle;
 mod sim;
 mod streams;
+#[cfg(test)]
+mod tests;
 mod texts;
 mod units;
 
