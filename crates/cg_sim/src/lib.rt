@@ -3,6 +3,7 @@
 
 mod effects;
 mod fault;
+mod moment;
 mod plan;
 mod settle;
 mod sim;
