@@ -30,7 +30,7 @@ unfolding greatest_of
 greatest_below f zero b h = omega arith
 greatest_below f (suc n) b h = let before = greatest_below f n b (λ i lt. h i (omega arith)) in let last = h n (omega arith) in omega arith
 
-any_none : (f : ℕ → Bool) (n : ℕ) → ((i : ℕ) → i < n → f i ≡ false) → any_below f n ≡ false
+pub any_none : (f : ℕ → Bool) (n : ℕ) → ((i : ℕ) → i < n → f i ≡ false) → any_below f n ≡ false
 unfolding any_below
 any_none f zero h = refl
 any_none f (suc n) h = or_from (any_below f n) (f n) (any_none f n (λ i lt. h i (omega arith))) (h n (omega arith))
@@ -41,7 +41,7 @@ no_clash true true false h = refl
 no_clash true false c h = refl
 no_clash false b c h = refl
 
-greatest_has : (f : ℕ → ℕ) (n i : ℕ) → i < n → f i ≤ greatest_of f n
+pub greatest_has : (f : ℕ → ℕ) (n i : ℕ) → i < n → f i ≤ greatest_of f n
 unfolding greatest_of
 greatest_has f zero i lt = absurd (omega arith)
 greatest_has f (suc n) i lt =

@@ -16,7 +16,7 @@ use Rattle.cg_model.specs.Work.{Image, Work}
 use Rattle.cg_model.specs.Machine.{Cycle, ago, driver, driven, by_kind, word_by, words_in, at_cycle, begun, begins, word, result_of, memory_by, sent_by_units, missed_by_units}
 use Rattle.cg_overlap.proofs.Wires.{unrolled, Contains-driver, out_within}
 use Rattle.cg_sim.specs.Plan.{link, is_register, is_net, IsPlan}
-use Rattle.cg_sim.specs.Settle.{terminals, delayed, chosen, Keeps, AreGiven, AreRight, Settles, IsSettled}
+use Rattle.cg_sim.specs.Settle.{terminals, delayed, chosen, Keeps, AreOutsRight, AreRight, Settles, IsSettled}
 use Rattle.cg_sim.specs.Reserved.{Reserved, stream}
 use Rattle.cg_sim.specs.Effects.{applied, on_ports, works_on, BeginsAll, HasRow, HasRoomAfter}
 use Rattle.cg_sim.specs.State.{IsState}
@@ -118,7 +118,7 @@ module _ (A : Arch) (C : Config) (n : ℕ) (image : Image) (valid : IsArch A) (g
       ∙ sym (rw kind at (unrolled A C n image valid slot past r linked.known))
 
   -- a word is right where those of outs and registers are, and that of a wire or port
-  right_at : (ws : List ℕ) → AreGiven p.units.items ws now → AreRight p.registers (length p.registers.entries.items) ws now →
+  right_at : (ws : List ℕ) → AreOutsRight p.units.items ws now → AreRight p.registers (length p.registers.entries.items) ws now →
       (q : ℕ) → q < length A.resources → (is_net (resource A q).kind ≡ true → slice_index ws q ≡ now q) → slice_index ws q ≡ now q
   right_at ws outs registers q known net =
       by_kinds (resource A q).kind (slice_index ws q ≡ now q)
@@ -133,7 +133,7 @@ module _ (A : Arch) (C : Config) (n : ℕ) (image : Image) (valid : IsArch A) (g
       net
 
   nets_settle : (j : ℕ) → j < length p.nets.entries.items → (ws : List ℕ) → Keeps now before ws →
-      AreGiven p.units.items ws now → AreRight p.registers (length p.registers.entries.items) ws now →
+      AreOutsRight p.units.items ws now → AreRight p.registers (length p.registers.entries.items) ws now →
       AreRight p.nets j ws now → slice_index ws (chosen C slot p.nets j) ≡ now (link p.nets.entries.items j).resource
   nets_settle j h ws kept outs registers earlier =
       let entry = link p.nets.entries.items j in

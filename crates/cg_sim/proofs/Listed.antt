@@ -1,5 +1,5 @@
 -- Lists of resources with their drivers, as they grow.
-use Rattle.std.proofs.Common.{◌≡◌, ◌≢◌, ℕ, suc, ◌+◌, ◌<◌, Bool, true, false, List, [], ◌∷◌, ◌++◌, length, take, Contains, refl, sym, ap, ◌∙◌, subst, arith, ⊎_elim, length-append}
+use Rattle.std.proofs.Common.{◌≡◌, ◌≢◌, ℕ, suc, ◌+◌, ◌<◌, ◌≤◌, Bool, true, false, List, [], ◌∷◌, ◌++◌, length, take, Contains, refl, sym, ap, ◌∙◌, subst, arith, ⊎_elim, length-append}
 use Rattle.std.specs.Prelude.{slice_index}
 use Rattle.std.proofs.lemmas.Bool.{cases_lt, true≢false}
 use Rattle.std.proofs.lemmas.List.{get_or_append_left, get_or-append-add, get_or_push, get_or-take, get_or_default, length-take-le}
@@ -92,6 +92,12 @@ at_once Port h = refl
 at_once Register h = absurd (true≢false (sym h))
 at_once Out h = refl
 
+-- what is among the first n of a list has a place below n
+among_first : (order : List ℕ) (n q : ℕ) → n ≤ length order → Contains (take n order) q → (k : ℕ) × (k < n) × (slice_index order k ≡ q)
+among_first order n q inside (k, below, same) =
+    let few : length (take n order) ≡ n = length-take-le n order inside in
+    (k, omega arith, sym (get_or-take n order k 0 (omega arith)) ∙ get_or_default (take n order) k 0 q below ∙ same)
+
 module _ (A : Arch) (order : List ℕ) (n : ℕ) (ls : List Link) (drivers : List ℕ) (r first : ℕ) (r_is : r ≡ slice_index order n) (inside : n < length order) (topological : IsTopological A.resources order) where
   -- what drives the last entry at once is an entry already
   driver_before : is_net (resource A r).kind ≡ true → AreListed A is_net order n ls drivers → (q : ℕ) → Contains (resource A r).drivers q → is_net (resource A q).kind ≡ true →
@@ -99,10 +105,7 @@ module _ (A : Arch) (order : List ℕ) (n : ℕ) (ls : List Link) (drivers : Lis
   driver_before is l q d net =
       let d' = subst (λ z. Contains (resource A z).drivers q) r_is d in
       let delay = subst (λ z. delay_by (resource A z).kind ≡ 0) r_is (at_once (resource A r).kind is) in
-      let (k, below, same) = topological.rising n q inside (record { driver = d'; at_once = delay }) in
-      let few : length (take n order) ≡ n = length-take-le n order (omega arith) in
-      let kn : k < n = omega arith in
-      let at : slice_index order k ≡ q = sym (get_or-take n order k 0 kn) ∙ get_or_default (take n order) k 0 q below ∙ same in
+      let (k, kn, at) = among_first order n q (omega arith) (topological.rising n q inside (record { driver = d'; at_once = delay })) in
       let (i, here, is_q) = l.all k kn (subst (λ z. is_net (resource A z).kind ≡ true) (sym at) net) in
       (i, here, is_q ∙ at)
 

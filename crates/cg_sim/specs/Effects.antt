@@ -35,6 +35,11 @@ HasRoomAfter streams works x f n round = gives_output f.op ≡ true → f.stage 
     (f.port < length streams) ×
     (length ((stream streams f.port).words ++ sent_by_units works f.port x) < (stream streams f.port).room)
 
+-- there is room for what each unit sends, after the works of those before it
+abbrev pub AreRoomy : Config → List Terminals → ℕ → ℕ → ℕ → List ℕ → List Reserved → Type 0
+AreRoomy C us n slot round words streams = (x : ℕ) → x < length us →
+    HasRoomAfter streams (works_on C us n slot round words) x (fields C x slot) n round
+
 -- one unit's work, or none
 pub record Begins (image : Image) (o : Option Work) (e g : Effects) (result : ℕ) : Type 0 where
   pub result_is : result ≡ result_of image e.memory o

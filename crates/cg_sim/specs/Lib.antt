@@ -2,6 +2,7 @@ pub mod Plan
 pub mod Settle
 pub mod Reserved
 pub mod Effects
+pub mod Moment
 pub mod Run
 pub mod State
 pub mod Texts

@@ -50,25 +50,38 @@ pub record CanSettle (C : Config) (slot : ℕ) (p : Plan) (size : ℕ) : Type 0 
 
 -- the first i entries have their words
 abbrev pub AreRight : Links → ℕ → List ℕ → (ℕ → ℕ) → Type 0
-AreRight l i words f = (j : ℕ) → j < i → slice_index words (link l.entries.items j).resource ≡ f (link l.entries.items j).resource
+AreRight l i words f =
+    (j : ℕ) → j < i → slice_index words (link l.entries.items j).resource ≡ f (link l.entries.items j).resource
 
 -- the outs have their words
-abbrev pub AreGiven : List Terminals → List ℕ → (ℕ → ℕ) → Type 0
-AreGiven us words f = (x : ℕ) → x < length us → slice_index words (terminals us x).out ≡ f (terminals us x).out
+abbrev pub AreOutsRight : List Terminals → List ℕ → (ℕ → ℕ) → Type 0
+AreOutsRight us words f = (x : ℕ) → x < length us → slice_index words (terminals us x).out ≡ f (terminals us x).out
+
+-- the history gives the outs their words
+abbrev pub GiveOuts : List Terminals → ℕ → List ℕ → (ℕ → ℕ) → Type 0
+GiveOuts us row history f = (x : ℕ) → x < length us → delayed us row history x ≡ f (terminals us x).out
+
+-- the words before give the registers theirs
+abbrev pub GiveRegisters : Config → ℕ → Links → List ℕ → (ℕ → ℕ) → Type 0
+GiveRegisters C slot l before f = (j : ℕ) → j < length l.entries.items →
+    slice_index before (chosen C slot l j) ≡ f (link l.entries.items j).resource
+
+-- each wire and port follows
+abbrev pub GiveNets : Config → ℕ → Links → List ℕ → (ℕ → ℕ) → Type 0
+GiveNets C slot l old f = (j : ℕ) → j < length l.entries.items → Follows C slot l old f j
 
 -- the words f are those of the cycle: of the outs by the history, of the registers by the words before, and of a wire or
 -- port by the words of those that come before it
 pub record Settles (C : Config) (slot row : ℕ) (p : Plan) (history before old : List ℕ) (f : ℕ → ℕ) : Type 0 where
-  pub outs : (x : ℕ) → x < length p.units.items → delayed p.units.items row history x ≡ f (terminals p.units.items x).out
-  pub registers : (j : ℕ) → j < length p.registers.entries.items →
-      slice_index before (chosen C slot p.registers j) ≡ f (link p.registers.entries.items j).resource
+  pub outs : GiveOuts p.units.items row history f
+  pub registers : GiveRegisters C slot p.registers before f
   pub nets : (j : ℕ) → j < length p.nets.entries.items → (words : List ℕ) → Keeps f old words →
-      AreGiven p.units.items words f → AreRight p.registers (length p.registers.entries.items) words f →
+      AreOutsRight p.units.items words f → AreRight p.registers (length p.registers.entries.items) words f →
       AreRight p.nets j words f → slice_index words (chosen C slot p.nets j) ≡ f (link p.nets.entries.items j).resource
 
 -- all entries have their words
 pub record IsSettled (p : Plan) (old new : List ℕ) (f : ℕ → ℕ) : Type 0 where
   pub kept : Keeps f old new
-  pub outs : AreGiven p.units.items new f
+  pub outs : AreOutsRight p.units.items new f
   pub registers : AreRight p.registers (length p.registers.entries.items) new f
   pub nets : AreRight p.nets (length p.nets.entries.items) new f

@@ -1,5 +1,5 @@
 -- What the fields of a simulator are.
-use Rattle.std.specs.Prelude.{◌≡◌, ℕ, ◌+◌, ◌-◌, ◌*◌, ◌/◌, ◌%◌, ◌<◌, ◌≤◌, ◌^◌, true, List, [], length, slice_index, vec_capacity}
+use Rattle.std.specs.Prelude.{◌≡◌, ℕ, ◌+◌, ◌-◌, ◌*◌, ◌%◌, ◌<◌, ◌≤◌, ◌^◌, true, List, [], length, slice_index, vec_capacity}
 use Rattle.std.specs.declared.vec.Vec.{Vec}
 use Rattle.std.specs.declared.alloc.Global.{Global}
 use Rattle.cg_model.specs.Limits.{most_turns}
@@ -10,7 +10,9 @@ use Rattle.cg_model.specs.Work.{Image}
 use Rattle.cg_model.specs.Machine.{at_cycle, ago}
 use Rattle.cg_sim.specs.Plan.{IsPlan}
 use Rattle.cg_sim.specs.Reserved.{stream}
+use Rattle.cg_sim.specs.Moment.{IsMoment}
 use Rattle.cg_sim.specs.Run.{Run, all_cycles}
+use Rattle.cg_sim.specs.declared.moment.Moment.{Moment}
 use Rattle.cg_sim.specs.declared.plan.Plan.{Plan}
 use Rattle.cg_sim.specs.declared.effects.Effects.{Effects}
 
@@ -34,7 +36,7 @@ pub record IsState (A : Arch) (C : Config) (n : ℕ) (image : Image) (c : ℕ) (
   pub pending_room : length A.units ≤ vec_capacity e.pending
 
 -- a run, in the fields of a simulator
-pub record IsRunning (run : Run) (ii len slot round row : ℕ) (plan : Plan) (words before history : List ℕ) (e : Effects) (finished : Vec (List ℕ) Global) : Type 0 where
+pub record IsRunning (run : Run) (ii len : ℕ) (moment : Moment) (plan : Plan) (words before history : List ℕ) (e : Effects) (finished : Vec (List ℕ) Global) : Type 0 where
   pub valid : IsArch run.arch
   pub canonical : IsCanonical run.arch run.config
   pub turns : run.n ≤ most_turns
@@ -44,9 +46,7 @@ pub record IsRunning (run : Run) (ii len slot round row : ℕ) (plan : Plan) (wo
   pub length_is : len ≡ all_cycles run
   pub length_few : len ≤ 2 ^ 27
   pub within : run.done ≤ len
-  pub slot_is : slot ≡ run.done % run.config.ii
-  pub round_is : round ≡ run.done / run.config.ii
-  pub row_is : row ≡ run.done % 4
+  pub moment_is : IsMoment moment run.config.ii run.done
   pub state_is : IsState run.arch run.config run.n run.image run.done words before history e
   pub few : e.outside ≤ run.done * 1024
   pub finished_room : (finished.items ≡ []) × (16 ≤ vec_capacity finished)

@@ -3,10 +3,13 @@
 
 mod effects;
 mod fault;
+mod moment;
 mod plan;
 mod settle;
 mod sim;
 mod streams;
+#[cfg(test)]
+mod tests;
 mod texts;
 mod units;
 

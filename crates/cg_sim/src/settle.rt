@@ -1,8 +1,9 @@
 //! The words of a cycle, kind by kind: first the outs, then the registers, then the wires and ports.
-ghost use Rattle.std.specs.Prelude.{◌≡◌, ℕ, ◌<◌, ◌≤◌, ◌*◌, length, slice_index};
-ghost use Rattle.cg_sim.specs.Plan.{link};
-ghost use Rattle.cg_sim.specs.Settle.{terminals, delayed, chosen, AreReadable, Keeps, Follows, CanSettle, Settles, IsSettled};
+ghost use Rattle.std.specs.Prelude.{◌≡◌, ℕ, ◌<◌, ◌≤◌, ◌*◌, length};
+ghost use Rattle.cg_sim.specs.Settle.{terminals, AreReadable, Keeps, AreRight, AreOutsRight, GiveOuts, GiveRegisters, GiveNets};
+ghost use Rattle.cg_sim.specs.Settle.{CanSettle, Settles, IsSettled};
 
+use crate::moment::Moment;
 use crate::plan::{Links, Plan, Terminals};
 use cg_contexts::Contexts;
 
@@ -12,8 +13,8 @@ pub(crate) fn settle_outs(units: &[Terminals], row: usize, history: &[u32], word
     requires history { length history.now ≡ 4 * length units.now }
     requires latencies { (x : ℕ) → x < length units.now → (terminals units.now x).latency ≤ 4 }
     requires outs { (x : ℕ) → x < length units.now → (terminals units.now x).out < length words.old }
-    ensures kept { (f : ℕ → ℕ) → ((x : ℕ) → x < length units.now → delayed units.now row history.now x ≡ f (terminals units.now x).out) → Keeps f words.old words.new }
-    ensures right { (f : ℕ → ℕ) → ((x : ℕ) → x < length units.now → delayed units.now row history.now x ≡ f (terminals units.now x).out) → (x : ℕ) → x < length units.now → slice_index words.new (terminals units.now x).out ≡ f (terminals units.now x).out }
+    ensures kept { (f : ℕ → ℕ) → GiveOuts units.now row history.now f → Keeps f words.old words.new }
+    ensures right { (f : ℕ → ℕ) → GiveOuts units.now row history.now f → AreOutsRight units.now words.new f }
 {
     for x in 0..units.len() {
         let unit = units[x];
@@ -31,8 +32,8 @@ pub(crate) fn settle_registers<C: Contexts>(
 )
     requires readable { AreReadable (C.config contexts.now) slot registers.now (length words.old) }
     requires before { length before.now ≡ length words.old }
-    ensures kept { (f : ℕ → ℕ) → ((j : ℕ) → j < length registers.now.entries.items → slice_index before.now (chosen (C.config contexts.now) slot registers.now j) ≡ f (link registers.now.entries.items j).resource) → Keeps f words.old words.new }
-    ensures right { (f : ℕ → ℕ) → ((j : ℕ) → j < length registers.now.entries.items → slice_index before.now (chosen (C.config contexts.now) slot registers.now j) ≡ f (link registers.now.entries.items j).resource) → (j : ℕ) → j < length registers.now.entries.items → slice_index words.new (link registers.now.entries.items j).resource ≡ f (link registers.now.entries.items j).resource }
+    ensures kept { (f : ℕ → ℕ) → GiveRegisters (C.config contexts.now) slot registers.now before.now f → Keeps f words.old words.new }
+    ensures right { (f : ℕ → ℕ) → GiveRegisters (C.config contexts.now) slot registers.now before.now f → AreRight registers.now (length registers.now.entries.items) words.new f }
 {
     for j in 0..registers.entries.len() {
         let entry = registers.entries[j];
@@ -45,8 +46,8 @@ pub(crate) fn settle_registers<C: Contexts>(
 /// The words of the wires and ports: each has the word of its selected driver, which has it by then.
 pub(crate) fn settle_nets<C: Contexts>(nets: &Links, contexts: &C, slot: u32, words: &mut [u32])
     requires readable { AreReadable (C.config contexts.now) slot nets.now (length words.old) }
-    ensures kept { (f : ℕ → ℕ) → ((j : ℕ) → j < length nets.now.entries.items → Follows (C.config contexts.now) slot nets.now words.old f j) → Keeps f words.old words.new }
-    ensures right { (f : ℕ → ℕ) → ((j : ℕ) → j < length nets.now.entries.items → Follows (C.config contexts.now) slot nets.now words.old f j) → (j : ℕ) → j < length nets.now.entries.items → slice_index words.new (link nets.now.entries.items j).resource ≡ f (link nets.now.entries.items j).resource }
+    ensures kept { (f : ℕ → ℕ) → GiveNets (C.config contexts.now) slot nets.now words.old f → Keeps f words.old words.new }
+    ensures right { (f : ℕ → ℕ) → GiveNets (C.config contexts.now) slot nets.now words.old f → AreRight nets.now (length nets.now.entries.items) words.new f }
 {
     for j in 0..nets.entries.len() {
         let entry = nets.entries[j];
@@ -60,19 +61,18 @@ pub(crate) fn settle_nets<C: Contexts>(nets: &Links, contexts: &C, slot: u32, wo
 pub(crate) fn settle<C: Contexts>(
     plan: &Plan,
     contexts: &C,
-    slot: u32,
-    row: usize,
+    moment: Moment,
     history: &[u32],
     before: &[u32],
     words: &mut [u32],
 )
-    requires row { row < 4 }
+    requires row { moment.row < 4 }
     requires history { length history.now ≡ 4 * length plan.now.units.items }
     requires before { length before.now ≡ length words.old }
-    requires readable { CanSettle (C.config contexts.now) slot plan.now (length words.old) }
-    ensures { (f : ℕ → ℕ) → Settles (C.config contexts.now) slot row plan.now history.now before.now words.old f → IsSettled plan.now words.old words.new f }
+    requires readable { CanSettle (C.config contexts.now) moment.slot plan.now (length words.old) }
+    ensures { (f : ℕ → ℕ) → Settles (C.config contexts.now) moment.slot moment.row plan.now history.now before.now words.old f → IsSettled plan.now words.old words.new f }
 {
-    settle_outs(&plan.units, row, history, words);
-    settle_registers(&plan.registers, contexts, slot, before, words);
-    settle_nets(&plan.nets, contexts, slot, words);
+    settle_outs(&plan.units, moment.row, history, words);
+    settle_registers(&plan.registers, contexts, moment.slot, before, words);
+    settle_nets(&plan.nets, contexts, moment.slot, words);
 }

@@ -1,11 +1,12 @@
 //! A run of the array.
-ghost use Rattle.std.specs.Prelude.{◌≡◌, ◌<◌, ◌≤◌, ◌+◌, ◌/◌, ◌%◌, ◌^◌, ℕ};
+ghost use Rattle.std.specs.Prelude.{◌≡◌, ◌<◌, ◌≤◌, ◌^◌};
 ghost use Rattle.cg_model.specs.Config as configs;
 ghost use Rattle.cg_model.specs.Limits.{most_turns};
 ghost use Rattle.cg_model.specs.Machine.{cycles};
 
 use crate::effects::{Effects, store_all};
 use crate::fault::SimFault;
+use crate::moment::Moment;
 use crate::plan::{Plan, plan_of};
 use crate::settle::settle;
 use crate::streams::{all_words, reserve_streams};
@@ -28,9 +29,7 @@ pub struct Sim<'a, C: Contexts> {
     ii: u32,
     length: u64,
     done: u64,
-    slot: u32,
-    round: u32,
-    row: usize,
+    moment: Moment,
     plan: Plan,
     words: Vec<u32>,
     before: Vec<u32>,
@@ -47,7 +46,7 @@ impl<'a, C: Contexts> Model for Sim<'a, C> {
 
     ghost view = { λ s. record { arch = s.arch.now; config = C.config s.contexts.now; n = s.n; image = s.image.now; done = s.done } };
 
-    ghost invariant = { λ s. IsRunning (record { arch = s.arch.now; config = C.config s.contexts.now; n = s.n; image = s.image.now; done = s.done }) s.ii s.length s.slot s.round s.row s.plan s.words.items s.before.items s.history.items s.effects s.finished };
+    ghost invariant = { λ s. IsRunning (record { arch = s.arch.now; config = C.config s.contexts.now; n = s.n; image = s.image.now; done = s.done }) s.ii s.length s.moment s.plan s.words.items s.before.items s.history.items s.effects s.finished };
 }
 
 impl<'a, C: Contexts> Sim<'a, C> {
@@ -113,9 +112,11 @@ impl<'a, C: Contexts> Sim<'a, C> {
             ii,
             length,
             done: 0,
-            slot: 0,
-            round: 0,
-            row: 0,
+            moment: Moment {
+                slot: 0,
+                round: 0,
+                row: 0,
+            },
             plan,
             words,
             before,
@@ -147,8 +148,7 @@ impl<'a, C: Contexts> Sim<'a, C> {
         settle(
             &self.plan,
             self.contexts,
-            self.slot,
-            self.row,
+            self.moment,
             &self.history,
             &self.before,
             &mut self.words,
@@ -158,19 +158,14 @@ impl<'a, C: Contexts> Sim<'a, C> {
             self.contexts,
             self.image,
             self.n,
-            self.slot,
-            self.round,
-            self.row,
+            self.moment,
             &self.words,
             &mut self.history,
             &mut self.effects,
         );
         store_all(&mut self.effects.memory, &self.effects.pending);
         self.effects.pending.clear();
-        self.row = (self.row + 1) % 4;
-        let (slot, round) = next_slot(self.slot, self.round, self.ii);
-        self.slot = slot;
-        self.round = round;
+        self.moment = self.moment.next(self.ii);
         self.done += 1;
     }
 
@@ -219,19 +214,6 @@ impl<'a, C: Contexts> Sim<'a, C> {
             memory: memory.into_words(),
             streams: Streams::new(all_words(streams, finished)),
         }
-    }
-}
-
-/// The slot and the round of the next cycle.
-fn next_slot(slot: u32, round: u32, ii: u32) -> (u32, u32)
-    requires slot { slot < ii }
-    requires round { round + 1 < 2 ^ 32 }
-    ensures { (c : ℕ) → slot ≡ c % ii → round ≡ c / ii → (result.0 ≡ (c + 1) % ii) × (result.1 ≡ (c + 1) / ii) }
-{
-    if slot + 1 == ii {
-        (0, round + 1)
-    } else {
-        (slot + 1, round)
     }
 }
 

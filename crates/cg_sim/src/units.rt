@@ -1,13 +1,14 @@
 //! The units of a cycle, in order.
 ghost use Rattle.std.specs.Prelude.{◌≡◌, ◌<◌, ◌≤◌, ◌+◌, ◌*◌, ◌^◌, ℕ, length, slice_index, vec_len, vec_capacity};
-ghost use Rattle.cg_model.specs.Limits.{most_turns};
+ghost use Rattle.cg_model.specs.Limits.{most_turns, most_units};
 ghost use Rattle.cg_model.specs.Config as configs;
 ghost use Rattle.cg_model.specs.Machine.{begun, argument, arguments};
 ghost use Rattle.cg_contexts.specs.Known.{HasUnit};
 ghost use Rattle.cg_sim.specs.Settle.{terminals};
-ghost use Rattle.cg_sim.specs.Effects.{on_ports, works_on, HasRoom, HasRoomAfter, Begins, BeginsAll, HasRow};
+ghost use Rattle.cg_sim.specs.Effects.{on_ports, works_on, HasRoom, AreRoomy, Begins, BeginsAll, HasRow};
 
 use crate::effects::{Effects, hold, send};
+use crate::moment::Moment;
 use crate::plan::Terminals;
 use cg_contexts::{Contexts, UnitFields};
 use cg_pad::{Image, Work};
@@ -101,37 +102,35 @@ fn begin(
     value
 }
 
-/// The units of one cycle, in order. Their results come to stand in that row of the history.
+/// The units of one cycle, in order. Their results come to stand in the cycle's row of the history.
 pub(crate) fn begin_units<C: Contexts>(
     units: &[Terminals],
     contexts: &C,
     image: &Image,
     n: u32,
-    slot: u32,
-    round: u32,
-    row: usize,
+    moment: Moment,
     words: &[u32],
     history: &mut [u32],
     effects: &mut Effects,
 )
     requires turns { n ≤ most_turns }
-    requires known { (x : ℕ) → x < length units.now → HasUnit (C.config contexts.now) x slot }
-    requires stages { (x : ℕ) → x < length units.now → (configs.fields (C.config contexts.now) x slot).stage ≤ 65534 }
+    requires known { (x : ℕ) → x < length units.now → HasUnit (C.config contexts.now) x moment.slot }
+    requires stages { (x : ℕ) → x < length units.now → (configs.fields (C.config contexts.now) x moment.slot).stage ≤ 65534 }
     requires ports { (x p : ℕ) → x < length units.now → p < 3 → slice_index (terminals units.now x).ports p < length words.now }
-    requires few { length units.now ≤ 1024 }
-    requires row { row < 4 }
+    requires few { length units.now ≤ most_units }
+    requires row { moment.row < 4 }
     requires history { length history.old ≡ 4 * length units.now }
     requires pending { vec_len effects.old.pending + length units.now ≤ vec_capacity effects.old.pending }
     requires outside { effects.old.outside < 2 ^ 62 }
-    requires room { (x : ℕ) → x < length units.now → HasRoomAfter effects.old.streams.items (works_on (C.config contexts.now) units.now n slot round words.now) x (configs.fields (C.config contexts.now) x slot) n round }
-    ensures effects { BeginsAll image.now (works_on (C.config contexts.now) units.now n slot round words.now) (length units.now) effects.old effects.new }
-    ensures history { HasRow image.now effects.old.memory (works_on (C.config contexts.now) units.now n slot round words.now) row (length units.now) history.old history.new }
+    requires room { AreRoomy (C.config contexts.now) units.now n moment.slot moment.round words.now effects.old.streams.items }
+    ensures effects { BeginsAll image.now (works_on (C.config contexts.now) units.now n moment.slot moment.round words.now) (length units.now) effects.old effects.new }
+    ensures history { HasRow image.now effects.old.memory (works_on (C.config contexts.now) units.now n moment.slot moment.round words.now) moment.row (length units.now) history.old history.new }
     ensures few { effects.new.outside ≤ effects.old.outside + length units.now }
 {
     for x in 0..units.len() {
-        let fields = contexts.unit(x as u32, slot);
+        let fields = contexts.unit(x as u32, moment.slot);
         let ports = units[x].ports;
-        let result = begin(image, &fields, n, round, ports, words, effects);
-        history[4 * x + row] = result;
+        let result = begin(image, &fields, n, moment.round, ports, words, effects);
+        history[4 * x + moment.row] = result;
     }
 }

@@ -32,9 +32,7 @@ invariant_of-result g c =
       length_is = c.length_in_cycles-length.ensures.value C (sym c.ii-ii.ensures) (sym c.stages.ensures);
       length_few = c.length_in_cycles-length.ensures.few;
       within = omega arith;
-      slot_is = omega arith;
-      round_is = omega arith;
-      row_is = refl;
+      moment_is = record { slot = omega arith; round = omega arith; row = refl };
       state_is = first_state A C c.args.n c.args.image.now _ _ _ e words before history (search rules) c.in_ok-streams.ensures.long c.in_ok-streams.ensures.empty c.in_ok-streams.ensures.room refl (search rules) room;
       few = omega arith;
       finished_room = (search rules, (let h = c.in_ok-finished.ensures.exact in omega arith));
