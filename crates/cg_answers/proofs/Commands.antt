@@ -7,7 +7,7 @@ use Rattle.cg_ending.specs.Outcome.{Name, File, Outcome, names_of}
 use Rattle.cg_kernel.specs.declared.fault.KernelFault.{KernelFault}
 use Rattle.cg_kernel.specs.Answer.{answer_of}
 use Rattle.cg_command.specs.declared.plans.Command.{Command}
-use Rattle.cg_command.specs.declared.plans.Command.TheVariants.{Turns, TurnsOnImage, Flat}
+use Rattle.cg_command.specs.declared.plans.Command.TheVariants.{Turns, TurnsOnImage, Flat, Run}
 use Rattle.cg_model.specs.Work.{Image}
 use Rattle.cg_model.specs.Order.{IsUnaliased}
 use Rattle.cg_pad.specs.declared.fault.ImageFault.{ImageFault}
@@ -23,6 +23,9 @@ use Rattle.cg_tiles.specs.Answer as tiles
 use Rattle.cg_tiles.specs.Answer.{AreValidBytes}
 use Rattle.cg_tiles.proofs.NotBoth.{not_both}
 use Rattle.cg_answers.specs.Flat.{flat_by}
+use Rattle.cg_answers.specs.Run.{run_by}
+use Rattle.cg_answers.proofs.Sound.{is_own, IsSound}
+use Rattle.cg_answers.proofs.Run.{same_array, sound_run, accepted_run, named_run}
 use Rattle.cg_answers.specs.Commands.{IsAnswer, Accepts}
 use Rattle.cg_ending.specs.Status.{leaves_all}
 
@@ -59,26 +62,21 @@ same_flat file out a b (Ok A) (Err f) x y n m d e = absurd (not_both file.bytes 
 same_flat file out a b (Err f) (Ok A) x y n m d e = absurd (not_both file.bytes A f y (x (λ s. n (ap Err s))))
 same_flat file out a b (Err f) (Err g) x y n m d e = ap (λ o. o.status) d ∙ sym (ap (λ o. o.status) e)
 
+-- of two architectures that a file gives there is one
+same_run : (n : ℕ) (arch file input : File) (out : Name) (a b : Outcome) (r q : Result Arch TilesFault) → tiles.IsAnswer arch.bytes r → tiles.IsAnswer arch.bytes q → r ≢ Err fault.Memory → q ≢ Err fault.Memory
+    → a ≡ run_by n arch file input out r → b ≡ run_by n arch file input out q → a.status ≡ b.status
+same_run n arch file input out a b (Ok A) (Ok B) x y m l d e = ap (λ o. o.status) (d ∙ ap (λ C. run_by n arch file input out (Ok C)) (same_array arch.bytes A B x y) ∙ sym e)
+same_run n arch file input out a b (Ok A) (Err f) x y m l d e = absurd (not_both arch.bytes A f x (y (λ s. l (ap Err s))))
+same_run n arch file input out a b (Err f) (Ok A) x y m l d e = absurd (not_both arch.bytes A f y (x (λ s. m (ap Err s))))
+same_run n arch file input out a b (Err f) (Err g) x y m l d e = ap (λ o. o.status) d ∙ sym (ap (λ o. o.status) e)
+
 -- where the outcome may be chosen, its status may not
 pub same_status : (c : Command) (files : List File) (outputs : List Name) (a b : Outcome) → IsAnswer c files outputs a → IsAnswer c files outputs b → a.status ≡ b.status
 same_status (Turns n) (f ∷ []) [] a b p q = ap (λ o. o.status) (p ∙ sym q)
 same_status (TurnsOnImage n) (f ∷ g ∷ []) (out ∷ []) a b p q = same_on_kernel n f g out (answer_of f.bytes) a b (on_image_is n f g out a p) (on_image_is n f g out b q)
 same_status Flat (f ∷ []) (out ∷ []) a b p q = same_flat f out a b p.given q.given p.is_given q.is_given p.no_memory q.no_memory p.outcome q.outcome
+same_status (Run n) (f ∷ g ∷ h ∷ []) (out ∷ []) a b p q = same_run n f g h out a b p.given q.given p.is_given q.is_given p.no_memory q.no_memory p.outcome q.outcome
 same_status _ _ _ a b p q = absurd p
-
--- a command's own statuses
-abbrev pub is_own : Status → Bool
-is_own Done = true
-is_own Malformed = true
-is_own Impossible = true
-is_own BudgetSpent = true
-is_own No = true
-is_own _ = false
-
--- an outcome of a command: a status of its own, and no writes at a refusal
-pub record IsSound (o : Outcome) : Type 0 where
-  pub own : is_own o.status ≡ true
-  pub quiet : leaves_all o.status ≡ true → o.writes ≡ []
 
 sound_turns : (n : ℕ) (file : File) (r : Result Kernel KernelFault) → IsSound (turns_by n file r)
 sound_turns n file (Ok K) = record { own = refl; quiet = λ h. refl }
@@ -109,6 +107,7 @@ pub sound : (c : Command) (files : List File) (outputs : List Name) (o : Outcome
 sound (Turns n) (f ∷ []) [] o p = rw (turns_is n f o p) (sound_turns n f (answer_of f.bytes))
 sound (TurnsOnImage n) (f ∷ g ∷ []) (out ∷ []) o p = sound_on_kernel n f g out (answer_of f.bytes) o (on_image_is n f g out o p)
 sound Flat (f ∷ []) (out ∷ []) o p = rw p.outcome (sound_flat f out p.given)
+sound (Run n) (f ∷ g ∷ h ∷ []) (out ∷ []) o p = rw p.outcome (sound_run n f g h out p.given)
 sound _ _ _ o p = absurd p
 
 accepted_pair : (n : ℕ) (K : Kernel) (image : Image) (p : Option UnorderedPair) → IsUnaliased K n image → IsPairOf K n image p → pair_status p ≡ Done
@@ -137,6 +136,7 @@ pub accepted : (c : Command) (files : List File) (outputs : List Name) (o : Outc
 accepted (Turns n) (f ∷ []) [] o a p = ap (λ x. x.status) (turns_is n f o p) ∙ ap (λ r. (turns_by n f r).status) a.1
 accepted (TurnsOnImage n) (f ∷ g ∷ []) (out ∷ []) o a p = accepted_kernel n a.kernel a.image f g out (answer_of f.bytes) o a.kernel_is a.image_is a.unaliased (on_image_is n f g out o p)
 accepted Flat (f ∷ []) (out ∷ []) o a p = accepted_flat f out a.0 p.given o a.1 p.is_given p.no_memory p.outcome
+accepted (Run n) (f ∷ g ∷ h ∷ []) (out ∷ []) o a p = accepted_run n f g h out o a p
 accepted _ _ _ o a p = absurd p
 
 quiet_turns : (n : ℕ) (file : File) (r : Result Kernel KernelFault) → (turns_by n file r).writes ≡ []
@@ -155,6 +155,11 @@ quiet (TurnsOnImage n) (f ∷ g ∷ h ∷ fs) o p = absurd p
 quiet Flat [] o p = absurd p
 quiet Flat (f ∷ []) o p = absurd p
 quiet Flat (f ∷ g ∷ fs) o p = absurd p
+quiet (Run n) [] o p = absurd p
+quiet (Run n) (f ∷ []) o p = absurd p
+quiet (Run n) (f ∷ g ∷ []) o p = absurd p
+quiet (Run n) (f ∷ g ∷ h ∷ []) o p = absurd p
+quiet (Run n) (f ∷ g ∷ h ∷ k ∷ fs) o p = absurd p
 
 -- what an outcome writes has these names, or it writes nothing
 abbrev pub IsNamed : List Name → Outcome → Type 0
@@ -177,4 +182,5 @@ pub named : (c : Command) (files : List File) (outputs : List Name) (o : Outcome
 named (Turns n) (f ∷ []) [] o p = inr (ap (λ x. x.writes) (turns_is n f o p) ∙ quiet_turns n f (answer_of f.bytes))
 named (TurnsOnImage n) (f ∷ g ∷ []) (out ∷ []) o p = named_on_kernel n f g out (answer_of f.bytes) o (on_image_is n f g out o p)
 named Flat (f ∷ []) (out ∷ []) o p = named_flat f out p.given o p.outcome
+named (Run n) (f ∷ g ∷ h ∷ []) (out ∷ []) o p = named_run n f g h out p.given o p.outcome
 named _ _ _ o p = absurd p

@@ -11,7 +11,7 @@ use Rattle.cg_pad.specs.Bytes as images
 use Rattle.cg_turns.proofs.Decided.{some_pair}
 use Rattle.cg_tiles.proofs.Solved.{some_answer}
 use Rattle.cg_command.specs.declared.plans.Command.{Command}
-use Rattle.cg_command.specs.declared.plans.Command.TheVariants.{Turns, TurnsOnImage, Flat}
+use Rattle.cg_command.specs.declared.plans.Command.TheVariants.{Turns, TurnsOnImage, Flat, Run}
 use Rattle.cg_command.specs.Words.{HasShape}
 use Rattle.cg_ending.specs.Refusals.{malformed_of}
 use Rattle.cg_kernel.specs.Texts.{kernel_fault_text}
@@ -19,6 +19,7 @@ use Rattle.cg_pad.specs.Texts.{image_fault_text}
 use Rattle.cg_answers.specs.Turns.{turns_of}
 use Rattle.cg_answers.specs.TurnsOnImage.{IsTurnsOnImage, IsOnKernel, IsOnImage, imaged}
 use Rattle.cg_answers.specs.Flat.{IsFlat, flat_by}
+use Rattle.cg_answers.specs.Run.{IsRun, run_by}
 use Rattle.cg_answers.specs.Commands.{IsAnswer}
 
 -- after a valid kernel, whatever comes of the image
@@ -42,6 +43,11 @@ flattened file out =
     let a = some_answer file.bytes in
     (flat_by file out a.0, record { given = a.0; is_given = a.2; no_memory = a.1; outcome = refl })
 
+run_over : (n : ℕ) (arch file input : File) (out : Name) → (o : Outcome) × IsRun n arch file input out o
+run_over n arch file input out =
+    let a = some_answer arch.bytes in
+    (run_by n arch file input out a.0, record { given = a.0; is_given = a.2; no_memory = a.1; outcome = refl })
+
 -- as many files as the command takes have an outcome
 pub some_outcome : (c : Command) (files : List File) (outputs : List Name) → HasShape c (length files) (length outputs) → (o : Outcome) × IsAnswer c files outputs o
 some_outcome (Turns n) (f ∷ []) [] shape = (turns_of n f, refl)
@@ -59,3 +65,10 @@ some_outcome Flat [] outputs shape = absurd (omega (arith, shape.0))
 some_outcome Flat (f ∷ g ∷ fs) outputs shape = absurd (omega (arith, shape.0))
 some_outcome Flat (f ∷ []) [] shape = absurd (omega (arith, shape.1))
 some_outcome Flat (f ∷ []) (out ∷ other ∷ outs) shape = absurd (omega (arith, shape.1))
+some_outcome (Run n) (f ∷ g ∷ h ∷ []) (out ∷ []) shape = run_over n f g h out
+some_outcome (Run n) [] outputs shape = absurd (omega (arith, shape.0))
+some_outcome (Run n) (f ∷ []) outputs shape = absurd (omega (arith, shape.0))
+some_outcome (Run n) (f ∷ g ∷ []) outputs shape = absurd (omega (arith, shape.0))
+some_outcome (Run n) (f ∷ g ∷ h ∷ k ∷ fs) outputs shape = absurd (omega (arith, shape.0))
+some_outcome (Run n) (f ∷ g ∷ h ∷ []) [] shape = absurd (omega (arith, shape.1))
+some_outcome (Run n) (f ∷ g ∷ h ∷ []) (out ∷ other ∷ outs) shape = absurd (omega (arith, shape.1))

@@ -1,6 +1,7 @@
 -- What commands leave where their outcome came.
-use Rattle.std.proofs.Common.{◌≡◌, ℕ, List, [], ◌∷◌, cond, Option, Some, None, Result, Ok, Err, Bool, true, false, refl, sym, ◌∙◌, ap, subst, inl, inr}
+use Rattle.std.proofs.Common.{◌≡◌, ℕ, List, [], ◌∷◌, length, nat_lt, cond, Option, Some, None, Result, Ok, Err, Bool, true, false, refl, sym, ◌∙◌, ap, subst, inl, inr}
 use Rattle.std.proofs.lemmas.List.Elements.{All-head, All-tail}
+use Rattle.std.proofs.lemmas.Bool.{ltb-false}
 use Rattle.std.proofs.lemmas.Slice.Eq.{bytes_eq-Decides}
 use Rattle.cg_files.specs.Held.{Held, Holds, Appends}
 use Rattle.cg_model.specs.Kernel.{Kernel}
@@ -21,13 +22,20 @@ use Rattle.cg_turns.specs.declared.pair.UnorderedPair.{UnorderedPair}
 use Rattle.cg_turns.specs.Pairs.{IsPairOf}
 use Rattle.cg_grid.specs.declared.fault.TilesFault.{TilesFault}
 use Rattle.cg_tiles.specs.Answer as tiles
+use Rattle.cg_tiles.specs.Answer.{AreValidBytes}
+use Rattle.cg_bits.specs.declared.fault.BitsFault.{BitsFault}
+use Rattle.cg_bits.specs.Answers as bits
+use Rattle.cg_model.specs.Config.{Config}
+use Rattle.cg_model.specs.Machine.{machine_left}
 use Rattle.cg_command.specs.declared.plans.Command.{Command}
-use Rattle.cg_command.specs.declared.plans.Command.TheVariants.{Turns, TurnsOnImage, Flat}
+use Rattle.cg_command.specs.declared.plans.Command.TheVariants.{Turns, TurnsOnImage, Flat, Run}
 use Rattle.cg_answers.specs.Turns.{turns_by, IsTurned}
 use Rattle.cg_answers.specs.TurnsOnImage.{IsOnKernel, IsOnImage, imaged, IsRunOnImage, IsOrderedRun, IsUnorderedRun}
 use Rattle.cg_answers.specs.Flat.{flat_by, IsFlattened}
+use Rattle.cg_answers.specs.Run.{run_by, run_by_bits, run_by_image, ran, too_large, IsArrayRun}
 use Rattle.cg_answers.specs.Commands.{IsAnswer, Leaves}
 use Rattle.cg_answers.proofs.Commands.{turns_is, on_image_is}
+use Rattle.cg_answers.proofs.Run.{valid_array, canonical_answer}
 
 -- ---- what was put and written
 
@@ -81,10 +89,10 @@ turned_by n file f (Err g) o before after held spelled is done c = absurd (let z
 
 -- ---- `turns KERNEL TURNS IN OUT`
 
-run_by : (n : ℕ) (file input out : Name) (f g : File) (K : Kernel) (image : Image) (pair : Option UnorderedPair) (o : Outcome) (before after : Moment) (status : Status)
+imaged_by : (n : ℕ) (file input out : Name) (f g : File) (K : Kernel) (image : Image) (pair : Option UnorderedPair) (o : Outcome) (before after : Moment) (status : Status)
     → Holds before.held file f.bytes → Holds before.held input g.bytes → answer_of f.bytes ≡ Ok K → images.answer_of g.bytes ≡ Ok image → o ≡ imaged n K image out pair
     → Completed o before after status → IsRunOnImage n file input out before after
-run_by n file input out f g K image pair o before after status held other spelled given is c = record {
+imaged_by n file input out f g K image pair o before after status held other spelled given is c = record {
   bytes = f.bytes;
   held = held;
   kernel = K;
@@ -99,9 +107,9 @@ run_by n file input out f g K image pair o before after status held other spelle
 ordered_by : (n : ℕ) (file input out : Name) (f g : File) (K : Kernel) (image : Image) (pair : Option UnorderedPair) (o : Outcome) (before after : Moment)
     → Holds before.held file f.bytes → Holds before.held input g.bytes → answer_of f.bytes ≡ Ok K → images.answer_of g.bytes ≡ Ok image → IsPairOf K n image pair → o ≡ imaged n K image out pair → o.status ≡ Done
     → Completed o before after Done → IsOrderedRun n file input out before after
-unfolding run_by
+unfolding imaged_by
 ordered_by n file input out f g K image None o before after held other spelled given first is done c = record {
-  run = run_by n file input out f g K image None o before after Done held other spelled given is c;
+  run = imaged_by n file input out f g K image None o before after Done held other spelled given is c;
   unaliased = first;
   put = subst (λ report. Appends before.taken report after.taken) (ap (λ x. x.report) is) (whole o.status o.report before after done c.put);
 }
@@ -110,10 +118,10 @@ ordered_by n file input out f g K image (Some p) o before after held other spell
 unordered_by : (n : ℕ) (file input out : Name) (f g : File) (K : Kernel) (image : Image) (pair : Option UnorderedPair) (o : Outcome) (before after : Moment)
     → Holds before.held file f.bytes → Holds before.held input g.bytes → answer_of f.bytes ≡ Ok K → images.answer_of g.bytes ≡ Ok image → IsPairOf K n image pair → o ≡ imaged n K image out pair → o.status ≡ No
     → Completed o before after No → IsUnorderedRun n file input out before after
-unfolding run_by
+unfolding imaged_by
 unordered_by n file input out f g K image None o before after held other spelled given first is refused c = absurd (let z : Done ≡ No = sym (ap (λ x. x.status) is) ∙ refused in cc)
 unordered_by n file input out f g K image (Some p) o before after held other spelled given first is refused c = record {
-  run = run_by n file input out f g K image (Some p) o before after No held other spelled given is c;
+  run = imaged_by n file input out f g K image (Some p) o before after No held other spelled given is c;
   pair = p;
   first = first;
   put = subst (λ x. IsPut x.status x.report before after) is c.put;
@@ -157,6 +165,61 @@ flattened_by file out f (Ok A) o before after held given is done c = record {
 }
 flattened_by file out f (Err e) o before after held given is done c = absurd (let z : Malformed ≡ Done = differ o Done (ap (λ x. x.status) is) done in cc)
 
+-- ---- `run ARCH BITS TURNS IN OUT`
+
+three_read : (held : Held) (a b c : Name) (f g h : File) → AreRead held (a ∷ b ∷ c ∷ []) (f ∷ g ∷ h ∷ []) → Holds held a f.bytes × Holds held b g.bytes × Holds held c h.bytes
+three_read held a b c f g h r =
+    let names : f.name ∷ g.name ∷ h.name ∷ [] ≡ a ∷ b ∷ c ∷ [] = r.names_are in
+    let first : f.name ≡ a = cc in
+    let second : g.name ≡ b = cc in
+    let third : h.name ≡ c = cc in
+    let rest = All-tail (IsRead held) f (g ∷ h ∷ []) r.each in
+    (
+      subst (λ n. Holds held n f.bytes) first (All-head (IsRead held) f (g ∷ h ∷ []) r.each).0,
+      subst (λ n. Holds held n g.bytes) second (All-head (IsRead held) g (h ∷ []) rest).0,
+      subst (λ n. Holds held n h.bytes) third (All-head (IsRead held) h [] (All-tail (IsRead held) g (h ∷ []) rest)).0,
+    )
+
+module _ (n : ℕ) (arch file input out : Name) (f g h : File) (o : Outcome) (before after : Moment)
+    (arch_held : Holds before.held arch f.bytes) (held : Holds before.held file g.bytes) (image_held : Holds before.held input h.bytes)
+    (done : o.status ≡ Done) (c : Completed o before after Done)
+  where
+    run_by_size : (A : Arch) (C : Config) (image : Image) (b : Bool) → nat_lt A.memory (length image.memory) ≡ b → AreValidBytes f.bytes A → bits.answer_of A g.bytes ≡ Ok C → images.answer_of h.bytes ≡ Ok image
+        → o ≡ cond b (too_large h.name image) (ran n A C image out) → IsArrayRun n arch file input out before after
+    run_by_size A C image true few given config_is image_is is = absurd (let z : Malformed ≡ Done = differ o Done (ap (λ x. x.status) is) done in cc)
+    run_by_size A C image false few given config_is image_is is = record {
+      arch_bytes = f.bytes;
+      arch_held = arch_held;
+      array = A;
+      given = given;
+      bytes = g.bytes;
+      held = held;
+      config = C;
+      config_is = config_is;
+      canonical = canonical_answer A C g.bytes (valid_array f.bytes A given) config_is;
+      image_bytes = h.bytes;
+      image_held = image_held;
+      image = image;
+      image_is = image_is;
+      fits = ltb-false A.memory (length image.memory) few;
+      written = one_write before.held after.held out (images.image_bytes (machine_left A C n image).image) (subst (λ fs. Wrote before.held fs after.held) (ap (λ x. x.writes) is) c.held);
+      put = subst (λ report. Appends before.taken report after.taken) (ap (λ x. x.report) is) (whole o.status o.report before after done c.put);
+    }
+
+    run_on_image : (A : Arch) (C : Config) (r : Result Image ImageFault) → images.answer_of h.bytes ≡ r → AreValidBytes f.bytes A → bits.answer_of A g.bytes ≡ Ok C → o ≡ run_by_image n A C h.name out r → IsArrayRun n arch file input out before after
+    run_on_image A C (Ok image) image_is given config_is is = run_by_size A C image (nat_lt A.memory (length image.memory)) refl given config_is image_is is
+    run_on_image A C (Err e) image_is given config_is is = absurd (let z : Malformed ≡ Done = differ o Done (ap (λ x. x.status) is) done in cc)
+
+    run_on_bits : (A : Arch) (r : Result Config BitsFault) → bits.answer_of A g.bytes ≡ r → AreValidBytes f.bytes A → o ≡ run_by_bits n A g.name h out r → IsArrayRun n arch file input out before after
+    run_on_bits A (Ok C) config_is given is = run_on_image A C (images.answer_of h.bytes) refl given config_is is
+    run_on_bits A (Err e) config_is given is = absurd (let z : Malformed ≡ Done = differ o Done (ap (λ x. x.status) is) done in cc)
+
+run_done : (n : ℕ) (arch file input out : Name) (f g h : File) (r : Result Arch TilesFault) (o : Outcome) (before after : Moment)
+    → Holds before.held arch f.bytes → Holds before.held file g.bytes → Holds before.held input h.bytes → tiles.IsAnswer f.bytes r → o ≡ run_by n f g h out r → o.status ≡ Done
+    → Completed o before after Done → IsArrayRun n arch file input out before after
+run_done n arch file input out f g h (Ok A) o before after a b d given is done c = run_on_bits n arch file input out f g h o before after a b d done c A (bits.answer_of A g.bytes) refl given is
+run_done n arch file input out f g h (Err e) o before after a b d given is done c = absurd (let z : Malformed ≡ Done = differ o Done (ap (λ x. x.status) is) done in cc)
+
 -- ---- all commands
 
 -- nothing is said of what a command leaves at a status that isn't its own
@@ -175,6 +238,7 @@ silent (Turns n) (file ∷ []) [] Done before after h = cc
 silent (TurnsOnImage n) (file ∷ input ∷ []) (out ∷ []) Done before after h = cc
 silent (TurnsOnImage n) (file ∷ input ∷ []) (out ∷ []) No before after h = cc
 silent Flat (file ∷ []) (out ∷ []) Done before after h = cc
+silent (Run n) (arch ∷ file ∷ input ∷ []) (out ∷ []) Done before after h = cc
 silent _ _ _ _ before after h = tt
 
 pub left : (command : Command) (inputs outputs : List Name) (files : List File) (o : Outcome) (status : Status) (before after : Moment)
@@ -197,4 +261,11 @@ left (TurnsOnImage n) (file ∷ input ∷ []) (out ∷ []) (f ∷ []) o No befor
 left (TurnsOnImage n) (file ∷ input ∷ []) (out ∷ []) (f ∷ g ∷ h ∷ fs) o No before after read answer is c = absurd answer
 left Flat (file ∷ []) (out ∷ []) [] o Done before after read answer is c = absurd answer
 left Flat (file ∷ []) (out ∷ []) (f ∷ g ∷ fs) o Done before after read answer is c = absurd answer
+left (Run n) (arch ∷ file ∷ input ∷ []) (out ∷ []) (f ∷ g ∷ h ∷ []) o Done before after read answer is c =
+    let r = three_read before.held arch file input f g h read in
+    run_done n arch file input out f g h answer.given o before after r.0 r.1 r.2 answer.is_given answer.outcome is c
+left (Run n) (arch ∷ file ∷ input ∷ []) (out ∷ []) [] o Done before after read answer is c = absurd answer
+left (Run n) (arch ∷ file ∷ input ∷ []) (out ∷ []) (f ∷ []) o Done before after read answer is c = absurd answer
+left (Run n) (arch ∷ file ∷ input ∷ []) (out ∷ []) (f ∷ g ∷ []) o Done before after read answer is c = absurd answer
+left (Run n) (arch ∷ file ∷ input ∷ []) (out ∷ []) (f ∷ g ∷ h ∷ k ∷ fs) o Done before after read answer is c = absurd answer
 left _ _ _ _ o _ before after read answer is c = tt

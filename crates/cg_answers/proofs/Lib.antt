@@ -1,6 +1,8 @@
 pub mod Reports
 pub mod Turned
 pub mod Shapes
+pub mod Sound
+pub mod Run
 pub mod Commands
 pub mod Imaged
 pub mod Left

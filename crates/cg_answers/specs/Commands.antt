@@ -7,7 +7,7 @@ use Rattle.cg_ending.specs.Outcome.{Name, File, Outcome}
 use Rattle.cg_ending.specs.Ends.{Moment}
 use Rattle.cg_kernel.specs.Answer.{answer_of}
 use Rattle.cg_command.specs.declared.plans.Command.{Command}
-use Rattle.cg_command.specs.declared.plans.Command.TheVariants.{Turns, TurnsOnImage, Flat}
+use Rattle.cg_command.specs.declared.plans.Command.TheVariants.{Turns, TurnsOnImage, Flat, Run}
 use Rattle.cg_pad.specs.Bytes as images
 use Rattle.cg_model.specs.Work.{Image}
 use Rattle.cg_model.specs.Array.{Arch}
@@ -16,12 +16,14 @@ use Rattle.cg_model.specs.Order.{IsUnaliased}
 use Rattle.cg_answers.specs.Turns.{turns_of, IsTurned}
 use Rattle.cg_answers.specs.TurnsOnImage.{IsTurnsOnImage, IsOrderedRun, IsUnorderedRun}
 use Rattle.cg_answers.specs.Flat.{IsFlat, IsFlattened}
+use Rattle.cg_answers.specs.Run.{IsRun, IsRunnable, IsArrayRun}
 
 -- the outcomes that the command allows
 abbrev pub IsAnswer : Command → List File → List Name → Outcome → Type 0
 IsAnswer (Turns n) (file ∷ []) [] o = o ≡ turns_of n file
 IsAnswer (TurnsOnImage n) (file ∷ input ∷ []) (out ∷ []) o = IsTurnsOnImage n file input out o
 IsAnswer Flat (file ∷ []) (out ∷ []) o = IsFlat file out o
+IsAnswer (Run n) (arch ∷ file ∷ input ∷ []) (out ∷ []) o = IsRun n arch file input out o
 IsAnswer _ _ _ o = ⊥
 
 -- the bytes spell a kernel
@@ -45,6 +47,7 @@ abbrev pub Accepts : Command → List File → Type 0
 Accepts (Turns n) (file ∷ []) = SpellsKernel file
 Accepts (TurnsOnImage n) (file ∷ input ∷ []) = IsUnaliasedRun n file input
 Accepts Flat (file ∷ []) = GivesArch file
+Accepts (Run n) (arch ∷ file ∷ input ∷ []) = IsRunnable arch file input
 Accepts _ _ = ⊥
 
 -- what a command whose input and output files have these names leaves where it ends with this status: what is held, and what
@@ -54,4 +57,5 @@ Leaves (Turns n) (file ∷ []) [] Done before after = IsTurned n file before aft
 Leaves (TurnsOnImage n) (file ∷ input ∷ []) (out ∷ []) Done before after = IsOrderedRun n file input out before after
 Leaves (TurnsOnImage n) (file ∷ input ∷ []) (out ∷ []) No before after = IsUnorderedRun n file input out before after
 Leaves Flat (file ∷ []) (out ∷ []) Done before after = IsFlattened file out before after
+Leaves (Run n) (arch ∷ file ∷ input ∷ []) (out ∷ []) Done before after = IsArrayRun n arch file input out before after
 Leaves _ _ _ _ before after = Unit {0}

@@ -2,4 +2,5 @@ pub mod Lines
 pub mod Turns
 pub mod TurnsOnImage
 pub mod Flat
+pub mod Run
 pub mod Commands

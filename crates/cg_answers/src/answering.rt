@@ -6,6 +6,7 @@ ghost use Rattle.cg_answers.specs.Commands.{IsAnswer};
 
 use crate::flattening::flat;
 use crate::imaging::turns_on_image;
+use crate::simulating::run;
 use crate::turning::turns;
 use cg_command::{Command, Plan};
 use cg_ending::{File, Outcome};
@@ -26,5 +27,13 @@ pub fn answer(alloc: Global, plan: &Plan, files: &[File]) -> Result<Outcome, All
             plan.outputs[0].as_str(),
         ),
         Command::Flat => flat(alloc, &files[0], plan.outputs[0].as_str()),
+        Command::Run { turns: count } => run(
+            alloc,
+            count,
+            &files[0],
+            &files[1],
+            &files[2],
+            plan.outputs[0].as_str(),
+        ),
     }
 }

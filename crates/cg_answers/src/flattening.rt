@@ -1,5 +1,6 @@
 //! `flat ARCH OUT`.
 ghost use Rattle.std.specs.Prelude.{◌≡◌, ◌≤◌, IfOk};
+ghost use Rattle.cg_model.specs.Limits.{most_links};
 ghost use Rattle.cg_model.specs.Array.{links};
 ghost use Rattle.cg_ending.specs.Outcome.{file_of, outcome_of};
 ghost use Rattle.cg_answers.specs.Flat.{IsFlat, flat_report, flattened};
@@ -54,7 +55,7 @@ fn flat_report(alloc: Global, arch: &Arch) -> Result<Vec<u8>, AllocError>
 /// The links into resources: their drivers.
 #[tactic(auto, unfolding(cg_model::specs::Array::links))]
 fn count_links(resources: &[Resource]) -> usize
-    requires { links resources.now ≤ 65536 }
+    requires { links resources.now ≤ most_links }
     ensures { result ≡ links resources.now }
 {
     let mut count = 0;

@@ -5,6 +5,7 @@ mod answering;
 mod flattening;
 mod imaging;
 mod running;
+mod simulating;
 mod streams;
 mod turning;
 

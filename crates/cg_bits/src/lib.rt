@@ -1,2 +1,21 @@
 //! Configurations as bits.
 #![tactic(auto)]
+
+mod all_slots;
+mod check;
+mod checking;
+mod fault;
+mod field;
+mod format;
+mod header;
+mod ports;
+mod reading;
+mod rules;
+
+pub use cg_contexts::{ArgFields, Contexts, UnitFields};
+pub use check::check_bits;
+pub use fault::BitsFault;
+pub use field::number_at;
+pub use format::{CGB2, Format};
+pub use header::{HEADER, ii_in, stages_in};
+pub use reading::{NO_ARG, arg_at, op_of, unit_at};

@@ -1,5 +1,6 @@
 //! What is read of a configuration, however it is kept: in tables, or as bits that are read in place.
 #![tactic(auto)]
+
 ghost use Rattle.std.specs.Prelude.{◌≡◌};
 ghost use Rattle.cg_model.specs.Config as configs;
 ghost use Rattle.cg_contexts.specs.Known.{HasSelect, HasUnit};

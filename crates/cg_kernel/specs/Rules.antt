@@ -2,6 +2,7 @@
 use Rattle.std.specs.Prelude.{ℕ, ◌==◌, ◌&&◌, ◌||◌, Bool, true, false, not, List, [], ◌∷◌, length, take, Option, Some, None, nat_lt, nat_le, count_by, slice_get, option_map, option_and_then, if◌then◌else◌}
 use Rattle.std.specs.Option.{option_or, option_map_or, is_none}
 use Rattle.std.specs.List.{list_any}
+use Rattle.cg_model.specs.Limits.{most_nodes, most_order_edges}
 use Rattle.cg_word.specs.declared.op.Op.{Op}
 use Rattle.cg_word.specs.Word.{arity, code, has_value, has_port, is_output, op_named}
 use Rattle.cg_model.specs.Names.{is_name}

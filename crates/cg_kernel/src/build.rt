@@ -1,5 +1,6 @@
 //! From what a file writes to its kernel.
 ghost use Rattle.std.specs.Prelude.{◌≡◌, ◌≤◌, IfOk, length, map};
+ghost use Rattle.cg_model.specs.Limits.{most_nodes};
 ghost use Rattle.cg_model.specs.Kernel.{IsKernel};
 ghost use Rattle.cg_model.specs.Limits.{most_nodes};
 ghost use Rattle.cg_kernel.specs.Numbers.{IsIndex};

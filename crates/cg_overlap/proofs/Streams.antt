@@ -20,7 +20,7 @@ use Rattle.cg_overlap.proofs.Induction.{right, begun_right}
 use Rattle.cg_overlap.proofs.Ends.{within_run}
 
 -- an operation that is no output of a port sends nothing there
-abbrev Sends : ℕ → ℕ → Op → Type 0
+abbrev pub Sends : ℕ → ℕ → Op → Type 0
 Sends port at op = (is_output op ≡ true) × (at ≡ port)
 
 silent : (port : ℕ) (w : Work) → (Sends port w.port w.op → ⊥) → sent port w ≡ []
@@ -37,13 +37,13 @@ none_after : (port : ℕ) (o : Option Work) → ((w : Work) → o ≡ Some w →
 none_after port None h = refl
 none_after port (Some w) h = silent port w (h w refl)
 
-none_by_units : (works : ℕ → Option Work) (port x : ℕ) → ((u : ℕ) (w : Work) → u < x → works u ≡ Some w → Sends port w.port w.op → ⊥) → sent_by_units works port x ≡ []
+pub none_by_units : (works : ℕ → Option Work) (port x : ℕ) → ((u : ℕ) (w : Work) → u < x → works u ≡ Some w → Sends port w.port w.op → ⊥) → sent_by_units works port x ≡ []
 unfolding sent_by_units
 none_by_units works port zero h = refl
 none_by_units works port (suc x) h =
     rw (none_by_units works port x (λ u w b. h u w (omega arith)), none_after port (works x) (λ w. h x w (omega arith))) refl
 
-one_by_units : (works : ℕ → Option Work) (port x u : ℕ) (w : Work) → u < x → works u ≡ Some w →
+pub one_by_units : (works : ℕ → Option Work) (port x u : ℕ) (w : Work) → u < x → works u ≡ Some w →
     ((y : ℕ) (v : Work) → y < x → works y ≡ Some v → Sends port v.port v.op → y ≡ u) → sent_by_units works port x ≡ sent port w
 unfolding sent_by_units
 one_by_units works port zero u w l e alone = absurd (omega arith)

@@ -1,2 +1,15 @@
 //! The array, cycle by cycle.
 #![tactic(auto)]
+
+mod effects;
+mod fault;
+mod plan;
+mod settle;
+mod sim;
+mod streams;
+mod texts;
+mod units;
+
+pub use fault::SimFault;
+pub use sim::Sim;
+pub use texts::sim_fault_text;

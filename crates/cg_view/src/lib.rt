@@ -1,2 +1,11 @@
-//! Configurations read in place.
+//! Configurations that are read where they lie, in the bytes of a bitstream.
 #![tactic(auto)]
+
+mod config_view;
+mod context_view;
+mod unit_view;
+
+pub use cg_bits::{ArgFields, BitsFault, Contexts, UnitFields};
+pub use config_view::ConfigView;
+pub use context_view::ContextView;
+pub use unit_view::UnitView;

@@ -1,0 +1,67 @@
+//! Why bytes are no bitstream for an architecture.
+
+use std::alloc::{AllocError, AllocFailed};
+use thiserror::Error;
+
+/// Why bytes are no bitstream for an architecture. The variants after `Memory` are B1 to B11, in this order. Bits and bytes
+/// are counted from 0 at the first one of the file; a bit is the first one of the field at fault.
+#[derive(Clone, Copy, Debug, PartialEq, Eq, Error)]
+pub enum BitsFault {
+    #[error("memory ran out")]
+    Memory,
+    /// The first bytes aren't those of the format.
+    #[error("no bits")]
+    Magic,
+    /// The bytes end early: how many there are.
+    #[error("the bytes end after {0}")]
+    Truncated(usize),
+    /// The file is for another architecture: the digest that it names, and that of the architecture.
+    #[error("bits of another architecture")]
+    ArchMismatch([u8; 32], [u8; 32]),
+    /// The header's interval or stages can't be: both of them.
+    #[error("interval {0} and stages {1}")]
+    BadHeader(u32, u32),
+    /// A select above the number of drivers: its bit.
+    #[error("no driver has that number, at bit {0}")]
+    BadSelect(usize),
+    /// No operation has that code: its bit.
+    #[error("no operation has that code, at bit {0}")]
+    BadOp(usize),
+    /// The unit doesn't offer the operation: its bit.
+    #[error("an operation that isn't offered, at bit {0}")]
+    NotOffered(usize),
+    /// A field that breaks the rules of canonical configurations: its bit.
+    #[error("not canonical at bit {0}")]
+    NotCanonical(usize),
+    /// A padding bit is set: the first one.
+    #[error("padding at bit {0}")]
+    BadPadding(usize),
+    /// Bytes follow the padding: the number of the first of them.
+    #[error("a byte too many at {0}")]
+    Trailing(usize),
+    /// An output to a port that an earlier field has: the bit of its port.
+    #[error("an output to a port that is used, at bit {0}")]
+    RepeatedPort(usize),
+}
+
+impl From<AllocError> for BitsFault {
+    ghost use Rattle.std.specs.Prelude.{◌≡◌};
+    ghost use Rattle.cg_bits.specs.declared.fault.BitsFault.TheVariants.{Memory};
+
+    ghost from_gives = { λ _ e. e ≡ Memory };
+
+    fn from(_error: AllocError) -> BitsFault {
+        BitsFault::Memory
+    }
+}
+
+impl<T: Drop> From<AllocFailed<T>> for BitsFault {
+    ghost use Rattle.std.specs.Prelude.{◌≡◌};
+    ghost use Rattle.cg_bits.specs.declared.fault.BitsFault.TheVariants.{Memory};
+
+    ghost from_gives = { λ _ e. e ≡ Memory };
+
+    fn from(_error: AllocFailed<T>) -> BitsFault {
+        BitsFault::Memory
+    }
+}

@@ -1,0 +1,116 @@
+//! An architecture in flat lists, in the order in which a cycle reads it.
+ghost use Rattle.std.specs.Prelude.{◌≡◌, ◌∷◌, ◌++◌, [], IfOk, OnOk, length, slice_index_or};
+ghost use Rattle.cg_sim.specs.Plan.{IsPlan, AreTerminals};
+
+use cg_arch::{Arch, Kind, Unit};
+use std::alloc::{AllocError, Global};
+
+/// A resource with drivers: the place of what its select 0 stands for in the list of all drivers. Its drivers follow, so that select `j` is `j` places further.
+#[derive(Clone, Copy)]
+pub(crate) struct Link {
+    pub(crate) resource: u32,
+    pub(crate) first: usize,
+}
+
+/// Resources with their drivers, all in one list. Select 0 stands for the number past the last resource.
+#[derive(Drop)]
+pub(crate) struct Links {
+    pub(crate) entries: Vec<Link>,
+    pub(crate) drivers: Vec<u32>,
+}
+
+/// The ports, the out and the latency of a unit. In place of a port that there isn't stands the number past the last resource.
+#[derive(Clone, Copy)]
+pub(crate) struct Terminals {
+    pub(crate) ports: [u32; 3],
+    pub(crate) out: u32,
+    pub(crate) latency: u32,
+}
+
+/// The units by number, the registers, and the wires and ports, each after those from which it takes its word in the same cycle.
+#[derive(Drop)]
+pub(crate) struct Plan {
+    pub(crate) units: Vec<Terminals>,
+    pub(crate) registers: Links,
+    pub(crate) nets: Links,
+}
+
+impl Links {
+    fn new(alloc: Global) -> Links
+        ensures entries { result.entries.items ≡ [] }
+        ensures drivers { result.drivers.items ≡ [] }
+    {
+        Links {
+            entries: Vec::new(alloc),
+            drivers: Vec::new(alloc),
+        }
+    }
+
+    /// Adds a resource with its drivers.
+    fn add(&mut self, resource: u32, none: u32, drivers: &[u32]) -> Result<(), AllocError>
+        ensures entries { OnOk result (self.new.entries.items ≡ self.old.entries.items ++ record { resource = resource; first = length self.old.drivers.items } ∷ []) }
+        ensures drivers { OnOk result (self.new.drivers.items ≡ self.old.drivers.items ++ none ∷ drivers.now) }
+    {
+        let first = self.drivers.len();
+        self.drivers.push(none)?;
+        self.drivers.extend_from_slice(drivers)?;
+        self.entries.push(Link { resource, first })?;
+        Ok(())
+    }
+}
+
+/// The architecture in flat lists.
+pub(crate) fn plan_of(alloc: Global, arch: &Arch) -> Result<Plan, AllocError>
+    ensures { IfOk result (λ p. IsPlan arch.now p) }
+{
+    let resources = arch.resources();
+    let order = arch.order();
+    let none = resources.len() as u32;
+    let mut registers = Links::new(alloc);
+    let mut nets = Links::new(alloc);
+    for place in 0..order.len() {
+        let number = order[place];
+        let resource = &resources[number as usize];
+        match resource.kind {
+            Kind::Out => {}
+            Kind::Register => registers.add(number, none, resource.drivers.as_slice())?,
+            _ => nets.add(number, none, resource.drivers.as_slice())?,
+        }
+    }
+    let units = terminals_of(alloc, arch.units(), none)?;
+    Ok(Plan {
+        units,
+        registers,
+        nets,
+    })
+}
+
+/// Each unit's ports, out and latency.
+fn terminals_of(alloc: Global, units: &[Unit], none: u32) -> Result<Vec<Terminals>, AllocError>
+    ensures { IfOk result (λ ts. AreTerminals units.now none ts.items) }
+{
+    let mut terminals = Vec::with_capacity(alloc, units.len())?;
+    for unit in units {
+        let ports = unit.ports.as_slice();
+        terminals.push(Terminals {
+            ports: [
+                port_or(ports, 0, none),
+                port_or(ports, 1, none),
+                port_or(ports, 2, none),
+            ],
+            out: unit.out,
+            latency: unit.latency,
+        })?;
+    }
+    Ok(terminals)
+}
+
+/// A port of a unit, or what stands for none.
+fn port_or(ports: &[u32], place: usize, none: u32) -> u32
+    ensures { result ≡ slice_index_or ports.now place none }
+{
+    match ports.get(place) {
+        Some(port) => *port,
+        None => none,
+    }
+}

@@ -1,0 +1,87 @@
+//! The output streams of a run, with room for all that is sent.
+ghost use Rattle.std.specs.Prelude.{◌≡◌, ◌<◌, ◌≤◌, ℕ, [], true, false, IfOk, length, slice_index_or, vec_capacity};
+ghost use Rattle.cg_model.specs.Config as configs;
+ghost use Rattle.cg_model.specs.Canonical.{IsCanonical, gives_output};
+ghost use Rattle.cg_contexts.specs.Known.{HasUnit};
+ghost use Rattle.cg_sim.specs.Reserved.{stream, all_words};
+
+use crate::effects::Stream;
+use cg_arch::Arch;
+use cg_contexts::{Contexts, UnitFields};
+use cg_model::Words;
+use cg_pad::PORTS;
+use std::alloc::{AllocError, Global};
+
+/// Sixteen streams, with room for `n` words in those that the configuration names for output.
+pub(crate) fn reserve_streams<C: Contexts>(
+    alloc: Global,
+    arch: &Arch,
+    contexts: &C,
+    n: u32,
+) -> Result<Vec<Stream>, AllocError>
+    requires { IsCanonical arch.now (C.config contexts.now) }
+    ensures long { IfOk result (λ v. length v.items ≡ 16) }
+    ensures empty { IfOk result (λ v. (port : ℕ) → (stream v.items port).words ≡ []) }
+    ensures room { IfOk result (λ v. (x slot : ℕ) → x < length arch.now.units → slot < (C.config contexts.now).ii → gives_output (configs.fields (C.config contexts.now) x slot).op ≡ true → n ≤ (stream v.items (configs.fields (C.config contexts.now) x slot).port).room) }
+{
+    let used = used_ports(arch, contexts);
+    let mut streams = Vec::with_capacity(alloc, PORTS)?;
+    for port in 0..PORTS {
+        let room = if used[port] { n as usize } else { 0 };
+        let words = Vec::with_capacity(alloc, room)?;
+        streams.push(Stream { words })?;
+    }
+    Ok(streams)
+}
+
+/// Which ports the configuration names for output.
+fn used_ports<C: Contexts>(arch: &Arch, contexts: &C) -> [bool; 16]
+    requires { IsCanonical arch.now (C.config contexts.now) }
+    ensures { (x slot : ℕ) → x < length arch.now.units → slot < (C.config contexts.now).ii → gives_output (configs.fields (C.config contexts.now) x slot).op ≡ true → slice_index_or result (configs.fields (C.config contexts.now) x slot).port false ≡ true }
+{
+    let units = arch.units().len();
+    let mut used = [false; 16];
+    for slot in 0..contexts.ii() {
+        mark_used(units, contexts, slot, &mut used);
+    }
+    used
+}
+
+/// Marks the ports that the units name for output in a slot.
+fn mark_used<C: Contexts>(units: usize, contexts: &C, slot: u32, used: &mut [bool])
+    requires few { units ≤ 1024 }
+    requires known { (x : ℕ) → x < units → HasUnit (C.config contexts.now) x slot }
+    requires ports { (x : ℕ) → x < units → (configs.fields (C.config contexts.now) x slot).port < length used.old }
+    ensures kept { (port : ℕ) → slice_index_or used.old port false ≡ true → slice_index_or used.new port false ≡ true }
+    ensures marked { (x : ℕ) → x < units → gives_output (configs.fields (C.config contexts.now) x slot).op ≡ true → slice_index_or used.new (configs.fields (C.config contexts.now) x slot).port false ≡ true }
+{
+    for x in 0..units {
+        let fields = contexts.unit(x as u32, slot);
+        if is_output(&fields) {
+            used[fields.port as usize] = true;
+        }
+    }
+}
+
+/// Whether the fields name an output.
+fn is_output(fields: &UnitFields) -> bool
+    ensures { result ≡ gives_output fields.now.op }
+{
+    match fields.op {
+        Some(op) => op.is_output(),
+        None => false,
+    }
+}
+
+/// The words of all streams, in a list that has room for them.
+pub(crate) fn all_words(streams: Vec<Stream>, room: Vec<Words>) -> Vec<Words>
+    requires empty { room.items ≡ [] }
+    requires enough { length streams.items ≤ vec_capacity room }
+    ensures { result.items ≡ all_words streams.items }
+{
+    let mut finished = room;
+    for stream in streams {
+        let _done = finished.push(stream.into_words());
+    }
+    finished
+}

@@ -1,0 +1,17 @@
+//! What reports say of the faults of runs.
+ghost use Rattle.std.specs.Prelude.{◌≡◌, IfOk, string_bytes};
+ghost use Rattle.cg_sim.specs.Texts.{sim_fault_text};
+
+use crate::fault::SimFault;
+use std::alloc::{AllocError, Global};
+
+/// Code, name and place of a fault, as `S2 ImageTooLarge words 513`. Want of memory has none of them.
+pub fn sim_fault_text(alloc: Global, fault: SimFault) -> Result<String, AllocError>
+    ensures { IfOk result (λ s. string_bytes s ≡ sim_fault_text fault) }
+{
+    match fault {
+        SimFault::Memory => Ok(String::new(alloc)),
+        SimFault::TooManyTurns(count) => format!(in alloc; "S1 TooManyTurns turns {count}"),
+        SimFault::ImageTooLarge(count) => format!(in alloc; "S2 ImageTooLarge words {count}"),
+    }
+}

@@ -1,0 +1,8 @@
+use Rattle.std.proofs.Common.{◌≡◌, ap, ◌∙◌}
+use Rattle.cg_model.specs.Config.{Config}
+use Rattle.cg_bits.specs.Reading.{config_in}
+use Rattle.cg_view.proofs.config_view.ConfigViewContexts.stages.Goals as goal
+
+pub returns : goal.returns
+unfolding config_in
+returns c = c.stages_in.ensures ∙ ap (λ (z : Config). z.stages) c.self.view_is

@@ -1,0 +1,78 @@
+//! A configuration in the bytes of a bitstream.
+
+use crate::context_view::ContextView;
+use cg_arch::Arch;
+use cg_bits::{BitsFault, Contexts, HEADER, UnitFields, check_bits, ii_in, stages_in};
+use std::marker::Model;
+
+/// The configuration that lent bytes spell. Contracts see it as this configuration.
+#[derive(Drop)]
+pub struct ConfigView<'a> {
+    arch: &'a Arch,
+    bytes: &'a [u8],
+}
+
+impl<'a> Model for ConfigView<'a> {
+    ghost use Rattle.cg_model.specs.Config as configs;
+    ghost use Rattle.cg_bits.specs.Answers.{config_of};
+    ghost use Rattle.cg_view.specs.Held.{HoldBits};
+
+    ghost Value = { configs.Config };
+
+    ghost view = { λ v. config_of v.arch.now v.bytes.now };
+
+    ghost invariant = { λ v. HoldBits v.arch.now v.bytes.now };
+}
+
+impl<'a> ConfigView<'a> {
+    ghost use Rattle.std.specs.Prelude.{◌≡◌, ◌<◌, Ok, IfOk};
+    ghost use Rattle.cg_model.specs.Config as configs;
+    ghost use Rattle.cg_model.specs.Canonical.{IsCanonical};
+    ghost use Rattle.cg_bits.specs.Spelling.{AreBits};
+    ghost use Rattle.cg_bits.specs.Answers.{answer_of};
+    ghost use Rattle.cg_view.specs.Slot.{slot_of};
+
+    /// The configuration that the bytes spell for the architecture, or why they spell none: the lowest fault at its least
+    /// place. It takes no memory, and never answers `Memory`.
+    pub fn of(arch: &'a Arch, bytes: &'a [u8]) -> Result<ConfigView<'a>, BitsFault>
+        ensures answer { result ≡ answer_of arch.now bytes.now }
+        ensures bits { IfOk result (λ view. AreBits arch.now view bytes.now) }
+        // What the simulator asks of a configuration.
+        ensures canonical { IfOk result (λ view. IsCanonical arch.now view) }
+        ensures all { (C : configs.Config) → AreBits arch.now C bytes.now → result ≡ Ok C }
+    {
+        match check_bits(arch, bytes) {
+            Ok(()) => Ok(ConfigView { arch, bytes }),
+            Err(fault) => Err(fault),
+        }
+    }
+
+    /// What it says in a slot.
+    pub fn context(&self, slot: u32) -> ContextView<'a>
+        requires { slot < self.now.ii }
+        ensures { result ≡ slot_of self.now slot }
+    {
+        let at = slot as usize * self.arch.slot_bits() as usize;
+        ContextView::new(self.arch, &self.bytes[HEADER..], at)
+    }
+}
+
+impl<'a> Contexts for ConfigView<'a> {
+    ghost config = { λ v. v };
+
+    fn ii(&self) -> u32 {
+        ii_in(self.bytes)
+    }
+
+    fn stages(&self) -> u32 {
+        stages_in(self.bytes)
+    }
+
+    fn select(&self, resource: u32, slot: u32) -> u32 {
+        self.context(slot).select(resource)
+    }
+
+    fn unit(&self, unit: u32, slot: u32) -> UnitFields {
+        self.context(slot).unit(unit).fields()
+    }
+}
