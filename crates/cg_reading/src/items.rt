@@ -60,3 +60,46 @@ pub fn all_of<R: ItemReader>(
     }
     Ok(Items::new(items))
 }
+
+#[cfg(test)]
+mod tests {
+    use super::*;
+    use crate::misfit::WRONG_SHAPE;
+    use std::test::Fail;
+
+    /// Reads bytes below ten.
+    struct DigitReader;
+
+    impl ItemReader for DigitReader {
+        ghost use Rattle.std.specs.Prelude.{ℕ, Some, None, nat_lt, if◌then◌else◌};
+
+        type Value = u8;
+
+        type Item = u8;
+
+        ghost Data = { ℕ };
+
+        ghost data_of = { λ byte. byte };
+
+        ghost item_in = { λ byte. if nat_lt byte 10 then Some byte else None };
+
+        fn read(_alloc: Global, value: &u8) -> Result<u8, Misfit<()>> {
+            if *value < 10 {
+                Ok(*value)
+            } else {
+                Err(WRONG_SHAPE)
+            }
+        }
+    }
+
+    #[test]
+    fn reads_digits(rt: HostRuntime) -> Result<(), Fail> {
+        let digits = all_of::<DigitReader>(rt.alloc(), &[4, 9])?;
+        assert_eq!(rt; digits.as_slice(), [4, 9].as_slice());
+        let digits = all_or_first::<DigitReader>(rt.alloc(), &[4, 9])?;
+        assert_eq!(rt; digits.as_slice(), [4, 9].as_slice());
+        let misfit = all_or_first::<DigitReader>(rt.alloc(), &[4, 10, 9, 10]).err();
+        assert_eq!(rt; misfit, Some(Misfit::WrongShape(1)));
+        Ok(())
+    }
+}
