@@ -1,8 +1,7 @@
 -- Facts of the commands' definitions. A command is a case of each.
-use Rattle.std.proofs.Common.{◌≡◌, ◌≢◌, ℕ, Bool, true, false, List, [], ◌∷◌, Option, Some, None, Result, Ok, Err, refl, sym, ◌∙◌, ap, ◌⊎◌, inl, inr}
+use Rattle.std.proofs.Common.{◌≡◌, ◌≢◌, ℕ, List, [], ◌∷◌, Option, Some, None, Result, Ok, Err, refl, sym, ◌∙◌, ap, ◌⊎◌, inl, inr}
 use Rattle.cg_model.specs.Kernel.{Kernel}
-use Rattle.cg_ending.specs.declared.outcome.Status.{Status}
-use Rattle.cg_ending.specs.declared.outcome.Status.TheVariants.{Done, Malformed, Impossible, BudgetSpent, No}
+use Rattle.cg_ending.specs.declared.outcome.Status.TheVariants.{Done}
 use Rattle.cg_ending.specs.Outcome.{Name, File, Outcome, names_of}
 use Rattle.cg_kernel.specs.declared.fault.KernelFault.{KernelFault}
 use Rattle.cg_kernel.specs.Answer.{answer_of}
@@ -24,10 +23,9 @@ use Rattle.cg_tiles.specs.Answer.{AreValidBytes}
 use Rattle.cg_tiles.proofs.NotBoth.{not_both}
 use Rattle.cg_answers.specs.Flat.{flat_by}
 use Rattle.cg_answers.specs.Run.{run_by}
-use Rattle.cg_answers.proofs.Sound.{is_own, IsSound}
+use Rattle.cg_answers.proofs.Sound.{IsSound}
 use Rattle.cg_answers.proofs.Run.{same_array, sound_run, accepted_run, named_run}
 use Rattle.cg_answers.specs.Commands.{IsAnswer, Accepts}
-use Rattle.cg_ending.specs.Status.{leaves_all}
 
 -- an unaliased run has no first pair
 no_pair : (K : Kernel) (n : ℕ) (image : Image) (p : UnorderedPair) → IsUnaliased K n image → IsPairOf K n image (Some p) → ⊥

@@ -173,8 +173,7 @@ three_read held a b c f g h r =
     let first : f.name ≡ a = cc in
     let second : g.name ≡ b = cc in
     let third : h.name ≡ c = cc in
-    let rest = All-tail (IsRead held) f (g ∷ h ∷ []) r.each in
-    (
+    let rest = All-tail (IsRead held) f (g ∷ h ∷ []) r.each in (
       subst (λ n. Holds held n f.bytes) first (All-head (IsRead held) f (g ∷ h ∷ []) r.each).0,
       subst (λ n. Holds held n g.bytes) second (All-head (IsRead held) g (h ∷ []) rest).0,
       subst (λ n. Holds held n h.bytes) third (All-head (IsRead held) h [] (All-tail (IsRead held) g (h ∷ []) rest)).0,

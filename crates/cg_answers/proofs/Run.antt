@@ -4,10 +4,8 @@ use Rattle.std.proofs.lemmas.Bool.{le-ltb}
 use Rattle.cg_model.specs.Work.{Image}
 use Rattle.cg_model.specs.Array.{Arch, IsArch}
 use Rattle.cg_model.specs.Config.{Config}
-use Rattle.cg_ending.specs.declared.outcome.Status.{Status}
-use Rattle.cg_ending.specs.declared.outcome.Status.TheVariants.{Done, Malformed}
+use Rattle.cg_ending.specs.declared.outcome.Status.TheVariants.{Done}
 use Rattle.cg_ending.specs.Outcome.{Name, File, Outcome, names_of}
-use Rattle.cg_ending.specs.Status.{leaves_all}
 use Rattle.cg_level.proofs.Solved.{order_or_loop}
 use Rattle.cg_parts.specs.declared.parts.Parts.{Parts}
 use Rattle.sha2.proofs.Facts256.{length-sha256}
@@ -29,7 +27,7 @@ use Rattle.cg_bits.proofs.Answered.{bits_of, none_answered}
 use Rattle.cg_pad.specs.declared.fault.ImageFault.{ImageFault}
 use Rattle.cg_pad.specs.Bytes as images
 use Rattle.cg_answers.specs.Run.{IsRun, IsRunnable, run_by, run_by_bits, run_by_image, ran, too_large}
-use Rattle.cg_answers.proofs.Sound.{is_own, IsSound}
+use Rattle.cg_answers.proofs.Sound.{IsSound}
 
 -- ---- the architecture
 

@@ -77,7 +77,15 @@ fn run_config(
         ≡ run_by_image turns array.now config.now (file_of input.now).name out.now (images.answer_of (file_of input.now).bytes)) }
 {
     match read_image(alloc, input.bytes.as_slice()) {
-        Ok(image) => run_image(alloc, turns, array, config, &image, input.name.as_str(), out),
+        Ok(image) => run_image(
+            alloc,
+            turns,
+            array,
+            config,
+            &image,
+            input.name.as_str(),
+            out,
+        ),
         Err(ImageFault::Memory) => Err(AllocError),
         Err(fault) => {
             let text = image_fault_text(alloc, fault)?;

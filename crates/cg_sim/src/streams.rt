@@ -2,6 +2,7 @@
 ghost use Rattle.std.specs.Prelude.{◌≡◌, ◌<◌, ◌≤◌, ℕ, [], true, false, IfOk, length, slice_index_or, vec_capacity};
 ghost use Rattle.cg_model.specs.Config as configs;
 ghost use Rattle.cg_model.specs.Canonical.{IsCanonical, gives_output};
+ghost use Rattle.cg_model.specs.Limits.{most_units};
 ghost use Rattle.cg_contexts.specs.Known.{HasUnit};
 ghost use Rattle.cg_sim.specs.Reserved.{stream, all_words};
 
@@ -49,7 +50,7 @@ fn used_ports<C: Contexts>(arch: &Arch, contexts: &C) -> [bool; 16]
 
 /// Marks the ports that the units name for output in a slot.
 fn mark_used<C: Contexts>(units: usize, contexts: &C, slot: u32, used: &mut [bool])
-    requires few { units ≤ 1024 }
+    requires few { units ≤ most_units }
     requires known { (x : ℕ) → x < units → HasUnit (C.config contexts.now) x slot }
     requires ports { (x : ℕ) → x < units → (configs.fields (C.config contexts.now) x slot).port < length used.old }
     ensures kept { (port : ℕ) → slice_index_or used.old port false ≡ true → slice_index_or used.new port false ≡ true }

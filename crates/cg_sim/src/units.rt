@@ -1,6 +1,6 @@
 //! The units of a cycle, in order.
 ghost use Rattle.std.specs.Prelude.{◌≡◌, ◌<◌, ◌≤◌, ◌+◌, ◌*◌, ◌^◌, ℕ, length, slice_index, vec_len, vec_capacity};
-ghost use Rattle.cg_model.specs.Limits.{most_turns, most_units};
+ghost use Rattle.cg_model.specs.Limits.{latest_time, most_turns, most_units};
 ghost use Rattle.cg_model.specs.Config as configs;
 ghost use Rattle.cg_model.specs.Machine.{begun, argument, arguments};
 ghost use Rattle.cg_contexts.specs.Known.{HasUnit};
@@ -115,7 +115,7 @@ pub(crate) fn begin_units<C: Contexts>(
 )
     requires turns { n ≤ most_turns }
     requires known { (x : ℕ) → x < length units.now → HasUnit (C.config contexts.now) x moment.slot }
-    requires stages { (x : ℕ) → x < length units.now → (configs.fields (C.config contexts.now) x moment.slot).stage ≤ 65534 }
+    requires stages { (x : ℕ) → x < length units.now → (configs.fields (C.config contexts.now) x moment.slot).stage ≤ latest_time }
     requires ports { (x p : ℕ) → x < length units.now → p < 3 → slice_index (terminals units.now x).ports p < length words.now }
     requires few { length units.now ≤ most_units }
     requires row { moment.row < 4 }

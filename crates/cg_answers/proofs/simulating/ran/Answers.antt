@@ -1,4 +1,4 @@
-use Rattle.std.proofs.Common.{◌≡◌, rules, ap, sym, ◌∙◌, arith}
+use Rattle.std.proofs.Common.{◌≡◌, rules, ap, ◌∙◌, arith}
 use Rattle.cg_model.specs.Machine.{machine_left}
 use Rattle.cg_sim.specs.Run.{Run, state, all_cycles}
 use Rattle.cg_pad.specs.Bytes.{image_bytes}
