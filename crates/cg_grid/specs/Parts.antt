@@ -33,6 +33,7 @@ abbrev pub or_else : Side → Option (List ℕ) → Side × List ℕ → Side ×
 or_else side None other = other
 or_else side (Some name) other = (side, name)
 
+-- each side has a front of its own; a text without one names a resource of the same tile
 abbrev pub sided : List ℕ → Side × List ℕ
 sided text =
     or_else Anywhere (after_front (codes "/") text)
@@ -41,9 +42,11 @@ sided text =
     (or_else South (after_front (codes "S.") text)
     (or_else West (after_front (codes "W.") text) (Here, text)))))
 
+-- the reference that a text writes
 abbrev pub reference_of : List ℕ → Option Reference
 reference_of text = to (sided text).0 (sided text).1
 
+-- a reference: a text
 abbrev pub reference_in : Data → Option Reference
 reference_in d = option_and_then reference_of (as_str d)
 
@@ -51,6 +54,7 @@ reference_in d = option_and_then reference_of (as_str d)
 abbrev pub references_in : Data → Option (List Reference)
 references_in d = option_and_then (all_of reference_in) (items_in d)
 
+-- the references at a key
 abbrev pub references_at : List ℕ → Data → Option (List Reference)
 references_at key d = option_and_then (all_of reference_in) (items_at key d)
 
@@ -70,6 +74,7 @@ register_from _ _ = None
 abbrev pub with_named : List Op → List ℕ → List Op
 with_named ops text = option_map_or (λ op. with_op ops op) (op_named text) ops
 
+-- those that a list of texts names
 abbrev pub ops_named : List (List ℕ) → List Op
 ops_named texts = fold with_named [] texts
 
@@ -82,18 +87,23 @@ abbrev pub unit_from : Option (List ℕ) → Option (List (List ℕ)) → Option
 unit_from (Some name) (Some ops) (Some latency) (Some ports) = Some (part.Unit name (ops_named ops) (has_other_ops ops) latency ports)
 unit_from _ _ _ _ = None
 
+-- the wire that a table writes
 abbrev pub wire_in : Data → Option Part
 wire_in d = wire_from (text_at (codes "wire") d) (references_at (codes "from") d)
 
+-- the register that a table writes
 abbrev pub register_in : Data → Option Part
 register_in d = register_from (text_at (codes "reg") d) (references_at (codes "from") d)
 
+-- the texts at `ops`
 abbrev pub ops_at : Data → Option (List (List ℕ))
 ops_at d = option_and_then (all_of as_str) (items_at (codes "ops") d)
 
+-- the references of each port, at `ports`
 abbrev pub ports_at : Data → Option (List (List Reference))
 ports_at d = option_and_then (all_of references_in) (items_at (codes "ports") d)
 
+-- the unit that a table writes
 abbrev pub unit_in : Data → Option Part
 unit_in d = unit_from (text_at (codes "unit") d) (ops_at d) (word_at (codes "latency") d) (ports_at d)
 
@@ -112,5 +122,6 @@ by_shape false true false d = option_map (keyed (codes "reg" ∷ codes "from" �
 by_shape false false true d = option_map (keyed (codes "unit" ∷ codes "ops" ∷ codes "latency" ∷ codes "ports" ∷ []) d) (unit_in d)
 by_shape _ _ _ d = None
 
+-- the part that a table writes
 abbrev pub part_in : Data → Option WrittenPart
 part_in d = by_shape (has (codes "wire") d) (has (codes "reg") d) (has (codes "unit") d) d

@@ -61,6 +61,7 @@ columns (row ∷ rows) = length row
 abbrev pub is_ragged : ℕ → List ℕ → Bool
 is_ragged most row = eqb (length row) 0 || not (eqb (length row) most)
 
+-- the first such row; row 0 where there is none
 abbrev pub ragged_row : List (List ℕ) → Option ℕ
 ragged_row [] = Some 0
 ragged_row (row ∷ rows) = first_from (λ r other. is_ragged (length row) other) 0 (row ∷ rows)
@@ -69,6 +70,7 @@ ragged_row (row ∷ rows) = first_from (λ r other. is_ragged (length row) other
 abbrev pub has_large_grid : List (List ℕ) → Bool
 has_large_grid grid = nat_lt 32 (length grid) || nat_lt 32 (columns grid)
 
+-- the fault, where it applies
 abbrev pub large_grid : List (List ℕ) → Option TilesFault
 large_grid grid = if has_large_grid grid then Some (fault.Parts (arch.TooLarge large.Grid)) else None
 

@@ -8,13 +8,16 @@ use Rattle.cg_grid.specs.declared.fault.TilesPlace.TheVariants as place
 use Rattle.cg_grid.specs.declared.fault.PartPlace.{PartPlace}
 use Rattle.cg_grid.specs.declared.grid.Cell.{Cell}
 
+-- a fault at a part: the letter of its tile, and its number
 abbrev pub part_text : List ℕ → PartPlace → List ℕ
 part_text code p = code ++ (codes " tile " ++ (encode_utf8 p.tile ++ (codes " part " ++ decimal p.part)))
 
+-- a fault at the file or at a part
 abbrev pub place_text : List ℕ → TilesPlace → List ℕ
 place_text code place.File = code ++ codes " file"
 place_text code (place.Part p) = part_text code p
 
+-- a fault at a cell: its row and column
 abbrev pub cell_text : List ℕ → Cell → List ℕ
 cell_text code cell = code ++ (codes " row " ++ (decimal cell.row ++ (codes " column " ++ decimal cell.column)))
 

@@ -22,10 +22,12 @@ use Rattle.cg_grid.specs.Parts.{part_in}
 abbrev pub is_letter : ℕ → Bool
 is_letter byte = between 65 90 byte || between 97 122 byte
 
+-- a key of `tiles` is such a letter
 abbrev pub is_tile_key : List ℕ → Bool
 is_tile_key (byte ∷ []) = is_letter byte
 is_tile_key _ = false
 
+-- each key is one, and has an array
 abbrev pub are_tiles : Members → Bool
 are_tiles no_members = true
 are_tiles (member key d ms) = (is_tile_key key && is_some (as_array d)) && are_tiles ms
@@ -39,6 +41,7 @@ abbrev pub of_letter : ℕ → Result (List WrittenPart) ℕ → Result Tile Par
 of_letter letter (Ok parts) = Ok (record { letter = letter; parts = parts })
 of_letter letter (Err k) = Err (record { tile = letter; part = k })
 
+-- the tile at a key
 abbrev pub tile_in : List ℕ → Data → Result Tile PartPlace
 tile_in key d = of_letter (slice_index key 0) (all_or_first part_in 0 (items_of d))
 
@@ -48,6 +51,7 @@ and_tiles (Err p) rest = Err p
 and_tiles (Ok tile) (Ok tiles) = Ok (tile ∷ tiles)
 and_tiles (Ok tile) (Err p) = Err p
 
+-- the tiles at all keys, in the order of their letters
 abbrev pub tiles_in : Members → Result (List Tile) PartPlace
 tiles_in no_members = Ok []
 tiles_in (member key d ms) = and_tiles (tile_in key d) (tiles_in ms)
@@ -59,9 +63,11 @@ tiles_in (member key d ms) = and_tiles (tile_in key d) (tiles_in ms)
 abbrev pub is_cell : ℕ → Bool
 is_cell byte = eqb byte 46 || is_letter byte
 
+-- a row of the grid: a text of such cells
 abbrev pub row_in : Data → Option (List ℕ)
 row_in d = option_and_then (λ text. if list_all is_cell text then Some text else None) (as_str d)
 
+-- the rows of the grid
 abbrev pub grid_in : Data → Option (List (List ℕ))
 grid_in d = option_and_then (all_of row_in) (items_at (codes "grid") d)
 
@@ -69,14 +75,17 @@ grid_in d = option_and_then (all_of row_in) (items_at (codes "grid") d)
 abbrev pub hub_in : Data → Option (List (List ℕ))
 hub_in d = option_and_then (all_of as_str) (items_or_none (codes "hub") d)
 
+-- the format is `cga1`
 abbrev pub has_format : Data → Bool
 has_format d = option_map_or (λ text. bytes_eq text (codes "cga1")) (text_at (codes "format") d) false
 
+-- all but the tiles, where nothing needed is missing
 abbrev pub header_from : Option (List ℕ) → Option ℕ → Option ℕ → Option Bool → Option (List (List ℕ)) → Option (List (List ℕ)) → Bool → Option Header
 header_from (Some name) (Some contexts) (Some memory) (Some torus) (Some hub) (Some grid) other =
     Some (record { name = name; contexts = contexts; memory = memory; torus = torus; hub = hub; grid = grid; other_keys = other })
 header_from _ _ _ _ _ _ other = None
 
+-- what the table writes besides its tiles
 abbrev pub header_in : Data → Option Header
 header_in d = header_from
     (text_at (codes "name") d)
@@ -91,10 +100,12 @@ header_in d = header_from
 abbrev pub tiles_at : Data → Option Members
 tiles_at d = option_and_then (λ ms. if are_tiles ms then Some ms else None) (members_at (codes "tiles") d)
 
+-- with the tiles, or where the first part stands that is none
 abbrev pub with_tiles : Header → Result (List Tile) PartPlace → Result WrittenArch TilesPlace
 with_tiles header (Ok tiles) = Ok (record { header = header; tiles = tiles })
 with_tiles header (Err p) = Err (place.Part p)
 
+-- where the format, the header or the tiles are wrong, the file is the place
 abbrev pub written_from : Bool → Option Header → Option Members → Result WrittenArch TilesPlace
 written_from true (Some header) (Some ms) = with_tiles header (tiles_in ms)
 written_from _ _ _ = Err place.File

@@ -35,6 +35,7 @@ edge_of w e = record { from = node_number w e.from; to = node_number w e.to; dis
 unfoldable pub kernel_of : WrittenKernel → Kernel
 kernel_of w = record { nodes = map (node_of w) w.nodes; order = map (edge_of w) w.order }
 
+-- the fault, where there is one, and else the kernel
 abbrev pub unless : Option KernelFault → Kernel → Result Kernel KernelFault
 unless None kernel = Ok kernel
 unless (Some f) kernel = Err f

@@ -5,6 +5,7 @@ use Rattle.cg_kernel.specs.declared.fault.KernelPlace.TheVariants as place
 use Rattle.cg_kernel.specs.declared.fault.KernelFault.{KernelFault}
 use Rattle.cg_kernel.specs.declared.fault.KernelFault.TheVariants as fault
 
+-- where a fault is: the file, or the number of a node or order edge
 abbrev pub place_text : KernelPlace → List ℕ
 place_text place.File = codes "file"
 place_text (place.Node v) = codes "nodes " ++ decimal v

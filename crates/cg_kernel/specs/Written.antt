@@ -20,6 +20,7 @@ abbrev pub source_from : Option (List ℕ) → Option ℕ → Option (List ℕ) 
 source_from (Some from) (Some distance) (Some init) other = Some (Source from distance init other)
 source_from _ _ _ other = None
 
+-- the source that an object writes
 abbrev pub source_in : Data → Option WrittenArg
 source_in d = source_from
     (text_at (codes "from") d)
@@ -36,6 +37,7 @@ abbrev pub node_from : Option (List ℕ) → Option (List ℕ) → Option (List 
 node_from (Some name) (Some op) (Some args) (Some port) other = Some (record { name = name; op = op; args = args; port = port; other_keys = other })
 node_from _ _ _ _ other = None
 
+-- the node that an object writes
 abbrev pub node_in : Data → Option WrittenNode
 node_in d = node_from
     (text_at (codes "name") d)
@@ -49,6 +51,7 @@ abbrev pub edge_from : Option (List ℕ) → Option (List ℕ) → Option ℕ �
 edge_from (Some from) (Some to) (Some distance) other = Some (record { from = from; to = to; distance = distance; other_keys = other })
 edge_from _ _ _ other = None
 
+-- the order edge that an object writes
 abbrev pub edge_in : Data → Option WrittenEdge
 edge_in d = edge_from
     (text_at (codes "from") d)
@@ -60,6 +63,7 @@ edge_in d = edge_from
 abbrev pub format_named : List ℕ → Option Format
 format_named text = if bytes_eq text (codes "cgk1") then Some First else (if bytes_eq text (codes "cgk2") then Some Second else None)
 
+-- the format that the text `format` names
 abbrev pub format_in : Data → Option Format
 format_in d = option_and_then format_named (text_at (codes "format") d)
 
@@ -69,6 +73,7 @@ joined format other (Ok nodes) (Ok order) = Ok (record { format = format; nodes 
 joined format other (Ok nodes) (Err e) = Err (place.Order e)
 joined format other (Err v) order = Err (place.Node v)
 
+-- where the format, or the arrays, are missing or wrong, the file is the place
 abbrev pub written_from : Option Format → Option (List Data) → Option (List Data) → Bool → Result WrittenKernel KernelPlace
 written_from (Some format) (Some nodes) (Some order) other = joined format other (all_or_first node_in 0 nodes) (all_or_first edge_in 0 order)
 written_from _ _ _ other = Err place.File
