@@ -1,5 +1,7 @@
--- A stream with the room that was reserved for it.
-use Rattle.std.specs.Prelude.{ℕ, List, [], map, slice_index_or}
+-- Streams with the room that was reserved for them.
+use Rattle.std.specs.Prelude.{◌≡◌, ℕ, ◌<◌, ◌≤◌, Bool, true, false, List, [], map, slice_index_or}
+use Rattle.cg_model.specs.Config.{Config, fields}
+use Rattle.cg_model.specs.Canonical.{gives_output}
 
 pub record Reserved : Type 0 where
   pub words : List ℕ
@@ -12,3 +14,18 @@ stream ss port = slice_index_or ss port (record { words = []; room = 0 })
 -- the words of all streams
 abbrev pub all_words : List Reserved → List (List ℕ)
 all_words ss = map (λ s. s.words) ss
+
+-- the ports to which the units send in that slot are marked
+abbrev pub AreMarkedIn : Config → ℕ → ℕ → List Bool → Type 0
+AreMarkedIn C units slot used = (x : ℕ) → x < units → gives_output (fields C x slot).op ≡ true →
+    slice_index_or used (fields C x slot).port false ≡ true
+
+-- those to which they send in one of the first slots
+abbrev pub AreMarked : Config → ℕ → ℕ → List Bool → Type 0
+AreMarked C units slots used = (x slot : ℕ) → x < units → slot < slots → gives_output (fields C x slot).op ≡ true →
+    slice_index_or used (fields C x slot).port false ≡ true
+
+-- there is room for n words in each stream to which a unit sends
+abbrev pub HaveRoom : Config → ℕ → ℕ → List Reserved → Type 0
+HaveRoom C units n ss = (x slot : ℕ) → x < units → slot < C.ii → gives_output (fields C x slot).op ≡ true →
+    n ≤ (stream ss (fields C x slot).port).room

@@ -1,15 +1,15 @@
 -- What the fields of a simulator are.
-use Rattle.std.specs.Prelude.{◌≡◌, ℕ, ◌+◌, ◌-◌, ◌*◌, ◌%◌, ◌<◌, ◌≤◌, ◌^◌, true, List, [], length, slice_index, vec_capacity}
+use Rattle.std.specs.Prelude.{◌≡◌, ℕ, ◌+◌, ◌-◌, ◌*◌, ◌%◌, ◌<◌, ◌≤◌, ◌^◌, List, [], length, slice_index, vec_capacity}
 use Rattle.std.specs.declared.vec.Vec.{Vec}
 use Rattle.std.specs.declared.alloc.Global.{Global}
 use Rattle.cg_model.specs.Limits.{most_turns}
 use Rattle.cg_model.specs.Array.{Arch, IsArch}
-use Rattle.cg_model.specs.Config.{Config, fields}
-use Rattle.cg_model.specs.Canonical.{IsCanonical, gives_output}
+use Rattle.cg_model.specs.Config.{Config}
+use Rattle.cg_model.specs.Canonical.{IsCanonical}
 use Rattle.cg_model.specs.Work.{Image}
 use Rattle.cg_model.specs.Machine.{at_cycle, ago}
 use Rattle.cg_sim.specs.Plan.{IsPlan}
-use Rattle.cg_sim.specs.Reserved.{stream}
+use Rattle.cg_sim.specs.Reserved.{stream, HaveRoom}
 use Rattle.cg_sim.specs.Moment.{IsMoment}
 use Rattle.cg_sim.specs.Run.{Run, all_cycles}
 use Rattle.cg_sim.specs.declared.moment.Moment.{Moment}
@@ -29,8 +29,7 @@ pub record IsState (A : Arch) (C : Config) (n : ℕ) (image : Image) (c : ℕ) (
   pub memory : e.memory ≡ (at_cycle A C n image c).memory
   pub ports : length e.streams.items ≡ 16
   pub streams : (port : ℕ) → port < 16 → (stream e.streams.items port).words ≡ (at_cycle A C n image c).streams port
-  pub room : (x slot : ℕ) → x < length A.units → slot < C.ii → gives_output (fields C x slot).op ≡ true →
-      n ≤ (stream e.streams.items (fields C x slot).port).room
+  pub room : HaveRoom C (length A.units) n e.streams.items
   pub outside : e.outside ≡ (at_cycle A C n image c).outside
   pub pending : e.pending.items ≡ []
   pub pending_room : length A.units ≤ vec_capacity e.pending

@@ -4,7 +4,7 @@ ghost use Rattle.cg_model.specs.Config as configs;
 ghost use Rattle.cg_model.specs.Canonical.{IsCanonical, gives_output};
 ghost use Rattle.cg_model.specs.Limits.{most_units};
 ghost use Rattle.cg_contexts.specs.Known.{HasUnit};
-ghost use Rattle.cg_sim.specs.Reserved.{stream, all_words};
+ghost use Rattle.cg_sim.specs.Reserved.{stream, all_words, AreMarkedIn, AreMarked, HaveRoom};
 
 use crate::effects::Stream;
 use cg_arch::Arch;
@@ -23,7 +23,7 @@ pub(crate) fn reserve_streams<C: Contexts>(
     requires { IsCanonical arch.now (C.config contexts.now) }
     ensures long { IfOk result (λ v. length v.items ≡ 16) }
     ensures empty { IfOk result (λ v. (port : ℕ) → (stream v.items port).words ≡ []) }
-    ensures room { IfOk result (λ v. (x slot : ℕ) → x < length arch.now.units → slot < (C.config contexts.now).ii → gives_output (configs.fields (C.config contexts.now) x slot).op ≡ true → n ≤ (stream v.items (configs.fields (C.config contexts.now) x slot).port).room) }
+    ensures room { IfOk result (λ v. HaveRoom (C.config contexts.now) (length arch.now.units) n v.items) }
 {
     let used = used_ports(arch, contexts);
     let mut streams = Vec::with_capacity(alloc, PORTS)?;
@@ -38,7 +38,7 @@ pub(crate) fn reserve_streams<C: Contexts>(
 /// Which ports the configuration names for output.
 fn used_ports<C: Contexts>(arch: &Arch, contexts: &C) -> [bool; 16]
     requires { IsCanonical arch.now (C.config contexts.now) }
-    ensures { (x slot : ℕ) → x < length arch.now.units → slot < (C.config contexts.now).ii → gives_output (configs.fields (C.config contexts.now) x slot).op ≡ true → slice_index_or result (configs.fields (C.config contexts.now) x slot).port false ≡ true }
+    ensures { AreMarked (C.config contexts.now) (length arch.now.units) (C.config contexts.now).ii result }
 {
     let units = arch.units().len();
     let mut used = [false; 16];
@@ -54,7 +54,7 @@ fn mark_used<C: Contexts>(units: usize, contexts: &C, slot: u32, used: &mut [boo
     requires known { (x : ℕ) → x < units → HasUnit (C.config contexts.now) x slot }
     requires ports { (x : ℕ) → x < units → (configs.fields (C.config contexts.now) x slot).port < length used.old }
     ensures kept { (port : ℕ) → slice_index_or used.old port false ≡ true → slice_index_or used.new port false ≡ true }
-    ensures marked { (x : ℕ) → x < units → gives_output (configs.fields (C.config contexts.now) x slot).op ≡ true → slice_index_or used.new (configs.fields (C.config contexts.now) x slot).port false ≡ true }
+    ensures marked { AreMarkedIn (C.config contexts.now) units slot used.new }
 {
     for x in 0..units {
         let fields = contexts.unit(x as u32, slot);
