@@ -17,3 +17,4 @@ pub mod Outputs
 pub mod Linked
 pub mod Started
 pub mod Answered
+pub mod Written
