@@ -18,3 +18,4 @@ pub mod Linked
 pub mod Started
 pub mod Answered
 pub mod Written
+pub mod Tables
