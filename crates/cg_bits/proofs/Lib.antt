@@ -19,3 +19,4 @@ pub mod Started
 pub mod Answered
 pub mod Written
 pub mod Tables
+pub mod Changed

@@ -7,3 +7,4 @@ pub mod Faults
 pub mod Answers
 pub mod Ranges
 pub mod Checks
+pub mod Changes
