@@ -1,5 +1,5 @@
 -- What is answered of bytes, and what they spell then.
-use Rattle.std.proofs.Common.{◌≡◌, ℕ, ◌≤◌, ◌^◌, List, [], ◌∷◌, length, Some, Result, Ok, Err, refl, sym, ap, subst, ◌∙◌, arith}
+use Rattle.std.proofs.Common.{◌≡◌, ℕ, List, [], ◌∷◌, length, Result, Ok, Err, refl, ap, arith}
 use Rattle.cg_model.specs.Array.{Arch, IsArch}
 use Rattle.cg_model.specs.Config.{Config}
 use Rattle.cg_arch.specs.Kept.{digest_of}
@@ -7,7 +7,6 @@ use Rattle.cg_bits.specs.declared.fault.BitsFault.{BitsFault}
 use Rattle.cg_bits.specs.Format.{cgb2}
 use Rattle.cg_bits.specs.Spelling.{AreBits}
 use Rattle.cg_bits.specs.Ranges.{IsFormat, IsBytes}
-use Rattle.cg_bits.specs.Faults.{first}
 use Rattle.cg_bits.specs.Checks.{Checks}
 use Rattle.cg_bits.specs.Answers.{faults_of, config_of, unless_fault}
 use Rattle.cg_bits.proofs.Room.{room_of}

@@ -1,13 +1,13 @@
 -- Bits that are shifted in and out of a number.
-use Rattle.std.proofs.Common.{◌≡◌, ℕ, zero, suc, ◌+◌, ◌-◌, ◌*◌, ◌/◌, ◌%◌, ◌^◌, ◌<◌, ◌≤◌, Bool, false, List, [], ◌∷◌, ◌++◌, length, take, drop, get_or, replicate, refl, sym, ap, subst, ◌∙◌, append_assoc, arith, length-append, length-take, length-drop}
+use Rattle.std.proofs.Common.{◌≡◌, ℕ, zero, suc, ◌+◌, ◌-◌, ◌*◌, ◌/◌, ◌%◌, ◌^◌, ◌<◌, ◌≤◌, Bool, false, List, [], ◌∷◌, ◌++◌, length, take, drop, get_or, replicate, refl, sym, ap, subst, ◌∙◌, append_assoc, arith, length-take, length-drop}
 use Rattle.std.specs.Int.Bits.{bit_or}
 use Rattle.std.proofs.lemmas.List.{append-nil, take_at, drop_at, take-append-drop, drop-drop, take-take, drop-take, take_more}
 use Rattle.std.proofs.lemmas.List.Concat.{flat_map-append, flat_map-cons}
 use Rattle.std.proofs.lemmas.Nat.{or_shifted, shr_split, shr_below, shl_below, shr_high, mod_low, pow_pos, pow-add, mod_below, shl_whole, one_shl, mul-add-lt}
 use Rattle.std.proofs.Math.Nat.{mul_comm}
 use Rattle.std.proofs.Math.Pow.{pow_mono}
-use Rattle.cg_bits.specs.Numbers.{bits_of, number, number_after, number_at, bits_of_bytes}
-use Rattle.cg_bits.proofs.Numbers.{bits_of-split, length-bits_of, number_after-append, number_after-bits, number_after-is, number_below}
+use Rattle.cg_bits.specs.Numbers.{bits_of, number, number_at, bits_of_bytes}
+use Rattle.cg_bits.proofs.Numbers.{bits_of-split, number_after-append, number_after-bits, number_after-is, number_below}
 use Rattle.cg_bits.proofs.Bytes.{length-bits_of_bytes}
 
 -- the upper bits of a number, and then the lower ones

@@ -1,12 +1,12 @@
 -- The breaches that the code looks for are those of the definition.
-use Rattle.std.proofs.Common.{◌≡◌, ℕ, suc, ◌+◌, ◌*◌, ◌<◌, ◌≤◌, Bool, false, ◌||◌, List, [], ◌∷◌, ◌++◌, length, get_or, Option, Some, refl, sym, ap, ◌∙◌, add-one, arith}
+use Rattle.std.proofs.Common.{◌≡◌, ℕ, ◌+◌, ◌<◌, Bool, false, ◌||◌, List, [], ◌∷◌, ◌++◌, length, get_or, Option, Some, refl, ap, ◌∙◌, add-one}
 use Rattle.std.specs.Prelude.{nat_lt}
 use Rattle.std.proofs.lemmas.List.{get_or_default}
 use Rattle.cg_model.specs.declared.config.ArgFields.{ArgFields}
 use Rattle.cg_model.specs.declared.config.UnitFields.{UnitFields}
 use Rattle.cg_model.specs.Config.{arg, no_arg}
 use Rattle.cg_model.specs.Canonical.{arity_of, fixed_below}
-use Rattle.cg_bits.specs.Faults.{first, unless, arg_breaches}
+use Rattle.cg_bits.specs.Faults.{first, arg_breaches}
 use Rattle.cg_bits.specs.Checks.{arg_faults}
 
 -- what stands past the end of the arguments, as the check reads it

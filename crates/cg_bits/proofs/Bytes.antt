@@ -1,8 +1,5 @@
 -- One spelling of each configuration, and one configuration of each spelling.
-use Rattle.std.proofs.Common.{◌≡◌, ℕ, zero, suc, ◌+◌, ◌-◌, ◌*◌, ◌/◌, ◌^◌, ◌<◌, ◌≤◌, Bool, true, false, eqb, cond, max, List, [], ◌∷◌, ◌++◌, length, take, drop, get_or, replicate, Option, Some, None, refl, sym, ap, subst, ◌∙◌, arith, length-append, ⊎_elim}
-use Rattle.std.specs.List.{flat_map}
-use Rattle.std.specs.Int.{w16, to_be_bytes, from_be_bytes}
-use Rattle.std.proofs.lemmas.Bool.{cases_lt}
+use Rattle.std.proofs.Common.{◌≡◌, ℕ, zero, suc, ◌+◌, ◌*◌, ◌<◌, ◌≤◌, Bool, true, false, cond, List, [], ◌∷◌, ◌++◌, length, take, drop, get_or, replicate, refl, sym, ap, subst, ◌∙◌, arith, length-append}
 use Rattle.std.proofs.lemmas.List.{take_at, drop_at, get_or-drop, length-replicate}
 use Rattle.std.proofs.lemmas.List.Concat.{flat_map-cons}
 use Rattle.std.proofs.lemmas.Nat.{from_be_bytes-to_be_bytes_2}
@@ -10,17 +7,15 @@ use Rattle.cg_model.specs.declared.config.UnitFields.{UnitFields}
 use Rattle.cg_model.specs.Array.{Arch, unit}
 use Rattle.cg_model.specs.Config.{Config, fields}
 use Rattle.cg_bits.specs.Numbers.{bits_of, number, bits_of_bytes}
-use Rattle.cg_bits.specs.Parts.{joined, Holds}
 use Rattle.cg_bits.specs.Ranges.{IsFormat, IsBytes}
 use Rattle.cg_bits.proofs.Room.{HasRoom}
 use Rattle.cg_bits.specs.declared.format.Format.{Format}
-use Rattle.cg_bits.specs.Format.{slot_len}
 use Rattle.cg_bits.specs.Spelling.{slots, header, Spells}
 use Rattle.cg_bits.specs.Reading.{config_in, config_at, ii_in, stages_in}
-use Rattle.cg_model.specs.Canonical.{IsCanonical, AreFields, stage_of, greatest_of, last_stage, is_on}
+use Rattle.cg_model.specs.Canonical.{IsCanonical, stage_of, greatest_of, last_stage, is_on}
 use Rattle.cg_bits.proofs.Numbers.{length-bits_of, number-bits}
 use Rattle.cg_bits.proofs.Units.{stage_fits}
-use Rattle.cg_bits.proofs.Slots.{length-slots, slots_read}
+use Rattle.cg_bits.proofs.Slots.{slots_read}
 
 pub length-bits_of_bytes : (bytes : List ℕ) → length (bits_of_bytes bytes) ≡ 8 * length bytes
 length-bits_of_bytes [] = refl

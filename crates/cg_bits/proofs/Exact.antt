@@ -1,36 +1,34 @@
 -- Bytes without a fault are those that spell a canonical configuration.
-use Rattle.std.proofs.Common.{◌≡◌, ℕ, zero, suc, ◌+◌, ◌-◌, ◌*◌, ◌/◌, ◌^◌, ◌<◌, ◌≤◌, Bool, true, false, not, ◌&&◌, ◌||◌, eqb, ltb, leb, cond, List, [], ◌∷◌, ◌++◌, length, map, take, drop, get_or, replicate, refl, sym, ap, subst, ◌∙◌, arith, length-append, length-drop, length-take, ⊎_elim}
+use Rattle.std.proofs.Common.{◌≡◌, ℕ, zero, suc, ◌+◌, ◌-◌, ◌*◌, ◌<◌, ◌≤◌, Bool, true, false, not, eqb, ltb, leb, cond, List, [], ◌++◌, length, map, take, drop, get_or, replicate, refl, sym, ap, subst, ◌∙◌, arith, length-append, length-drop, length-take, ⊎_elim}
 use Rattle.std.specs.List.{range_with_len}
 use Rattle.std.specs.Int.{w16, to_be_bytes, from_be_bytes}
-use Rattle.std.specs.Prelude.{slice_index, slice_index_or}
-use Rattle.std.proofs.lemmas.Bool.{cases_lt, lt-ltb, le-ltb, leb-true, le-leb, ltb-false, eqb-true, eq-eqb, eqb-false, and_parts, or_parts, or_left, or_from, ne_eqb}
+use Rattle.std.specs.Prelude.{slice_index_or}
+use Rattle.std.proofs.lemmas.Bool.{cases_lt, le-ltb, leb-true, le-leb, ltb-false, eqb-true, eq-eqb, eqb-false, or_parts, or_from, ne_eqb}
 use Rattle.std.proofs.lemmas.List.{take_at, drop_at, take-append-drop, get_or-drop, get_or-take, get_or_past, take_all, drop-drop, length-replicate, get_or-replicate}
 use Rattle.std.proofs.lemmas.List.FromFn.{get_or-map-range_with_len, length-map-range_with_len}
 use Rattle.std.proofs.lemmas.Nat.{be_bytes_2, row_fits}
-use Rattle.cg_model.specs.declared.config.ArgFields.{ArgFields}
 use Rattle.cg_model.specs.declared.config.UnitFields.{UnitFields}
 use Rattle.cg_model.specs.Array.{Arch, resource, unit}
-use Rattle.cg_model.specs.Config.{Config, select, fields, no_arg, arg}
+use Rattle.cg_model.specs.Config.{Config, select, fields}
 use Rattle.cg_bits.specs.Numbers.{bits_of, number_at, bits_of_bytes}
-use Rattle.cg_bits.specs.Parts.{joined, Holds}
+use Rattle.cg_bits.specs.Parts.{joined}
 use Rattle.cg_bits.specs.Ranges.{IsFormat, IsBytes}
 use Rattle.cg_bits.proofs.Room.{HasRoom}
 use Rattle.cg_bits.specs.declared.format.Format.{Format}
-use Rattle.cg_bits.specs.Format.{code_of, op_of, ports, arg_len, args_at, unit_len, unit_at, slot_len}
+use Rattle.cg_bits.specs.Format.{code_of, ports, arg_len, args_at, unit_len, slot_len}
 use Rattle.cg_flat.specs.Slots.{select_bits}
 use Rattle.cg_bits.specs.Spelling.{unit_bits, slots, magic, header, Spells}
-use Rattle.cg_bits.specs.Reading.{arg_in, unit_in, config_in, config_at, select_place, unit_place}
-use Rattle.cg_model.specs.Canonical.{AreFields, IsCanonical, mode_right, count_right, word_right, stage_right, port_right, immediate_right, last_stage, port_free, offered}
+use Rattle.cg_bits.specs.Reading.{unit_in, config_in, config_at, select_place, unit_place}
+use Rattle.cg_model.specs.Canonical.{AreFields, IsCanonical, last_stage, port_free, offered}
 use Rattle.std.specs.Prelude.{bytes_eq, nat_eq}
 use Rattle.std.specs.List.{starts_with}
-use Rattle.cg_bits.specs.declared.fault.BitsFault.{BitsFault}
-use Rattle.cg_bits.specs.declared.fault.BitsFault.TheVariants.{Magic, Truncated, ArchMismatch, BadHeader, BadSelect, BadOp, NotOffered, NotCanonical, BadPadding, Trailing, RepeatedPort}
+use Rattle.cg_bits.specs.declared.fault.BitsFault.TheVariants.{Magic, Truncated, BadSelect, BadOp, NotOffered, NotCanonical, BadPadding, Trailing, RepeatedPort}
 use Rattle.cg_bits.specs.Faults
-use Rattle.cg_bits.proofs.Fields.{number_at-below, Holds-number}
+use Rattle.cg_bits.proofs.Fields.{Holds-number}
 use Rattle.cg_bits.proofs.Parts.{Holds-left}
 use Rattle.cg_bits.proofs.Codes.{code_again}
 use Rattle.cg_bits.proofs.Kept.{unit_keeps, kept_unit}
-use Rattle.cg_bits.proofs.Slots.{total_within, length-slots, unit_stands_at, select_read, fields_read, slots_stand}
+use Rattle.cg_bits.proofs.Slots.{total_within, length-slots, unit_stands_at, fields_read, slots_stand}
 use Rattle.cg_bits.proofs.Bytes.{length-bits_of_bytes, reads_back, body_is}
 use Rattle.cg_bits.proofs.None.{none_both, both_none, none_map, map_none, none_unless, unless_none, none_joined, joined_none, none_guard, guard_none, cond_none, same_is, is_same, all_false}
 

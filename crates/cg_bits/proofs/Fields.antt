@@ -1,24 +1,17 @@
 -- A field that stands in the bits is read, and what is read stands there.
-use Rattle.std.proofs.Common.{◌≡◌, ℕ, zero, suc, ◌+◌, ◌-◌, ◌*◌, ◌^◌, ◌<◌, ◌≤◌, Bool, true, false, cond, ltb, eqb, List, [], ◌∷◌, ◌++◌, length, map, take, drop, get_or, replicate, refl, sym, ap, subst, ◌∙◌, append_assoc, arith, length-append, length-take, length-drop, ⊎_elim}
-use Rattle.std.specs.List.{range_with_len}
-use Rattle.std.specs.Prelude.{slice_index, slice_index_or}
-use Rattle.std.proofs.lemmas.Bool.{cases_lt, lt-ltb, le-ltb}
+use Rattle.std.proofs.Common.{◌≡◌, ℕ, zero, suc, ◌+◌, ◌*◌, ◌^◌, ◌<◌, ◌≤◌, Bool, true, false, eqb, List, ◌++◌, length, take, drop, refl, sym, ap, subst, ◌∙◌, arith, length-append, length-take, length-drop}
+use Rattle.std.specs.Prelude.{slice_index}
 use Rattle.std.proofs.lemmas.List.{take_at, take-append-drop}
-use Rattle.std.proofs.lemmas.List.FromFn.{fill_by_all, get_or-map-range_with_len, length-map-range_with_len}
-use Rattle.cg_word.specs.declared.op.Op.{Op}
+use Rattle.std.proofs.lemmas.List.FromFn.{fill_by_all, get_or-map-range_with_len}
 use Rattle.cg_model.specs.declared.config.ArgFields.{ArgFields}
-use Rattle.cg_model.specs.declared.config.UnitFields.{UnitFields}
-use Rattle.cg_model.specs.Config.{no_arg, arg}
 use Rattle.cg_bits.specs.Numbers.{digit, bits_of, number, number_at}
 use Rattle.cg_bits.specs.Parts.{joined, Holds}
 use Rattle.cg_flat.specs.Slots.{total}
-use Rattle.cg_bits.specs.declared.format.Format.{Format}
-use Rattle.cg_bits.specs.Format.{code_of, op_of, arg_len, args_at}
-use Rattle.cg_bits.specs.Spelling.{arg_bits, unit_bits}
-use Rattle.cg_bits.specs.Reading.{arg_in, unit_in}
+use Rattle.cg_bits.specs.Format.{arg_len}
+use Rattle.cg_bits.specs.Spelling.{arg_bits}
+use Rattle.cg_bits.specs.Reading.{arg_in}
 use Rattle.cg_bits.proofs.Numbers.{length-bits_of, number-bits, number_below, bits_of-number}
 use Rattle.cg_bits.proofs.Parts.{Holds-left, Holds-right, Holds-both, Holds-part, Holds-joined, length-joined}
-use Rattle.cg_bits.proofs.Codes.{op_again, code_again}
 
 -- ---- numbers
 

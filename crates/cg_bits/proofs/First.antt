@@ -1,10 +1,10 @@
 -- The first of a list that is made of parts.
-use Rattle.std.proofs.Common.{◌≡◌, ℕ, zero, suc, ◌+◌, ◌<◌, ◌≤◌, Bool, true, false, List, [], ◌∷◌, ◌++◌, Option, Some, None, refl, sym, ap, subst, ◌∙◌, arith, add-one, ⊎_elim}
+use Rattle.std.proofs.Common.{◌≡◌, ℕ, zero, suc, ◌+◌, ◌<◌, Bool, true, false, List, [], ◌∷◌, ◌++◌, Some, None, refl, sym, ap, ◌∙◌, arith, add-one, ⊎_elim}
 use Rattle.std.proofs.lemmas.Bool.{cases_lt}
 use Rattle.cg_bits.specs.Parts.{joined}
 use Rattle.cg_flat.specs.Slots.{total}
 use Rattle.cg_bits.specs.Faults.{first, unless}
-use Rattle.cg_bits.proofs.None.{both_none, unless_none}
+use Rattle.cg_bits.proofs.None.{both_none}
 
 pub first_left : {X : Type 0} (xs ys : List X) (x : X) → first xs ≡ Some x → first (xs ++ ys) ≡ Some x
 first_left [] ys x e = absurd cc

@@ -1,24 +1,20 @@
 -- The fields of a unit that are read without a complaint keep the rules, and fields that keep them bring no complaint.
-use Rattle.std.proofs.Common.{◌≡◌, ℕ, zero, suc, ◌+◌, ◌-◌, ◌*◌, ◌^◌, ◌<◌, ◌≤◌, Bool, true, false, cond, not, ◌&&◌, ◌||◌, ltb, eqb, leb, List, [], ◌∷◌, ◌++◌, length, map, get_or, replicate, refl, sym, ap, subst, ◌∙◌, arith, ⊎_elim}
-use Rattle.std.specs.List.{range_with_len}
-use Rattle.std.specs.Prelude.{slice_index, slice_index_or}
+use Rattle.std.proofs.Common.{◌≡◌, ℕ, ◌+◌, ◌*◌, ◌^◌, ◌<◌, ◌≤◌, Bool, true, cond, not, ltb, eqb, leb, List, [], length, refl, sym, ap, subst, ◌∙◌, arith, ⊎_elim}
+use Rattle.std.specs.Prelude.{slice_index}
 use Rattle.std.proofs.lemmas.Bool.{cases_lt, lt-ltb, le-ltb, or_left, and_from}
 use Rattle.std.proofs.lemmas.List.{get_or-replicate}
-use Rattle.std.proofs.lemmas.List.FromFn.{get_or-map-range_with_len, length-map-range_with_len}
+use Rattle.std.proofs.lemmas.List.FromFn.{get_or-map-range_with_len}
 use Rattle.cg_word.specs.declared.op.Op.{Op}
-use Rattle.cg_model.specs.declared.config.ArgFields.{ArgFields}
 use Rattle.cg_model.specs.declared.config.UnitFields.{UnitFields}
 use Rattle.cg_model.specs.Config.{no_arg, arg}
 use Rattle.cg_bits.specs.Numbers.{number_at}
-use Rattle.cg_bits.specs.Parts.{joined}
 use Rattle.cg_bits.specs.Ranges.{IsFormat}
 use Rattle.cg_bits.specs.declared.format.Format.{Format}
-use Rattle.cg_bits.specs.Format.{code_of, op_of, arg_len, args_at}
+use Rattle.cg_bits.specs.Format.{arg_len, args_at}
 use Rattle.cg_bits.specs.Reading.{arg_in, unit_in}
 use Rattle.cg_model.specs.Canonical.{AreFields, mode_right, count_right, word_right, stage_right, port_right, immediate_right, offered}
 use Rattle.cg_bits.specs.Faults.{unless, arg_breaches, unit_breaches}
 use Rattle.cg_bits.proofs.Fields.{number_at-below}
-use Rattle.cg_bits.proofs.Codes.{code_again}
 use Rattle.cg_bits.proofs.None.{none_both, both_none, none_unless, unless_none, none_joined, joined_none}
 
 -- an argument that is all zero keeps the rules

@@ -20,3 +20,4 @@ pub mod Answered
 pub mod Written
 pub mod Tables
 pub mod Changed
+mod Rows

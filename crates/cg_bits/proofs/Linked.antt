@@ -1,21 +1,19 @@
 -- The checks of the code are the parts of the list of faults.
-use Rattle.std.proofs.Common.{◌≡◌, ℕ, zero, suc, ◌+◌, ◌-◌, ◌*◌, ◌/◌, ◌<◌, ◌≤◌, ◌&&◌, ◌||◌, not, leb, eqb, max, Bool, true, false, cond, List, [], ◌∷◌, ◌++◌, length, map, drop, Option, Some, refl, sym, ap, ◌∙◌, append_assoc, arith}
+use Rattle.std.proofs.Common.{◌≡◌, ℕ, zero, suc, ◌+◌, ◌*◌, ◌/◌, ◌<◌, ◌&&◌, ◌||◌, not, leb, eqb, max, Bool, true, false, List, ◌++◌, length, map, drop, refl, sym, ap, ◌∙◌, append_assoc, arith}
 use Rattle.cg_model.specs.declared.config.UnitFields.{UnitFields}
 use Rattle.cg_model.specs.Array.{Arch, resource, unit}
-use Rattle.cg_model.specs.Config.{Config, select, fields}
+use Rattle.cg_model.specs.Config.{Config, fields}
 use Rattle.cg_model.specs.Canonical.{offered, gives_output, any_below, clash, port_free, stage_of, greatest_of, last_stage}
-use Rattle.cg_flat.specs.Slots.{select_bits}
 use Rattle.cg_bits.specs.declared.format.Format.{Format}
-use Rattle.cg_bits.specs.declared.fault.BitsFault.{BitsFault}
-use Rattle.cg_bits.specs.declared.fault.BitsFault.TheVariants.{Magic, Truncated, ArchMismatch, BadHeader, BadSelect, BadOp, NotOffered, NotCanonical, BadPadding, Trailing, RepeatedPort}
+use Rattle.cg_bits.specs.declared.fault.BitsFault.TheVariants.{BadSelect, BadOp, NotOffered, NotCanonical, BadPadding, Trailing, RepeatedPort}
 use Rattle.cg_bits.specs.declared.checking.UnitCheck.TheVariants.{Code, Offer, Fields}
 use Rattle.cg_bits.specs.Ranges.{IsFormat}
 use Rattle.cg_bits.specs.Parts.{joined}
 use Rattle.cg_bits.specs.Format.{ports, slot_len}
-use Rattle.cg_bits.specs.Reading.{unit_in, select_place, unit_place, ii_in, stages_in, body_bits, config_at, config_in}
+use Rattle.cg_bits.specs.Reading.{select_place, unit_place, ii_in, stages_in, body_bits, config_at, config_in}
 use Rattle.cg_bits.specs.Faults as Faults
 use Rattle.cg_bits.specs.Faults.{unless, unit_breaches}
-use Rattle.cg_bits.specs.Checks.{fields_there, select_faults, slot_faults, slot_stage, padding_faults, port_at, port_fault, port_faults, repeated_faults, used_before, uses, gives_to, field_faults, end_faults, start_faults}
+use Rattle.cg_bits.specs.Checks.{fields_there, select_faults, slot_faults, slot_stage, padding_faults, port_at, repeated_faults, used_before, uses, gives_to, field_faults, end_faults, start_faults}
 use Rattle.cg_bits.proofs.Slots.{select_read, fields_read}
 use Rattle.cg_bits.proofs.Outputs.{joined_same}
 

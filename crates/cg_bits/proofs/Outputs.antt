@@ -1,5 +1,5 @@
 -- Ports that are used, as the code notes them.
-use Rattle.std.proofs.Common.{◌≡◌, ℕ, zero, suc, ◌+◌, ◌*◌, ◌<◌, ◌≤◌, ◌^◌, ◌&&◌, ◌||◌, not, Bool, true, false, eqb, cond, List, [], ◌++◌, length, get_or, Option, Some, None, refl, sym, ap, ◌∙◌, arith, add-one}
+use Rattle.std.proofs.Common.{◌≡◌, ℕ, zero, suc, ◌+◌, ◌*◌, ◌<◌, ◌≤◌, ◌&&◌, ◌||◌, not, Bool, true, false, eqb, List, ◌++◌, length, Option, refl, sym, ap, ◌∙◌, arith, add-one}
 use Rattle.cg_word.specs.declared.op.Op.{Op}
 use Rattle.cg_model.specs.declared.config.UnitFields.{UnitFields}
 use Rattle.cg_model.specs.Array.{Arch}
@@ -7,9 +7,9 @@ use Rattle.cg_model.specs.Canonical.{gives_output, any_below}
 use Rattle.cg_bits.specs.declared.format.Format.{Format}
 use Rattle.cg_bits.specs.Numbers.{number_at}
 use Rattle.cg_bits.specs.Parts.{joined}
-use Rattle.cg_bits.specs.Format.{op_of, ports, slot_len}
+use Rattle.cg_bits.specs.Format.{op_of, slot_len}
 use Rattle.cg_bits.specs.Reading.{unit_in, unit_place}
-use Rattle.cg_bits.specs.Faults.{first, unless}
+use Rattle.cg_bits.specs.Faults.{unless}
 use Rattle.cg_bits.specs.Checks.{gives_to, uses, port_fault, fields_there}
 use Rattle.cg_bits.proofs.Fields.{number_at-below}
 use Rattle.cg_bits.proofs.Places.{unit_inside}

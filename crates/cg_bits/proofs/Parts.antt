@@ -1,6 +1,6 @@
 -- Parts at their places.
-use Rattle.std.proofs.Common.{◌≡◌, ℕ, zero, suc, ◌+◌, ◌<◌, ◌≤◌, List, [], ◌∷◌, ◌++◌, length, take, drop, refl, sym, ap, subst, ◌∙◌, append_assoc, arith, length-append, ⊎_elim}
-use Rattle.std.proofs.lemmas.List.{take_at, drop_at, append-nil, drop-drop}
+use Rattle.std.proofs.Common.{◌≡◌, ℕ, zero, suc, ◌+◌, ◌<◌, List, [], ◌++◌, length, drop, refl, sym, ap, subst, ◌∙◌, append_assoc, arith, length-append, ⊎_elim}
+use Rattle.std.proofs.lemmas.List.{drop_at, append-nil, drop-drop}
 use Rattle.std.proofs.lemmas.Bool.{cases_lt}
 use Rattle.std.proofs.Common.{add-one}
 use Rattle.cg_bits.specs.Parts.{joined, Holds}

@@ -1,5 +1,5 @@
 -- Where the fields of the slots lie, by the architecture's offsets, and what is found there.
-use Rattle.std.proofs.Common.{◌≡◌, ℕ, zero, suc, ◌+◌, ◌-◌, ◌*◌, ◌<◌, ◌≤◌, ◌^◌, leb, Bool, true, false, cond, max, List, [], ◌∷◌, length, drop, take, get_or, Option, Some, None, refl, sym, ap, subst, ◌∙◌, arith, add-one, zero-add, drop-cons}
+use Rattle.std.proofs.Common.{◌≡◌, ℕ, zero, suc, ◌+◌, ◌-◌, ◌*◌, ◌<◌, ◌≤◌, ◌^◌, leb, Bool, true, false, cond, max, List, [], length, take, get_or, Option, Some, None, refl, sym, ap, ◌∙◌, arith, add-one, zero-add, drop-cons}
 use Rattle.std.proofs.lemmas.Bool.{le-leb, lt-leb}
 use Rattle.std.proofs.lemmas.Nat.{row_fits}
 use Rattle.cg_word.specs.declared.op.Op.{Op}
@@ -13,7 +13,7 @@ use Rattle.cg_flat.specs.Slots.{total, select_bits, select_at, IsWidth}
 use Rattle.cg_flat.proofs.Lists.{item_at}
 use Rattle.cg_bits.specs.declared.format.Format.{Format}
 use Rattle.cg_bits.specs.Numbers.{digit, number, number_after, number_at}
-use Rattle.cg_bits.specs.Format.{op_of, ports, unit_len, unit_at, slot_len}
+use Rattle.cg_bits.specs.Format.{op_of, unit_len, unit_at, slot_len}
 use Rattle.cg_bits.specs.Reading.{unit_in, select_place, unit_place}
 use Rattle.cg_bits.specs.Faults.{first, unless}
 use Rattle.cg_bits.proofs.First.{first_unless}

@@ -1,10 +1,8 @@
 -- A slot, and all slots.
-use Rattle.std.proofs.Common.{◌≡◌, ℕ, zero, suc, ◌+◌, ◌-◌, ◌*◌, ◌/◌, ◌^◌, ◌<◌, ◌≤◌, Bool, true, false, eqb, cond, List, [], ◌∷◌, ◌++◌, length, map, take, drop, get_or, replicate, Option, Some, None, refl, sym, ap, subst, ◌∙◌, arith, length-append, ⊎_elim}
+use Rattle.std.proofs.Common.{◌≡◌, ℕ, zero, suc, ◌+◌, ◌*◌, ◌<◌, ◌≤◌, Bool, true, List, [], length, map, get_or, Option, Some, None, sym, ap, subst, ◌∙◌, arith, length-append, ⊎_elim}
 use Rattle.std.specs.List.{range_with_len}
-use Rattle.std.specs.Prelude.{slice_index, slice_index_or}
-use Rattle.std.proofs.lemmas.List.FromFn.{fill_by_all, get_or-map-range_with_len, length-map-range_with_len}
-use Rattle.std.proofs.Math.Nat.{pow-suc}
-use Rattle.std.proofs.Math.Dec.{eqb-suc-zero}
+use Rattle.std.specs.Prelude.{slice_index_or}
+use Rattle.std.proofs.lemmas.List.FromFn.{fill_by_all, get_or-map-range_with_len}
 use Rattle.std.proofs.lemmas.Bool.{cases_lt}
 use Rattle.std.proofs.lemmas.Nat.{row_fits}
 use Rattle.cg_word.specs.declared.op.Op.{Op}
@@ -13,11 +11,11 @@ use Rattle.cg_model.specs.declared.config.UnitFields.{UnitFields}
 use Rattle.cg_model.specs.Array.{Arch, resource, unit}
 use Rattle.cg_model.specs.Config.{Config, select, fields, off}
 use Rattle.cg_bits.specs.Numbers.{bits_of, number_at}
-use Rattle.cg_flat.specs.Slots.{width, width_by, total, select_bits, select_at}
+use Rattle.cg_flat.specs.Slots.{total, select_bits, select_at}
 use Rattle.cg_bits.specs.Parts.{joined, Holds}
 use Rattle.cg_bits.specs.Ranges.{IsFormat}
 use Rattle.cg_bits.specs.declared.format.Format.{Format}
-use Rattle.cg_bits.specs.Format.{code_of, arg_len, args_at, ports, unit_len, unit_at, slot_len}
+use Rattle.cg_bits.specs.Format.{code_of, ports, unit_len, unit_at, slot_len}
 use Rattle.cg_bits.specs.Spelling.{unit_bits, slot_bits, slots}
 use Rattle.cg_bits.specs.Reading.{unit_in, select_place, unit_place, config_in}
 use Rattle.cg_model.specs.Canonical.{arity_of, offered, IsCanonical}

@@ -1,7 +1,7 @@
 -- The faults of the header, and what holds where there are none.
-use Rattle.std.proofs.Common.{◌≡◌, ℕ, zero, suc, ◌+◌, ◌*◌, ◌/◌, ◌<◌, ◌≤◌, not, ◌||◌, eqb, ltb, leb, cond, Bool, true, false, List, [], ◌∷◌, ◌++◌, length, Option, Some, Result, Ok, Err, refl, sym, ap, ◌∙◌, arith}
+use Rattle.std.proofs.Common.{◌≡◌, ℕ, zero, suc, ◌+◌, ◌*◌, ◌/◌, ◌<◌, ◌≤◌, not, ◌||◌, eqb, ltb, leb, cond, Bool, true, false, List, [], ◌∷◌, ◌++◌, length, Some, Result, Ok, Err, refl, sym, ap, ◌∙◌, arith}
 use Rattle.std.proofs.Math.Dec.{eqb-suc-zero}
-use Rattle.std.proofs.lemmas.Bool.{ltb-false, leb-true, or_parts, cases_Bool}
+use Rattle.std.proofs.lemmas.Bool.{ltb-false, leb-true, or_parts}
 use Rattle.cg_model.specs.Array.{Arch}
 use Rattle.cg_bits.specs.declared.format.Format.{Format}
 use Rattle.cg_bits.specs.declared.fault.BitsFault.{BitsFault}
@@ -12,10 +12,10 @@ use Rattle.cg_bits.specs.Faults as Faults
 use Rattle.cg_bits.specs.Faults.{first, unless}
 use Rattle.cg_bits.specs.Checks.{Checks, start_faults}
 use Rattle.cg_bits.specs.Format.{slot_len}
-use Rattle.cg_bits.proofs.Breaches.{skip, here}
+use Rattle.cg_bits.proofs.Breaches.{skip}
 use Rattle.cg_bits.proofs.None.{none_both, none_unless, none_guard, both_none}
 use Rattle.cg_bits.specs.Ranges.{IsFormat}
-use Rattle.cg_bits.proofs.Linked.{size_is, faults_are}
+use Rattle.cg_bits.proofs.Linked.{faults_are}
 
 -- the header's end, after its first bytes: too short, or a fault of the header, or too short for the slots
 abbrev pub after : Bool → Bool → BitsFault → List BitsFault → List BitsFault

@@ -1,26 +1,25 @@
 -- The fields of a unit that stand in the bits are read, and what is read stands there.
-use Rattle.std.proofs.Common.{◌≡◌, ℕ, zero, suc, ◌+◌, ◌-◌, ◌*◌, ◌^◌, ◌<◌, ◌≤◌, Bool, true, false, cond, not, ◌&&◌, ◌||◌, ltb, eqb, List, [], ◌∷◌, ◌++◌, length, map, take, drop, get_or, replicate, Option, refl, sym, ap, subst, ◌∙◌, arith, length-append, ⊎_elim}
-use Rattle.std.specs.List.{range_with_len}
-use Rattle.std.specs.Prelude.{slice_index, slice_index_or}
-use Rattle.std.proofs.lemmas.Bool.{cases_lt, lt-ltb, le-ltb, leb-true, eqb-true, ltb-true, and_parts, or_cases}
-use Rattle.std.proofs.lemmas.List.FromFn.{fill_by_all, get_or-map-range_with_len, length-map-range_with_len}
+use Rattle.std.proofs.Common.{◌≡◌, ℕ, ◌+◌, ◌*◌, ◌^◌, ◌<◌, ◌≤◌, Bool, true, false, cond, not, ◌&&◌, ◌||◌, ltb, eqb, List, ◌++◌, length, Option, refl, sym, ap, subst, ◌∙◌, arith, length-append, ⊎_elim}
+use Rattle.std.specs.Prelude.{slice_index}
+use Rattle.std.proofs.lemmas.Bool.{cases_lt, lt-ltb, le-ltb, leb-true, eqb-true, and_parts, or_cases}
+use Rattle.std.proofs.lemmas.List.FromFn.{fill_by_all, get_or-map-range_with_len}
 use Rattle.cg_word.specs.declared.op.Op.{Op}
 use Rattle.cg_model.specs.declared.config.ArgFields.{ArgFields}
 use Rattle.cg_model.specs.declared.config.UnitFields.{UnitFields}
 use Rattle.cg_model.specs.Config.{no_arg, arg}
-use Rattle.cg_bits.specs.Numbers.{digit, bits_of, number_at}
+use Rattle.cg_bits.specs.Numbers.{bits_of, number_at}
 use Rattle.cg_bits.specs.Parts.{joined, Holds}
 use Rattle.cg_flat.specs.Slots.{total}
 use Rattle.cg_bits.specs.declared.format.Format.{Format}
 use Rattle.cg_bits.specs.Format.{code_of, op_of, arg_len, args_at}
 use Rattle.cg_bits.specs.Spelling.{arg_bits, unit_bits}
 use Rattle.cg_bits.specs.Reading.{arg_in, unit_in}
-use Rattle.cg_model.specs.Canonical.{AreFields, takes, fixed_below, is_on, arity_of, stage_right, count_right, mode_right, word_right}
+use Rattle.cg_model.specs.Canonical.{AreFields, takes, fixed_below, arity_of}
 use Rattle.cg_bits.specs.Ranges.{IsFormat}
 use Rattle.cg_bits.proofs.Numbers.{length-bits_of}
 use Rattle.cg_bits.proofs.Parts.{Holds-left, Holds-right, Holds-both, Holds-part, Holds-joined, length-joined}
 use Rattle.cg_bits.proofs.Codes.{op_again, code_again}
-use Rattle.cg_bits.proofs.Fields.{Holds-number, Holds-read, number_at-below, Holds-at, total-constant, arg_same, length-arg_bits, arg_reads, arg_stands}
+use Rattle.cg_bits.proofs.Fields.{Holds-number, Holds-read, Holds-at, total-constant, arg_same, length-arg_bits, arg_reads, arg_stands}
 
 -- ---- rules
 

@@ -1,5 +1,5 @@
 -- What is answered of bytes: the configuration that they spell, or their first fault.
-use Rattle.std.specs.Prelude.{◌≡◌, ℕ, List, [], ◌∷◌, Result, Ok, Err}
+use Rattle.std.specs.Prelude.{ℕ, List, [], ◌∷◌, Result, Ok, Err}
 use Rattle.cg_model.specs.Array.{Arch}
 use Rattle.cg_model.specs.Config.{Config}
 use Rattle.cg_arch.specs.Kept.{digest_of}

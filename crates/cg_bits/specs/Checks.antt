@@ -1,5 +1,5 @@
 -- The checks of bits as the code makes them, part by part of the list of faults.
-use Rattle.std.specs.Prelude.{◌≡◌, ℕ, ◌+◌, ◌*◌, ◌/◌, ◌-◌, ◌<◌, ◌≤◌, ◌^◌, nat_le, nat_lt, eqb, not, ◌&&◌, ◌||◌, Bool, false, List, [], ◌++◌, length, map, slice_index, slice_index_or, Option, Some, Result, Ok, Err}
+use Rattle.std.specs.Prelude.{◌≡◌, ℕ, ◌+◌, ◌*◌, ◌/◌, ◌-◌, ◌<◌, ◌≤◌, ◌^◌, nat_le, nat_lt, eqb, not, ◌&&◌, ◌||◌, Bool, false, List, [], ◌++◌, length, map, slice_index, slice_index_or, Some, Result, Ok, Err}
 use Rattle.cg_model.specs.declared.config.ArgFields.{ArgFields}
 use Rattle.cg_model.specs.declared.config.UnitFields.{UnitFields}
 use Rattle.cg_model.specs.declared.array.Unit.{Unit}

@@ -8,3 +8,4 @@ pub mod Answers
 pub mod Ranges
 pub mod Checks
 pub mod Changes
+pub mod Texts

@@ -1,6 +1,6 @@
 -- What the bits at each place say, and the configuration of them all. Where the bits end early, what is missing counts as
 -- no bits.
-use Rattle.std.specs.Prelude.{ℕ, ◌+◌, ◌*◌, nat_lt, eqb, if◌then◌else◌, Bool, List, [], length, map, take, drop}
+use Rattle.std.specs.Prelude.{ℕ, ◌+◌, ◌*◌, nat_lt, eqb, if◌then◌else◌, Bool, List, length, map, take, drop}
 use Rattle.std.specs.List.{range_with_len}
 use Rattle.std.specs.Int.{w16, from_be_bytes}
 use Rattle.cg_model.specs.declared.config.ArgFields.{ArgFields}

@@ -1,5 +1,5 @@
 -- The bits of a configuration, and the bytes that spell it.
-use Rattle.std.specs.Prelude.{◌≡◌, ℕ, ◌+◌, ◌<◌, ◌≤◌, Bool, false, List, [], ◌∷◌, ◌++◌, length, replicate, slice_index}
+use Rattle.std.specs.Prelude.{◌≡◌, ℕ, ◌<◌, ◌≤◌, Bool, false, List, [], ◌∷◌, ◌++◌, length, replicate, slice_index}
 use Rattle.std.specs.Int.{w16, to_be_bytes}
 use Rattle.cg_model.specs.declared.config.ArgFields.{ArgFields}
 use Rattle.cg_model.specs.declared.config.UnitFields.{UnitFields}

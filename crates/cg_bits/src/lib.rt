@@ -13,6 +13,7 @@ mod ports;
 mod reading;
 mod reading_all;
 mod rules;
+mod texts;
 mod writer;
 mod writing;
 
@@ -25,4 +26,5 @@ pub use format::{CGB2, Format};
 pub use header::{HEADER, ii_in, stages_in};
 pub use reading::{NO_ARG, arg_at, op_of, unit_at};
 pub use reading_all::read_bits;
+pub use texts::bits_fault_text;
 pub use writing::write_bits;

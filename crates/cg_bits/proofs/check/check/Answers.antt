@@ -1,4 +1,4 @@
-use Rattle.std.proofs.Common.{◌≡◌, ℕ, ◌+◌, ◌-◌, ◌*◌, ◌/◌, ◌<◌, ◌≤◌, ◌^◌, ◌++◌, List, length, take, drop, Ok, Err, ap, sym, subst, ◌∙◌, arith, length-drop}
+use Rattle.std.proofs.Common.{◌≡◌, ℕ, ◌-◌, ◌*◌, ◌<◌, ◌≤◌, ◌^◌, List, length, take, drop, ap, sym, subst, ◌∙◌, arith, length-drop}
 use Rattle.std.proofs.lemmas.Result.{err_from_is_err_and}
 use Rattle.std.proofs.Math.Nat.{mul-le-mul_left}
 use Rattle.std.proofs.lemmas.List.{take_all}
@@ -6,7 +6,7 @@ use Rattle.cg_arch.specs.Kept.{digest_of}
 use Rattle.cg_bits.specs.Numbers.{bits_of_bytes}
 use Rattle.cg_bits.specs.Format.{slot_len}
 use Rattle.cg_bits.specs.Reading.{ii_in, stages_in, body_bits}
-use Rattle.cg_bits.specs.Faults.{first, faults}
+use Rattle.cg_bits.specs.Faults.{first}
 use Rattle.cg_bits.specs.Checks.{Checks, start_faults, field_faults, end_faults}
 use Rattle.cg_bits.proofs.Breaches.{skip, here}
 use Rattle.cg_bits.proofs.Linked.{faults_are}

@@ -1,4 +1,4 @@
-use Rattle.std.proofs.Common.{◌≡◌, ℕ, arith, List, [], ◌∷◌, length, Result, Ok, Err, IfOk, refl, sym, ap, ◌∙◌}
+use Rattle.std.proofs.Common.{◌≡◌, ℕ, arith, List, [], ◌∷◌, length, Result, Ok, Err, IfOk, refl}
 use Rattle.cg_model.specs.Array.{Arch, IsArch}
 use Rattle.cg_bits.specs.declared.fault.BitsFault.{BitsFault}
 use Rattle.cg_bits.specs.Spelling.{AreBits}

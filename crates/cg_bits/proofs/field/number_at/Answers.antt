@@ -1,6 +1,6 @@
-use Rattle.std.proofs.Common.{◌≡◌, ◌+◌, ◌*◌, ◌-◌, ◌/◌, ◌%◌, ◌≤◌, ◌<◌, ◌^◌, ℕ, length, take, drop, get_or, refl, sym, ap, subst, ◌∙◌, arith, length-take, length-drop}
+use Rattle.std.proofs.Common.{◌≡◌, ◌+◌, ◌-◌, ◌/◌, ◌<◌, take, drop, get_or, refl, sym, ap, subst, ◌∙◌, arith, length-take}
 use Rattle.std.proofs.lemmas.List.{take_all, get_or-take, get_or-drop}
-use Rattle.cg_bits.specs.Numbers.{number, number_after, number_at, bits_of_bytes}
+use Rattle.cg_bits.specs.Numbers.{number, number_after, bits_of_bytes}
 use Rattle.cg_bits.proofs.Bitwise.{byte_step, field_is}
 use Rattle.cg_bits.proofs.field.number_at.Goals as goal
 

@@ -1,6 +1,6 @@
-use Rattle.std.proofs.Common.{◌≡◌, not, Some, ap, sym, ◌∙◌}
+use Rattle.std.proofs.Common.{not, Some, ap, sym, ◌∙◌}
 use Rattle.cg_bits.specs.declared.fault.BitsFault.TheVariants.{BadHeader}
-use Rattle.cg_bits.specs.Reading.{config_in, ii_in, stages_in}
+use Rattle.cg_bits.specs.Reading.{config_in, stages_in}
 use Rattle.cg_bits.proofs.None.{unless_none, both_none}
 use Rattle.cg_bits.proofs.First.{first_unless}
 use Rattle.cg_bits.proofs.Breaches.{skip}

@@ -1,4 +1,4 @@
-use Rattle.std.proofs.Common.{◌≡◌, ◌+◌, ◌*◌, ◌/◌, ◌<◌, ◌≤◌, ◌++◌, leb, ltb, true, false, length, Ok, ap, sym, ◌∙◌, arith}
+use Rattle.std.proofs.Common.{◌≡◌, ◌+◌, ◌*◌, ◌/◌, ◌++◌, leb, ltb, length, ap, sym, ◌∙◌, arith}
 use Rattle.std.proofs.lemmas.Bool.{le-leb, lt-leb, le-ltb}
 use Rattle.cg_arch.specs.Kept.{digest_of}
 use Rattle.cg_bits.specs.declared.fault.BitsFault.TheVariants.{Truncated}

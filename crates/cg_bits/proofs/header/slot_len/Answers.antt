@@ -1,4 +1,4 @@
-use Rattle.std.proofs.Common.{◌≡◌, ◌+◌, ◌*◌, ◌-◌, ◌≤◌, length, ap, ◌∙◌, arith}
+use Rattle.std.proofs.Common.{◌≡◌, ◌+◌, ◌*◌, ◌-◌, length, ◌∙◌, arith}
 use Rattle.cg_bits.specs.Format.{slot_len}
 use Rattle.cg_bits.proofs.Places.{unit_at_is}
 use Rattle.cg_bits.proofs.header.slot_len.Goals as goal

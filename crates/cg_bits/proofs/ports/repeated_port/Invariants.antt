@@ -1,4 +1,4 @@
-use Rattle.std.proofs.Common.{◌≡◌, ℕ, ◌<◌, [], false, length}
+use Rattle.std.proofs.Common.{◌≡◌, ℕ, ◌<◌, [], false}
 use Rattle.std.specs.Prelude.{slice_index_or}
 use Rattle.cg_bits.specs.Numbers.{bits_of_bytes}
 use Rattle.cg_bits.specs.Checks.{used_before, repeated_faults}

@@ -1,8 +1,6 @@
-use Rattle.std.proofs.Common.{◌≡◌, ℕ, ◌+◌, ◌*◌, ◌<◌, ◌≤◌, ◌^◌, ◌||◌, true, false, Bool, [], length, get_or, Some, sym, ap, subst, ◌∙◌, arith}
-use Rattle.cg_model.specs.declared.config.UnitFields.{UnitFields}
+use Rattle.std.proofs.Common.{◌≡◌, ◌+◌, ◌*◌, ◌<◌, ◌≤◌, ◌||◌, false, length, get_or, Some, sym, ap, subst, ◌∙◌, arith}
 use Rattle.cg_bits.specs.Numbers.{number_at, bits_of_bytes}
-use Rattle.cg_bits.specs.Parts.{joined}
-use Rattle.cg_bits.specs.Format.{op_of, ports, slot_len}
+use Rattle.cg_bits.specs.Format.{op_of, ports}
 use Rattle.cg_bits.specs.Reading.{unit_place}
 use Rattle.cg_bits.specs.Checks.{fields_there, port_at, port_fault, uses}
 use Rattle.cg_bits.proofs.First.{first_joined, first_unless, joined_none_zero, joined_none_more}

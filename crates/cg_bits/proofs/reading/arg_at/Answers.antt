@@ -1,4 +1,4 @@
-use Rattle.std.proofs.Common.{◌≡◌, ℕ, ◌+◌, ◌*◌, List, [], ◌∷◌, eqb, ap, ◌∙◌, arith}
+use Rattle.std.proofs.Common.{◌≡◌, ℕ, ◌+◌, [], ◌∷◌, eqb, ap, ◌∙◌, arith}
 use Rattle.cg_bits.specs.Numbers.{number_at, bits_of_bytes}
 use Rattle.cg_bits.specs.Reading.{arg_in}
 use Rattle.cg_bits.proofs.Fields.{arg_same}

@@ -1,4 +1,4 @@
-use Rattle.std.proofs.Common.{◌≡◌, ℕ, ◌+◌, map, length}
+use Rattle.std.proofs.Common.{map, length}
 use Rattle.std.specs.List.{range_with_len}
 use Rattle.cg_bits.specs.Numbers.{bits_of_bytes}
 use Rattle.cg_bits.specs.Checks.{fields_there}

@@ -1,4 +1,4 @@
-use Rattle.std.proofs.Common.{◌≡◌, ℕ, ◌+◌, map, length}
+use Rattle.std.proofs.Common.{map, length}
 use Rattle.std.specs.List.{range_with_len}
 use Rattle.cg_flat.specs.Slots.{select_bits}
 use Rattle.cg_bits.specs.Numbers.{number_at, bits_of_bytes}

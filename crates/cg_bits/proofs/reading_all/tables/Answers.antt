@@ -1,4 +1,4 @@
-use Rattle.std.proofs.Common.{◌≡◌, ℕ, ◌-◌, List, map, length, take, drop, sym, ap, ◌∙◌, arith, length-drop}
+use Rattle.std.proofs.Common.{◌≡◌, ℕ, ◌-◌, List, map, length, take, drop, ap, ◌∙◌, arith, length-drop}
 use Rattle.std.specs.List.{range_with_len}
 use Rattle.std.proofs.lemmas.List.{take_all}
 use Rattle.cg_model.specs.declared.config.UnitFields.{UnitFields}
@@ -6,7 +6,7 @@ use Rattle.cg_model.specs.Config.{Config}
 use Rattle.cg_flat.specs.Slots.{select_bits}
 use Rattle.cg_bits.specs.Numbers.{number_at, bits_of_bytes}
 use Rattle.cg_bits.specs.Format.{cgb2}
-use Rattle.cg_bits.specs.Reading.{config_in, select_place, ii_in, stages_in, body_bits}
+use Rattle.cg_bits.specs.Reading.{config_in, select_place, ii_in, stages_in}
 use Rattle.cg_bits.specs.Checks.{fields_there}
 use Rattle.cg_bits.proofs.reading_all.tables.Goals as goal
 

@@ -1,4 +1,4 @@
-use Rattle.std.proofs.Common.{◌≡◌, ◌+◌, ◌*◌, [], true, false, refl, sym, ap, ◌∙◌, arith}
+use Rattle.std.proofs.Common.{◌≡◌, ◌+◌, ◌*◌, sym, ap, ◌∙◌, arith}
 use Rattle.cg_model.specs.Canonical.{stage_right, port_right, immediate_right}
 use Rattle.cg_bits.specs.Parts.{joined}
 use Rattle.cg_bits.specs.Format.{args_at}

@@ -1,4 +1,4 @@
-use Rattle.std.proofs.Common.{◌<◌, arith}
+use Rattle.std.proofs.Common.{arith}
 use Rattle.cg_bits.proofs.writing.are_bytes.Goals as goal
 
 pub returns : goal.returns

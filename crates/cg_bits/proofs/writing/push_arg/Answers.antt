@@ -1,7 +1,6 @@
-use Rattle.std.proofs.Common.{◌≡◌, ◌+◌, ◌++◌, Bool, true, false, refl, sym, ap, subst, ◌∙◌, append_assoc, arith}
+use Rattle.std.proofs.Common.{◌≡◌, ◌++◌, refl, ap, ◌∙◌}
 use Rattle.std.specs.Prelude.{slice_index}
 use Rattle.cg_bits.specs.Numbers.{digit, bits_of}
-use Rattle.cg_bits.specs.Parts.{joined}
 use Rattle.cg_bits.proofs.Parts.{started, grown}
 use Rattle.cg_bits.proofs.writing.push_arg.Goals as goal
 

@@ -1,4 +1,4 @@
-use Rattle.std.proofs.Common.{◌≡◌, ℕ, ◌<◌, ◌≤◌, ◌^◌, ◌++◌, length, get_or, sym, ap, subst, ◌∙◌, arith}
+use Rattle.std.proofs.Common.{◌≡◌, ◌++◌, length, get_or, ap, ◌∙◌, arith}
 use Rattle.cg_model.specs.Array.{resource}
 use Rattle.cg_model.specs.Config.{select}
 use Rattle.cg_flat.specs.Slots.{select_bits}

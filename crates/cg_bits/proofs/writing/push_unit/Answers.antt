@@ -1,7 +1,7 @@
-use Rattle.std.proofs.Common.{◌≡◌, ◌+◌, ◌++◌, ◌<◌, List, Bool, length, take, get_or, refl, sym, ap, subst, ◌∙◌, append_assoc, arith, length-take}
+use Rattle.std.proofs.Common.{◌≡◌, ◌++◌, ◌<◌, List, Bool, length, sym, ap, subst, ◌∙◌, append_assoc, arith, length-take}
 use Rattle.std.proofs.lemmas.List.{get_or-take, get_or_default}
 use Rattle.cg_model.specs.Config.{no_arg, arg}
-use Rattle.cg_bits.specs.Numbers.{digit, bits_of}
+use Rattle.cg_bits.specs.Numbers.{bits_of}
 use Rattle.cg_bits.specs.Parts.{joined}
 use Rattle.cg_bits.specs.Format.{code_of}
 use Rattle.cg_bits.specs.Spelling.{unit_bits, arg_bits}

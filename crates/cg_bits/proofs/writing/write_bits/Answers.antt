@@ -1,8 +1,8 @@
-use Rattle.std.proofs.Common.{◌≡◌, ℕ, ◌+◌, ◌++◌, ◌<◌, ◌≤◌, List, [], ◌∷◌, length, sym, subst, ap, ◌∙◌, arith}
+use Rattle.std.proofs.Common.{◌++◌, subst, ap, ◌∙◌, arith}
 use Rattle.std.specs.Int.{w16, to_be_bytes}
 use Rattle.cg_arch.specs.Kept.{digest_of}
 use Rattle.cg_bits.specs.Format.{cgb2}
-use Rattle.cg_bits.specs.Spelling.{magic, AreBits}
+use Rattle.cg_bits.specs.Spelling.{magic}
 use Rattle.cg_bits.specs.Ranges.{IsBytes}
 use Rattle.cg_bits.proofs.Room.{room_of}
 use Rattle.cg_bits.proofs.Codes.{code_known}

@@ -1,11 +1,10 @@
-use Rattle.std.proofs.Common.{◌≡◌, ℕ, ◌+◌, ◌*◌, ◌<◌, ◌≤◌, [], List, length, leb, sym, ap, ◌∙◌, arith}
+use Rattle.std.proofs.Common.{◌≡◌, ◌+◌, length, leb, sym, ap, ◌∙◌, arith}
 use Rattle.cg_model.specs.declared.array.Resource.{Resource}
 use Rattle.cg_model.specs.Array.{resource}
 use Rattle.cg_flat.specs.Slots.{select_bits}
 use Rattle.cg_bits.specs.Numbers.{number_at, bits_of_bytes}
-use Rattle.cg_bits.specs.Parts.{joined}
 use Rattle.cg_bits.specs.Reading.{select_place}
-use Rattle.cg_bits.specs.Faults.{first, unless}
+use Rattle.cg_bits.specs.Faults.{unless}
 use Rattle.cg_bits.proofs.First.{first_joined, joined_none_zero, joined_none_more}
 use Rattle.cg_bits.proofs.Room.{room_of}
 use Rattle.cg_bits.proofs.Places.{resource_is, width_few, above, not_above}

@@ -1,4 +1,4 @@
-use Rattle.std.proofs.Common.{◌≡◌, ◌+◌, ◌*◌, [], length}
+use Rattle.std.proofs.Common.{◌≡◌, ◌+◌, [], length}
 use Rattle.std.specs.Prelude.{nat_le}
 use Rattle.cg_model.specs.Array.{resource}
 use Rattle.cg_flat.specs.Slots.{select_bits}

@@ -1,4 +1,4 @@
-use Rattle.std.proofs.Common.{◌≡◌, [], sym, ◌∙◌}
+use Rattle.std.proofs.Common.{sym, ◌∙◌}
 use Rattle.cg_bits.specs.Numbers.{bits_of_bytes}
 use Rattle.cg_bits.specs.Checks.{slot_faults}
 use Rattle.cg_bits.proofs.First.{first_joined, first_none, joined_none_zero, joined_none_more}

@@ -1,4 +1,3 @@
-use Rattle.std.proofs.Common.{◌≡◌, ◌+◌, ◌*◌, ◌≤◌, arith}
 use Rattle.cg_bits.proofs.Places.{select_inside}
 use Rattle.cg_bits.proofs.all_slots.Slots.select_place.Goals as goal
 

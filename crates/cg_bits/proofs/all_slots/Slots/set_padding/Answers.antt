@@ -1,5 +1,5 @@
-use Rattle.std.proofs.Common.{◌≡◌, ℕ, Some, ◌+◌, ◌-◌, ◌*◌, ◌/◌, ◌<◌, ◌≤◌, [], true, false, not, length, get_or, sym, ap, ◌∙◌, arith}
-use Rattle.cg_bits.specs.Numbers.{digit, number_at, bits_of_bytes}
+use Rattle.std.proofs.Common.{◌≡◌, Some, ◌+◌, ◌*◌, ◌<◌, true, false, not, length, get_or, sym, ap, ◌∙◌, arith}
+use Rattle.cg_bits.specs.Numbers.{number_at, bits_of_bytes}
 use Rattle.cg_bits.specs.Format.{slot_len}
 use Rattle.cg_bits.specs.Faults.{unless}
 use Rattle.cg_bits.specs.Checks.{spare}

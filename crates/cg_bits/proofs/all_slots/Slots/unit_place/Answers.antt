@@ -1,4 +1,4 @@
-use Rattle.std.proofs.Common.{◌≡◌, ◌+◌, ◌-◌, ◌*◌, ◌≤◌, ◌∙◌, arith}
+use Rattle.std.proofs.Common.{◌≡◌, ◌+◌, ◌-◌, ◌*◌, ◌∙◌, arith}
 use Rattle.cg_bits.specs.Format.{unit_at}
 use Rattle.cg_bits.proofs.Places.{unit_at_is, unit_inside}
 use Rattle.cg_bits.proofs.all_slots.Slots.unit_place.Goals as goal

@@ -1,4 +1,4 @@
-use Rattle.std.proofs.Common.{◌≡◌, ◌<◌, length, sym, subst, ◌∙◌, arith}
+use Rattle.std.proofs.Common.{sym, subst, arith}
 use Rattle.cg_model.specs.Canonical.{IsCanonical}
 use Rattle.cg_bits.proofs.Changed.{select_canonical}
 use Rattle.cg_bits.proofs.config.Config.set_select.Goals as goal

@@ -1,6 +1,5 @@
-use Rattle.std.proofs.Common.{◌≡◌, ◌+◌, ◌*◌, ◌-◌, ◌/◌, ◌%◌, ◌≤◌, ◌<◌, ◌^◌, ◌++◌, ◌∷◌, [], replicate, false, refl, sym, ap, subst, ◌∙◌, arith}
-use Rattle.std.proofs.lemmas.List.{append-nil}
-use Rattle.cg_bits.specs.Numbers.{bits_of, bits_of_bytes}
+use Rattle.std.proofs.Common.{◌≡◌, ◌-◌, ◌++◌, ◌∷◌, [], replicate, false, ap, ◌∙◌, arith}
+use Rattle.cg_bits.specs.Numbers.{bits_of_bytes}
 use Rattle.cg_bits.proofs.Bitwise.{last_byte, last_below, nothing_pending}
 use Rattle.cg_bits.proofs.writer.BitWriter.finish.Goals as goal
 use Rattle.cg_bits.proofs.writer.BitWriter.finish.Goals.{then-self-gt0+in_ok-push, else-self-gt0}
