@@ -17,3 +17,7 @@ pub mod Outputs
 pub mod Linked
 pub mod Started
 pub mod Answered
+pub mod Written
+pub mod Tables
+pub mod Changed
+mod Rows

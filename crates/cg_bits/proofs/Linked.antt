@@ -17,12 +17,12 @@ use Rattle.cg_bits.specs.Checks.{fields_there, select_faults, slot_faults, slot_
 use Rattle.cg_bits.proofs.Slots.{select_read, fields_read}
 use Rattle.cg_bits.proofs.Outputs.{joined_same}
 
-greatest_same : (f g : ℕ → ℕ) (n : ℕ) → ((i : ℕ) → i < n → f i ≡ g i) → greatest_of f n ≡ greatest_of g n
+pub greatest_same : (f g : ℕ → ℕ) (n : ℕ) → ((i : ℕ) → i < n → f i ≡ g i) → greatest_of f n ≡ greatest_of g n
 unfolding greatest_of
 greatest_same f g zero h = refl
 greatest_same f g (suc n) h = ap (λ z. max z (f n)) (greatest_same f g n (λ i lt. h i (omega arith))) ∙ ap (λ z. max (greatest_of g n) z) (h n (omega arith))
 
-any_same : (f g : ℕ → Bool) (n : ℕ) → ((i : ℕ) → i < n → f i ≡ g i) → any_below f n ≡ any_below g n
+pub any_same : (f g : ℕ → Bool) (n : ℕ) → ((i : ℕ) → i < n → f i ≡ g i) → any_below f n ≡ any_below g n
 unfolding any_below
 any_same f g zero h = refl
 any_same f g (suc n) h = ap (λ z. z || f n) (any_same f g n (λ i lt. h i (omega arith))) ∙ ap (λ z. any_below g n || z) (h n (omega arith))

@@ -7,4 +7,5 @@ pub mod Faults
 pub mod Answers
 pub mod Ranges
 pub mod Checks
+pub mod Changes
 pub mod Texts

@@ -43,7 +43,7 @@ impl Slots<'_> {
     ghost use Rattle.cg_bits.specs.Checks.{fields_there, select_faults, slot_faults, slot_stage, padding_faults};
 
     /// Where a resource's select begins, in bits from the first slot.
-    fn select_place(&self, resource: u32, slot: usize) -> usize
+    pub fn select_place(&self, resource: u32, slot: usize) -> usize
         requires resource { resource < length self.now.arch.now.resources }
         requires slot { slot < self.now.ii }
         ensures place { result ≡ select_place self.now.format self.now.arch.now resource slot }

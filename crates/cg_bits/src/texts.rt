@@ -6,7 +6,7 @@ ghost use Rattle.cg_bits.specs.Texts.{bits_fault_text};
 use crate::fault::BitsFault;
 use std::alloc::{AllocError, Global};
 
-/// Code, name and place of a fault, as `B2 Truncated length 7`. Want of memory has none of them.
+/// Code, name and place of a fault, as `B8 NotCanonical bit 48`. Want of memory has none of them.
 pub fn bits_fault_text(alloc: Global, fault: BitsFault) -> Result<String, AllocError>
     ensures { IfOk result (λ s. string_bytes s ≡ bits_fault_text fault) }
 {
@@ -14,7 +14,7 @@ pub fn bits_fault_text(alloc: Global, fault: BitsFault) -> Result<String, AllocE
         BitsFault::Memory => Ok(String::new(alloc)),
         BitsFault::Magic => String::from_str(alloc, "B1 Magic byte 0"),
         BitsFault::Truncated(length) => format!(in alloc; "B2 Truncated length {length}"),
-        BitsFault::ArchMismatch(file, arch) => mismatch_text(alloc, file, arch),
+        BitsFault::ArchMismatch(file, architecture) => digests_text(alloc, file, architecture),
         BitsFault::BadHeader(ii, stages) => {
             format!(in alloc; "B4 BadHeader ii {ii} stages {stages}")
         }
@@ -28,14 +28,12 @@ pub fn bits_fault_text(alloc: Global, fault: BitsFault) -> Result<String, AllocE
     }
 }
 
-/// Both digests as hexadecimal digits.
-fn mismatch_text(alloc: Global, file: [u8; 32], arch: [u8; 32]) -> Result<String, AllocError>
-    ensures { IfOk result (λ s. string_bytes s
-        ≡ codes "B3 ArchMismatch file " ++ (encode_lower file ++ (codes " architecture " ++ encode_lower arch))) }
+fn digests_text(alloc: Global, file: [u8; 32], architecture: [u8; 32]) -> Result<String, AllocError>
+    ensures { IfOk result (λ s. string_bytes s ≡ codes "B3 ArchMismatch file " ++ (encode_lower file ++ (codes " architecture " ++ encode_lower architecture))) }
 {
-    let file_text = hex::encode(alloc, file)?;
-    let arch_text = hex::encode(alloc, arch)?;
-    let file_digits = file_text.as_str();
-    let arch_digits = arch_text.as_str();
-    format!(in alloc; "B3 ArchMismatch file {file_digits} architecture {arch_digits}")
+    let file = hex::encode(alloc, file)?;
+    let architecture = hex::encode(alloc, architecture)?;
+    let file = file.as_str();
+    let architecture = architecture.as_str();
+    format!(in alloc; "B3 ArchMismatch file {file} architecture {architecture}")
 }

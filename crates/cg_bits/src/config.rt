@@ -1,0 +1,249 @@
+//! Configurations in tables.
+ghost use Rattle.std.specs.Prelude.{◌≡◌, replicate, IfOk};
+ghost use Rattle.cg_model.specs.Canonical.{stage_of};
+
+use crate::reading::NO_ARG;
+use cg_arch::Arch;
+use cg_contexts::{Contexts, UnitFields};
+use std::alloc::{AllocError, Global};
+use std::marker::Model;
+
+/// The fields of a unit that is off.
+pub const OFF: UnitFields = UnitFields {
+    op: None,
+    stage: 0,
+    port: 0,
+    immediate: 0,
+    args: [NO_ARG; 3],
+};
+
+/// A list whose items are set in place.
+#[derive(Drop)]
+pub(crate) struct Row<T> {
+    items: Vec<T>,
+}
+
+impl<T> Model for Row<T> {
+    ghost use Rattle.std.specs.Prelude.{List};
+
+    ghost Value = { List T };
+
+    ghost view = { λ r. r.items.items };
+}
+
+impl<T: Copy> Row<T> {
+    ghost use Rattle.std.specs.Prelude.{◌≡◌, ◌<◌, length, slice_set};
+
+    /// Takes the items over.
+    pub fn new(items: Vec<T>) -> Row<T>
+        ensures { result ≡ items.items }
+    {
+        Row { items }
+    }
+
+    /// Lends the items.
+    pub fn as_slice(&self) -> &[T]
+        ensures { result.now ≡ self.now }
+    {
+        &self.items
+    }
+
+    /// Sets an item.
+    pub fn set(&mut self, index: usize, item: T)
+        requires { index < length self.old }
+        ensures { self.new ≡ slice_set self.old index item }
+    {
+        self.items[index] = item;
+    }
+}
+
+/// A configuration in tables. Contracts see it as the configuration.
+#[derive(Drop)]
+pub struct Config {
+    ii: u32,
+    stages: u32,
+    selects: Vec<Row<u32>>,
+    units: Vec<Row<UnitFields>>,
+}
+
+impl Model for Config {
+    ghost use Rattle.cg_model.specs.Config as configs;
+
+    ghost Value = { configs.Config };
+
+    ghost view = { λ c. record { ii = c.ii; stages = c.stages; selects = c.selects.items; units = c.units.items } };
+}
+
+impl Config {
+    ghost use Rattle.std.specs.Prelude.{◌≡◌, [], ◌<◌, ◌≤◌, length, slice_index_or, None, IfOk};
+    ghost use Rattle.cg_model.specs.Array as arrays;
+    ghost use Rattle.cg_model.specs.Config as configs;
+    ghost use Rattle.cg_model.specs.Canonical.{IsCanonical, AreFields};
+    ghost use Rattle.cg_bits.specs.Changes.{all_off, with_select, with_fields, LeavesPortsFree};
+
+    /// A configuration that is off everywhere, of so many slots.
+    pub fn new(alloc: Global, arch: &Arch, ii: u32) -> Result<Config, AllocError>
+        requires some { 0 < ii }
+        requires contexts { ii ≤ arch.now.contexts }
+        ensures off { IfOk result (λ config. config ≡ all_off arch.now ii) }
+        ensures canonical { IfOk result (λ config. IsCanonical arch.now config) }
+    {
+        Config::all_off(alloc, arch, ii)
+    }
+
+    /// A configuration that is off everywhere.
+    fn all_off(alloc: Global, arch: &Arch, ii: u32) -> Result<Config, AllocError>
+        ensures { IfOk result (λ config. config ≡ all_off arch.now ii) }
+    {
+        let resources = arch.resources().len();
+        let units = arch.units().len();
+        Ok(Config {
+            ii,
+            stages: 1,
+            selects: rows_of(alloc, 0, resources, ii)?,
+            units: rows_of(alloc, OFF, units, ii)?,
+        })
+    }
+
+    /// Sets the select of a resource in a slot: 0 for none, else the place of a driver in the resource's list, counted
+    /// from 1.
+    pub fn set_select(&mut self, arch: &Arch, resource: u32, slot: u32, value: u32)
+        requires canonical { IsCanonical arch.now self.old }
+        requires resource { resource < length arch.now.resources }
+        requires slot { slot < self.old.ii }
+        requires value { value ≤ length (arrays.resource arch.now resource).drivers }
+        ensures set { self.new ≡ with_select self.old resource slot value }
+        ensures canonical { IsCanonical arch.now self.new }
+    {
+        self.put_select(resource as usize, slot as usize, value);
+    }
+
+    /// Sets a select in the tables.
+    fn put_select(&mut self, resource: usize, slot: usize, value: u32)
+        requires slot { slot < length self.old.selects }
+        requires resource { resource < length (slice_index_or self.old.selects slot []) }
+        ensures { self.new ≡ with_select self.old resource slot value }
+    {
+        let row = &mut self.selects[slot];
+        row.set(resource, value);
+    }
+
+    /// Sets the fields of a unit in a slot, where it was off. The stages become one more than the greatest stage in use.
+    pub fn set_unit(&mut self, arch: &Arch, unit: u32, slot: u32, fields: UnitFields)
+        requires canonical { IsCanonical arch.now self.old }
+        requires unit { unit < length arch.now.units }
+        requires slot { slot < self.old.ii }
+        requires off { (configs.fields self.old unit slot).op ≡ None }
+        requires fields { AreFields (arrays.unit arch.now unit).ops fields }
+        requires ports { LeavesPortsFree arch.now self.old fields }
+        ensures set { self.new ≡ with_fields self.old unit slot fields }
+        ensures canonical { IsCanonical arch.now self.new }
+    {
+        self.put_fields(unit as usize, slot as usize, fields);
+    }
+
+    /// Sets fields in the tables, and stages enough for them.
+    fn put_fields(&mut self, unit: usize, slot: usize, fields: UnitFields)
+        requires slot { slot < length self.old.units }
+        requires unit { unit < length (slice_index_or self.old.units slot []) }
+        requires stage { fields.stage ≤ 65534 }
+        ensures { self.new ≡ with_fields self.old unit slot fields }
+    {
+        let stages = 1 + stage_of(&fields);
+        if self.stages < stages {
+            self.stages = stages;
+        }
+        let row = &mut self.units[slot];
+        row.set(unit, fields);
+    }
+
+    /// A configuration of these tables.
+    pub(crate) fn from_rows(
+        ii: u32,
+        stages: u32,
+        selects: Vec<Row<u32>>,
+        units: Vec<Row<UnitFields>>,
+    ) -> Config
+        ensures { result ≡ record { ii = ii; stages = stages; selects = selects.items; units = units.items } }
+    {
+        Config {
+            ii,
+            stages,
+            selects,
+            units,
+        }
+    }
+
+    /// The selects of a slot, by resource.
+    pub(crate) fn selects_in(&self, slot: usize) -> &[u32]
+        requires { slot < length self.now.selects }
+        ensures { result.now ≡ slice_index_or self.now.selects slot [] }
+    {
+        self.selects[slot].as_slice()
+    }
+
+    /// The fields of a slot, by unit.
+    pub(crate) fn fields_in(&self, slot: usize) -> &[UnitFields]
+        requires { slot < length self.now.units }
+        ensures { result.now ≡ slice_index_or self.now.units slot [] }
+    {
+        self.units[slot].as_slice()
+    }
+}
+
+/// The stage of a unit, 0 where it is off.
+fn stage_of(fields: &UnitFields) -> u32
+    ensures { result ≡ stage_of fields.now }
+{
+    match fields.op {
+        Some(_) => fields.stage,
+        None => 0,
+    }
+}
+
+/// A row of so many items, all the same.
+fn row_of<T: Copy>(alloc: Global, item: T, count: usize) -> Result<Row<T>, AllocError>
+    ensures { IfOk result (λ row. row ≡ replicate count item) }
+{
+    let mut items = Vec::new(alloc);
+    for _item in 0..count {
+        items.push(item)?;
+    }
+    Ok(Row::new(items))
+}
+
+/// So many rows of so many items, all the same.
+fn rows_of<T: Copy>(
+    alloc: Global,
+    item: T,
+    count: usize,
+    times: u32,
+) -> Result<Vec<Row<T>>, AllocError>
+    ensures { IfOk result (λ rows. rows.items ≡ replicate times (replicate count item)) }
+{
+    let mut rows = Vec::new(alloc);
+    for _row in 0..times {
+        rows.push(row_of(alloc, item, count)?)?;
+    }
+    Ok(rows)
+}
+
+impl Contexts for Config {
+    ghost config = { λ c. c };
+
+    fn ii(&self) -> u32 {
+        self.ii
+    }
+
+    fn stages(&self) -> u32 {
+        self.stages
+    }
+
+    fn select(&self, resource: u32, slot: u32) -> u32 {
+        self.selects_in(slot as usize)[resource as usize]
+    }
+
+    fn unit(&self, unit: u32, slot: u32) -> UnitFields {
+        self.fields_in(slot as usize)[unit as usize]
+    }
+}
