@@ -19,7 +19,7 @@ fn names(alloc: Global, text: &str) -> Result<Names, AllocError> {
 }
 
 /// A register and a unit of two ports, each driven by both, where the register has this name and is driven by these too.
-fn one_unit(alloc: Global, register: &str, drivers: &str) -> Result<Parts, AllocError> {
+pub(crate) fn one_unit(alloc: Global, register: &str, drivers: &str) -> Result<Parts, AllocError> {
     let ports = vec![in alloc; names(alloc, "u_o r")?, names(alloc, "u_o r")?]?;
     let elements = vec![in alloc;
         Element::Register {

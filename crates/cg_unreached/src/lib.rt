@@ -4,6 +4,8 @@
 #[cfg(test)]
 mod archs;
 #[cfg(test)]
+mod bits;
+#[cfg(test)]
 mod texts;
 #[cfg(test)]
 mod words;
