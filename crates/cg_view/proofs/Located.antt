@@ -1,6 +1,5 @@
 -- Where a slot and a unit lie, and what is read there.
-use Rattle.std.proofs.Common.{◌≡◌, ℕ, ◌+◌, ◌-◌, ◌*◌, ◌/◌, ◌<◌, ◌≤◌, ◌^◌, Bool, true, List, [], length, map, take, drop, get_or, Option, Some, None, refl, sym, ap, subst, ◌∙◌, arith, length-drop}
-use Rattle.std.specs.List.{range_with_len}
+use Rattle.std.proofs.Common.{◌≡◌, ℕ, ◌+◌, ◌-◌, ◌*◌, ◌<◌, ◌≤◌, ◌^◌, Bool, true, List, [], length, take, drop, get_or, Option, Some, None, refl, sym, ap, subst, ◌∙◌, arith, length-drop}
 use Rattle.std.proofs.Math.Nat.{mul-le-mul_left}
 use Rattle.std.proofs.lemmas.List.{take_all}
 use Rattle.std.proofs.lemmas.List.FromFn.{get_or-map-range_with_len, length-map-range_with_len}
@@ -10,12 +9,12 @@ use Rattle.cg_word.specs.declared.op.Op.TheVariants.{Const, Iter, Input, Add, Su
 use Rattle.cg_word.specs.Word.{all_ops}
 use Rattle.cg_word.specs.Sets.{among}
 use Rattle.cg_model.specs.declared.config.UnitFields.{UnitFields}
-use Rattle.cg_model.specs.Array.{Arch, IsArch, resource, unit}
-use Rattle.cg_model.specs.Config.{Config, fields, off}
+use Rattle.cg_model.specs.Array.{Arch, resource, unit}
+use Rattle.cg_model.specs.Config.{off}
 use Rattle.cg_model.specs.Canonical.{AreFields, offered}
-use Rattle.cg_flat.specs.Slots.{select_bits, select_at, total}
+use Rattle.cg_flat.specs.Slots.{select_bits, select_at}
 use Rattle.cg_flat.proofs.Widths.{is_width}
-use Rattle.cg_bits.specs.Numbers.{number_at, bits_of_bytes}
+use Rattle.cg_bits.specs.Numbers.{number_at}
 use Rattle.cg_bits.specs.Format.{cgb2, ports, unit_len, unit_at, slot_len}
 use Rattle.cg_bits.specs.Reading.{unit_in, ii_in, stages_in, body_bits, config_in}
 use Rattle.cg_bits.specs.Answers.{config_of}
@@ -24,7 +23,7 @@ use Rattle.cg_bits.proofs.Slots.{total_within, offered_arity, fields_read}
 use Rattle.cg_bits.proofs.Places.{width_few}
 use Rattle.cg_bits.proofs.Answered.{is_cgb2}
 use Rattle.cg_view.specs.Slot.{Slot, slot_of, slot_in}
-use Rattle.cg_view.specs.Held.{HoldBits, HoldsSlot, HoldsUnit}
+use Rattle.cg_view.specs.Held.{HoldBits, HoldsSlot}
 
 -- what is left of bytes from byte 40 on
 pub body_is : (bytes : List ℕ) → take (length bytes - 40) (drop 40 bytes) ≡ drop 40 bytes

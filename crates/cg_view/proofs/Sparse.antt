@@ -1,21 +1,19 @@
 -- What is not read of the fields of a unit is zero.
-use Rattle.std.proofs.Common.{◌≡◌, ℕ, zero, suc, ◌+◌, ◌*◌, ◌<◌, ◌≤◌, ◌^◌, ◌&&◌, ◌||◌, not, Bool, true, false, cond, eqb, ltb, leb, List, [], ◌∷◌, length, map, get_or, replicate, Option, Some, None, refl, sym, ap, subst, ◌∙◌, arith, ⊎_elim}
+use Rattle.std.proofs.Common.{◌≡◌, ℕ, ◌+◌, ◌*◌, ◌<◌, ◌≤◌, ◌&&◌, ◌||◌, not, Bool, true, false, cond, eqb, ltb, leb, List, replicate, Some, None, refl, sym, ap, ◌∙◌, arith}
 use Rattle.std.specs.Prelude.{slice_index}
-use Rattle.std.specs.List.{range_with_len}
-use Rattle.std.proofs.lemmas.Bool.{cases_lt, lt-ltb, le-ltb, leb-true, eqb-true, ltb-true, and_parts, or_cases}
+use Rattle.std.proofs.lemmas.Bool.{lt-ltb, le-ltb, leb-true, eqb-true, and_parts}
 use Rattle.std.proofs.lemmas.List.FromFn.{fill_by_all, get_or-map-range_with_len}
 use Rattle.cg_word.specs.declared.op.Op.{Op}
-use Rattle.cg_word.specs.Word.{all_ops, arity, has_port}
+use Rattle.cg_word.specs.Word.{all_ops, has_port}
 use Rattle.cg_model.specs.declared.config.ArgFields.{ArgFields}
 use Rattle.cg_model.specs.declared.config.UnitFields.{UnitFields}
 use Rattle.cg_model.specs.Config.{arg, no_arg, off}
 use Rattle.cg_model.specs.Canonical.{AreFields, arity_of, takes, names_port, is_on}
-use Rattle.cg_bits.specs.Numbers.{number_at, bits_of_bytes}
+use Rattle.cg_bits.specs.Numbers.{number_at}
 use Rattle.cg_bits.specs.Format.{cgb2, op_of, args_at, arg_len}
 use Rattle.cg_bits.specs.Reading.{unit_in, arg_in}
 use Rattle.cg_bits.proofs.Fields.{arg_same}
 use Rattle.cg_bits.proofs.Units.{idle, unit_same}
-use Rattle.cg_view.specs.Held.{HoldsUnit}
 
 -- one of two tests that fails leaves the other
 other : (b c : Bool) → (b || c) ≡ true → c ≡ false → b ≡ true

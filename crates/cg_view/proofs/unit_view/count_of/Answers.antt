@@ -1,5 +1,4 @@
-use Rattle.std.proofs.Common.{◌≡◌, ◌<◌, ◌≤◌, subst, sym, ◌∙◌, arith}
-use Rattle.cg_model.specs.Config.{arg}
+use Rattle.std.proofs.Common.{◌≤◌, subst, sym, ◌∙◌, arith}
 use Rattle.cg_bits.specs.Numbers.{bits_of_bytes}
 use Rattle.cg_bits.specs.Format.{cgb2}
 use Rattle.cg_bits.specs.Reading.{unit_in}

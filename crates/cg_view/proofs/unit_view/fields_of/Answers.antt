@@ -1,7 +1,7 @@
-use Rattle.std.proofs.Common.{◌≡◌, ℕ, ◌+◌, ◌||◌, Bool, List, cond, get_or, Some, refl, sym, ap, ◌∙◌, arith}
+use Rattle.std.proofs.Common.{◌≡◌, ◌+◌, ◌||◌, List, cond, get_or, sym, ap, ◌∙◌, arith}
 use Rattle.cg_word.specs.Word.{has_port}
 use Rattle.cg_model.specs.declared.config.ArgFields.{ArgFields}
-use Rattle.cg_model.specs.Config.{arg, no_arg}
+use Rattle.cg_model.specs.Config.{no_arg}
 use Rattle.cg_bits.specs.Numbers.{bits_of_bytes, number_at}
 use Rattle.cg_bits.specs.Format.{cgb2}
 use Rattle.cg_bits.specs.Reading.{unit_in}

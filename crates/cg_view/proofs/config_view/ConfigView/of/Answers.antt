@@ -1,4 +1,4 @@
-use Rattle.std.proofs.Common.{◌≡◌, Ok, Err, sym, ap, ◌∙◌}
+use Rattle.std.proofs.Common.{sym, ap}
 use Rattle.cg_arch.specs.Kept.{digest_of}
 use Rattle.cg_bits.specs.Format.{cgb2}
 use Rattle.cg_bits.specs.Answers.{faults_of, config_of, unless_fault}

@@ -1,4 +1,4 @@
-use Rattle.std.proofs.Common.{◌≡◌, ap, ◌∙◌}
+use Rattle.std.proofs.Common.{ap, ◌∙◌}
 use Rattle.cg_model.specs.Config.{Config}
 use Rattle.cg_bits.specs.Reading.{config_in}
 use Rattle.cg_view.proofs.config_view.ConfigViewContexts.ii.Goals as goal

@@ -1,4 +1,4 @@
-use Rattle.std.proofs.Common.{◌≡◌, ◌+◌, ◌<◌, ◌≤◌, length, get_or, sym, ap, subst, ◌∙◌, arith}
+use Rattle.std.proofs.Common.{◌+◌, length, get_or, sym, ap, ◌∙◌, arith}
 use Rattle.cg_flat.specs.Slots.{select_at}
 use Rattle.cg_bits.specs.Numbers.{number_at, bits_of_bytes}
 use Rattle.cg_view.specs.Slot.{Slot}

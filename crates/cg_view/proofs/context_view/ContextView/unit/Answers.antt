@@ -1,13 +1,11 @@
-use Rattle.std.proofs.Common.{◌≡◌, ◌+◌, ◌<◌, ◌≤◌, length, get_or, sym, ap, subst, ◌∙◌, arith}
+use Rattle.std.proofs.Common.{◌≡◌, ◌+◌, length, get_or, sym, ap, ◌∙◌, arith}
 use Rattle.cg_model.specs.declared.array.Unit.{Unit}
-use Rattle.cg_model.specs.Array.{unit}
 use Rattle.cg_model.specs.Config.{off}
 use Rattle.cg_bits.specs.Numbers.{bits_of_bytes}
-use Rattle.cg_bits.specs.Format.{cgb2, ports, unit_at}
+use Rattle.cg_bits.specs.Format.{cgb2, ports}
 use Rattle.cg_bits.specs.Reading.{unit_in}
 use Rattle.cg_bits.proofs.Places.{unit_is}
 use Rattle.cg_view.specs.Slot.{Slot}
-use Rattle.cg_view.specs.Held.{HoldsUnit}
 use Rattle.cg_view.proofs.Located.{many_units, unit_there}
 use Rattle.cg_view.proofs.context_view.ContextView.unit.Goals as goal
 
