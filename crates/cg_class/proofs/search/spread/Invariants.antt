@@ -1,0 +1,5 @@
+use Rattle.cg_class.proofs.Moves.{IsStage}
+use Rattle.cg_class.proofs.search.spread.Given as goal
+
+abbrev pub invariant-loop-y : goal.invariant-loop-y
+invariant-loop-y l = IsStage l.nodes l.units l.places l.initial.log.items l.initial.seen l.node l.log.items l.seen l.y

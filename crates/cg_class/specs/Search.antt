@@ -1,0 +1,114 @@
+-- Nodes placed so far, and the moves that may make room for the next one.
+use Rattle.std.specs.Prelude.{◌≡◌, ℕ, ◌*◌, ◌<◌, ◌≤◌, ◌⊎◌, ◌||◌, eqb, Bool, true, false, List, [], length, Option, Some, None, slice_index, slice_index_or}
+use Rattle.cg_word.specs.declared.op.Op.{Op}
+use Rattle.cg_word.specs.Word.{code}
+use Rattle.cg_word.specs.Sets.{among}
+use Rattle.cg_model.specs.declared.kernel.Node.{Node}
+use Rattle.cg_model.specs.Kernel.{Kernel, no_node}
+use Rattle.cg_model.specs.declared.array.Unit.{Unit}
+use Rattle.cg_model.specs.Array.{Arch}
+use Rattle.cg_class.specs.declared.search.Move.{Move}
+use Rattle.cg_class.specs.declared.search.Found.{Found}
+use Rattle.cg_class.specs.declared.search.Found.TheVariants.{Room, Full}
+use Rattle.cg_class.specs.declared.class.Assignment.{Assignment}
+use Rattle.cg_class.specs.declared.class.Assignment.TheVariants.{Overfull, Units}
+use Rattle.cg_class.specs.Class.{nodes_in, units_for, load, IsOverfull, AreOfNodes, IsAssignment}
+
+-- the operation of node v
+abbrev pub op_at : List Node → ℕ → Op
+op_at nodes v = (slice_index_or nodes v no_node).op
+
+-- past the last unit
+abbrev pub no_unit : Unit
+no_unit = record { name = []; ops = []; latency = 1; ports = []; out = 0 }
+
+-- the operations of unit x
+abbrev pub ops_at : List Unit → ℕ → List Op
+ops_at units x = (slice_index_or units x no_unit).ops
+
+-- a set with one operation more
+abbrev pub IsWith : List Op → Op → List Op → Type 0
+IsWith s op t = (o : Op) → among t o ≡ (eqb (code op) (code o) || among s o)
+
+-- the first nodes, each on a unit that offers its operation, at most ii on each unit
+pub record IsPlaced (nodes : List Node) (units : List Unit) (ii : ℕ) (places : List ℕ) : Type 0 where
+  pub some : length places ≤ length nodes
+  pub known : (v : ℕ) → v < length places → slice_index places v < length units
+  pub offered : (v : ℕ) → v < length places → among (ops_at units (slice_index places v)) (op_at nodes v) ≡ true
+  pub room : (x : ℕ) → x < length units → load places x ≤ ii
+
+-- past the last move
+abbrev pub no_move : Move
+no_move = record { unit = 0; node = 0; before = 0 }
+
+-- move i
+abbrev pub move : List Move → ℕ → Move
+move log i = slice_index_or log i no_move
+
+-- unit x is reached
+abbrev pub is_seen : List Bool → ℕ → Bool
+is_seen seen x = slice_index_or seen x false
+
+-- move i brings a node to a unit that offers its operation: the new node, or one that stands on the unit of an earlier move
+pub record IsMove (nodes : List Node) (units : List Unit) (places : List ℕ) (log : List Move) (i : ℕ) (m : Move) : Type 0 where
+  pub unit : m.unit < length units
+  pub offered : among (ops_at units m.unit) (op_at nodes m.node) ≡ true
+  pub from : ((m.before ≡ i) × (m.node ≡ length places)) ⊎ ((m.before < i) × (m.node < length places) × (slice_index places m.node ≡ (move log m.before).unit))
+
+-- each unit reached has one move
+pub record IsLogged (nodes : List Node) (units : List Unit) (places : List ℕ) (log : List Move) (seen : List Bool) : Type 0 where
+  pub moves : (i : ℕ) → i < length log → IsMove nodes units places log i (move log i)
+  pub apart : (i j : ℕ) → i < j → j < length log → (move log i).unit ≡ (move log j).unit → ⊥
+  pub each : length seen ≡ length units
+  pub marked : (x : ℕ) → x < length units → is_seen seen x ≡ true → (i : ℕ) × (i < length log) × ((move log i).unit ≡ x)
+  pub marks : (i : ℕ) → i < length log → is_seen seen (move log i).unit ≡ true
+
+-- where a move of a node comes from
+abbrev pub IsFrom : List ℕ → List Move → ℕ → Option ℕ → Type 0
+IsFrom places log node None = node ≡ length places
+IsFrom places log node (Some b) = (node < length places) × (b < length log) × (slice_index places node ≡ (move log b).unit)
+
+-- after the units that offer an operation were all reached
+pub record IsSpread (nodes : List Node) (units : List Unit) (places : List ℕ) (log : List Move) (seen : List Bool) (log' : List Move) (seen' : List Bool) (k : Op) : Type 0 where
+  pub good : IsLogged nodes units places log' seen'
+  pub longer : length log ≤ length log'
+  pub kept : (i : ℕ) → i < length log → move log' i ≡ move log i
+  pub still : (x : ℕ) → is_seen seen x ≡ true → is_seen seen' x ≡ true
+  pub covers : (x : ℕ) → x < length units → among (ops_at units x) k ≡ true → is_seen seen' x ≡ true
+
+-- the search up to move h: the operations of `done` reach no unit that isn't seen, and the units before are full of nodes
+-- with such operations
+pub record IsSearch (nodes : List Node) (units : List Unit) (ii : ℕ) (places : List ℕ) (log : List Move) (seen : List Bool) (done : List Op) (h : ℕ) : Type 0 where
+  pub logged : IsLogged nodes units places log seen
+  pub closed : (k : Op) → among done k ≡ true → (x : ℕ) → x < length units → among (ops_at units x) k ≡ true → is_seen seen x ≡ true
+  pub first : among done (op_at nodes (length places)) ≡ true
+  pub own : (k : Op) → among done k ≡ true → (v : ℕ) × (v < length nodes) × (op_at nodes v ≡ k)
+  pub within : h ≤ length log
+  pub full : (i : ℕ) → i < h → ii ≤ load places (move log i).unit
+  pub passed : (i w : ℕ) → i < h → w < length places → slice_index places w ≡ (move log i).unit → among done (op_at nodes w) ≡ true
+
+-- among the nodes on unit x, that of move h: those before node w were looked at
+pub record IsVisit (nodes : List Node) (units : List Unit) (ii : ℕ) (places : List ℕ) (log : List Move) (seen : List Bool) (done : List Op) (h x w : ℕ) : Type 0 where
+  pub searched : IsSearch nodes units ii places log seen done h
+  pub inside : h < length log
+  pub here : (move log h).unit ≡ x
+  pub loaded : ii ≤ load places x
+  pub kept : (v : ℕ) → v < w → slice_index places v ≡ x → among done (op_at nodes v) ≡ true
+
+-- moves to a unit with room
+abbrev pub HasMoves : List Node → List Unit → ℕ → List ℕ → List Move → ℕ → Type 0
+HasMoves nodes units ii places log h = (seen : List Bool) × IsLogged nodes units places log seen × (h < length log) × (load places (move log h).unit < ii)
+
+-- more nodes have an operation of the set than its units can take, and each of its operations is that of a node
+abbrev pub IsFullSet : List Node → List Unit → ℕ → List Op → Type 0
+IsFullSet nodes units ii s = (ii * units_for units s < nodes_in nodes s) × ((k : Op) → among s k ≡ true → (v : ℕ) × (v < length nodes) × (op_at nodes v ≡ k))
+
+-- what a search for room answers
+abbrev pub IsFound : List Node → List Unit → ℕ → List ℕ → Found → Type 0
+IsFound nodes units ii places (Room log h) = HasMoves nodes units ii places log.items h
+IsFound nodes units ii places (Full s) = IsFullSet nodes units ii s
+
+-- an overfull set of operations of nodes; or an assignment, where no set is overfull
+abbrev pub IsAnswer : Arch → Kernel → ℕ → Assignment → Type 0
+IsAnswer A K ii (Overfull s) = IsOverfull A K ii s × AreOfNodes K s
+IsAnswer A K ii (Units places) = IsAssignment A K ii places.items × ((s : List Op) → IsOverfull A K ii s → ⊥)

@@ -1,0 +1,117 @@
+//! The search for a unit with room, where nodes may move to other units.
+ghost use Rattle.std.specs.Prelude.{◌≡◌, ◌+◌, ◌<◌, ◌≤◌, IfOk, OnOk, length};
+ghost use Rattle.cg_model.specs.Limits.{most_units};
+ghost use Rattle.cg_class.specs.Search.{op_at, IsPlaced, IsLogged, IsSpread, IsFrom, IsVisit, HasMoves, IsFound};
+
+use crate::counts::count_on;
+use cg_model::{Node, Unit};
+use cg_word::OpSet;
+use std::alloc::{AllocError, Global};
+
+/// A unit to which a node may move, from the unit of an earlier move. The first moves are of the new node: `before` is
+/// their own number.
+#[derive(Clone, Copy, Drop)]
+pub(crate) struct Move {
+    pub unit: u32,
+    pub node: usize,
+    pub before: usize,
+}
+
+/// Where a new node's moves lead.
+#[derive(Drop)]
+pub(crate) enum Found {
+    /// To a unit with room, by the move of that number.
+    Room(Vec<Move>, usize),
+    /// To no such unit: too many nodes have these operations.
+    Full(OpSet),
+}
+
+/// Reaches all units that offer a node's operation: from the unit of move `before`, or, for the new node, from none.
+fn spread(
+    log: &mut Vec<Move>,
+    seen: &mut [bool],
+    nodes: &[Node],
+    units: &[Unit],
+    places: &[u32],
+    node: usize,
+    before: Option<usize>,
+) -> Result<(), AllocError>
+    requires few { length units.now ≤ most_units }
+    requires good { IsLogged nodes.now units.now places.now log.old.items seen.old }
+    requires node { node < length nodes.now }
+    requires from { IsFrom places.now log.old.items node before }
+    ensures { OnOk result (IsSpread nodes.now units.now places.now log.old.items seen.old log.new.items seen.new (op_at nodes.now node)) }
+{
+    let op = nodes[node].op;
+    for y in 0..units.len() {
+        if units[y].ops.has(op) && !seen[y] {
+            let at = log.len();
+            log.push(Move {
+                unit: y as u32,
+                node,
+                before: before.unwrap_or(at),
+            })?;
+            seen[y] = true;
+        }
+    }
+    Ok(())
+}
+
+/// The moves of the next node to a unit with room, or the operations of all nodes that could move.
+pub(crate) fn reach(
+    alloc: Global,
+    nodes: &[Node],
+    units: &[Unit],
+    places: &[u32],
+    ii: u32,
+) -> Result<Found, AllocError>
+    requires few { length units.now ≤ most_units }
+    requires placed { IsPlaced nodes.now units.now ii places.now }
+    requires next { length places.now < length nodes.now }
+    ensures { IfOk result (IsFound nodes.now units.now ii places.now) }
+{
+    let node = places.len();
+    let mut log = Vec::new(alloc);
+    let mut seen = vec![in alloc; false; units.len()]?;
+    spread(&mut log, &mut seen, nodes, units, places, node, None)?;
+    let mut done = OpSet::empty().with(nodes[node].op);
+    let mut h = 0;
+    while h < log.len() {
+        let x = log[h].unit;
+        if count_on(places, x) < ii as usize {
+            return Ok(Found::Room(log, h));
+        }
+        for w in 0..places.len() {
+            if places[w] == x && !done.has(nodes[w].op) {
+                spread(&mut log, &mut seen, nodes, units, places, w, Some(h))?;
+                done = done.with(nodes[w].op);
+            }
+        }
+        h += 1;
+    }
+    Ok(Found::Full(done))
+}
+
+/// Moves each node on the way to its unit, from the last one on; the new node comes last.
+pub(crate) fn shift(
+    places: &mut Vec<u32>,
+    log: &[Move],
+    h: usize,
+    nodes: &[Node],
+    units: &[Unit],
+    ii: u32,
+) -> Result<(), AllocError>
+    requires placed { IsPlaced nodes.now units.now ii places.old.items }
+    requires next { length places.old.items < length nodes.now }
+    requires moves { HasMoves nodes.now units.now ii places.old.items log.now h }
+    ensures { OnOk result (IsPlaced nodes.now units.now ii places.new.items × (length places.new.items ≡ length places.old.items + 1)) }
+{
+    let mut at = h;
+    while log[at].before < at {
+        let step = log[at];
+        places[step.node] = step.unit;
+        at = step.before;
+    }
+    places.push(log[at].unit)?;
+    Ok(())
+}
