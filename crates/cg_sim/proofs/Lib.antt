@@ -9,4 +9,3 @@ mod Rooms
 mod Chosen
 mod Cycles
 mod Left
-mod Sending

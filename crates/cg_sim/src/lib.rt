@@ -8,8 +8,6 @@ mod plan;
 mod settle;
 mod sim;
 mod streams;
-#[cfg(test)]
-mod tests;
 mod texts;
 mod units;
 

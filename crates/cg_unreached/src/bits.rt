@@ -2,7 +2,7 @@
 
 use crate::archs::one_unit;
 use cg_arch::{Arch, validate};
-use cg_bits::{BitsFault, read_bits, write_bits};
+use cg_bits::{BitsFault, Config, read_bits, write_bits};
 use cg_kernel::read_kernel;
 use cg_pad::{Image, write_image};
 use cg_sim::{Sim, SimFault};
@@ -67,6 +67,21 @@ fn left_by_view(alloc: Global, arch: &Arch, bytes: &[u8]) -> Result<Vec<u8>, Fai
 fn written_back(alloc: Global, arch: &Arch, bytes: &[u8]) -> Result<Vec<u8>, Fail> {
     let config = read_bits(alloc, arch, bytes)?;
     Ok(write_bits(alloc, arch, &config)?)
+}
+
+#[test]
+fn two_slots_that_are_off(rt: HostRuntime) -> Result<(), Fail> {
+    let alloc = rt.alloc();
+    let arch = validate(alloc, &one_unit(alloc, "r", "u_o r")?)?;
+    assert_eq!(rt; arch.contexts(), 4);
+    if arch.contexts() >= 2 {
+        let config = Config::new(alloc, &arch, 2)?;
+        let mut bytes = Vec::from_slice(alloc, b"CGB2\x00\x02\x00\x01")?;
+        bytes.extend_from_slice(&arch.digest())?;
+        bytes.extend_from_slice(&[0; 82])?;
+        assert!(rt; write_bits(alloc, &arch, &config)? == bytes);
+    }
+    Ok(())
 }
 
 #[test]

@@ -9,6 +9,3 @@ pub use cg_bits::{ArgFields, BitsFault, Contexts, UnitFields, bits_fault_text};
 pub use config_view::ConfigView;
 pub use context_view::ContextView;
 pub use unit_view::UnitView;
-
-#[cfg(test)]
-mod tests;
