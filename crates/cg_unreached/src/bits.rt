@@ -107,17 +107,29 @@ fn tables_and_view_answer_alike(rt: HostRuntime) -> Result<(), Fail> {
     let arch = validate(alloc, &one_unit(alloc, "r", "u_o r")?)?;
     let bytes = running_sum(alloc, &arch)?;
     assert!(rt; written_back(alloc, &arch, bytes.as_slice())? == bytes);
-    assert!(rt; left_by_view(alloc, &arch, bytes.as_slice())? == left_by_tables(alloc, &arch, bytes.as_slice())?);
+    assert!(rt;
+        left_by_view(alloc, &arch, bytes.as_slice())?
+            == left_by_tables(alloc, &arch, bytes.as_slice())?
+    );
     let mut taken = 0;
     for bit in 0..1304 {
         let other = turned(alloc, bytes.as_slice(), bit)?;
         let fault = ConfigView::of(&arch, other.as_slice()).err();
-        assert!(rt; read_bits(alloc, &arch, other.as_slice()).err() == fault, "{bit}");
+        assert!(rt;
+            read_bits(alloc, &arch, other.as_slice()).err() == fault,
+            "{bit}"
+        );
         if fault.is_none() {
             taken += 1;
-            assert!(rt; written_back(alloc, &arch, other.as_slice())? == other, "{bit}");
+            assert!(rt;
+                written_back(alloc, &arch, other.as_slice())? == other,
+                "{bit}"
+            );
             let view = left_by_view(alloc, &arch, other.as_slice())?;
-            assert!(rt; view == left_by_tables(alloc, &arch, other.as_slice())?, "{bit}");
+            assert!(rt;
+                view == left_by_tables(alloc, &arch, other.as_slice())?,
+                "{bit}"
+            );
         }
     }
     assert_eq!(rt; taken, 60);
