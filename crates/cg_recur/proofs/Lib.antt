@@ -1,0 +1,5 @@
+pub mod Chains
+pub mod Pushes
+pub mod Ends
+pub mod Paths
+pub mod Cycles
