@@ -1,5 +1,6 @@
 //! The least latencies of operations on an architecture.
-ghost use Rattle.std.specs.Prelude.{◌≡◌, unwrap_or};
+ghost use Rattle.std.specs.Prelude.{◌≡◌, ◌≤◌, unwrap_or};
+ghost use Rattle.cg_word.specs.declared.op.Op as ops;
 ghost use Rattle.cg_edges.specs.Edges as spec;
 
 use cg_arch::{Arch, Op};
@@ -25,4 +26,11 @@ fn lesser(number: u32, other: Option<u32>) -> u32
         None => number,
         Some(another) => number.min(another),
     }
+}
+
+/// The law that no operation takes more than four cycles; the call does nothing.
+pub fn latencies_are_small(arch: &Arch)
+    ensures { (op : ops.Op) → spec.latency arch.now op ≤ 4 }
+{
+    let _units = arch.units();
 }

@@ -10,5 +10,5 @@ pub use cg_arch::Arch;
 pub use cg_kernel::Kernel;
 pub use edge::{Edge, EdgeId};
 pub use find::find_edge;
-pub use least::latency;
+pub use least::{latencies_are_small, latency};
 pub use list::{KernelEdges, edges_of};

@@ -3,3 +3,5 @@ pub mod Pushes
 pub mod Ends
 pub mod Paths
 pub mod Cycles
+pub mod Names
+pub mod Named

@@ -2,6 +2,12 @@
 //! earliest times where there is none.
 #![tactic(auto)]
 
+mod check;
 mod closed;
 mod moments;
+mod recur;
 mod rounds;
+
+pub use cg_edges::{Arch, EdgeId, Kernel};
+pub use check::check_cycle;
+pub use recur::{Recur, recurrence};
