@@ -1,0 +1,2 @@
+pub mod Latencies
+pub mod Listed

@@ -1,0 +1,28 @@
+//! Edges and their names.
+
+/// The name of an edge of a kernel.
+#[derive(Clone, Copy, Debug, PartialEq, Eq, Drop)]
+pub enum EdgeId {
+    /// The data edge that is an operand of a node.
+    Arg {
+        /// The number of the node that takes the value.
+        node: u32,
+        /// Which of its operands the edge is, from 0 on.
+        arg: u32,
+    },
+    /// The order edge of that number.
+    Order(u32),
+}
+
+/// An edge of a kernel on an architecture.
+#[derive(Clone, Copy, Debug, PartialEq, Eq, Drop)]
+pub struct Edge {
+    /// The number of the node that it leaves.
+    pub source: usize,
+    /// The number of the node that it goes to.
+    pub target: usize,
+    /// By how many cycles at least the target begins after the source.
+    pub latency: u32,
+    /// How many turns later.
+    pub distance: u32,
+}

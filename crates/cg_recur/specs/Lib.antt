@@ -1,0 +1,4 @@
+pub mod Log
+pub mod Numbered
+pub mod Path
+pub mod Recurrences

@@ -1,0 +1,26 @@
+-- What the recurrences of a kernel on an architecture say of an interval.
+use Rattle.std.specs.Prelude.{◌≡◌, ℕ, ◌<◌, List, length, slice_index, slice_index_or}
+use Rattle.cg_model.specs.Kernel.{Kernel, size}
+use Rattle.cg_model.specs.Array.{Arch}
+use Rattle.cg_edges.specs.declared.edge.EdgeId.{EdgeId}
+use Rattle.cg_edges.specs.declared.edge.EdgeId.TheVariants.{Order}
+use Rattle.cg_edges.specs.Edges.{edge_of}
+use Rattle.cg_edges.specs.Chain.{IsCycle, IsShown, IsEarly}
+use Rattle.cg_recur.specs.declared.recur.Recur.{Recur}
+use Rattle.cg_recur.specs.declared.recur.Recur.TheVariants.{Cycle, Times}
+
+-- a closed chain of the kernel's edges that no interval of ii cycles can keep
+abbrev pub IsRecurrence : Arch → Kernel → ℕ → List EdgeId → Type 0
+IsRecurrence A K ii ids = IsCycle (edge_of A K) ii ids
+
+-- such a chain in its shown form, or the earliest times of all nodes where there is none
+abbrev pub IsAnswer : Arch → Kernel → ℕ → Recur → Type 0
+IsAnswer A K ii (Cycle ids) = IsRecurrence A K ii ids.items × IsShown (edge_of A K) ids.items
+IsAnswer A K ii (Times ts) =
+    (length ts.items ≡ size K)
+    × ((v : ℕ) → v < size K → IsEarly (edge_of A K) ii v (slice_index ts.items v))
+    × ((ids : List EdgeId) → IsRecurrence A K ii ids → ⊥)
+
+-- the name at a place of a list
+abbrev pub name_at : List EdgeId → ℕ → EdgeId
+name_at names k = slice_index_or names k (Order 0)

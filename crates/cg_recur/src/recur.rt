@@ -1,0 +1,45 @@
+//! The bound by recurrences of a kernel on an architecture.
+ghost use Rattle.std.specs.Prelude.{◌≡◌, ℕ, ◌<◌, IfOk, length, map, slice_index};
+ghost use Rattle.cg_recur.specs.Recurrences.{IsAnswer, name_at};
+
+use crate::rounds::{Numbered, longest_chains};
+use cg_arch::Arch;
+use cg_edges::{EdgeId, edges_of, latencies_are_small};
+use cg_kernel::Kernel;
+use std::alloc::{AllocError, Global};
+
+/// What the recurrences of a kernel say of an interval.
+#[derive(Drop)]
+pub enum Recur {
+    /// The edges of a closed chain that is too long for the interval. It meets no node twice, and
+    /// begins at its least-numbered node.
+    Cycle(Vec<EdgeId>),
+    /// The earliest time of each node, in cycles, where no closed chain is too long.
+    Times(Vec<u32>),
+}
+
+/// A closed chain of edges whose latencies exceed the interval times its distances, where there
+/// is one, and else the earliest times of the nodes.
+pub fn recurrence(alloc: Global, arch: &Arch, kernel: &Kernel, ii: u32) -> Result<Recur, AllocError>
+    ensures { IfOk result (λ r. IsAnswer arch.now kernel.now ii r) }
+{
+    latencies_are_small(arch);
+    let list = edges_of(alloc, arch, kernel)?;
+    let nodes = kernel.nodes().len();
+    match longest_chains(alloc, &list.edges, nodes, ii)? {
+        Numbered::Cycle(numbers) => Ok(Recur::Cycle(name_all(alloc, &list.names, &numbers)?)),
+        Numbered::Times(times) => Ok(Recur::Times(times)),
+    }
+}
+
+/// The names of edges, by their numbers.
+fn name_all(alloc: Global, names: &[EdgeId], numbers: &[usize]) -> Result<Vec<EdgeId>, AllocError>
+    requires { (i : ℕ) → i < length numbers.now → slice_index numbers.now i < length names.now }
+    ensures { IfOk result (λ ids. ids.items ≡ map (name_at names.now) numbers.now) }
+{
+    let mut ids = Vec::new(alloc);
+    for number in numbers {
+        ids.push(names[*number])?;
+    }
+    Ok(ids)
+}
