@@ -11,29 +11,16 @@ use cg_view::ConfigView;
 use std::alloc::{AllocError, Global};
 use std::test::Fail;
 
-/// The bytes of the running sum at interval 3 that aren't zero behind the header, with their places.
-const SET: [(usize, u8); 7] = [
-    (40, 0x40),
-    (41, 0x20),
-    (81, 0xa4),
-    (82, 0x40),
-    (89, 0x10),
-    (122, 0x11),
-    (123, 0x60),
-];
-
+/// The running sum at interval 3: three slots of 41 bytes behind the header.
 fn running_sum(alloc: Global, arch: &Arch) -> Result<Vec<u8>, AllocError> {
     let mut bytes = Vec::from_slice(alloc, b"CGB2\x00\x03\x00\x01")?;
     bytes.extend_from_slice(&arch.digest())?;
-    for place in 40..163 {
-        let mut value = 0;
-        for (set, byte) in SET {
-            if set == place {
-                value = byte;
-            }
-        }
-        bytes.push(value)?;
-    }
+    bytes.extend_from_slice(b"\x40\x20")?;
+    bytes.extend_from_slice(&[0; 39])?;
+    bytes.extend_from_slice(b"\xa4\x40\0\0\0\0\0\0\x10")?;
+    bytes.extend_from_slice(&[0; 32])?;
+    bytes.extend_from_slice(b"\x11\x60")?;
+    bytes.extend_from_slice(&[0; 39])?;
     Ok(bytes)
 }
 
@@ -101,37 +88,36 @@ fn cut_bytes_are_truncated(rt: HostRuntime) -> Result<(), Fail> {
     Ok(())
 }
 
+/// Whether tables and view refuse these bytes alike, or both take them, write them back and run alike.
+fn answer_alike(alloc: Global, arch: &Arch, bytes: &[u8]) -> Result<bool, Fail> {
+    let fault = ConfigView::of(arch, bytes).err();
+    if read_bits(alloc, arch, bytes).err() != fault {
+        return Ok(false);
+    }
+    if fault.is_some() {
+        return Ok(true);
+    }
+    Ok(
+        written_back(alloc, arch, bytes)?.as_slice() == bytes
+            && left_by_view(alloc, arch, bytes)? == left_by_tables(alloc, arch, bytes)?,
+    )
+}
+
 #[test]
 fn tables_and_view_answer_alike(rt: HostRuntime) -> Result<(), Fail> {
     let alloc = rt.alloc();
     let arch = validate(alloc, &one_unit(alloc, "r", "u_o r")?)?;
     let bytes = running_sum(alloc, &arch)?;
-    assert!(rt; written_back(alloc, &arch, bytes.as_slice())? == bytes);
-    assert!(rt;
-        left_by_view(alloc, &arch, bytes.as_slice())?
-            == left_by_tables(alloc, &arch, bytes.as_slice())?
-    );
-    let mut taken = 0;
+    assert!(rt; answer_alike(alloc, &arch, bytes.as_slice())?);
+    let mut taken = 0_u32;
     for bit in 0..1304 {
         let other = turned(alloc, bytes.as_slice(), bit)?;
-        let fault = ConfigView::of(&arch, other.as_slice()).err();
-        assert!(rt;
-            read_bits(alloc, &arch, other.as_slice()).err() == fault,
-            "{bit}"
-        );
-        if fault.is_none() {
-            taken += 1;
-            assert!(rt;
-                written_back(alloc, &arch, other.as_slice())? == other,
-                "{bit}"
-            );
-            let view = left_by_view(alloc, &arch, other.as_slice())?;
-            assert!(rt;
-                view == left_by_tables(alloc, &arch, other.as_slice())?,
-                "{bit}"
-            );
+        assert!(rt; answer_alike(alloc, &arch, other.as_slice())?, "{bit}");
+        if ConfigView::of(&arch, other.as_slice()).is_ok() {
+            taken = taken.wrapping_add(1);
         }
     }
+    // Selects, an operation, and the words, counts, immediates, ports and modes that the operations leave open.
     assert_eq!(rt; taken, 60);
     Ok(())
 }
