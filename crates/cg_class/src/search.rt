@@ -1,7 +1,7 @@
 //! The search for a unit with room, where nodes may move to other units.
 ghost use Rattle.std.specs.Prelude.{◌≡◌, ◌+◌, ◌<◌, ◌≤◌, IfOk, OnOk, length};
 ghost use Rattle.cg_model.specs.Limits.{most_units};
-ghost use Rattle.cg_class.specs.Search.{op_at, IsPlaced, IsLogged, IsSpread, IsFrom, IsVisit, HasMoves, IsFound};
+ghost use Rattle.cg_class.specs.Search.{op_at, IsPlaced, IsLogged, IsSpread, IsFrom, IsSearch, IsVisited, HasMoves, IsFound};
 
 use crate::counts::count_on;
 use cg_model::{Node, Unit};
@@ -57,6 +57,38 @@ fn spread(
     Ok(())
 }
 
+/// Goes over the nodes on the unit of move `h`, so that the units are reached that offer one of their operations; None
+/// where that unit has room. It gives the operations that are done then.
+fn visit(
+    log: &mut Vec<Move>,
+    seen: &mut [bool],
+    done: OpSet,
+    nodes: &[Node],
+    units: &[Unit],
+    places: &[u32],
+    ii: u32,
+    h: usize,
+) -> Result<Option<OpSet>, AllocError>
+    requires few { length units.now ≤ most_units }
+    requires next { length places.now < length nodes.now }
+    requires searched { IsSearch nodes.now units.now ii places.now log.old.items seen.old done h }
+    requires inside { h < length log.old.items }
+    ensures { IfOk result (IsVisited nodes.now units.now ii places.now log.new.items seen.new h) }
+{
+    let x = log[h].unit;
+    if count_on(places, x) < ii as usize {
+        return Ok(None);
+    }
+    let mut done = done;
+    for w in 0..places.len() {
+        if places[w] == x && !done.has(nodes[w].op) {
+            spread(log, seen, nodes, units, places, w, Some(h))?;
+            done = done.with(nodes[w].op);
+        }
+    }
+    Ok(Some(done))
+}
+
 /// The moves of the next node to a unit with room, or the operations of all nodes that could move.
 pub(crate) fn reach(
     alloc: Global,
@@ -77,15 +109,9 @@ pub(crate) fn reach(
     let mut done = OpSet::empty().with(nodes[node].op);
     let mut h = 0;
     while h < log.len() {
-        let x = log[h].unit;
-        if count_on(places, x) < ii as usize {
-            return Ok(Found::Room(log, h));
-        }
-        for w in 0..places.len() {
-            if places[w] == x && !done.has(nodes[w].op) {
-                spread(&mut log, &mut seen, nodes, units, places, w, Some(h))?;
-                done = done.with(nodes[w].op);
-            }
+        match visit(&mut log, &mut seen, done, nodes, units, places, ii, h)? {
+            None => return Ok(Found::Room(log, h)),
+            Some(more) => done = more,
         }
         h += 1;
     }
