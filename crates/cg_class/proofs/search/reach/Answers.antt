@@ -4,8 +4,8 @@ use Rattle.cg_class.proofs.Sets.{with_from, op_read}
 use Rattle.cg_class.proofs.Visits.{search_begun, few_moves, written, overfull}
 use Rattle.cg_class.proofs.search.reach.Goals as goal
 
-pub loop-h-init : goal.loop-h-init
-loop-h-init c =
+pub loop-number-init : goal.loop-number-init
+loop-number-init c =
     let nodes = c.args.nodes.now in
     let units = c.args.units.now in
     let places = c.args.places.now in
@@ -14,18 +14,18 @@ loop-h-init c =
     subst (λ z. IsSearch nodes units c.args.ii places c.spread.new.log.items z c.with-done.result 0) (sym whole)
     (search_begun nodes units c.args.ii places c.new-log.result.items c.deref_mut.result.now c.spread.new.log.items c.spread.new.seen c.with-done.result c.requires.next c.in_ok-spread.ensures added)
 
-pub loop-h-smaller : goal.loop-h-smaller
-loop-h-smaller c =
+pub loop-number-smaller : goal.loop-number-smaller
+loop-number-smaller c =
     let nodes = c.args.nodes.now in
     let units = c.args.units.now in
     let places = c.args.places.now in
     let log = c.visit.new.log.items in
-    let s : IsSearch nodes units c.args.ii places log c.visit.new.seen c.in-Some.more (c.loop-h.h + 1) =
-    subst (λ o. IsVisited nodes units c.args.ii places log c.visit.new.seen c.loop-h.h o) c.in-Some.is c.in_ok-visit.ensures in
+    let s : IsSearch nodes units c.args.ii places log c.visit.new.seen c.in-Some.more (c.loop-number.number + 1) =
+    subst (λ o. IsVisited nodes units c.args.ii places log c.visit.new.seen c.loop-number.number o) c.in-Some.is c.in_ok-visit.ensures in
     let f = few_moves nodes units c.args.ii places log c.visit.new.seen s.logged in
     let l = s.within in
     omega arith
 
 pub returns : goal.returns
 returns c =
-    overfull c.args.nodes.now c.args.units.now c.args.ii c.args.places.now c.requires.placed c.requires.next c.loop-h.log.items c.loop-h.seen.items c.loop-h.done c.loop-h.h c.loop-h.invariant (omega arith)
+    overfull c.args.nodes.now c.args.units.now c.args.ii c.args.places.now c.requires.placed c.requires.next c.loop-number.log.items c.loop-number.seen.items c.loop-number.done c.loop-number.number c.loop-number.invariant (omega arith)

@@ -3,32 +3,32 @@ use Rattle.cg_word.specs.Sets.{among}
 use Rattle.cg_class.proofs.Sets.{with_from, op_read}
 use Rattle.cg_class.proofs.Visits.{visit_same, visit_spread, visit_to, visit_over}
 use Rattle.cg_class.proofs.search.visit.Goals as goal
-use Rattle.cg_class.proofs.search.visit.Goals.{then-places-w+then-not-has+in_ok-spread, else-places-w, else-places-w-via-then-places-w+else-not-has, else-places-w-via-else-places-w}
+use Rattle.cg_class.proofs.search.visit.Goals.{then-places-other+then-not-has+in_ok-spread, else-places-other, else-places-other-via-then-places-other+else-not-has, else-places-other-via-else-places-other}
 
-pub loop-w-preserved : goal.loop-w-preserved
-loop-w-preserved c =
+pub loop-other-preserved : goal.loop-other-preserved
+loop-other-preserved c =
     let nodes = c.args.nodes.now in
     let units = c.args.units.now in
     let places = c.args.places.now in
-    let h = c.args.h in
-    let i = c.loop-w.invariant in
+    let h = c.args.number in
+    let i = c.loop-other.invariant in
     let x = c.index.result.now.unit in
-    elim c.if-places-w.branch [
-      | then-places-w+then-not-has+in_ok-spread w ↦
-          visit_spread nodes units c.args.ii places c.loop-w.log.items w.spread.new.log.items c.if-places-w.log.items c.loop-w.seen c.loop-w.seen w.spread.new.seen c.if-places-w.seen
-          c.loop-w.done w.with-done.result c.if-places-w.done h x c.loop-w.w (omega arith) i w.in_ok-spread.ensures refl
-          (with_from _ c.loop-w.done _ _ _ w.with-done.ensures.has refl (op_read nodes c.loop-w.w w.index-nodes-w-then-not-has.result (omega arith)))
+    elim c.if-places-other.branch [
+      | then-places-other+then-not-has+in_ok-spread w ↦
+          visit_spread nodes units c.args.ii places c.loop-other.log.items w.spread.new.log.items c.if-places-other.log.items c.loop-other.seen c.loop-other.seen w.spread.new.seen c.if-places-other.seen
+          c.loop-other.done w.with-done.result c.if-places-other.done h x c.loop-other.other (omega arith) i w.in_ok-spread.ensures refl
+          (with_from _ c.loop-other.done _ _ _ w.with-done.ensures.has refl (op_read nodes c.loop-other.other w.index-nodes-other-then-not-has.result (omega arith)))
           (ap (λ z. z.items) w.log-is) w.seen-is w.done-is
-      | else-places-w w ↦
-          visit_to nodes units c.args.ii places c.loop-w.log.items c.if-places-w.log.items c.loop-w.seen c.if-places-w.seen c.loop-w.done c.if-places-w.done h x _
-          (visit_same nodes units c.args.ii places c.loop-w.log.items c.loop-w.seen c.loop-w.done h x c.loop-w.w i
-          (λ e. elim w.else-places-w.branch [
-            | else-places-w-via-then-places-w+else-not-has v ↦ ap (among c.loop-w.done) (sym (op_read nodes c.loop-w.w v.index-nodes-w.result (omega arith))) ∙ sym v.has.ensures ∙ v.if-not-has.false
-            | else-places-w-via-else-places-w v ↦ absurd (v.if-places-w.false e)
+      | else-places-other w ↦
+          visit_to nodes units c.args.ii places c.loop-other.log.items c.if-places-other.log.items c.loop-other.seen c.if-places-other.seen c.loop-other.done c.if-places-other.done h x _
+          (visit_same nodes units c.args.ii places c.loop-other.log.items c.loop-other.seen c.loop-other.done h x c.loop-other.other i
+          (λ e. elim w.else-places-other.branch [
+            | else-places-other-via-then-places-other+else-not-has v ↦ ap (among c.loop-other.done) (sym (op_read nodes c.loop-other.other v.index-nodes-other.result (omega arith))) ∙ sym v.has.ensures ∙ v.if-not-has.false
+            | else-places-other-via-else-places-other v ↦ absurd (v.if-places-other.false e)
           ]))
           (ap (λ z. z.items) w.log-is) w.seen-is w.done-is
     ]
 
 pub returns : goal.returns
 returns c =
-    visit_over c.args.nodes.now c.args.units.now c.args.ii c.args.places.now c.loop-w.log.items c.loop-w.seen c.loop-w.done c.args.h c.index.result.now.unit c.loop-w.w c.loop-w.invariant (omega arith)
+    visit_over c.args.nodes.now c.args.units.now c.args.ii c.args.places.now c.loop-other.log.items c.loop-other.seen c.loop-other.done c.args.number c.index.result.now.unit c.loop-other.other c.loop-other.invariant (omega arith)
