@@ -1,5 +1,5 @@
 -- Nodes placed so far, and the moves that may make room for the next one.
-use Rattle.std.specs.Prelude.{◌≡◌, ℕ, ◌*◌, ◌<◌, ◌≤◌, ◌⊎◌, ◌||◌, eqb, Bool, true, false, List, [], length, Option, Some, None, slice_index, slice_index_or}
+use Rattle.std.specs.Prelude.{◌≡◌, ℕ, ◌+◌, ◌*◌, ◌<◌, ◌≤◌, ◌⊎◌, ◌||◌, eqb, Bool, true, false, List, [], length, Option, Some, None, slice_index, slice_index_or}
 use Rattle.cg_word.specs.declared.op.Op.{Op}
 use Rattle.cg_word.specs.Word.{code}
 use Rattle.cg_word.specs.Sets.{among}
@@ -98,6 +98,11 @@ pub record IsVisit (nodes : List Node) (units : List Unit) (ii : ℕ) (places : 
 -- moves to a unit with room
 abbrev pub HasMoves : List Node → List Unit → ℕ → List ℕ → List Move → ℕ → Type 0
 HasMoves nodes units ii places log h = (seen : List Bool) × IsLogged nodes units places log seen × (h < length log) × (load places (move log h).unit < ii)
+
+-- what is known after move h was looked at: its unit has room, or the search goes on with the next move
+abbrev pub IsVisited : List Node → List Unit → ℕ → List ℕ → List Move → List Bool → ℕ → Option (List Op) → Type 0
+IsVisited nodes units ii places log seen h None = HasMoves nodes units ii places log h
+IsVisited nodes units ii places log seen h (Some done) = IsSearch nodes units ii places log seen done (h + 1)
 
 -- more nodes have an operation of the set than its units can take, and each of its operations is that of a node
 abbrev pub IsFullSet : List Node → List Unit → ℕ → List Op → Type 0

@@ -43,7 +43,7 @@ pub fn assign(
     let mut places = Vec::new(alloc);
     for _ in 0..nodes.len() {
         match reach(alloc, nodes, units, &places, ii)? {
-            Found::Room(log, h) => shift(&mut places, &log, h, nodes, units, ii)?,
+            Found::Room(log, number) => shift(&mut places, &log, number, nodes, units, ii)?,
             Found::Full(set) => return Ok(Assignment::Overfull(set)),
         }
     }

@@ -1,7 +1,7 @@
 //! The search for a unit with room, where nodes may move to other units.
 ghost use Rattle.std.specs.Prelude.{◌≡◌, ◌+◌, ◌<◌, ◌≤◌, IfOk, OnOk, length};
 ghost use Rattle.cg_model.specs.Limits.{most_units};
-ghost use Rattle.cg_class.specs.Search.{op_at, IsPlaced, IsLogged, IsSpread, IsFrom, IsVisit, HasMoves, IsFound};
+ghost use Rattle.cg_class.specs.Search.{op_at, IsPlaced, IsLogged, IsSpread, IsFrom, IsSearch, IsVisited, HasMoves, IsFound};
 
 use crate::counts::count_on;
 use cg_model::{Node, Unit};
@@ -43,18 +43,50 @@ fn spread(
     ensures { OnOk result (IsSpread nodes.now units.now places.now log.old.items seen.old log.new.items seen.new (op_at nodes.now node)) }
 {
     let op = nodes[node].op;
-    for y in 0..units.len() {
-        if units[y].ops.has(op) && !seen[y] {
+    for target in 0..units.len() {
+        if units[target].ops.has(op) && !seen[target] {
             let at = log.len();
             log.push(Move {
-                unit: y as u32,
+                unit: target as u32,
                 node,
                 before: before.unwrap_or(at),
             })?;
-            seen[y] = true;
+            seen[target] = true;
         }
     }
     Ok(())
+}
+
+/// Goes over the nodes on the unit of move `number`, so that the units are reached that offer one of their operations; None
+/// where that unit has room. It gives the operations that are done then.
+fn visit(
+    log: &mut Vec<Move>,
+    seen: &mut [bool],
+    done: OpSet,
+    nodes: &[Node],
+    units: &[Unit],
+    places: &[u32],
+    ii: u32,
+    number: usize,
+) -> Result<Option<OpSet>, AllocError>
+    requires few { length units.now ≤ most_units }
+    requires next { length places.now < length nodes.now }
+    requires searched { IsSearch nodes.now units.now ii places.now log.old.items seen.old done number }
+    requires inside { number < length log.old.items }
+    ensures { IfOk result (IsVisited nodes.now units.now ii places.now log.new.items seen.new number) }
+{
+    let unit = log[number].unit;
+    if count_on(places, unit) < ii as usize {
+        return Ok(None);
+    }
+    let mut done = done;
+    for other in 0..places.len() {
+        if places[other] == unit && !done.has(nodes[other].op) {
+            spread(log, seen, nodes, units, places, other, Some(number))?;
+            done = done.with(nodes[other].op);
+        }
+    }
+    Ok(Some(done))
 }
 
 /// The moves of the next node to a unit with room, or the operations of all nodes that could move.
@@ -75,19 +107,13 @@ pub(crate) fn reach(
     let mut seen = vec![in alloc; false; units.len()]?;
     spread(&mut log, &mut seen, nodes, units, places, node, None)?;
     let mut done = OpSet::empty().with(nodes[node].op);
-    let mut h = 0;
-    while h < log.len() {
-        let x = log[h].unit;
-        if count_on(places, x) < ii as usize {
-            return Ok(Found::Room(log, h));
+    let mut number = 0;
+    while number < log.len() {
+        match visit(&mut log, &mut seen, done, nodes, units, places, ii, number)? {
+            None => return Ok(Found::Room(log, number)),
+            Some(more) => done = more,
         }
-        for w in 0..places.len() {
-            if places[w] == x && !done.has(nodes[w].op) {
-                spread(&mut log, &mut seen, nodes, units, places, w, Some(h))?;
-                done = done.with(nodes[w].op);
-            }
-        }
-        h += 1;
+        number += 1;
     }
     Ok(Found::Full(done))
 }
@@ -96,17 +122,17 @@ pub(crate) fn reach(
 pub(crate) fn shift(
     places: &mut Vec<u32>,
     log: &[Move],
-    h: usize,
+    number: usize,
     nodes: &[Node],
     units: &[Unit],
     ii: u32,
 ) -> Result<(), AllocError>
     requires placed { IsPlaced nodes.now units.now ii places.old.items }
     requires next { length places.old.items < length nodes.now }
-    requires moves { HasMoves nodes.now units.now ii places.old.items log.now h }
+    requires moves { HasMoves nodes.now units.now ii places.old.items log.now number }
     ensures { OnOk result (IsPlaced nodes.now units.now ii places.new.items × (length places.new.items ≡ length places.old.items + 1)) }
 {
-    let mut at = h;
+    let mut at = number;
     while log[at].before < at {
         let step = log[at];
         places[step.node] = step.unit;

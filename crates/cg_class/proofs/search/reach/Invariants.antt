@@ -1,13 +1,9 @@
 use Rattle.std.proofs.Common.{◌-◌, length}
 use Rattle.cg_class.specs.Search.{IsSearch}
-use Rattle.cg_class.specs.Search.{IsVisit}
 use Rattle.cg_class.proofs.search.reach.Given as goal
 
-abbrev pub invariant-loop-h : goal.invariant-loop-h
-invariant-loop-h l = IsSearch l.nodes l.units l.ii l.places l.log.items l.seen.items l.done l.h
+abbrev pub invariant-loop-number : goal.invariant-loop-number
+invariant-loop-number l = IsSearch l.nodes l.units l.ii l.places l.log.items l.seen.items l.done l.number
 
-abbrev pub decreases-loop-h : goal.decreases-loop-h
-decreases-loop-h l = length l.units - l.h
-
-abbrev pub invariant-loop-w : goal.invariant-loop-w
-invariant-loop-w l = IsVisit l.nodes l.units l.ii l.places l.log.items l.seen.items l.done l.h l.x l.w
+abbrev pub decreases-loop-number : goal.decreases-loop-number
+decreases-loop-number l = length l.units - l.number
