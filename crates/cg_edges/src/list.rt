@@ -62,7 +62,8 @@ fn add_order(list: &mut KernelEdges, arch: &Arch, kernel: &Kernel) -> Result<(),
     requires { AreSoFar arch.now kernel.now (size kernel.now) 0 0 list.old.names.items list.old.edges.items }
     ensures { OnOk result (AreEdges arch.now kernel.now list.new.names.items list.new.edges.items) }
 {
-    for number in 0..kernel.order().len() {
+    let order = kernel.order();
+    for number in 0..order.len() {
         add_edge(list, arch, kernel, EdgeId::Order(number as u32))?;
     }
     Ok(())

@@ -15,6 +15,7 @@ pub record IsPath (es : List Edge) (ii n : ℕ) (log : List Step) (path : List �
   pub follows : (k : ℕ) → k + 1 < length path → Follows es ii log (slice_index path k) (moment log path k)
   pub back : (k : ℕ) → k + 1 < length path → (moment log path k).before ≡ slice_index path (k + 1)
 
+-- a path of n + 1 moments
 abbrev pub IsTrace : List Edge → ℕ → ℕ → List Step → List ℕ → Type 0
 IsTrace es ii n log path = IsPath es ii n log path × (length path ≡ n + 1)
 

@@ -9,5 +9,5 @@ loop-number-preserved c =
 
 pub returns : goal.returns
 returns c =
-    let count = order_count c.args.kernel.now c.order-number-end.result.now c.order-number-end.ensures.order in
+    let count = order_count c.args.kernel.now c.order-order.result.now c.order-order.ensures.order in
     all_edges c.args.arch.now c.args.kernel.now (size c.args.kernel.now) c.loop-number.number c.loop-number.list.names.items c.loop-number.list.edges.items (omega arith) (omega arith) c.loop-number.invariant
