@@ -1,6 +1,7 @@
 -- Where each of the faults M3 to M6 applies first, and whether a grid is too large (A1).
 use Rattle.std.specs.Prelude.{ℕ, ◌+◌, ◌&&◌, ◌||◌, eqb, Bool, false, not, List, [], ◌∷◌, length, Option, Some, None, nat_lt, option_map, if◌then◌else◌}
 use Rattle.std.specs.Option.{option_or, is_none}
+use Rattle.cg_model.specs.Limits.{most_side}
 use Rattle.cg_model.specs.First.{first_from, first_such}
 use Rattle.cg_parts.specs.declared.fault.ArchFault.TheVariants as arch
 use Rattle.cg_parts.specs.declared.fault.TooLargePlace.TheVariants as large
@@ -68,7 +69,7 @@ ragged_row (row ∷ rows) = first_from (λ r other. is_ragged (length row) other
 
 -- A1 TooLarge, for grids: more than 32 rows or columns
 abbrev pub has_large_grid : List (List ℕ) → Bool
-has_large_grid grid = nat_lt 32 (length grid) || nat_lt 32 (columns grid)
+has_large_grid grid = nat_lt most_side (length grid) || nat_lt most_side (columns grid)
 
 -- the fault, where it applies
 abbrev pub large_grid : List (List ℕ) → Option TilesFault

@@ -7,7 +7,7 @@ ghost use Rattle.cg_grid.specs.Rules as spec;
 use crate::fault::{PartPlace, TilesFault, TilesPlace};
 use crate::grid::Cell;
 use crate::written::{Part, Tile, WrittenArch, WrittenPart};
-use cg_model::Name;
+use cg_model::{MOST_SIDE, Name};
 use cg_parts::{ArchFault, TooLargePlace};
 
 /// What makes a part be at fault.
@@ -169,7 +169,7 @@ fn is_ragged(most: usize, cells: &str) -> bool
 fn large_grid(grid: &[Name]) -> Option<TilesFault>
     ensures { result ≡ spec.large_grid grid.now }
 {
-    if grid.len() > 32 || columns(grid) > 32 {
+    if grid.len() > MOST_SIDE || columns(grid) > MOST_SIDE {
         return Some(TilesFault::Parts(ArchFault::TooLarge(TooLargePlace::Grid)));
     }
     None

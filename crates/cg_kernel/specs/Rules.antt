@@ -2,7 +2,7 @@
 use Rattle.std.specs.Prelude.{ℕ, ◌==◌, ◌&&◌, ◌||◌, Bool, true, false, not, List, [], ◌∷◌, length, take, Option, Some, None, nat_lt, nat_le, count_by, slice_get, option_map, option_and_then, if◌then◌else◌}
 use Rattle.std.specs.Option.{option_or, option_map_or, is_none}
 use Rattle.std.specs.List.{list_any}
-use Rattle.cg_model.specs.Limits.{most_nodes, most_order_edges}
+use Rattle.cg_model.specs.Limits.{longest_node_name, most_nodes, most_order_edges}
 use Rattle.cg_word.specs.declared.op.Op.{Op}
 use Rattle.cg_word.specs.Word.{arity, code, has_value, has_port, is_output, op_named}
 use Rattle.cg_model.specs.Names.{is_name}
@@ -53,7 +53,7 @@ is_too_large w = nat_lt most_nodes (length w.nodes) || nat_lt most_order_edges (
 
 -- K5 BadName: the node's name breaks the rule: a letter or `_`, then letters, digits or `_`, 1 to 32 characters
 abbrev pub has_bad_name : WrittenNode → Bool
-has_bad_name n = not (is_name 32 n.name)
+has_bad_name n = not (is_name longest_node_name n.name)
 
 -- K6 RepeatedName: an earlier node has the name
 abbrev pub repeats_name : WrittenKernel → ℕ → WrittenNode → Bool

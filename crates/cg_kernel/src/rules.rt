@@ -7,7 +7,7 @@ ghost use Rattle.cg_kernel.specs.Rules as spec;
 
 use crate::rule::Rule;
 use crate::written::{Format, WrittenArg, WrittenEdge, WrittenKernel, WrittenNode};
-use cg_model::{MOST_NODES, MOST_ORDER_EDGES, is_name};
+use cg_model::{LONGEST_NODE_NAME, MOST_NODES, MOST_ORDER_EDGES, is_name};
 use cg_names::{Numbers, is_before, number_in};
 use cg_word::Op;
 
@@ -273,7 +273,7 @@ pub fn applies_to_node(
 {
     match rule {
         Rule::TooLarge => false,
-        Rule::BadName => !is_name(node.name.as_str(), 32),
+        Rule::BadName => !is_name(node.name.as_str(), LONGEST_NODE_NAME),
         Rule::RepeatedName => repeats_name(numbers, written, number, node),
         Rule::UnknownOp => op_of(written, node).is_none(),
         Rule::WrongOperandCount => has_wrong_count(written, node),

@@ -5,7 +5,7 @@ use Rattle.std.specs.Prelude.{◌≡◌, ◌≢◌, ℕ, suc, ◌+◌, ◌<◌, 
 use Rattle.cg_word.specs.declared.op.Op.{Op}
 use Rattle.cg_word.specs.Word.{arity}
 use Rattle.cg_model.specs.Names.{IsName}
-use Rattle.cg_model.specs.Limits.{most_resources, most_links, most_units, most_memory, most_contexts}
+use Rattle.cg_model.specs.Limits.{longest_name, most_contexts, most_links, most_memory, most_resources, most_units}
 pub use Rattle.cg_model.specs.declared.array.Kind.{Kind}
 pub use Rattle.cg_model.specs.declared.array.Kind.TheVariants.{Wire, Register, Port, Out}
 pub use Rattle.cg_model.specs.declared.array.Resource.{Resource}
@@ -72,12 +72,12 @@ pub record IsSmall (A : Arch) : Type 0 where
 -- its names: those of the architecture and of its wires, registers and units have at most 40
 -- characters (A2); ports and outs are named after their unit, and no two names are equal (A3)
 pub record HasNames (A : Arch) : Type 0 where
-  pub own : IsName 40 A.name
-  pub units : (x : ℕ) → x < length A.units → IsName 40 (unit A x).name
+  pub own : IsName longest_name A.name
+  pub units : (x : ℕ) → x < length A.units → IsName longest_name (unit A x).name
   pub wires : (r : ℕ) → r < length A.resources → (resource A r).kind ≡ Wire →
-      IsName 40 (resource A r).name
+      IsName longest_name (resource A r).name
   pub registers : (r : ℕ) → r < length A.resources → (resource A r).kind ≡ Register →
-      IsName 40 (resource A r).name
+      IsName longest_name (resource A r).name
   pub resources_apart : (r s : ℕ) → r < length A.resources → s < length A.resources →
       (resource A r).name ≡ (resource A s).name → r ≡ s
   pub units_apart : (x y : ℕ) → x < length A.units → y < length A.units →

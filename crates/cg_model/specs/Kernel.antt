@@ -5,7 +5,7 @@ use Rattle.std.specs.Prelude.{◌≡◌, ℕ, ◌<◌, ◌≤◌, true, false, L
 use Rattle.cg_word.specs.declared.op.Op.TheVariants.{Const}
 use Rattle.cg_word.specs.Word.{arity, words, has_value, has_port, is_output}
 use Rattle.cg_model.specs.Names.{IsName}
-use Rattle.cg_model.specs.Limits.{most_nodes, most_order_edges}
+use Rattle.cg_model.specs.Limits.{longest_node_name, most_nodes, most_order_edges}
 pub use Rattle.cg_model.specs.declared.kernel.Operand.{Operand}
 pub use Rattle.cg_model.specs.declared.kernel.Operand.TheVariants.{Const as Constant, Edge}
 pub use Rattle.cg_model.specs.declared.kernel.Node.{Node}
@@ -55,7 +55,7 @@ pub record IsOrder (K : Kernel) : Type 0 where
 
 -- each node has a name of at most 32 characters (K5) of its own (K6)
 pub record IsNamed (K : Kernel) : Type 0 where
-  pub names : (v : ℕ) → v < size K → IsName 32 (node K v).name
+  pub names : (v : ℕ) → v < size K → IsName longest_node_name (node K v).name
   pub apart : (v w : ℕ) → v < size K → w < size K →
       (node K v).name ≡ (node K w).name → v ≡ w
 

@@ -6,6 +6,10 @@ use Rattle.std.specs.Prelude.{ℕ}
 abbrev pub most_nodes : ℕ
 most_nodes = 1024
 
+-- characters of a node's name
+abbrev pub longest_node_name : ℕ
+longest_node_name = 32
+
 abbrev pub most_order_edges : ℕ
 most_order_edges = 4096
 
@@ -13,6 +17,14 @@ abbrev pub most_turns : ℕ
 most_turns = 1000000
 
 -- ---- architectures and images
+
+-- characters of an architecture's and of an element's name
+abbrev pub longest_name : ℕ
+longest_name = 40
+
+-- rows, and columns, of a grid of tiles
+abbrev pub most_side : ℕ
+most_side = 32
 
 abbrev pub most_contexts : ℕ
 most_contexts = 64

@@ -15,8 +15,9 @@ pub use array::{Kind, Resource, Unit};
 pub use config::{ArgFields, UnitFields};
 pub use kernel::{Node, Operand, OrderEdge};
 pub use limits::{
-    LATEST_TIME, MOST_CONTEXTS, MOST_LINKS, MOST_MEMORY, MOST_MOVES, MOST_NODES, MOST_ORDER_EDGES,
-    MOST_RESOURCES, MOST_STREAM, MOST_TURNS, MOST_UNITS,
+    LATEST_TIME, LONGEST_NAME, LONGEST_NODE_NAME, MOST_CONTEXTS, MOST_LINKS, MOST_MEMORY,
+    MOST_MOVES, MOST_NODES, MOST_ORDER_EDGES, MOST_RESOURCES, MOST_SIDE, MOST_STREAM, MOST_TURNS,
+    MOST_UNITS,
 };
 pub use lists::{Items, Name, Operands, Words};
 pub use mapping::{Place, Route};

@@ -3,11 +3,20 @@
 /// Nodes of a kernel.
 pub const MOST_NODES: usize = 1024;
 
+/// Characters of a node's name.
+pub const LONGEST_NODE_NAME: usize = 32;
+
 /// Order edges of a kernel.
 pub const MOST_ORDER_EDGES: usize = 4096;
 
 /// Turns of a run.
 pub const MOST_TURNS: u32 = 1_000_000;
+
+/// Characters of an architecture's and of an element's name.
+pub const LONGEST_NAME: usize = 40;
+
+/// Rows, and columns, of a grid of tiles.
+pub const MOST_SIDE: usize = 32;
 
 /// Slots of a configuration.
 pub const MOST_CONTEXTS: u32 = 64;

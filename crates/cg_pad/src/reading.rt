@@ -32,7 +32,7 @@ struct Cursor<'a> {
 }
 
 impl Cursor<'_> {
-    ghost use Rattle.std.specs.Prelude.{◌≡◌, ◌<◌, ◌≤◌, ℕ, IfOk, IfSome, length};
+    ghost use Rattle.std.specs.Prelude.{◌≡◌, ◌<◌, ◌≤◌, ℕ, IfOk, length};
     ghost use Rattle.cg_model.specs.Answers.{Gives};
     ghost use Rattle.cg_model.specs.Limits.{most_memory, most_stream};
     ghost use Rattle.cg_pad.specs.Bytes.{take_number, take_words, or_truncated, read_magic, memory_too_large, stream_too_large, read_block, read_streams, at_end, read_blocks};
@@ -131,27 +131,14 @@ impl Cursor<'_> {
         ensures count { IfOk result (λ words. length words ≡ count) }
     {
         let size = self.size;
-        match self.words(alloc, count) {
-            Ok(Some(words)) => Ok(words),
-            Ok(None) => Err(ImageFault::Truncated(size)),
-            Err(_) => Err(ImageFault::Memory),
-        }
-    }
-
-    /// The next words, so many; None where the bytes end before.
-    fn words(&mut self, alloc: Global, count: u32) -> Result<Option<Words>, AllocError>
-        ensures taken { IfOk result (λ words. Takes words self.new.rest.now (take_words count self.old.rest.now)) }
-        ensures size { self.new.size ≡ self.old.size }
-        ensures count { IfOk result (λ words. IfSome words (λ ws. length ws ≡ count)) }
-    {
         let mut words = Vec::new(alloc);
         for _word in 0..count {
             let Some(word) = self.number() else {
-                return Ok(None);
+                return Err(ImageFault::Truncated(size));
             };
             words.push(word)?;
         }
-        Ok(Some(Words::new(words)))
+        Ok(Words::new(words))
     }
 
     /// The next four bytes, as a number.

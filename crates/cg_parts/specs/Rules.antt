@@ -21,7 +21,7 @@ pub use Rattle.cg_parts.specs.declared.fault.NamePlace.{NamePlace}
 use Rattle.cg_parts.specs.declared.fault.NamePlace.TheVariants as place
 pub use Rattle.cg_parts.specs.declared.drivers.DriverRule.{DriverRule}
 use Rattle.cg_parts.specs.declared.drivers.DriverRule.TheVariants.{UnknownDriver, PortDrives}
-use Rattle.cg_model.specs.Limits.{most_resources, most_links, most_units, most_memory, most_contexts}
+use Rattle.cg_model.specs.Limits.{longest_name, most_contexts, most_links, most_memory, most_resources, most_units}
 
 -- ---- A1 TooLarge: too many resources, links, units or words of memory
 
@@ -47,10 +47,10 @@ too_large parts resources =
 
 -- the rule: a letter or `_`, then letters, digits or `_`, 1 to 40 characters
 abbrev pub has_bad_name : Element → Bool
-has_bad_name e = not (is_name 40 (name_of e))
+has_bad_name e = not (is_name longest_name (name_of e))
 
 abbrev pub bad_name : Parts → Option NamePlace
-bad_name parts = if not (is_name 40 parts.name) then Some place.Architecture else option_map place.Element (first_from (λ number e. has_bad_name e) 0 parts.elements)
+bad_name parts = if not (is_name longest_name parts.name) then Some place.Architecture else option_map place.Element (first_from (λ number e. has_bad_name e) 0 parts.elements)
 
 -- ---- A3 RepeatedName: an earlier element claims one of the element's names
 

@@ -11,7 +11,7 @@ use crate::drivers::{DriverRule, first_wrong};
 use crate::entry::Entry;
 use crate::fault::{ArchFault, NamePlace, TooLargePlace};
 use crate::parts::{Element, Parts};
-use cg_model::{MOST_LINKS, MOST_MEMORY, MOST_RESOURCES, MOST_UNITS, is_name};
+use cg_model::{LONGEST_NAME, MOST_LINKS, MOST_MEMORY, MOST_RESOURCES, MOST_UNITS, is_name};
 use cg_names::Numbers;
 use std::alloc::{AllocError, Global};
 
@@ -117,7 +117,7 @@ fn is_unit(element: &Element) -> bool
 fn bad_name(parts: &Parts) -> Option<NamePlace>
     ensures { result ≡ spec.bad_name parts.now }
 {
-    if !is_name(parts.name.as_str(), 40) {
+    if !is_name(parts.name.as_str(), LONGEST_NAME) {
         return Some(NamePlace::Architecture);
     }
     first_bad_name(parts.elements.as_slice()).map(NamePlace::Element)
@@ -127,7 +127,7 @@ fn first_bad_name(elements: &[Element]) -> Option<usize>
     ensures { result ≡ first_from (λ number e. spec.has_bad_name e) 0 elements.now }
 {
     for (number, element) in elements.iter().enumerate() {
-        if !is_name(name_of(element), 40) {
+        if !is_name(name_of(element), LONGEST_NAME) {
             return Some(number);
         }
     }

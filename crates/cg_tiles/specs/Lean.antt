@@ -2,6 +2,7 @@
 use Rattle.std.specs.Prelude.{ℕ, Bool, List, [], ◌∷◌, ◌++◌, map, fold, length, nat_lt, codes, if◌then◌else◌}
 use Rattle.std.specs.List.{list_any}
 use Rattle.std.specs.Str.{bytes_eq}
+use Rattle.cg_model.specs.Limits.{longest_name}
 use Rattle.cg_grid.specs.declared.written.Side.{Side}
 use Rattle.cg_grid.specs.declared.written.Reference.{Reference}
 use Rattle.cg_grid.specs.declared.written.Part.{Part}
@@ -36,9 +37,9 @@ with_reference references r = if list_any (is_same r) references then references
 abbrev pub references_once : List Reference → List Reference
 references_once references = fold with_reference [] references
 
--- a name of more than 40 characters breaks the rule for names; a short one that breaks it too stands for it
+-- a name of too many characters breaks the rule for names; a short one that breaks it too stands for it
 abbrev pub short_name : List ℕ → List ℕ
-short_name name = if nat_lt 40 (length name) then codes "." else name
+short_name name = if nat_lt longest_name (length name) then codes "." else name
 
 -- a part with such lists and such a name
 abbrev pub lean_part : Part → Part

@@ -3,7 +3,7 @@ ghost use Rattle.std.specs.Prelude.{◌≡◌, IfOk, OnOk, map, string_bytes};
 ghost use Rattle.cg_tiles.specs.Lean as spec;
 
 use cg_grid::{Part, Reference, References, Side, Tile, WrittenArch, WrittenPart};
-use cg_model::{Items, Name};
+use cg_model::{Items, LONGEST_NAME, Name};
 use indexmap::IndexSet;
 use std::alloc::{AllocError, Global};
 
@@ -80,11 +80,11 @@ fn lean_part(alloc: Global, part: Part) -> Result<Part, AllocError>
     }
 }
 
-/// The name, or a short one that is bad too where it has more than 40 characters.
+/// The name, or a short one that is bad too where it has too many characters.
 fn short_name(alloc: Global, name: Name) -> Result<Name, AllocError>
     ensures { IfOk result (λ short. short ≡ spec.short_name name) }
 {
-    if name.as_str().len() > 40 {
+    if name.as_str().len() > LONGEST_NAME {
         Ok(Name::copy_of(alloc, ".")?)
     } else {
         Ok(name)

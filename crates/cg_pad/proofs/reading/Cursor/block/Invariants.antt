@@ -1,7 +1,7 @@
 use Rattle.std.proofs.Common.{◌≡◌, ◌-◌, length}
 use Rattle.cg_pad.specs.Bytes.{take_words}
 use Rattle.cg_pad.proofs.Steps.{after}
-use Rattle.cg_pad.proofs.reading.Cursor.words.Given as goal
+use Rattle.cg_pad.proofs.reading.Cursor.block.Given as goal
 
 -- the words so far, and then those that are still to come
 abbrev pub invariant-loop-word : goal.invariant-loop-word

@@ -1,13 +1,13 @@
 use Rattle.std.proofs.Common.{◌≡◌, ◌∙◌, ap, sym, suc, ◌-◌, ◌+◌, arith}
 use Rattle.std.proofs.lemmas.Grind.{common_steps}
-use Rattle.cg_pad.specs.Bytes.{take_words}
+use Rattle.cg_pad.specs.Bytes.{or_truncated, take_words}
 use Rattle.cg_pad.proofs.Steps.{after, word_more, word_none}
-use Rattle.cg_pad.proofs.reading.Cursor.words.Goals as goal
+use Rattle.cg_pad.proofs.reading.Cursor.block.Goals as goal
 
-pub returns-in_default-clause-taken : goal.returns-in_default-clause-taken
-returns-in_default-clause-taken c =
+pub returns-in_default-clause-answer : goal.returns-in_default-clause-answer
+returns-in_default-clause-answer c = λ other.
     let e : c.args.count - c.loop-word._word ≡ suc (c.args.count - (c.loop-word._word + 1)) = omega arith in
-    sym c.loop-word.invariant.taken ∙ word_none _ _ _ _ e c.in_default.ensures.taken
+    sym (ap (or_truncated c.args.self.now.size) (sym c.loop-word.invariant.taken ∙ word_none _ _ _ _ e c.in_default.ensures.taken))
 
 pub loop-word-preserved : goal.loop-word-preserved
 loop-word-preserved c =
