@@ -1,12 +1,12 @@
 -- Lists by number: where selects and units begin, and the numbers themselves.
-use Rattle.std.proofs.Common.{◌≡◌, ℕ, zero, suc, ◌+◌, ◌<◌, List, [], ◌∷◌, ◌++◌, length, get_or, drop, flat_map, Option, Some, None, refl, ap, ◌∙◌, arith}
+use Rattle.std.proofs.Common.{◌≡◌, ℕ, zero, suc, ◌+◌, ◌-◌, ◌<◌, ◌≤◌, List, [], ◌∷◌, ◌++◌, length, get_or, drop, flat_map, Option, Some, None, refl, ap, ◌∙◌, arith}
 use Rattle.std.specs.Option.{option_or, option_map}
 use Rattle.std.specs.List.{range_with_len}
 use Rattle.std.proofs.lemmas.List.FromFn.{length-map-range_with_len, get_or-map-range_with_len}
 use Rattle.cg_model.specs.Array.{Arch}
 use Rattle.cg_model.specs.declared.array.Unit.{Unit}
 use Rattle.cg_parts.proofs.Lists.{rest_at}
-use Rattle.cg_flat.specs.Slots.{select_at, unit_at, all_select_at, all_unit_at}
+use Rattle.cg_flat.specs.Slots.{total, select_at, select_bits, unit_at, all_select_at, all_unit_at}
 use Rattle.cg_arch.specs.Hub.{first_missing, first_not_driving, missing}
 
 pub select_long : (A : Arch) → length (all_select_at A) ≡ length A.resources + 1
@@ -16,6 +16,19 @@ select_long A = length-map-range_with_len (select_at A) 0 (length A.resources + 
 pub select_get : (A : Arch) (r : ℕ) → r < length A.resources + 1 → get_or (all_select_at A) r 0 ≡ select_at A r
 unfolding all_select_at
 select_get A r h = get_or-map-range_with_len (select_at A) 0 (length A.resources + 1) r r 0 h (omega arith)
+
+select_next : (A : Arch) (r : ℕ) → select_at A (r + 1) ≡ select_at A r + select_bits A r
+unfolding total
+select_next A r = let next : r + 1 ≡ suc r = omega arith in ap (select_at A) next
+
+-- a select ends where the next one begins
+pub select_between : (A : Arch) (r : ℕ) (starts : List ℕ) → starts ≡ all_select_at A → r < length A.resources →
+    (get_or starts r 0 ≤ get_or starts (r + 1) 0) × (get_or starts (r + 1) 0 - get_or starts r 0 ≡ select_bits A r)
+select_between A r starts are within =
+    let here : get_or starts r 0 ≡ select_at A r = ap (λ xs. get_or xs r 0) are ∙ select_get A r (omega arith) in
+    let there : get_or starts (r + 1) 0 ≡ select_at A (r + 1) = ap (λ xs. get_or xs (r + 1) 0) are ∙ select_get A (r + 1) (omega arith) in
+    let next = select_next A r in
+    (omega arith, omega arith)
 
 pub unit_long : (A : Arch) → length (all_unit_at A) ≡ length A.units + 1
 unfolding all_unit_at

@@ -124,8 +124,9 @@ impl Arch {
         ensures value { result ≡ slots.select_bits self.now resource }
         ensures least { slots.IsWidth (length (arrays.resource self.now resource).drivers) result }
     {
-        let resources = self.resources();
-        cg_flat::select_bits(resources[resource as usize].drivers.as_slice())
+        let starts = self.select_starts.as_slice();
+        let place = resource as usize;
+        starts[place + 1] - starts[place]
     }
 
     /// Where a resource's select begins in a slot, in bits.

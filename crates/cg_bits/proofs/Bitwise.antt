@@ -1,12 +1,13 @@
 -- Bits that are shifted in and out of a number.
 use Rattle.std.proofs.Common.{◌≡◌, ℕ, zero, suc, ◌+◌, ◌-◌, ◌*◌, ◌/◌, ◌%◌, ◌^◌, ◌<◌, ◌≤◌, Bool, false, List, [], ◌∷◌, ◌++◌, length, take, drop, get_or, replicate, refl, sym, ap, subst, ◌∙◌, append_assoc, arith, length-take, length-drop}
+use Rattle.std.specs.Int.{w64, from_be_bytes}
 use Rattle.std.specs.Int.Bits.{bit_or}
-use Rattle.std.proofs.lemmas.List.{append-nil, take_at, drop_at, take-append-drop, drop-drop, take-take, drop-take, take_more}
+use Rattle.std.proofs.lemmas.List.{append-nil, take_at, drop_at, take_all, take-append-drop, drop-drop, take-take, drop-take, take_more}
 use Rattle.std.proofs.lemmas.List.Concat.{flat_map-append, flat_map-cons}
 use Rattle.std.proofs.lemmas.Nat.{or_shifted, shr_split, shr_below, shl_below, shr_high, mod_low, pow_pos, pow-add, mod_below, shl_whole, one_shl, mul-add-lt}
 use Rattle.std.proofs.Math.Nat.{mul_comm}
 use Rattle.std.proofs.Math.Pow.{pow_mono}
-use Rattle.cg_bits.specs.Numbers.{bits_of, number, number_at, bits_of_bytes}
+use Rattle.cg_bits.specs.Numbers.{bits_of, number, number_after, number_at, bits_of_bytes}
 use Rattle.cg_bits.proofs.Numbers.{bits_of-split, number_after-append, number_after-bits, number_after-is, number_below}
 use Rattle.cg_bits.proofs.Bytes.{length-bits_of_bytes}
 
@@ -73,20 +74,66 @@ middle xs a w c le =
     let upper : number (front ++ field) ≡ number front * 2 ^ w + number field = number-append front field ∙ ap (λ k. number front * 2 ^ k + number field) field_long in
     ap (λ z. z / 2 ^ c % 2 ^ w) value ∙ ap (λ z. z % 2 ^ w) (shr_high (number (front ++ field)) c (number behind) behind_below) ∙ ap (λ z. z % 2 ^ w) upper ∙ mod_low (number front) w (number field) field_below
 
-pub field_is : (bytes : List ℕ) (place w n : ℕ) → w ≤ 32 → place + w ≤ 8 * length bytes → n ≡ number (bits_of_bytes (take ((place + w + 7) / 8 - place / 8) (drop (place / 8) bytes))) →
-    n / 2 ^ ((place + w + 7) / 8 * 8 - (place + w)) % (1 * 2 ^ w % 2 ^ 64) ≡ number_at (bits_of_bytes bytes) place w
-field_is bytes place w n narrow inside so_far =
+-- a field in a number of bytes that reach past its end
+pub field_is : (bytes : List ℕ) (place w n last : ℕ) → place + w ≤ 8 * last → last ≤ length bytes → n ≡ number (bits_of_bytes (take (last - place / 8) (drop (place / 8) bytes))) →
+    n / 2 ^ (last * 8 - (place + w)) % 2 ^ w ≡ number_at (bits_of_bytes bytes) place w
+field_is bytes place w n last reaches inside so_far =
     let first = place / 8 in
-    let last = (place + w + 7) / 8 in
     let c = last * 8 - (place + w) in
     let xs = bits_of_bytes (drop first bytes) in
     let read : bits_of_bytes (take (last - first) (drop first bytes)) ≡ take (8 * (last - first)) xs = bits-take (last - first) (drop first bytes) (omega (arith, length-drop first bytes)) in
     let wide : 8 * (last - first) ≡ place % 8 + w + c = omega arith in
     let long : place % 8 + w + c ≤ length xs = omega (arith, length-bits_of_bytes (drop first bytes), length-drop first bytes) in
-    let mask : 1 * 2 ^ w % 2 ^ 64 ≡ 2 ^ w = one_shl w 64 (omega arith) in
     let there : drop (place % 8) xs ≡ drop place (bits_of_bytes bytes) =
     ap (drop (place % 8)) (bits-drop first bytes (omega arith)) ∙ drop-drop (place % 8) (8 * first) (bits_of_bytes bytes) ∙ ap (λ k. drop k (bits_of_bytes bytes)) (omega arith) in
-    ap (λ z. n / 2 ^ c % z) mask ∙ ap (λ z. z / 2 ^ c % 2 ^ w) (so_far ∙ ap number (read ∙ ap (λ k. take k xs) wide)) ∙ middle xs (place % 8) w c long ∙ ap (λ z. number (take w z)) there
+    ap (λ z. z / 2 ^ c % 2 ^ w) (so_far ∙ ap number (read ∙ ap (λ k. take k xs) wide)) ∙ middle xs (place % 8) w c long ∙ ap (λ z. number (take w z)) there
+
+-- the number of the first bytes, and of one more
+byte_more : (xs : List ℕ) (k : ℕ) → k < length xs → get_or xs k 0 < 256 → number (bits_of_bytes (take (k + 1) xs)) ≡ number (bits_of_bytes (take k xs)) * 256 + get_or xs k 0
+byte_more xs k lt small = ap (λ z. number (bits_of_bytes z)) (take_more xs k 0 lt) ∙ number-push (take k xs) (get_or xs k 0) small
+
+-- eight bytes as one word
+pub eight_are : (xs : List ℕ) → length xs ≡ 8 → ((i : ℕ) → get_or xs i 0 < 256) →
+    from_be_bytes w64 (get_or xs 0 0 ∷ get_or xs 1 0 ∷ get_or xs 2 0 ∷ get_or xs 3 0 ∷ get_or xs 4 0 ∷ get_or xs 5 0 ∷ get_or xs 6 0 ∷ get_or xs 7 0 ∷ []) ≡ number (bits_of_bytes xs)
+eight_are xs eight small =
+    let none : number (bits_of_bytes (take 0 xs)) ≡ 0 = nothing in
+    let more : (k : ℕ) → k < 8 → number (bits_of_bytes (take (k + 1) xs)) ≡ number (bits_of_bytes (take k xs)) * 256 + get_or xs k 0 = λ k lt. byte_more xs k (omega arith) (small k) in
+    let first = more 0 (omega arith) in
+    let second = more 1 (omega arith) in
+    let third = more 2 (omega arith) in
+    let fourth = more 3 (omega arith) in
+    let fifth = more 4 (omega arith) in
+    let sixth = more 5 (omega arith) in
+    let seventh = more 6 (omega arith) in
+    let eighth = more 7 (omega arith) in
+    let all : number (bits_of_bytes (take 8 xs)) ≡ number (bits_of_bytes xs) = ap (λ z. number (bits_of_bytes z)) (take_all 8 xs (omega arith)) in
+    omega arith
+  where
+    nothing : number (bits_of_bytes (take 0 xs)) ≡ 0
+    unfolding number_after
+    nothing = refl
+
+-- ---- two fields, one behind the other
+
+-- so many bits at a place, and those behind them
+both : (bits : List Bool) (place m n : ℕ) → place + (m + n) ≤ length bits → number_at bits place (m + n) ≡ number_at bits place m * 2 ^ n + number_at bits (place + m) n
+both bits place m n inside =
+    let behind = take n (drop m (drop place bits)) in
+    let long : length behind ≡ n = omega (arith, length-take n (drop m (drop place bits)), length-drop m (drop place bits), length-drop place bits) in
+    ap number (take_plus m n (drop place bits)) ∙ number-append (take m (drop place bits)) behind ∙ ap (λ k. number (take m (drop place bits)) * 2 ^ k + number behind) long
+    ∙ ap (λ z. number_at bits place m * 2 ^ n + number (take n z)) (drop-drop m place bits ∙ ap (λ k. drop k bits) (omega arith))
+
+pub number_at_below : (bits : List Bool) (place n : ℕ) → place + n ≤ length bits → number_at bits place n < 2 ^ n
+number_at_below bits place n inside =
+    subst (λ k. number_at bits place n < 2 ^ k) (omega (arith, length-take n (drop place bits), length-drop place bits)) (number_below (take n (drop place bits)))
+
+pub upper_part : (bits : List Bool) (place m n : ℕ) → place + (m + n) ≤ length bits → number_at bits place (m + n) / 2 ^ n ≡ number_at bits place m
+upper_part bits place m n inside =
+    ap (λ z. z / 2 ^ n) (both bits place m n inside) ∙ shr_high (number_at bits place m) n (number_at bits (place + m) n) (number_at_below bits (place + m) n (omega arith))
+
+pub lower_part : (bits : List Bool) (place m n : ℕ) → place + (m + n) ≤ length bits → number_at bits place (m + n) % 2 ^ n ≡ number_at bits (place + m) n
+lower_part bits place m n inside =
+    ap (λ z. z % 2 ^ n) (both bits place m n inside) ∙ mod_low (number_at bits place m) n (number_at bits (place + m) n) (number_at_below bits (place + m) n (omega arith))
 
 -- ---- bits into bytes
 

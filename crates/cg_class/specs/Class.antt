@@ -8,6 +8,8 @@ use Rattle.cg_model.specs.declared.kernel.Node.{Node}
 use Rattle.cg_model.specs.Kernel.{Kernel, node, size}
 use Rattle.cg_model.specs.declared.array.Unit.{Unit}
 use Rattle.cg_model.specs.Array.{Arch, unit}
+use Rattle.cg_class.specs.declared.class.Assignment.{Assignment}
+use Rattle.cg_class.specs.declared.class.Assignment.TheVariants.{Overfull, Units}
 
 -- some operation of the set is offered
 unfoldable pub offers_one : List Op → List Op → Bool
@@ -39,3 +41,8 @@ pub record IsAssignment (A : Arch) (K : Kernel) (ii : ℕ) (places : List ℕ) :
   pub known : (v : ℕ) → v < size K → slice_index places v < length A.units
   pub offered : (v : ℕ) → v < size K → among (unit A (slice_index places v)).ops (node K v).op ≡ true
   pub room : (x : ℕ) → x < length A.units → load places x ≤ ii
+
+-- an overfull set of operations of nodes; or an assignment, where no set is overfull
+abbrev pub IsAnswer : Arch → Kernel → ℕ → Assignment → Type 0
+IsAnswer A K ii (Overfull s) = IsOverfull A K ii s × AreOfNodes K s
+IsAnswer A K ii (Units places) = IsAssignment A K ii places.items × ((s : List Op) → IsOverfull A K ii s → ⊥)

@@ -10,9 +10,7 @@ use Rattle.cg_model.specs.Array.{Arch}
 use Rattle.cg_class.specs.declared.search.Move.{Move}
 use Rattle.cg_class.specs.declared.search.Found.{Found}
 use Rattle.cg_class.specs.declared.search.Found.TheVariants.{Room, Full}
-use Rattle.cg_class.specs.declared.class.Assignment.{Assignment}
-use Rattle.cg_class.specs.declared.class.Assignment.TheVariants.{Overfull, Units}
-use Rattle.cg_class.specs.Class.{nodes_in, units_for, load, IsOverfull, AreOfNodes, IsAssignment}
+use Rattle.cg_class.specs.Class.{nodes_in, units_for, load}
 
 -- the operation of node v
 abbrev pub op_at : List Node → ℕ → Op
@@ -112,8 +110,3 @@ IsFullSet nodes units ii s = (ii * units_for units s < nodes_in nodes s) × ((k 
 abbrev pub IsFound : List Node → List Unit → ℕ → List ℕ → Found → Type 0
 IsFound nodes units ii places (Room log h) = HasMoves nodes units ii places log.items h
 IsFound nodes units ii places (Full s) = IsFullSet nodes units ii s
-
--- an overfull set of operations of nodes; or an assignment, where no set is overfull
-abbrev pub IsAnswer : Arch → Kernel → ℕ → Assignment → Type 0
-IsAnswer A K ii (Overfull s) = IsOverfull A K ii s × AreOfNodes K s
-IsAnswer A K ii (Units places) = IsAssignment A K ii places.items × ((s : List Op) → IsOverfull A K ii s → ⊥)

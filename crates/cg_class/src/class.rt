@@ -1,7 +1,6 @@
 //! Overfull sets of operations, and assignments of nodes to units.
 ghost use Rattle.std.specs.Prelude.{◌↔◌, IfOk, IsTrue};
-ghost use Rattle.cg_class.specs.Class.{IsOverfull};
-ghost use Rattle.cg_class.specs.Search.{IsAnswer};
+ghost use Rattle.cg_class.specs.Class.{IsAnswer, IsOverfull};
 
 use crate::counts::{count_nodes, count_units};
 use crate::search::{Found, reach, shift};

@@ -9,8 +9,8 @@ use Rattle.cg_model.specs.declared.kernel.Operand.{Operand}
 use Rattle.cg_model.specs.declared.kernel.OrderEdge.{OrderEdge}
 use Rattle.cg_model.specs.Kernel.{Kernel, node, no_node, size}
 use Rattle.cg_model.specs.Array.{Arch}
-use Rattle.cg_edges.specs.Edges.{Edge, EdgeId, Arg, Order, of_operand, of_order, edge_of}
-use Rattle.cg_edges.specs.Listed.{AreEdges, AreSoFar, IsBefore, IsAdded}
+use Rattle.cg_edges.specs.Edges.{Edge, EdgeId, Arg, Order, of_operand, of_order, edge_of, AreEdges}
+use Rattle.cg_edges.specs.Listed.{AreSoFar, IsBefore, IsAdded}
 
 -- what stands at a place of a longer list
 get_push : {X : Type 0} (xs : List X) (y z : X) (k : ℕ) → slice_get (xs ++ y ∷ []) k ≡ Some z → (slice_get xs k ≡ Some z) ⊎ ((k ≡ length xs) × (y ≡ z))

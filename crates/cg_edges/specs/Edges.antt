@@ -1,5 +1,5 @@
 -- The edges of a kernel on an architecture, by name.
-use Rattle.std.specs.Prelude.{ℕ, if◌then◌else◌, min, List, [], ◌∷◌, Option, Some, None, slice_get, unwrap_or}
+use Rattle.std.specs.Prelude.{◌≡◌, ℕ, length, if◌then◌else◌, min, List, [], ◌∷◌, Option, Some, None, slice_get, unwrap_or}
 use Rattle.cg_word.specs.declared.op.Op.{Op}
 use Rattle.cg_word.specs.Sets.{among}
 use Rattle.cg_model.specs.declared.kernel.Operand.{Operand}
@@ -47,3 +47,9 @@ order_edge_of K e = of_order (slice_get K.order e)
 abbrev pub edge_of : Arch → Kernel → EdgeId → Option Edge
 edge_of A K (Arg v p) = data_edge_of A K v p
 edge_of A K (Order e) = order_edge_of K e
+
+-- each name in the list names the edge at its place, and each edge of the kernel is named
+pub record AreEdges (A : Arch) (K : Kernel) (names : List EdgeId) (edges : List Edge) : Type 0 where
+  pub each : length names ≡ length edges
+  pub right : (k : ℕ) (x : EdgeId) (e : Edge) → slice_get names k ≡ Some x → slice_get edges k ≡ Some e → edge_of A K x ≡ Some e
+  pub whole : (x : EdgeId) (e : Edge) → edge_of A K x ≡ Some e → (k : ℕ) × (slice_get names k ≡ Some x)

@@ -4,12 +4,6 @@ use Rattle.cg_model.specs.Kernel.{Kernel}
 use Rattle.cg_model.specs.Array.{Arch}
 use Rattle.cg_edges.specs.Edges.{Edge, EdgeId, Arg, Order, edge_of}
 
--- each name in the list names the edge at its place, and each edge of the kernel is named
-pub record AreEdges (A : Arch) (K : Kernel) (names : List EdgeId) (edges : List Edge) : Type 0 where
-  pub each : length names ≡ length edges
-  pub right : (k : ℕ) (x : EdgeId) (e : Edge) → slice_get names k ≡ Some x → slice_get edges k ≡ Some e → edge_of A K x ≡ Some e
-  pub whole : (x : EdgeId) (e : Edge) → edge_of A K x ≡ Some e → (k : ℕ) × (slice_get names k ≡ Some x)
-
 -- the operands of the nodes before v, the first p of node v, and the first j order edges
 abbrev pub IsBefore : ℕ → ℕ → ℕ → EdgeId → Type 0
 IsBefore v p j (Arg w q) = (w < v) ⊎ ((w ≡ v) × (q < p))

@@ -1,9 +1,9 @@
 //! The list of all edges of a kernel.
 ghost use Rattle.std.specs.Prelude.{◌≡◌, ◌<◌, ◌≤◌, ◌+◌, IfOk, OnOk, length};
 ghost use Rattle.cg_model.specs.Kernel.{size};
-ghost use Rattle.cg_edges.specs.Edges.{edge_of};
+ghost use Rattle.cg_edges.specs.Edges.{edge_of, AreEdges};
 ghost use Rattle.cg_edges.specs.declared.edge.EdgeId.TheVariants.{Arg, Order};
-ghost use Rattle.cg_edges.specs.Listed.{AreEdges, AreSoFar, IsAdded};
+ghost use Rattle.cg_edges.specs.Listed.{AreSoFar, IsAdded};
 
 use crate::edge::{Edge, EdgeId};
 use crate::find::find_edge;

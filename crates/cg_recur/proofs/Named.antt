@@ -15,8 +15,7 @@ use Rattle.cg_edges.specs.declared.edge.Edge.{Edge}
 use Rattle.cg_edges.specs.declared.edge.EdgeId.{EdgeId}
 use Rattle.cg_edges.specs.declared.edge.EdgeId.TheVariants.{Arg, Order}
 use Rattle.cg_edges.specs.Chain.{IsCycle, IsShown, IsEarly}
-use Rattle.cg_edges.specs.Edges.{edge_of, of_operand, of_order, latency}
-use Rattle.cg_edges.specs.Listed.{AreEdges}
+use Rattle.cg_edges.specs.Edges.{edge_of, of_operand, of_order, latency, AreEdges}
 use Rattle.cg_recur.specs.Log.{IsWithin}
 use Rattle.cg_recur.specs.Numbered.{IsShownCycle}
 use Rattle.cg_recur.specs.Recurrences.{IsRecurrence, name_at}

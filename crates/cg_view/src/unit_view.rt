@@ -1,5 +1,5 @@
 //! The fields of a unit in a slot.
-ghost use Rattle.std.specs.Prelude.{◌≡◌, ◌+◌, ◌*◌, ◌<◌, ◌≤◌, ◌^◌, ◌||◌, Some, length, slice_index_or, if◌then◌else◌};
+ghost use Rattle.std.specs.Prelude.{◌≡◌, ◌+◌, ◌*◌, ◌<◌, ◌≤◌, ◌^◌, ◌||◌, ℕ, Some, length, slice_index, slice_index_or, if◌then◌else◌};
 ghost use Rattle.cg_model.specs.Config.{arg, no_arg};
 ghost use Rattle.cg_bits.specs.Numbers.{bits_of_bytes, number_at};
 ghost use Rattle.cg_bits.specs.Format.{cgb2};
@@ -77,15 +77,17 @@ fn unit_fields(body: &[u8], at: usize, ports: usize) -> UnitFields
     requires { HoldsUnit body.now at ports }
     ensures { result ≡ unit_in cgb2 ports (bits_of_bytes body.now) at }
 {
-    match op_of(CGB2, number_at(body, at, 6)) {
-        Some(op) => fields_of(op, body, at, ports),
+    let head = number_at(body, at, 26);
+    match op_of(CGB2, head >> 20) {
+        Some(op) => fields_of(op, head, body, at, ports),
         None => OFF,
     }
 }
 
-/// The fields of a unit with that operation.
-fn fields_of(op: Op, body: &[u8], at: usize, ports: usize) -> UnitFields
+/// The fields of a unit with that operation. The first 26 bits are the operation's code, the stage and the port.
+fn fields_of(op: Op, head: u32, body: &[u8], at: usize, ports: usize) -> UnitFields
     requires held { HoldsUnit body.now at ports }
+    requires head { head ≡ number_at (bits_of_bytes body.now) at 26 }
     requires op { (unit_in cgb2 ports (bits_of_bytes body.now) at).op ≡ Some op }
     ensures { result ≡ unit_in cgb2 ports (bits_of_bytes body.now) at }
 {
@@ -93,9 +95,9 @@ fn fields_of(op: Op, body: &[u8], at: usize, ports: usize) -> UnitFields
     let fixed = any_fixed(&args);
     UnitFields {
         op: Some(op),
-        stage: number_at(body, at + 6, 16),
-        port: number_if(op.has_port(), body, at + 22, 4),
-        immediate: number_if(fixed, body, at + 26, 32),
+        stage: (head >> 4) % 65536,
+        port: if op.has_port() { head % 16 } else { 0 },
+        immediate: immediate_if(fixed, body, at + 26),
         args,
     }
 }
@@ -107,18 +109,13 @@ fn any_fixed(args: &[ArgFields; 3]) -> bool
     args[0].fixed || args[1].fixed || args[2].fixed
 }
 
-/// The number of so many bits at a place, or 0 where it isn't asked for.
-fn number_if(asked: bool, body: &[u8], place: usize, width: u32) -> u32
-    requires narrow { width ≤ 32 }
-    requires inside { place + width ≤ 8 * length body.now }
+/// The immediate at a place, or 0 where it isn't asked for.
+fn immediate_if(asked: bool, body: &[u8], place: usize) -> u32
+    requires inside { place + 32 ≤ 8 * length body.now }
     requires counted { place < 2 ^ 60 }
-    ensures { result ≡ (if asked then number_at (bits_of_bytes body.now) place width else 0) }
+    ensures { result ≡ (if asked then number_at (bits_of_bytes body.now) place 32 else 0) }
 {
-    if asked {
-        number_at(body, place, width)
-    } else {
-        0
-    }
+    if asked { number_at(body, place, 32) } else { 0 }
 }
 
 /// The arguments of a unit with that operation.
@@ -134,34 +131,35 @@ fn args_of(op: Op, body: &[u8], at: usize, ports: usize) -> [ArgFields; 3]
     args
 }
 
-/// The number of initial words of an argument of a unit.
-fn count_of(body: &[u8], at: usize, ports: usize, p: usize) -> u32
-    requires held { HoldsUnit body.now at ports }
-    requires port { p < ports }
-    ensures value { result ≡ (arg (unit_in cgb2 ports (bits_of_bytes body.now) at) p).count }
-    ensures few { result ≤ 4 }
+/// The first `count` of four words from a place on, and zeros behind them.
+fn words_of(body: &[u8], place: usize, count: u32) -> [u32; 4]
+    requires few { count ≤ 4 }
+    requires inside { place + 128 ≤ 8 * length body.now }
+    requires counted { place < 2 ^ 58 }
+    ensures read { (k : ℕ) → k < count → slice_index result k ≡ number_at (bits_of_bytes body.now) (place + k * 32) 32 }
+    ensures zero { (k : ℕ) → count ≤ k → k < 4 → slice_index result k ≡ 0 }
 {
-    number_at(body, at + 58 + p * 132 + 1, 3)
+    let mut words = [0; 4];
+    for k in 0..count as usize {
+        words[k] = number_at(body, place + k * 32, 32);
+    }
+    words
 }
 
-/// An argument of a unit.
+/// An argument of a unit. Its first four bits are its mode and the count of its initial words.
 fn arg_of(body: &[u8], at: usize, ports: usize, p: usize) -> ArgFields
     requires held { HoldsUnit body.now at ports }
     requires port { p < ports }
     ensures { result ≡ arg (unit_in cgb2 ports (bits_of_bytes body.now) at) p }
 {
     let place = at + 58 + p * 132;
-    if number_at(body, place, 1) == 1 {
+    let head = number_at(body, place, 4);
+    if head >> 3 == 1 {
         return FIXED;
-    }
-    let count = count_of(body, at, ports, p);
-    let mut init = [0; 4];
-    for k in 0..count as usize {
-        init[k] = number_at(body, place + 4 + k * 32, 32);
     }
     ArgFields {
         fixed: false,
-        count,
-        init,
+        count: head % 8,
+        init: words_of(body, place + 4, head % 8),
     }
 }
