@@ -4,7 +4,7 @@ use Rattle.std.specs.Int.{w64, from_be_bytes}
 use Rattle.std.specs.Int.Bits.{bit_or}
 use Rattle.std.proofs.lemmas.List.{append-nil, take_at, drop_at, take_all, take-append-drop, drop-drop, take-take, drop-take, take_more}
 use Rattle.std.proofs.lemmas.List.Concat.{flat_map-append, flat_map-cons}
-use Rattle.std.proofs.lemmas.Nat.{or_shifted, shr_split, shr_below, shl_below, shr_high, mod_low, pow_pos, pow-add, mod_below, shl_whole, one_shl, mul-add-lt}
+use Rattle.std.proofs.lemmas.Nat.{or_shifted, shr_split, shr_below, shl_below, shr_high, mod_low, pow_pos, pow-add, mod_below, shl_whole, mul-add-lt}
 use Rattle.std.proofs.Math.Nat.{mul_comm}
 use Rattle.std.proofs.Math.Pow.{pow_mono}
 use Rattle.cg_bits.specs.Numbers.{bits_of, number, number_after, number_at, bits_of_bytes}
@@ -92,11 +92,15 @@ field_is bytes place w n last reaches inside so_far =
 byte_more : (xs : List ℕ) (k : ℕ) → k < length xs → get_or xs k 0 < 256 → number (bits_of_bytes (take (k + 1) xs)) ≡ number (bits_of_bytes (take k xs)) * 256 + get_or xs k 0
 byte_more xs k lt small = ap (λ z. number (bits_of_bytes z)) (take_more xs k 0 lt) ∙ number-push (take k xs) (get_or xs k 0) small
 
+no_bytes : number (bits_of_bytes []) ≡ 0
+unfolding number_after
+no_bytes = refl
+
 -- eight bytes as one word
 pub eight_are : (xs : List ℕ) → length xs ≡ 8 → ((i : ℕ) → get_or xs i 0 < 256) →
     from_be_bytes w64 (get_or xs 0 0 ∷ get_or xs 1 0 ∷ get_or xs 2 0 ∷ get_or xs 3 0 ∷ get_or xs 4 0 ∷ get_or xs 5 0 ∷ get_or xs 6 0 ∷ get_or xs 7 0 ∷ []) ≡ number (bits_of_bytes xs)
 eight_are xs eight small =
-    let none : number (bits_of_bytes (take 0 xs)) ≡ 0 = nothing in
+    let none : number (bits_of_bytes (take 0 xs)) ≡ 0 = no_bytes in
     let more : (k : ℕ) → k < 8 → number (bits_of_bytes (take (k + 1) xs)) ≡ number (bits_of_bytes (take k xs)) * 256 + get_or xs k 0 = λ k lt. byte_more xs k (omega arith) (small k) in
     let first = more 0 (omega arith) in
     let second = more 1 (omega arith) in
@@ -108,10 +112,6 @@ eight_are xs eight small =
     let eighth = more 7 (omega arith) in
     let all : number (bits_of_bytes (take 8 xs)) ≡ number (bits_of_bytes xs) = ap (λ z. number (bits_of_bytes z)) (take_all 8 xs (omega arith)) in
     omega arith
-  where
-    nothing : number (bits_of_bytes (take 0 xs)) ≡ 0
-    unfolding number_after
-    nothing = refl
 
 -- ---- two fields, one behind the other
 

@@ -1,2 +1,3 @@
 pub mod Sparse
 pub mod Located
+pub mod Heads

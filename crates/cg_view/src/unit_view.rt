@@ -1,5 +1,6 @@
 //! The fields of a unit in a slot.
-ghost use Rattle.std.specs.Prelude.{◌≡◌, ◌+◌, ◌*◌, ◌<◌, ◌≤◌, ◌^◌, ◌||◌, ℕ, Some, length, slice_index, slice_index_or, if◌then◌else◌};
+ghost use Rattle.std.specs.Prelude.{◌≡◌, ◌+◌, ◌*◌, ◌%◌, ◌<◌, ◌≤◌, ◌^◌, ◌||◌, ℕ, Some, length, slice_index, slice_index_or, if◌then◌else◌};
+ghost use Rattle.cg_word.specs.Word.{has_port};
 ghost use Rattle.cg_model.specs.Config.{arg, no_arg};
 ghost use Rattle.cg_bits.specs.Numbers.{bits_of_bytes, number_at};
 ghost use Rattle.cg_bits.specs.Format.{cgb2};
@@ -96,10 +97,17 @@ fn fields_of(op: Op, head: u32, body: &[u8], at: usize, ports: usize) -> UnitFie
     UnitFields {
         op: Some(op),
         stage: (head >> 4) % 65536,
-        port: if op.has_port() { head % 16 } else { 0 },
+        port: port_of(op, head),
         immediate: immediate_if(fixed, body, at + 26),
         args,
     }
+}
+
+/// The port in the first 26 bits, or 0 where the operation names none.
+fn port_of(op: Op, head: u32) -> u32
+    ensures { result ≡ (if has_port op then head % 16 else 0) }
+{
+    if op.has_port() { head % 16 } else { 0 }
 }
 
 /// Whether an argument is fixed.
