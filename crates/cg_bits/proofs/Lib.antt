@@ -21,3 +21,4 @@ pub mod Written
 pub mod Tables
 pub mod Changed
 mod Rows
+pub mod Packed
