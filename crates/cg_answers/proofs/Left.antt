@@ -28,7 +28,7 @@ use Rattle.cg_bits.specs.Answers as bits
 use Rattle.cg_model.specs.Config.{Config}
 use Rattle.cg_model.specs.Machine.{machine_left}
 use Rattle.cg_command.specs.declared.plans.Command.{Command}
-use Rattle.cg_command.specs.declared.plans.Command.TheVariants.{Turns, TurnsOnImage, Flat, Run}
+use Rattle.cg_command.specs.declared.plans.Command.TheVariants.{Turns, TurnsOnImage, Flat, Run, Check, Emit}
 use Rattle.cg_answers.specs.Turns.{turns_by, IsTurned}
 use Rattle.cg_answers.specs.TurnsOnImage.{IsOnKernel, IsOnImage, imaged, IsRunOnImage, IsOrderedRun, IsUnorderedRun}
 use Rattle.cg_answers.specs.Flat.{flat_by, IsFlattened}
@@ -36,43 +36,9 @@ use Rattle.cg_answers.specs.Run.{run_by, run_by_bits, run_by_image, ran, too_lar
 use Rattle.cg_answers.specs.Commands.{IsAnswer, Leaves}
 use Rattle.cg_answers.proofs.Commands.{turns_is, on_image_is}
 use Rattle.cg_answers.proofs.Run.{valid_array, spelled_answer}
-
--- ---- what was put and written
-
--- where the outcome is Done its report was put whole
-whole : (status : Status) (report : Bytes) (before after : Moment) → status ≡ Done → IsPut status report before after → Appends before.taken report after.taken
-whole status report before after d (inl put) = put
-whole status report before after d (inr x) = absurd (x.0 d)
-
--- after one write its bytes are held
-one_write : (old new : Held) (name : Name) (bytes : Bytes) → Wrote old (record { name = name; bytes = bytes } ∷ []) new → Holds new name bytes
-one_write (Some old) (Some new) name bytes w = w name ∙ ap (λ b. cond b (Some bytes) (old name)) ((bytes_eq-Decides name name).1 refl)
-one_write (Some old) None name bytes w = absurd w
-one_write None (Some new) name bytes w = absurd w
-one_write None None name bytes w = tt
-
--- ---- the files that were read
-
-one_read : (held : Held) (name : Name) (f : File) → AreRead held (name ∷ []) (f ∷ []) → Holds held name f.bytes
-one_read held name f r =
-    let names : f.name ∷ [] ≡ name ∷ [] = r.names_are in
-    let same : f.name ≡ name = cc in
-    subst (λ n. Holds held n f.bytes) same (All-head (IsRead held) f [] r.each).0
-
-first_read : (held : Held) (name other : Name) (f g : File) → AreRead held (name ∷ other ∷ []) (f ∷ g ∷ []) → Holds held name f.bytes
-first_read held name other f g r =
-    let names : f.name ∷ g.name ∷ [] ≡ name ∷ other ∷ [] = r.names_are in
-    let same : f.name ≡ name = cc in
-    subst (λ n. Holds held n f.bytes) same (All-head (IsRead held) f (g ∷ []) r.each).0
-
-second_read : (held : Held) (name other : Name) (f g : File) → AreRead held (name ∷ other ∷ []) (f ∷ g ∷ []) → Holds held other g.bytes
-second_read held name other f g r =
-    let names : f.name ∷ g.name ∷ [] ≡ name ∷ other ∷ [] = r.names_are in
-    let same : g.name ≡ other = cc in
-    subst (λ n. Holds held n g.bytes) same (All-head (IsRead held) g [] (All-tail (IsRead held) f (g ∷ []) r.each)).0
-
-differ : (o : Outcome) (s : Status) → o.status ≡ Malformed → o.status ≡ s → Malformed ≡ s
-differ o s a b = sym a ∙ b
+use Rattle.cg_answers.proofs.Wholes.{whole, one_write, one_read, first_read, second_read, three_read, differ}
+use Rattle.cg_answers.proofs.Checked.{legal_left, illegal_left}
+use Rattle.cg_answers.proofs.Emitting.{leaves_turns, emitted_left, unemitted_left}
 
 -- ---- `turns KERNEL TURNS`
 
@@ -167,18 +133,6 @@ flattened_by file out f (Err e) o before after held given is done c = absurd (le
 
 -- ---- `run ARCH BITS TURNS IN OUT`
 
-three_read : (held : Held) (a b c : Name) (f g h : File) → AreRead held (a ∷ b ∷ c ∷ []) (f ∷ g ∷ h ∷ []) → Holds held a f.bytes × Holds held b g.bytes × Holds held c h.bytes
-three_read held a b c f g h r =
-    let names : f.name ∷ g.name ∷ h.name ∷ [] ≡ a ∷ b ∷ c ∷ [] = r.names_are in
-    let first : f.name ≡ a = cc in
-    let second : g.name ≡ b = cc in
-    let third : h.name ≡ c = cc in
-    let rest = All-tail (IsRead held) f (g ∷ h ∷ []) r.each in (
-      subst (λ n. Holds held n f.bytes) first (All-head (IsRead held) f (g ∷ h ∷ []) r.each).0,
-      subst (λ n. Holds held n g.bytes) second (All-head (IsRead held) g (h ∷ []) rest).0,
-      subst (λ n. Holds held n h.bytes) third (All-head (IsRead held) h [] (All-tail (IsRead held) g (h ∷ []) rest)).0,
-    )
-
 module _ (n : ℕ) (arch file input out : Name) (f g h : File) (o : Outcome) (before after : Moment)
     (arch_held : Holds before.held arch f.bytes) (held : Holds before.held file g.bytes) (image_held : Holds before.held input h.bytes)
     (done : o.status ≡ Done) (c : Completed o before after Done)
@@ -203,6 +157,7 @@ module _ (n : ℕ) (arch file input out : Name) (f g h : File) (o : Outcome) (be
       fits = ltb-false A.memory (length image.memory) few;
       written = one_write before.held after.held out (images.image_bytes (machine_left A C n image).image) (subst (λ fs. Wrote before.held fs after.held) (ap (λ x. x.writes) is) c.held);
       put = subst (λ report. Appends before.taken report after.taken) (ap (λ x. x.report) is) (whole o.status o.report before after done c.put);
+      turns = leaves_turns A n image C g.bytes (valid_array f.bytes A given) config_is;
     }
 
     run_on_image : (A : Arch) (C : Config) (r : Result Image ImageFault) → images.answer_of h.bytes ≡ r → AreValidBytes f.bytes A → bits.answer_of A g.bytes ≡ Ok C → o ≡ run_by_image n A C h.name out r → IsArrayRun n arch file input out before after
@@ -238,6 +193,10 @@ silent (TurnsOnImage n) (file ∷ input ∷ []) (out ∷ []) Done before after h
 silent (TurnsOnImage n) (file ∷ input ∷ []) (out ∷ []) No before after h = cc
 silent Flat (file ∷ []) (out ∷ []) Done before after h = cc
 silent (Run n) (arch ∷ file ∷ input ∷ []) (out ∷ []) Done before after h = cc
+silent Check (arch ∷ kernel ∷ mapping ∷ []) [] Done before after h = cc
+silent Check (arch ∷ kernel ∷ mapping ∷ []) [] No before after h = cc
+silent Emit (arch ∷ kernel ∷ mapping ∷ []) (out ∷ []) Done before after h = cc
+silent Emit (arch ∷ kernel ∷ mapping ∷ []) (out ∷ []) No before after h = cc
 silent _ _ _ _ before after h = tt
 
 pub left : (command : Command) (inputs outputs : List Name) (files : List File) (o : Outcome) (status : Status) (before after : Moment)
@@ -267,4 +226,32 @@ left (Run n) (arch ∷ file ∷ input ∷ []) (out ∷ []) [] o Done before afte
 left (Run n) (arch ∷ file ∷ input ∷ []) (out ∷ []) (f ∷ []) o Done before after read answer is c = absurd answer
 left (Run n) (arch ∷ file ∷ input ∷ []) (out ∷ []) (f ∷ g ∷ []) o Done before after read answer is c = absurd answer
 left (Run n) (arch ∷ file ∷ input ∷ []) (out ∷ []) (f ∷ g ∷ h ∷ k ∷ fs) o Done before after read answer is c = absurd answer
+left Check (arch ∷ kernel ∷ mapping ∷ []) [] (f ∷ g ∷ h ∷ []) o Done before after read answer is c =
+    let r = three_read before.held arch kernel mapping f g h read in
+    legal_left arch kernel mapping f g h before after r.0 r.1 r.2 o answer is c
+left Check (arch ∷ kernel ∷ mapping ∷ []) [] [] o Done before after read answer is c = absurd answer
+left Check (arch ∷ kernel ∷ mapping ∷ []) [] (f ∷ []) o Done before after read answer is c = absurd answer
+left Check (arch ∷ kernel ∷ mapping ∷ []) [] (f ∷ g ∷ []) o Done before after read answer is c = absurd answer
+left Check (arch ∷ kernel ∷ mapping ∷ []) [] (f ∷ g ∷ h ∷ k ∷ fs) o Done before after read answer is c = absurd answer
+left Check (arch ∷ kernel ∷ mapping ∷ []) [] (f ∷ g ∷ h ∷ []) o No before after read answer is c =
+    let r = three_read before.held arch kernel mapping f g h read in
+    illegal_left arch kernel mapping f g h before after r.0 r.1 r.2 o answer is c
+left Check (arch ∷ kernel ∷ mapping ∷ []) [] [] o No before after read answer is c = absurd answer
+left Check (arch ∷ kernel ∷ mapping ∷ []) [] (f ∷ []) o No before after read answer is c = absurd answer
+left Check (arch ∷ kernel ∷ mapping ∷ []) [] (f ∷ g ∷ []) o No before after read answer is c = absurd answer
+left Check (arch ∷ kernel ∷ mapping ∷ []) [] (f ∷ g ∷ h ∷ k ∷ fs) o No before after read answer is c = absurd answer
+left Emit (arch ∷ kernel ∷ mapping ∷ []) (out ∷ []) (f ∷ g ∷ h ∷ []) o Done before after read answer is c =
+    let r = three_read before.held arch kernel mapping f g h read in
+    emitted_left arch kernel mapping out f g h before after r.0 r.1 r.2 o answer is c
+left Emit (arch ∷ kernel ∷ mapping ∷ []) (out ∷ []) [] o Done before after read answer is c = absurd answer
+left Emit (arch ∷ kernel ∷ mapping ∷ []) (out ∷ []) (f ∷ []) o Done before after read answer is c = absurd answer
+left Emit (arch ∷ kernel ∷ mapping ∷ []) (out ∷ []) (f ∷ g ∷ []) o Done before after read answer is c = absurd answer
+left Emit (arch ∷ kernel ∷ mapping ∷ []) (out ∷ []) (f ∷ g ∷ h ∷ k ∷ fs) o Done before after read answer is c = absurd answer
+left Emit (arch ∷ kernel ∷ mapping ∷ []) (out ∷ []) (f ∷ g ∷ h ∷ []) o No before after read answer is c =
+    let r = three_read before.held arch kernel mapping f g h read in
+    unemitted_left arch kernel mapping out f g h before after r.0 r.1 r.2 o answer is c
+left Emit (arch ∷ kernel ∷ mapping ∷ []) (out ∷ []) [] o No before after read answer is c = absurd answer
+left Emit (arch ∷ kernel ∷ mapping ∷ []) (out ∷ []) (f ∷ []) o No before after read answer is c = absurd answer
+left Emit (arch ∷ kernel ∷ mapping ∷ []) (out ∷ []) (f ∷ g ∷ []) o No before after read answer is c = absurd answer
+left Emit (arch ∷ kernel ∷ mapping ∷ []) (out ∷ []) (f ∷ g ∷ h ∷ k ∷ fs) o No before after read answer is c = absurd answer
 left _ _ _ _ o _ before after read answer is c = tt

@@ -3,6 +3,10 @@ pub mod Turned
 pub mod Shapes
 pub mod Sound
 pub mod Run
+pub mod Wholes
+pub mod Mapped
+pub mod Checked
+pub mod Emitting
 pub mod Commands
 pub mod Imaged
 pub mod Left

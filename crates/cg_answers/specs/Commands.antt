@@ -7,7 +7,7 @@ use Rattle.cg_ending.specs.Outcome.{Name, File, Outcome}
 use Rattle.cg_ending.specs.Ends.{Moment}
 use Rattle.cg_kernel.specs.Answer.{answer_of}
 use Rattle.cg_command.specs.declared.plans.Command.{Command}
-use Rattle.cg_command.specs.declared.plans.Command.TheVariants.{Turns, TurnsOnImage, Flat, Run}
+use Rattle.cg_command.specs.declared.plans.Command.TheVariants.{Turns, TurnsOnImage, Flat, Run, Check, Emit}
 use Rattle.cg_pad.specs.Bytes as images
 use Rattle.cg_model.specs.Work.{Image}
 use Rattle.cg_model.specs.Array.{Arch}
@@ -17,6 +17,8 @@ use Rattle.cg_answers.specs.Turns.{turns_of, IsTurned}
 use Rattle.cg_answers.specs.TurnsOnImage.{IsTurnsOnImage, IsOrderedRun, IsUnorderedRun}
 use Rattle.cg_answers.specs.Flat.{IsFlat, IsFlattened}
 use Rattle.cg_answers.specs.Run.{IsRun, IsRunnable, IsArrayRun}
+use Rattle.cg_answers.specs.Check.{IsCheck, IsLegalInput, IsLegalCheck, IsIllegalCheck}
+use Rattle.cg_answers.specs.Emit.{IsEmit, IsEmittedRun}
 
 -- the outcomes that the command allows
 abbrev pub IsAnswer : Command → List File → List Name → Outcome → Type 0
@@ -24,6 +26,8 @@ IsAnswer (Turns n) (file ∷ []) [] o = o ≡ turns_of n file
 IsAnswer (TurnsOnImage n) (file ∷ input ∷ []) (out ∷ []) o = IsTurnsOnImage n file input out o
 IsAnswer Flat (file ∷ []) (out ∷ []) o = IsFlat file out o
 IsAnswer (Run n) (arch ∷ file ∷ input ∷ []) (out ∷ []) o = IsRun n arch file input out o
+IsAnswer Check (arch ∷ kernel ∷ mapping ∷ []) [] o = IsCheck arch kernel mapping o
+IsAnswer Emit (arch ∷ kernel ∷ mapping ∷ []) (out ∷ []) o = IsEmit arch kernel mapping out o
 IsAnswer _ _ _ o = ⊥
 
 -- the bytes spell a kernel
@@ -48,6 +52,8 @@ Accepts (Turns n) (file ∷ []) = SpellsKernel file
 Accepts (TurnsOnImage n) (file ∷ input ∷ []) = IsUnaliasedRun n file input
 Accepts Flat (file ∷ []) = GivesArch file
 Accepts (Run n) (arch ∷ file ∷ input ∷ []) = IsRunnable arch file input
+Accepts Check (arch ∷ kernel ∷ mapping ∷ []) = IsLegalInput arch kernel mapping
+Accepts Emit (arch ∷ kernel ∷ mapping ∷ []) = IsLegalInput arch kernel mapping
 Accepts _ _ = ⊥
 
 -- what a command whose input and output files have these names leaves where it ends with this status: what is held, and what
@@ -58,4 +64,8 @@ Leaves (TurnsOnImage n) (file ∷ input ∷ []) (out ∷ []) Done before after =
 Leaves (TurnsOnImage n) (file ∷ input ∷ []) (out ∷ []) No before after = IsUnorderedRun n file input out before after
 Leaves Flat (file ∷ []) (out ∷ []) Done before after = IsFlattened file out before after
 Leaves (Run n) (arch ∷ file ∷ input ∷ []) (out ∷ []) Done before after = IsArrayRun n arch file input out before after
+Leaves Check (arch ∷ kernel ∷ mapping ∷ []) [] Done before after = IsLegalCheck arch kernel mapping before after
+Leaves Check (arch ∷ kernel ∷ mapping ∷ []) [] No before after = IsIllegalCheck arch kernel mapping before after
+Leaves Emit (arch ∷ kernel ∷ mapping ∷ []) (out ∷ []) Done before after = IsEmittedRun arch kernel mapping out before after
+Leaves Emit (arch ∷ kernel ∷ mapping ∷ []) (out ∷ []) No before after = IsIllegalCheck arch kernel mapping before after
 Leaves _ _ _ _ before after = Unit {0}

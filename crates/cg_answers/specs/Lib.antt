@@ -3,4 +3,8 @@ pub mod Turns
 pub mod TurnsOnImage
 pub mod Flat
 pub mod Run
+pub mod Sources
+pub mod Given
+pub mod Check
+pub mod Emit
 pub mod Commands

@@ -1,7 +1,12 @@
 -- `run ARCH BITS TURNS IN OUT`.
-use Rattle.std.specs.Prelude.{◌≡◌, ◌≢◌, ◌≤◌, ℕ, nat_lt, if◌then◌else◌, [], ◌∷◌, length, Result, Ok, Err, codes, decimal}
+use Rattle.std.specs.Prelude.{◌≡◌, ◌≢◌, ◌≤◌, ◌⊎◌, ℕ, nat_lt, if◌then◌else◌, [], ◌∷◌, length, Result, Ok, Err, codes, decimal}
 use Rattle.cg_model.specs.Work.{Image}
 use Rattle.cg_model.specs.Array.{Arch}
+use Rattle.cg_model.specs.Kernel.{Kernel, IsKernel}
+use Rattle.cg_model.specs.Turns.{turns_left}
+use Rattle.cg_model.specs.Order.{IsUnaliased, HasNoAccess}
+use Rattle.cg_model.specs.Mapping.{Mapping, IsLegal}
+use Rattle.cg_model.specs.Configured.{configuration_of}
 use Rattle.cg_model.specs.Config.{Config}
 use Rattle.cg_model.specs.Machine.{cycles, machine_left}
 use Rattle.cg_ending.specs.declared.outcome.Status.TheVariants.{Done}
@@ -76,6 +81,13 @@ pub record IsRunnable (arch file input : File) : Type 0 where
   pub image_is : images.answer_of input.bytes ≡ Ok image
   pub fits : length image.memory ≤ array.memory
 
+-- where the bytes are those of a legal mapping of a kernel, whose edges order the accesses that matter or whose nodes don't
+-- reach the memory, the array leaves what the turns of the kernel leave
+abbrev pub LeavesTurns : Arch → ℕ → Image → Config → Bytes → Type 0
+LeavesTurns A n image C bytes =
+    (K : Kernel) (M : Mapping) → IsKernel K → IsLegal A K M → AreBits A (configuration_of A K M) bytes →
+    IsUnaliased K n image ⊎ HasNoAccess K → machine_left A C n image ≡ turns_left K n image
+
 -- Done: an architecture, a canonical configuration of it, which the bytes spell, and an image that fits its memory were read;
 -- what the array leaves after the turns is held under the last name, and its cycles and its count were put
 pub record IsArrayRun (n : ℕ) (arch file input out : Name) (before after : Moment) : Type 0 where
@@ -95,3 +107,4 @@ pub record IsArrayRun (n : ℕ) (arch file input out : Name) (before after : Mom
   pub fits : length image.memory ≤ array.memory
   pub written : Holds after.held out (images.image_bytes (machine_left array config n image).image)
   pub put : Appends before.taken (run_report (cycles config n) (machine_left array config n image).outside) after.taken
+  pub turns : LeavesTurns array n image config bytes

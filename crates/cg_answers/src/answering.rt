@@ -4,6 +4,8 @@ ghost use Rattle.cg_ending.specs.Outcome.{file_of, outcome_of};
 ghost use Rattle.cg_command.specs.Words.{HasShape};
 ghost use Rattle.cg_answers.specs.Commands.{IsAnswer};
 
+use crate::checking::check;
+use crate::emitting::emit;
 use crate::flattening::flat;
 use crate::imaging::turns_on_image;
 use crate::simulating::run;
@@ -30,6 +32,14 @@ pub fn answer(alloc: Global, plan: &Plan, files: &[File]) -> Result<Outcome, All
         Command::Run { turns: count } => run(
             alloc,
             count,
+            &files[0],
+            &files[1],
+            &files[2],
+            plan.outputs[0].as_str(),
+        ),
+        Command::Check => check(alloc, &files[0], &files[1], &files[2]),
+        Command::Emit => emit(
+            alloc,
             &files[0],
             &files[1],
             &files[2],

@@ -2,10 +2,13 @@
 #![tactic(auto)]
 
 mod answering;
+mod checking;
+mod emitting;
 mod flattening;
 mod imaging;
 mod running;
 mod simulating;
+mod sources;
 mod streams;
 mod turning;
 

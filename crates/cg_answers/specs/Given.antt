@@ -1,0 +1,11 @@
+-- What the program keeps of the files that it read.
+use Rattle.std.specs.Prelude.{Result, Ok, Err}
+use Rattle.cg_ending.specs.Outcome.{Outcome, outcome_of}
+use Rattle.cg_check.specs.Legal.{Mapped}
+use Rattle.cg_answers.specs.declared.sources.Given.{Given}
+use Rattle.cg_answers.specs.declared.sources.Given.TheVariants.{Sources, Refused}
+
+-- the architecture, the kernel and the mapping, or the outcome of a refusal
+abbrev pub mapped_in : Given → Result Mapped Outcome
+mapped_in (Sources s) = Ok s
+mapped_in (Refused o) = Err (outcome_of o)

@@ -1,0 +1,111 @@
+//! The architecture, the kernel and the mapping that a command's files give.
+ghost use Rattle.std.specs.Prelude.{◌≡◌, Err, IfOk};
+ghost use Rattle.cg_ending.specs.Outcome.{file_of};
+ghost use Rattle.cg_ending.specs.Refusals.{malformed_of};
+ghost use Rattle.cg_kernel.specs.Answer as kernels;
+ghost use Rattle.cg_mapping.specs.Answer as mappings;
+ghost use Rattle.cg_answers.specs.Sources.{AreMapped, mapped_by, mapped_of, pair_by};
+ghost use Rattle.cg_answers.specs.Given.{mapped_in};
+
+use cg_ending::{File, Outcome, malformed};
+use cg_kernel::{Kernel, KernelFault, kernel_fault_text, read_kernel};
+use cg_mapping::{Arch, Mapping, MappingFault, mapping_fault_text, read_mapping};
+use cg_tiles::{TilesFault, read_arch, tiles_fault_text};
+use std::alloc::{AllocError, Global};
+use std::marker::Model;
+
+/// An architecture, a kernel, and a mapping of the kernel's shape.
+#[derive(Drop)]
+pub(crate) struct Sources {
+    pub(crate) arch: Arch,
+    pub(crate) kernel: Kernel,
+    pub(crate) mapping: Mapping,
+}
+
+impl Model for Sources {
+    ghost use Rattle.cg_model.specs.Mapping.{IsShaped};
+    ghost use Rattle.cg_check.specs.Legal.{Mapped};
+
+    ghost Value = { Mapped };
+
+    ghost view = { λ s. record { arch = s.arch; kernel = s.kernel; mapping = s.mapping } };
+
+    ghost invariant = { λ s. IsShaped s.kernel s.mapping };
+}
+
+/// What files give: all three, or the outcome of a refusal.
+#[derive(Drop)]
+pub(crate) enum Given {
+    Sources(Sources),
+    Refused(Outcome),
+}
+
+/// Reads the architecture, the kernel and the mapping, in this order.
+pub(crate) fn read_sources(
+    alloc: Global,
+    arch: &File,
+    kernel: &File,
+    mapping: &File,
+) -> Result<Given, AllocError>
+    ensures { IfOk result (λ g. AreMapped (file_of arch.now) (file_of kernel.now) (file_of mapping.now) (mapped_in g)) }
+{
+    match read_arch(alloc, arch.bytes.as_slice()) {
+        Ok(array) => read_on_array(alloc, array, kernel, mapping),
+        Err(TilesFault::Memory) => Err(AllocError),
+        Err(fault) => {
+            let text = tiles_fault_text(alloc, &fault)?;
+            refused(alloc, arch, text.as_str())
+        }
+    }
+}
+
+/// The file is refused for that fault.
+fn refused(alloc: Global, file: &File, fault: &str) -> Result<Given, AllocError>
+    ensures { IfOk result (λ g. mapped_in g ≡ Err (malformed_of (file_of file.now).name fault.now)) }
+{
+    Ok(Given::Refused(malformed(alloc, file.name.as_str(), fault)?))
+}
+
+/// The architecture was read.
+fn read_on_array(
+    alloc: Global,
+    array: Arch,
+    file: &File,
+    mapping: &File,
+) -> Result<Given, AllocError>
+    ensures { IfOk result (λ g. mapped_in g
+        ≡ mapped_of (file_of mapping.now) (pair_by array (file_of file.now).name (kernels.answer_of (file_of file.now).bytes))) }
+{
+    match read_kernel(alloc, file.bytes.as_slice()) {
+        Ok(kernel) => read_with_kernel(alloc, array, kernel, mapping),
+        Err(KernelFault::Memory) => Err(AllocError),
+        Err(fault) => {
+            let text = kernel_fault_text(alloc, &fault)?;
+            refused(alloc, file, text.as_str())
+        }
+    }
+}
+
+/// The architecture and the kernel were read.
+fn read_with_kernel(
+    alloc: Global,
+    arch: Arch,
+    kernel: Kernel,
+    file: &File,
+) -> Result<Given, AllocError>
+    ensures { IfOk result (λ g. mapped_in g
+        ≡ mapped_by (record { arch = arch; kernel = kernel }) (file_of file.now).name (mappings.answer_of arch kernel (file_of file.now).bytes)) }
+{
+    match read_mapping(alloc, &arch, &kernel, file.bytes.as_slice()) {
+        Ok(mapping) => Ok(Given::Sources(Sources {
+            arch,
+            kernel,
+            mapping,
+        })),
+        Err(MappingFault::Memory) => Err(AllocError),
+        Err(fault) => {
+            let text = mapping_fault_text(alloc, &fault)?;
+            refused(alloc, file, text.as_str())
+        }
+    }
+}
