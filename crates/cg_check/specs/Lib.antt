@@ -1,1 +1,3 @@
 pub mod Legal
+pub mod Edges
+pub mod Rules

@@ -1,7 +1,10 @@
 //! The exact checker of mappings, and mappings that are legal.
 #![tactic(auto)]
 
+mod edge;
 mod legal;
+mod rule;
 
 pub use cg_mapping::{Arch, Kernel, Mapping, Place, Route};
 pub use legal::LegalMapping;
+pub use rule::{Rule, RulePlace, Violation};
