@@ -1,3 +1,5 @@
 pub mod Lists
 pub mod Links
 pub mod Kept
+pub mod Meeting
+pub mod Claims

@@ -1,3 +1,4 @@
 pub mod Legal
 pub mod Edges
 pub mod Rules
+pub mod Claims

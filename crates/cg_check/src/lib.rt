@@ -4,6 +4,7 @@
 mod edge;
 mod legal;
 mod rule;
+mod stop;
 
 pub use cg_mapping::{Arch, Kernel, Mapping, Place, Route};
 pub use legal::LegalMapping;
