@@ -3,6 +3,9 @@
 
 mod edge;
 mod legal;
+mod model;
+mod placing;
+mod routing;
 mod rule;
 mod stop;
 
