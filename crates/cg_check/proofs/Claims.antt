@@ -91,7 +91,7 @@ begun sharing ii resources = record {
     in_table r s ii n lr ls = let h = mul-add-lt r ii s n lr ls in omega (arith, h)
 
 -- a row and a column tell the place
-places_apart : (ii r s q t : ℕ) → s < ii → t < ii → r * ii + s ≡ q * ii + t → (r ≡ q) × (s ≡ t)
+pub places_apart : (ii r s q t : ℕ) → s < ii → t < ii → r * ii + s ≡ q * ii + t → (r ≡ q) × (s ≡ t)
 places_apart ii r s q t ls lt e =
     (sym (div-mul-add r ii s ls) ∙ ap (λ z. z / ii) e ∙ div-mul-add q ii t lt, sym (mod-mul-add r ii s ls) ∙ ap (λ z. z % ii) e ∙ mod-mul-add q ii t lt)
 

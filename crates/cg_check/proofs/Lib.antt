@@ -3,3 +3,4 @@ pub mod Links
 pub mod Kept
 pub mod Meeting
 pub mod Claims
+pub mod Marks

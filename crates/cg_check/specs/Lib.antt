@@ -1,4 +1,5 @@
 pub mod Legal
 pub mod Edges
 pub mod Rules
+pub mod Slots
 pub mod Claims

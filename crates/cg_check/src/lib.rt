@@ -7,6 +7,7 @@ mod model;
 mod placing;
 mod routing;
 mod rule;
+mod slots;
 mod stop;
 
 pub use cg_mapping::{Arch, Kernel, Mapping, Place, Route};

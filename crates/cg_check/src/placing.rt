@@ -1,19 +1,18 @@
 //! L1 to L4: the interval, places and order edges.
-ghost use Rattle.std.specs.Prelude.{◌≡◌, ◌<◌, ℕ, length, None, IfOk};
-ghost use Rattle.cg_model.specs.Kernel.{size};
-ghost use Rattle.cg_model.specs.Mapping.{place as place_of};
-ghost use Rattle.cg_check.specs.Rules.{violated, L1, L2, L3, L4, stands_well as stands_well_at, is_after as is_after_by};
+ghost use Rattle.std.specs.Prelude.{◌≡◌, ◌<◌, length};
+ghost use Rattle.cg_model.specs.Array.{Arch as ArchOf};
+ghost use Rattle.cg_model.specs.Kernel.{Kernel as KernelOf, size};
+ghost use Rattle.cg_check.specs.Rules.{violated, L1, L2, L4, stands_well as stands_well_at, is_after as is_after_by};
 
 use crate::model::place;
 use crate::rule::RulePlace;
 use cg_mapping::{Arch, Kernel, Mapping, Place};
 use cg_model::{LATEST_TIME, OrderEdge};
-use std::alloc::{AllocError, Global};
 
 /// The mapping, where its interval isn't one of the architecture.
 #[tactic(auto, unfolding(crate::specs::Rules::violated))]
-pub(crate) fn wrong_interval(arch: &Arch, kernel: &Kernel, mapping: &Mapping) -> Option<RulePlace>
-    ensures { result ≡ violated L1 arch.now kernel.now mapping.now }
+pub(crate) fn wrong_interval(arch: &Arch, mapping: &Mapping) -> Option<RulePlace>
+    ensures { (K : KernelOf) → result ≡ violated L1 arch.now K mapping.now }
 {
     if 0 < mapping.ii() && mapping.ii() <= arch.contexts() {
         None
@@ -60,8 +59,8 @@ fn is_after(mapping: &Mapping, edge: &OrderEdge) -> bool
 
 /// The first order edge whose target doesn't.
 #[tactic(auto, unfolding(crate::specs::Rules::violated))]
-pub(crate) fn late_edge(arch: &Arch, kernel: &Kernel, mapping: &Mapping) -> Option<RulePlace>
-    ensures { result ≡ violated L4 arch.now kernel.now mapping.now }
+pub(crate) fn late_edge(kernel: &Kernel, mapping: &Mapping) -> Option<RulePlace>
+    ensures { (A : ArchOf) → result ≡ violated L4 A kernel.now mapping.now }
 {
     for (number, edge) in kernel.order().iter().enumerate() {
         if !is_after(mapping, edge) {
