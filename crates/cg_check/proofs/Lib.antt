@@ -2,5 +2,6 @@ pub mod Lists
 pub mod Links
 pub mod Kept
 pub mod Meeting
-pub mod Claims
+pub mod Tables
 pub mod Marks
+pub mod Judged

@@ -1,7 +1,7 @@
 -- Facts on lists, and on the first place at which a test holds.
 use Rattle.std.proofs.Common.{◌≡◌, ℕ, zero, suc, ◌+◌, ◌<◌, ◌≤◌, Bool, true, false, cond, List, [], ◌∷◌, length, take, Option, Some, None, Contains, refl, sym, ap, ◌∙◌, subst, arith, ⊎_elim, inl, inr, add-one}
 use Rattle.std.specs.Prelude.{◌||◌, ◌&&◌, ◌⊎◌, slice_get}
-use Rattle.std.specs.Option.{option_or}
+use Rattle.std.specs.Option.{option_or, is_some}
 use Rattle.std.specs.List.{list_any}
 use Rattle.std.proofs.lemmas.Bool.{cases_lt, or_parts, or_cases, or_left, or_right, cond-true, cond-false}
 use Rattle.cg_model.specs.First.{first_from, first_such}
@@ -109,3 +109,20 @@ first_below_found f (suc n) k x l none here =
     let e : k ≡ n = omega arith in
     ap (λ o. option_or o (f n)) (subst (λ z. first_below f z ≡ None) e none) ∙ subst (λ z. f z ≡ Some x) e here)
     (cases_lt k n)
+
+-- ---- a loop over the numbers below n, which looks at f k and returns what is there
+
+pub first_below_start : {X : Type 0} (f : ℕ → Option X) → first_below f 0 ≡ None
+unfolding first_below
+first_below_start f = refl
+
+none_of : {X : Type 0} (o : Option X) → is_some o ≡ false → o ≡ None
+none_of None h = refl
+none_of (Some x) h = let bad : true ≡ false = h in absurd (cc)
+
+pub first_below_next : {X : Type 0} (f : ℕ → Option X) (k : ℕ) (o : Option X) → first_below f k ≡ None → o ≡ f k → is_some o ≡ false → first_below f (k + 1) ≡ None
+first_below_next f k o none here missing = first_below_more f k none (sym here ∙ none_of o missing)
+
+pub first_below_returned : {X : Type 0} (f : ℕ → Option X) (n k : ℕ) (o : Option X) → k < n → first_below f k ≡ None → o ≡ f k → is_some o ≡ true → o ≡ first_below f n
+first_below_returned f n k None l none here found = let bad : false ≡ true = found in absurd (cc)
+first_below_returned f n k (Some x) l none here found = sym (first_below_found f n k x l none (sym here))

@@ -12,7 +12,7 @@ use Rattle.cg_model.specs.declared.mapping.Place.{Place}
 use Rattle.cg_check.specs.Slots.{takes, AreMarks, first_shared, IsScanned}
 use Rattle.cg_check.specs.Rules.{is_shared}
 use Rattle.cg_model.specs.First.{first_from}
-use Rattle.cg_check.proofs.Claims.{places_apart}
+use Rattle.cg_check.proofs.Tables.{places_apart}
 
 pub none_marked : (ii units : ℕ) → AreMarks ii units [] (replicate (units * ii) false)
 none_marked ii units = record {

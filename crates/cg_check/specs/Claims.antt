@@ -1,5 +1,6 @@
 -- Positions of routes, claimed one after another in a table of resources and slots.
 use Rattle.std.specs.Prelude.{ℕ, ◌+◌, ◌*◌, ◌%◌, Bool, true, false, if◌then◌else◌, List, [], ◌∷◌, Option, Some, None, slice_index_or, slice_set}
+use Rattle.cg_model.specs.Array.{Arch, delay}
 use Rattle.cg_model.specs.Mapping.{Position}
 use Rattle.cg_check.specs.Rules.{same_value, same_way, first_below}
 use Rattle.cg_check.specs.declared.rule.RulePlace.{RulePlace}
@@ -16,6 +17,10 @@ position_of s = record { source = s.source; resource = s.resource; time = s.time
 
 abbrev pub stop_of : Position → Stop
 stop_of p = record { source = p.source; resource = p.resource; time = p.time; from = p.from }
+
+-- the next stop on a path
+abbrev pub next_of : Arch → Stop → ℕ → Stop
+next_of A s r = record { source = s.source; resource = r; time = s.time + delay A r; from = Some s.resource }
 
 -- they share what they have to
 abbrev pub alike : Sharing → Position → Position → Bool
@@ -41,7 +46,7 @@ unfoldable pub claimed : Sharing → ℕ → List Cell → Position → List Cel
 claimed sharing ii table p = slice_set table (index_of ii p) (with_claim sharing (cell table (index_of ii p)) p)
 
 -- a table after more positions
-unfoldable pub claims : Sharing → ℕ → List Cell → List Position → List Cell
+abbrev pub claims : Sharing → ℕ → List Cell → List Position → List Cell
 claims sharing ii table [] = table
 claims sharing ii table (p ∷ ps) = claims sharing ii (claimed sharing ii table p) ps
 
@@ -50,9 +55,13 @@ is_clash Free = false
 is_clash (Held q) = false
 is_clash Clash = true
 
+-- resource r in slot s, where it has a clash
+abbrev pub clash_at : List Cell → ℕ → ℕ → ℕ → Option RulePlace
+clash_at table ii r s = if is_clash (cell table (r * ii + s)) then Some (at.Resource r s) else None
+
 -- the least slot in which a resource has a clash
 abbrev pub clash_on : List Cell → ℕ → ℕ → Option RulePlace
-clash_on table ii r = first_below (λ s. if is_clash (cell table (r * ii + s)) then Some (at.Resource r s) else None) ii
+clash_on table ii r = first_below (clash_at table ii r) ii
 
 -- the least resource that has one
 abbrev pub clash_in : List Cell → ℕ → ℕ → Option RulePlace

@@ -3,3 +3,4 @@ pub mod Edges
 pub mod Rules
 pub mod Slots
 pub mod Claims
+pub mod Verdict

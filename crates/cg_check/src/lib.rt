@@ -1,6 +1,9 @@
 //! The exact checker of mappings, and mappings that are legal.
 #![tactic(auto)]
 
+mod check;
+mod claims;
+mod clashes;
 mod edge;
 mod legal;
 mod model;
@@ -11,5 +14,6 @@ mod slots;
 mod stop;
 
 pub use cg_mapping::{Arch, Kernel, Mapping, Place, Route};
+pub use check::{CheckVerdict, check as check_mapping};
 pub use legal::LegalMapping;
 pub use rule::{Rule, RulePlace, Violation};

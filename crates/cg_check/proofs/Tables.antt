@@ -1,13 +1,18 @@
 -- After all positions were claimed, the table has a clash just where two positions aren't alike.
-use Rattle.std.proofs.Common.{◌≡◌, ◌≢◌, ℕ, suc, ◌+◌, ◌*◌, ◌/◌, ◌%◌, ◌<◌, ◌≤◌, Bool, true, false, cond, List, [], ◌∷◌, ◌++◌, length, replicate, Option, Some, None, Contains, refl, sym, ap, ◌∙◌, subst, arith, inl, inr, ⊎_elim, eqb-true, eq-eqb, append_assoc}
-use Rattle.std.specs.Prelude.{◌&&◌, ◌⊎◌, not, eqb}
+use Rattle.std.proofs.Common.{◌≡◌, ◌≢◌, ℕ, suc, ◌+◌, ◌*◌, ◌/◌, ◌%◌, ◌<◌, ◌≤◌, Bool, true, false, cond, List, [], ◌∷◌, ◌++◌, length, replicate, drop, get_or, add-one, Option, Some, None, Contains, refl, sym, ap, ◌∙◌, subst, arith, inl, inr, ⊎_elim, eqb-true, eq-eqb, append_assoc}
+use Rattle.std.specs.Prelude.{◌&&◌, ◌⊎◌, not, eqb, flat_map}
 use Rattle.std.proofs.lemmas.Bool.{and_parts, and_from, not_from_true, not_from_false, cases_Bool, both_ways, cond-true, cond-false}
 use Rattle.std.proofs.lemmas.List.{get_or-set_same, get_or-set_other, length-set, get_or-replicate, length-replicate, append-nil}
 use Rattle.std.proofs.lemmas.List.Elements.{Contains-push, Contains-push_cases, Contains-append_left}
 use Rattle.std.proofs.lemmas.Nat.{mul-add-lt, div-mul-add, mod-mul-add, mod_below}
+use Rattle.std.proofs.Math.Seq.{drop-cons}
 use Rattle.cg_model.specs.Kernel.{Kernel}
 use Rattle.cg_model.specs.Array.{Arch}
-use Rattle.cg_model.specs.Mapping.{Mapping, Position, positions}
+use Rattle.cg_model.specs.declared.kernel.Operand.{Operand}
+use Rattle.cg_model.specs.declared.kernel.Operand.TheVariants.{Const as Constant, Edge}
+use Rattle.cg_model.specs.declared.mapping.Route.{Route}
+use Rattle.cg_model.specs.Mapping.{Mapping, Position, positions, positions_on, of_operand, leaves}
+use Rattle.cg_check.specs.Edges.{DataEdge, data_edge}
 use Rattle.cg_overlap.proofs.Facts.{Contains-nil}
 use Rattle.cg_check.specs.declared.rule.RulePlace.{RulePlace}
 use Rattle.cg_check.specs.declared.rule.RulePlace.TheVariants as at
@@ -124,7 +129,6 @@ one_more sharing ii resources ps table p some t = record {
 
 all_claimed : (sharing : Sharing) (ii resources : ℕ) (ps qs : List Position) (table : List Cell) → 0 < ii → IsTable sharing ii resources ps table →
     IsTable sharing ii resources (ps ++ qs) (claims sharing ii table qs)
-unfolding claims
 all_claimed sharing ii resources ps [] table some t = subst (λ z. IsTable sharing ii resources z table) (sym (append-nil ps)) t
 all_claimed sharing ii resources ps (q ∷ qs) table some t =
     subst (λ z. IsTable sharing ii resources z (claims sharing ii (claimed sharing ii table q) qs)) (append_assoc ps (q ∷ []) qs)
@@ -138,8 +142,36 @@ first_in_table sharing A K M some =
     first_below_same _ _ (length A.resources) (λ r lr. first_below_same _ _ M.ii (λ s ls.
     ap (λ b. cond b (Some (at.Resource r s)) None) (told sharing M.ii r s (positions A K M) _ (t.cells r s lr ls))))
 
+-- ---- the positions of routes
+
 -- one list after another
-pub claims-append : (sharing : Sharing) (ii : ℕ) (table : List Cell) (ps qs : List Position) → claims sharing ii table (ps ++ qs) ≡ claims sharing ii (claims sharing ii table ps) qs
-unfolding claims
+claims-append : (sharing : Sharing) (ii : ℕ) (table : List Cell) (ps qs : List Position) → claims sharing ii table (ps ++ qs) ≡ claims sharing ii (claims sharing ii table ps) qs
 claims-append sharing ii table [] qs = refl
 claims-append sharing ii table (p ∷ ps) qs = claims-append sharing ii (claimed sharing ii table p) ps qs
+
+-- one route, and then those after it
+pub claims-routes : (f : Route → List Position) (sharing : Sharing) (ii : ℕ) (table : List Cell) (routes : List Route) (i : ℕ) (route : Route) → i < length routes → route ≡ get_or routes i route →
+    claims sharing ii (claims sharing ii table (f route)) (flat_map f (drop (i + 1) routes)) ≡ claims sharing ii table (flat_map f (drop i routes))
+claims-routes f sharing ii table routes i route l at =
+    let opened : flat_map f (drop i routes) ≡ f route ++ flat_map f (drop (i + 1) routes) =
+        ap (flat_map f) (drop-cons routes i route l) ∙ ap (λ z. f z ++ flat_map f (drop (suc i) routes)) (sym at) ∙ ap (λ n. f route ++ flat_map f (drop n routes)) (sym (add-one i)) in
+    sym (ap (claims sharing ii table) opened ∙ claims-append sharing ii table (f route) (flat_map f (drop (i + 1) routes)))
+
+-- the positions of a path for an edge, if there is one
+unfoldable edge_positions : Arch → Mapping → List ℕ → Option DataEdge → List Position
+edge_positions A M path None = []
+edge_positions A M path (Some e) = positions_on A e.source (leaves A M e.source) path
+
+of_edge : (A : Arch) (M : Mapping) (path : List ℕ) (o : Option Operand) → of_operand A M path o ≡ edge_positions A M path (data_edge o)
+unfolding edge_positions
+of_edge A M path None = refl
+of_edge A M path (Some (Constant w)) = refl
+of_edge A M path (Some (Edge u d init)) = refl
+
+pub no_edge : (A : Arch) (M : Mapping) (path : List ℕ) (o : Option Operand) → data_edge o ≡ None → of_operand A M path o ≡ []
+unfolding edge_positions
+no_edge A M path o e = of_edge A M path o ∙ ap (edge_positions A M path) e
+
+pub an_edge : (A : Arch) (M : Mapping) (path : List ℕ) (o : Option Operand) (edge : DataEdge) → data_edge o ≡ Some edge → of_operand A M path o ≡ positions_on A edge.source (leaves A M edge.source) path
+unfolding edge_positions
+an_edge A M path o edge e = of_edge A M path o ∙ ap (edge_positions A M path) e
