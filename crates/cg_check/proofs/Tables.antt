@@ -21,8 +21,8 @@ use Rattle.cg_check.specs.declared.stop.Sharing.{Sharing}
 use Rattle.cg_check.specs.declared.stop.Sharing.TheVariants.{Value, Way}
 use Rattle.cg_check.specs.declared.stop.Cell.{Cell}
 use Rattle.cg_check.specs.declared.stop.Cell.TheVariants.{Free, Held, Clash}
-use Rattle.cg_check.specs.Rules.{same_value, same_way, is_on, clashes, first_below, first_clash}
-use Rattle.cg_check.specs.Claims.{position_of, stop_of, alike, with_claim, cell, index_of, claimed, claims, is_clash, clash_on, clash_in}
+use Rattle.cg_check.specs.Rules.{same_value, same_way, is_on, clashes, first_below, first_clash, violated}
+use Rattle.cg_check.specs.Claims.{position_of, stop_of, alike, rule_of, with_claim, cell, index_of, claimed, claims, is_clash, clash_on, clash_in}
 use Rattle.cg_check.proofs.Lists.{any_of, any_none, and_not, first_below_same}
 use Rattle.cg_check.proofs.Meeting.{values_same, same_values, ways_same, same_ways}
 
@@ -135,12 +135,22 @@ all_claimed sharing ii resources ps (q ∷ qs) table some t =
     (all_claimed sharing ii resources (ps ++ q ∷ []) qs (claimed sharing ii table q) some (one_more sharing ii resources ps table q some t))
 
 -- the first clash in the table of all positions is the first place at which two aren't alike
-pub first_in_table : (sharing : Sharing) (A : Arch) (K : Kernel) (M : Mapping) → 0 < M.ii →
+first_in_table : (sharing : Sharing) (A : Arch) (K : Kernel) (M : Mapping) → 0 < M.ii →
     clash_in (claims sharing M.ii (replicate (length A.resources * M.ii) Free) (positions A K M)) M.ii (length A.resources) ≡ first_clash (alike sharing) A K M
 first_in_table sharing A K M some =
     let t = all_claimed sharing M.ii (length A.resources) [] (positions A K M) _ some (begun sharing M.ii (length A.resources)) in
     first_below_same _ _ (length A.resources) (λ r lr. first_below_same _ _ M.ii (λ s ls.
     ap (λ b. cond b (Some (at.Resource r s)) None) (told sharing M.ii r s (positions A K M) _ (t.cells r s lr ls))))
+
+-- so it is the first place at which the rule is violated
+first_by : (sharing : Sharing) (A : Arch) (K : Kernel) (M : Mapping) → first_clash (alike sharing) A K M ≡ violated (rule_of sharing) A K M
+unfolding violated
+first_by Value A K M = refl
+first_by Way A K M = refl
+
+pub violated_in_table : (sharing : Sharing) (A : Arch) (K : Kernel) (M : Mapping) → 0 < M.ii →
+    clash_in (claims sharing M.ii (replicate (length A.resources * M.ii) Free) (positions A K M)) M.ii (length A.resources) ≡ violated (rule_of sharing) A K M
+violated_in_table sharing A K M some = first_in_table sharing A K M some ∙ first_by sharing A K M
 
 -- ---- the positions of routes
 

@@ -2,7 +2,7 @@
 use Rattle.std.specs.Prelude.{ℕ, ◌+◌, ◌*◌, ◌%◌, Bool, true, false, if◌then◌else◌, List, [], ◌∷◌, Option, Some, None, slice_index_or, slice_set}
 use Rattle.cg_model.specs.Array.{Arch, delay}
 use Rattle.cg_model.specs.Mapping.{Position}
-use Rattle.cg_check.specs.Rules.{same_value, same_way, first_below}
+use Rattle.cg_check.specs.Rules.{Rule, L6, L7, same_value, same_way, first_below}
 use Rattle.cg_check.specs.declared.rule.RulePlace.{RulePlace}
 use Rattle.cg_check.specs.declared.rule.RulePlace.TheVariants as at
 pub use Rattle.cg_check.specs.declared.stop.Stop.{Stop}
@@ -26,6 +26,11 @@ next_of A s r = record { source = s.source; resource = r; time = s.time + delay 
 abbrev pub alike : Sharing → Position → Position → Bool
 alike Value p q = same_value p q
 alike Way p q = same_way p q
+
+-- the rule that says so
+abbrev pub rule_of : Sharing → Rule
+rule_of Value = L6
+rule_of Way = L7
 
 -- what is known of a resource in a slot after one more position there
 abbrev pub with_claim : Sharing → Cell → Position → Cell

@@ -4,8 +4,8 @@ use Rattle.cg_model.specs.Kernel.{Kernel}
 use Rattle.cg_model.specs.Array.{Arch}
 use Rattle.cg_model.specs.Mapping.{Mapping, IsLegal}
 use Rattle.cg_check.specs.Rules.{Rule, L1, L2, L3, L4, L5, L6, L7, Keeps, violation}
-pub use Rattle.cg_check.specs.declared.check.CheckVerdict.{CheckVerdict}
-pub use Rattle.cg_check.specs.declared.check.CheckVerdict.TheVariants.{Legal, Illegal}
+pub use Rattle.cg_check.specs.declared.checker.CheckVerdict.{CheckVerdict}
+pub use Rattle.cg_check.specs.declared.checker.CheckVerdict.TheVariants.{Legal, Illegal}
 
 -- the lowest rule that is violated, at its first place, with the mapping; where none is, a legal mapping of just these three
 abbrev pub IsVerdict : Arch → Kernel → Mapping → CheckVerdict → Type 0

@@ -2,7 +2,7 @@
 ghost use Rattle.std.specs.Prelude.{◌≡◌, ◌+◌, ◌*◌, ◌<◌, ◌≤◌, IfOk, length, replicate};
 ghost use Rattle.cg_model.specs.Mapping.{positions};
 ghost use Rattle.cg_check.specs.Claims as spec;
-ghost use Rattle.cg_check.specs.Rules.{first_clash as first_clash_of};
+ghost use Rattle.cg_check.specs.Rules.{violated};
 
 use crate::claims::claim_all;
 use crate::rule::RulePlace;
@@ -77,7 +77,7 @@ pub(crate) fn first_clash(
     mapping: &Mapping,
 ) -> Result<Option<RulePlace>, AllocError>
     requires { 0 < mapping.now.ii }
-    ensures { IfOk result (λ place. place ≡ first_clash_of (spec.alike sharing) arch.now kernel.now mapping.now) }
+    ensures { IfOk result (λ place. place ≡ violated (spec.rule_of sharing) arch.now kernel.now mapping.now) }
 {
     let table = all_claims(alloc, sharing, arch, kernel, mapping)?;
     let resources = arch.resources().len();

@@ -1,7 +1,7 @@
 //! The exact checker of mappings, and mappings that are legal.
 #![tactic(auto)]
 
-mod check;
+mod checker;
 mod claims;
 mod clashes;
 mod edge;
@@ -14,6 +14,6 @@ mod slots;
 mod stop;
 
 pub use cg_mapping::{Arch, Kernel, Mapping, Place, Route};
-pub use check::{CheckVerdict, check as check_mapping};
+pub use checker::{CheckVerdict, check};
 pub use legal::LegalMapping;
 pub use rule::{Rule, RulePlace, Violation};
