@@ -77,6 +77,8 @@ pub fn check<'a>(
     ensures legality { IfOk result (JudgesLegality arch.now kernel.now mapping) }
     ensures rules { IfOk result (JudgesRules arch.now kernel.now mapping) }
 {
+    let _valid_arch = arch.units();
+    let _valid_kernel = kernel.nodes();
     match first_violation(alloc, arch, kernel, &mapping)? {
         Some(Violation { rule, place }) => Ok(CheckVerdict::Illegal {
             rule,
