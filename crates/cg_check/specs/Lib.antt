@@ -4,3 +4,4 @@ pub mod Rules
 pub mod Slots
 pub mod Claims
 pub mod Verdict
+pub mod Texts

@@ -12,8 +12,10 @@ mod routing;
 mod rule;
 mod slots;
 mod stop;
+mod texts;
 
 pub use cg_mapping::{Arch, Kernel, Mapping, Place, Route};
 pub use checker::{CheckVerdict, check};
 pub use legal::LegalMapping;
-pub use rule::{Rule, RulePlace, Violation};
+pub use rule::{Rule, RulePlace};
+pub use texts::rule_text;

@@ -19,6 +19,26 @@ pub enum Rule {
     L7,
 }
 
+impl Rule {
+    ghost use Rattle.std.specs.Prelude.{◌≡◌};
+    ghost use Rattle.cg_check.specs.Texts.{rule_code};
+
+    /// Its code, as reports print it.
+    pub fn code(self) -> &'static str
+        ensures { result.now ≡ rule_code self }
+    {
+        match self {
+            Rule::L1 => "L1",
+            Rule::L2 => "L2",
+            Rule::L3 => "L3",
+            Rule::L4 => "L4",
+            Rule::L5 => "L5",
+            Rule::L6 => "L6",
+            Rule::L7 => "L7",
+        }
+    }
+}
+
 /// Where a mapping violates a rule. All numbers count from 0.
 #[derive(Clone, Copy, Debug, PartialEq, Eq)]
 pub enum RulePlace {
