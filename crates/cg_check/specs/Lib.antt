@@ -1,1 +1,7 @@
 pub mod Legal
+pub mod Edges
+pub mod Rules
+pub mod Slots
+pub mod Claims
+pub mod Verdict
+pub mod Texts

@@ -1,7 +1,21 @@
 //! The exact checker of mappings, and mappings that are legal.
 #![tactic(auto)]
 
+mod checker;
+mod claims;
+mod clashes;
+mod edge;
 mod legal;
+mod model;
+mod placing;
+mod routing;
+mod rule;
+mod slots;
+mod stop;
+mod texts;
 
 pub use cg_mapping::{Arch, Kernel, Mapping, Place, Route};
+pub use checker::{CheckVerdict, check};
 pub use legal::LegalMapping;
+pub use rule::{Rule, RulePlace};
+pub use texts::rule_text;

@@ -1,0 +1,145 @@
+-- L6 and L7: positions that meet are alike just where no resource in no slot has two that aren't.
+use Rattle.std.proofs.Common.{◌≡◌, ℕ, suc, ◌+◌, ◌*◌, ◌%◌, ◌<◌, ◌≤◌, Bool, true, false, cond, List, [], ◌∷◌, length, Option, Some, None, Contains, refl, sym, ap, ◌∙◌, subst, arith, inl, inr, ⊎_elim, eqb-true, eq-eqb}
+use Rattle.std.specs.Prelude.{◌&&◌, ◌⊎◌, not, eqb, slice_get}
+use Rattle.std.proofs.lemmas.Bool.{and_parts, and_from, not-false, not_from_true, false_from_ne_true, cond-true, cond-false, cases_lt, true≢false, both_ways, not-true, not_from_false}
+use Rattle.std.proofs.lemmas.List.{get_or_past}
+use Rattle.std.proofs.lemmas.Nat.{mod_below}
+use Rattle.cg_model.specs.declared.kernel.Operand.{Operand}
+use Rattle.cg_model.specs.declared.kernel.Operand.TheVariants.{Const as Constant, Edge}
+use Rattle.cg_model.specs.declared.mapping.Route.{Route}
+use Rattle.cg_model.specs.declared.array.Kind.TheVariants.{Wire, Out}
+use Rattle.cg_model.specs.Kernel.{Kernel, IsKernel, HasOperand, size, node}
+use Rattle.cg_model.specs.Array.{Arch, IsArch, resource, unit, delay}
+use Rattle.cg_model.specs.Mapping.{Mapping, Position, Goes, Brings, place, positions, positions_after, positions_on, of_operand, of_route, leaves}
+use Rattle.cg_overlap.proofs.Facts.{Contains-cases, Contains-nil, Contains-flat_map_from}
+use Rattle.cg_check.specs.declared.rule.RulePlace.{RulePlace}
+use Rattle.cg_check.specs.declared.rule.RulePlace.TheVariants as at
+use Rattle.cg_check.specs.Rules.{Rule, L2, L5, L6, L7, Keeps, AreAlike, violated, same_value, same_from, same_way, is_on, clashes, first_below, first_clash}
+use Rattle.cg_check.proofs.Lists.{any_of, any_in, any_not, any_none, and_not, first_below_none, first_below_clear}
+
+-- ---- what the tests of two positions say
+
+pub values_same : (p q : Position) → same_value p q ≡ true → (p.source ≡ q.source) × (p.time ≡ q.time)
+values_same p q h = let (a, b) = and_parts _ _ h in (eqb-true _ _ a, eqb-true _ _ b)
+
+pub same_values : (p q : Position) → (p.source ≡ q.source) × (p.time ≡ q.time) → same_value p q ≡ true
+same_values p q h = and_from _ _ (eq-eqb _ _ h.0) (eq-eqb _ _ h.1)
+
+from_is : (a b : Option ℕ) → same_from a b ≡ true → a ≡ b
+from_is None None h = refl
+from_is (Some a) (Some b) h = ap Some (eqb-true _ _ h)
+from_is None (Some b) h = let bad : false ≡ true = h in absurd (cc)
+from_is (Some a) None h = let bad : false ≡ true = h in absurd (cc)
+
+from_itself : (a : Option ℕ) → same_from a a ≡ true
+from_itself None = refl
+from_itself (Some q) = eq-eqb q q refl
+
+pub ways_same : (p q : Position) → same_way p q ≡ true → p.from ≡ q.from
+ways_same p q h = from_is p.from q.from h
+
+pub same_ways : (p q : Position) → p.from ≡ q.from → same_way p q ≡ true
+same_ways p q e = subst (λ z. same_from p.from z ≡ true) e (from_itself p.from)
+
+-- ---- positions are on resources
+
+in_range : (A : Arch) (q r : ℕ) → IsArch A → Contains (resource A r).drivers q → r < length A.resources
+in_range A q r arch m =
+    ⊎_elim (λ (l : r < length A.resources). l)
+    (λ (l : length A.resources ≤ r). absurd (Contains-nil q (subst (λ z. Contains z.drivers q) (get_or_past A.resources r _ l) m)))
+    (cases_lt r (length A.resources))
+
+out_in_range : (A : Arch) (x : ℕ) → IsArch A → x < length A.units → (unit A x).out < length A.resources
+out_in_range A x arch l =
+    ⊎_elim (λ (h : (unit A x).out < length A.resources). h)
+    (λ (h : length A.resources ≤ (unit A x).out).
+    let past : (resource A (unit A x).out).kind ≡ Wire = ap (λ z. z.kind) (get_or_past A.resources (unit A x).out _ h) in
+    let is : (resource A (unit A x).out).kind ≡ Out = arch.outs x l in
+    let bad : Wire ≡ Out = sym past ∙ is in absurd (cc))
+    (cases_lt (unit A x).out (length A.resources))
+
+after_in_range : (A : Arch) (u q t : ℕ) (path : List ℕ) (r s : ℕ) (p : Position) → IsArch A → Goes A q t path r s → Contains (positions_after A u q t path) p → p.resource < length A.resources
+after_in_range A u q t [] r s p arch h m = absurd (Contains-nil p m)
+after_in_range A u q t (x ∷ path) r s p arch h m =
+    ⊎_elim (λ e. subst (λ z. z.resource < length A.resources) e (in_range A q x arch h.0)) (λ l. after_in_range A u x (t + delay A x) path r s p arch h.1 l) (Contains-cases p _ _ m)
+
+on_in_range : (A : Arch) (M : Mapping) (u : ℕ) (path : List ℕ) (r s : ℕ) (p : Position) → IsArch A → (place M u).unit < length A.units → Brings A M u path r s →
+    Contains (positions_on A u (leaves A M u) path) p → p.resource < length A.resources
+on_in_range A M u path r s p arch l (rest, e, h) m =
+    let out = (unit A (place M u).unit).out in
+    ⊎_elim (λ f. subst (λ z. z.resource < length A.resources) f (out_in_range A (place M u).unit arch l)) (λ k. after_in_range A u out (leaves A M u) rest r s p arch h k)
+    (Contains-cases p _ _ (subst (λ z. Contains (positions_on A u (leaves A M u) z) p) e m))
+
+-- a node with an operand is one of the kernel's
+known_node : (K : Kernel) (v a : ℕ) (o : Operand) → HasOperand K v a o → v < size K
+known_node K v a o e =
+    ⊎_elim (λ (l : v < size K). l)
+    (λ (l : size K ≤ v). let bad : None ≡ Some o = sym (ap (λ z. slice_get z.operands a) (get_or_past K.nodes v _ l)) ∙ e in absurd (cc))
+    (cases_lt v (size K))
+
+operand_in_range : (A : Arch) (K : Kernel) (M : Mapping) (route : Route) (p : Position) (o : Option Operand) → IsArch A → IsKernel K → Keeps L2 A K M → Keeps L5 A K M →
+    Contains M.routes route → slice_get (node K route.node).operands route.arg ≡ o → Contains (of_operand A M route.path o) p → p.resource < length A.resources
+operand_in_range A K M route p None arch kernel two five m e h = absurd (Contains-nil p h)
+operand_in_range A K M route p (Some (Constant w)) arch kernel two five m e h = absurd (Contains-nil p h)
+operand_in_range A K M route p (Some (Edge u d init)) arch kernel two five m e h =
+    let (port, at_port, b) = five route u d init m e in
+    let source = kernel.wired.sources route.node route.arg u d init (known_node K route.node route.arg _ e) e in
+    on_in_range A M u route.path port _ p arch (two u source).known b h
+
+pub positions_in_range : (A : Arch) (K : Kernel) (M : Mapping) (p : Position) → IsArch A → IsKernel K → Keeps L2 A K M → Keeps L5 A K M → Contains (positions A K M) p → p.resource < length A.resources
+unfolding positions
+positions_in_range A K M p arch kernel two five m =
+    let (route, in_routes, h) = Contains-flat_map_from (of_route A K M) M.routes p m in
+    operand_in_range A K M route p _ arch kernel two five in_routes refl h
+
+-- ---- both rules
+
+some_none : {X : Type 0} (b : Bool) (x : X) → cond b (Some x) None ≡ None → b ≡ false
+some_none true x e = let bad : Some x ≡ None = e in cc
+some_none false x e = refl
+
+-- positions that meet are alike by a test, where no place has a clash
+met_alike : (alike : Position → Position → Bool) (A : Arch) (K : Kernel) (M : Mapping) → first_clash alike A K M ≡ None → 0 < M.ii →
+    ((p : Position) → Contains (positions A K M) p → p.resource < length A.resources) → AreAlike A K M (λ p q. alike p q ≡ true)
+unfolding clashes
+met_alike alike A K M none some within p q mp mq e f =
+    let ii = M.ii in
+    let s = p.time % ii in
+    let on_slots = first_below_none (λ r. first_below (λ s. cond (clashes alike ii (positions A K M) r s) (Some (at.Resource r s)) None) ii) (length A.resources) p.resource none (within p mp) in
+    let no_clash = some_none _ _ (first_below_none (λ s. cond (clashes alike ii (positions A K M) p.resource s) (Some (at.Resource p.resource s)) None) ii s on_slots (mod_below p.time ii some)) in
+    let at_p = any_not _ (positions A K M) p mp no_clash in
+    let p_on : is_on ii p.resource s p ≡ true = and_from _ _ (eq-eqb _ _ refl) (eq-eqb s s refl) in
+    let q_on : is_on ii p.resource s q ≡ true = and_from _ _ (eq-eqb _ _ (sym e)) (eq-eqb _ _ (sym f)) in
+    let at_q = any_not _ (positions A K M) q mq (later _ _ at_p p_on) in
+    not-false _ (later _ _ at_q q_on)
+  where
+    later : (a b : Bool) → (a && b) ≡ false → a ≡ true → b ≡ false
+    later true b h e = h
+    later false b h e = let bad : false ≡ true = e in absurd (cc)
+
+-- and the other way round
+none_met : (alike : Position → Position → Bool) (A : Arch) (K : Kernel) (M : Mapping) → AreAlike A K M (λ p q. alike p q ≡ true) → first_clash alike A K M ≡ None
+unfolding clashes
+none_met alike A K M h =
+    first_below_clear _ (length A.resources) (λ r lr. first_below_clear _ M.ii (λ s ls. cond-false _ (Some (at.Resource r s)) None (any_none _ (positions A K M) (λ p mp. and_not (is_on M.ii r s p) _ (λ p_on.
+    any_none _ (positions A K M) (λ q mq. and_not (is_on M.ii r s q) _ (λ q_on. differ r s p q mp mq (and_parts _ _ p_on) (and_parts _ _ q_on))))))))
+  where
+    differ : (r s : ℕ) (p q : Position) → Contains (positions A K M) p → Contains (positions A K M) q →
+        (eqb p.resource r ≡ true) × (eqb (p.time % M.ii) s ≡ true) → (eqb q.resource r ≡ true) × (eqb (q.time % M.ii) s ≡ true) → not (alike p q) ≡ false
+    differ r s p q mp mq (a, b) (c, d) = not_from_true _ (h p q mp mq (eqb-true _ _ a ∙ sym (eqb-true _ _ c)) (eqb-true _ _ b ∙ sym (eqb-true _ _ d)))
+
+pub alone_kept : (A : Arch) (K : Kernel) (M : Mapping) → violated L6 A K M ≡ None → 0 < M.ii → ((p : Position) → Contains (positions A K M) p → p.resource < length A.resources) → Keeps L6 A K M
+unfolding violated
+alone_kept A K M none some within p q mp mq e f = values_same p q (met_alike same_value A K M none some within p q mp mq e f)
+
+pub alone_none : (A : Arch) (K : Kernel) (M : Mapping) → Keeps L6 A K M → violated L6 A K M ≡ None
+unfolding violated
+alone_none A K M k = none_met same_value A K M (λ p q mp mq e f. same_values p q (k p q mp mq e f))
+
+pub way_kept : (A : Arch) (K : Kernel) (M : Mapping) → violated L7 A K M ≡ None → 0 < M.ii → ((p : Position) → Contains (positions A K M) p → p.resource < length A.resources) → Keeps L7 A K M
+unfolding violated
+way_kept A K M none some within p q mp mq e f = ways_same p q (met_alike same_way A K M none some within p q mp mq e f)
+
+pub way_none : (A : Arch) (K : Kernel) (M : Mapping) → Keeps L7 A K M → violated L7 A K M ≡ None
+unfolding violated
+way_none A K M k = none_met same_way A K M (λ p q mp mq e f. same_ways p q (k p q mp mq e f))

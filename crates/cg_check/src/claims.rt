@@ -1,0 +1,135 @@
+//! L6 and L7: what routes that meet on a resource in a slot have to share.
+ghost use Rattle.std.specs.Prelude.{◌≡◌, ◌∷◌, ◌^◌, ◌<◌};
+ghost use Rattle.cg_model.specs.Mapping as mappings;
+ghost use Rattle.cg_check.specs.Claims as spec;
+ghost use Rattle.cg_check.specs.Rules as rules;
+
+use crate::edge::edge_into;
+use crate::model::{delay, leaves};
+use crate::stop::{Cell, Sharing, Stop};
+use cg_mapping::{Arch, Kernel, Mapping, Route};
+
+/// Whether two values come from one resource, or both begin their paths.
+fn same_from(first: Option<u32>, second: Option<u32>) -> bool
+    ensures { result ≡ rules.same_from first second }
+{
+    match (first, second) {
+        (None, None) => true,
+        (Some(first), Some(second)) => first == second,
+        _ => false,
+    }
+}
+
+/// Whether two values share what they have to.
+fn alike(sharing: Sharing, first: Stop, second: Stop) -> bool
+    ensures { result ≡ spec.alike sharing (spec.position_of first) (spec.position_of second) }
+{
+    match sharing {
+        Sharing::Value => first.source == second.source && first.time == second.time,
+        Sharing::Way => same_from(first.from, second.from),
+    }
+}
+
+/// A cell after one more value there.
+fn with_claim(sharing: Sharing, cell: Cell, stop: Stop) -> Cell
+    ensures { result ≡ spec.with_claim sharing cell (spec.position_of stop) }
+{
+    match cell {
+        Cell::Free => Cell::Held(stop),
+        Cell::Held(first) => {
+            if alike(sharing, first, stop) {
+                Cell::Held(first)
+            } else {
+                Cell::Clash
+            }
+        }
+        Cell::Clash => Cell::Clash,
+    }
+}
+
+/// Claims the resource and the slot of a stop; one past the table claims nothing.
+#[tactic(auto, unfolding(crate::specs::Claims::claimed))]
+fn claim(table: &mut [Cell], sharing: Sharing, ii: u32, stop: Stop)
+    requires { 0 < ii }
+    ensures { table.new ≡ spec.claimed sharing ii table.old (spec.position_of stop) }
+{
+    let at = stop.resource as usize * ii as usize + (stop.time % u64::from(ii)) as usize;
+    if at < table.len() {
+        table[at] = with_claim(sharing, table[at], stop);
+    }
+}
+
+/// The next stop on a path.
+fn next(arch: &Arch, stop: Stop, resource: u32) -> Stop
+    requires { stop.time < 2 ^ 63 }
+    ensures { result ≡ spec.next_of arch.now stop resource }
+{
+    Stop {
+        source: stop.source,
+        resource,
+        time: stop.time + delay(arch, resource),
+        from: Some(stop.resource),
+    }
+}
+
+/// Claims the stops of a path from its first one on.
+fn claim_path(
+    table: &mut [Cell],
+    sharing: Sharing,
+    arch: &Arch,
+    ii: u32,
+    start: Stop,
+    rest: &[u32],
+)
+    requires interval { 0 < ii }
+    requires soon { start.time < 2 ^ 33 }
+    ensures { table.new ≡ spec.claims sharing ii table.old (spec.position_of start ∷ mappings.positions_after arch.now start.source start.resource start.time rest.now) }
+{
+    let mut stop = start;
+    claim(table, sharing, ii, stop);
+    for resource in rest {
+        stop = next(arch, stop, *resource);
+        claim(table, sharing, ii, stop);
+    }
+}
+
+/// Claims the stops of a route.
+fn claim_route(
+    table: &mut [Cell],
+    sharing: Sharing,
+    arch: &Arch,
+    kernel: &Kernel,
+    mapping: &Mapping,
+    route: &Route,
+)
+    requires { 0 < mapping.now.ii }
+    ensures { table.new ≡ spec.claims sharing mapping.now.ii table.old (mappings.of_route arch.now kernel.now mapping.now route.now) }
+{
+    if let Some(edge) = edge_into(kernel, route) {
+        if let [first, rest @ ..] = route.path.as_slice() {
+            let start = Stop {
+                source: edge.source,
+                resource: *first,
+                time: leaves(arch, mapping, edge.source),
+                from: None,
+            };
+            claim_path(table, sharing, arch, mapping.ii(), start, rest);
+        }
+    }
+}
+
+/// Claims the stops of all routes.
+pub(crate) fn claim_all(
+    table: &mut [Cell],
+    sharing: Sharing,
+    arch: &Arch,
+    kernel: &Kernel,
+    mapping: &Mapping,
+)
+    requires { 0 < mapping.now.ii }
+    ensures { table.new ≡ spec.claims sharing mapping.now.ii table.old (mappings.positions arch.now kernel.now mapping.now) }
+{
+    for route in mapping.routes() {
+        claim_route(table, sharing, arch, kernel, mapping, route);
+    }
+}

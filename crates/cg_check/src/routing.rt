@@ -1,0 +1,81 @@
+//! L5: each route goes along links, and brings its value in time.
+ghost use Rattle.std.specs.Prelude.{◌≡◌, ◌^◌, ◌<◌};
+ghost use Rattle.cg_check.specs.Rules.{violated, L5, brings as brings_of, goes as goes_of, arrives as arrives_of, is_brought as is_brought_of};
+
+use crate::edge::edge_into;
+use crate::model::{delay, drives, leaves, out, place, port};
+use crate::rule::RulePlace;
+use cg_mapping::{Arch, Kernel, Mapping, Route};
+
+/// Whether a path goes on along links from a resource at a time, and ends on a port at a time.
+fn goes(arch: &Arch, start: u32, time: u64, path: &[u32], port: u32, end: u64) -> bool
+    requires { time < 2 ^ 33 }
+    ensures { result ≡ goes_of arch.now start time path.now port end }
+{
+    let mut at = start;
+    let mut now = time;
+    for next in path {
+        if !drives(arch, at, *next) {
+            return false;
+        }
+        at = *next;
+        now += delay(arch, at);
+    }
+    at == port && now == end
+}
+
+/// Whether a path begins with the out of a node's unit when its value leaves, and goes to a port.
+fn arrives(
+    arch: &Arch,
+    mapping: &Mapping,
+    source: u32,
+    path: &[u32],
+    port: Option<u32>,
+    end: u64,
+) -> bool
+    ensures { result ≡ arrives_of arch.now mapping.now source path.now port end }
+{
+    match port {
+        None => false,
+        Some(port) => match path {
+            [] => false,
+            [first, rest @ ..] => {
+                let unit = place(mapping, source).unit;
+                let time = leaves(arch, mapping, source);
+                *first == out(arch, unit) && goes(arch, *first, time, rest, port, end)
+            }
+        },
+    }
+}
+
+/// Whether a route brings the value of its edge.
+fn is_brought(arch: &Arch, kernel: &Kernel, mapping: &Mapping, route: &Route) -> bool
+    ensures { result ≡ is_brought_of arch.now kernel.now mapping.now route.now }
+{
+    match edge_into(kernel, route) {
+        None => true,
+        Some(edge) => {
+            let target = place(mapping, route.node);
+            let port = port(arch, target.unit, route.arg);
+            let end =
+                u64::from(target.time) + u64::from(mapping.ii()) * u64::from(edge.distance);
+            arrives(arch, mapping, edge.source, route.path.as_slice(), port, end)
+        }
+    }
+}
+
+/// The operand of the first route that doesn't.
+#[tactic(auto, unfolding(crate::specs::Rules::violated))]
+pub(crate) fn unbrought(arch: &Arch, kernel: &Kernel, mapping: &Mapping) -> Option<RulePlace>
+    ensures { result ≡ violated L5 arch.now kernel.now mapping.now }
+{
+    for route in mapping.routes() {
+        if !is_brought(arch, kernel, mapping, route) {
+            return Some(RulePlace::Arg {
+                node: route.node,
+                arg: route.arg,
+            });
+        }
+    }
+    None
+}
