@@ -1,13 +1,13 @@
 -- The bits of a mapping's configuration, and what their run does.
-use Rattle.std.proofs.Common.{◌≡◌, ℕ, ◌+◌, ◌%◌, ◌<◌, List, [], length, map, Ok, Some, Contains, refl, sym, ap, subst, ◌∙◌, arith}
+use Rattle.std.proofs.Common.{◌≡◌, ℕ, ◌<◌, List, [], length, map, Ok, Some, refl, sym, ap, subst, ◌∙◌, arith}
 use Rattle.std.specs.Prelude.{slice_index_or, replicate}
 use Rattle.std.specs.List.{range_with_len}
 use Rattle.std.proofs.lemmas.List.{get_or-replicate}
 use Rattle.std.proofs.lemmas.List.FromFn.{get_or-map-range_with_len}
 use Rattle.cg_model.specs.Work.{Image, Work}
-use Rattle.cg_model.specs.Kernel.{Kernel, IsKernel, size}
+use Rattle.cg_model.specs.Kernel.{Kernel, size}
 use Rattle.cg_model.specs.Array.{Arch, IsArch}
-use Rattle.cg_model.specs.Mapping.{Mapping, Position, IsLegal, Begins, positions}
+use Rattle.cg_model.specs.Mapping.{Mapping, IsLegal, Begins, positions}
 use Rattle.cg_model.specs.Config.{Config, select, fields, off}
 use Rattle.cg_model.specs.Configured.{configuration_of, select_in, node_on, fields_by}
 use Rattle.cg_model.specs.Canonical.{IsCanonical}
@@ -15,7 +15,6 @@ use Rattle.cg_model.specs.Machine.{begins}
 use Rattle.cg_model.specs.Overlap.{Follows, LeavesTheSame}
 use Rattle.cg_arch.specs.Kept.{digest_of}
 use Rattle.cg_bits.specs.Answers.{answer_of, faults_of, config_of, unless_fault}
-use Rattle.cg_bits.specs.Changes.{all_off}
 use Rattle.cg_bits.specs.Spelling.{AreBits}
 use Rattle.cg_bits.proofs.Answered.{none_of, config_is}
 use Rattle.cg_emit.specs.Building.{HasNodes, with_positions}

@@ -1,5 +1,5 @@
 -- The routes of a legal mapping, each of an edge of the kernel.
-use Rattle.std.proofs.Common.{◌≡◌, ℕ, zero, suc, ◌+◌, ◌*◌, ◌<◌, ◌≤◌, ◌^◌, List, [], ◌∷◌, length, map, drop, get_or, Option, Some, Contains, refl, sym, ap, subst, ◌∙◌, arith, ⊎_elim}
+use Rattle.std.proofs.Common.{◌≡◌, ℕ, suc, ◌+◌, ◌*◌, ◌<◌, ◌≤◌, ◌^◌, List, [], ◌∷◌, length, map, drop, get_or, Option, Some, Contains, refl, sym, ap, subst, ◌∙◌, arith, ⊎_elim}
 use Rattle.std.specs.Prelude.{slice_get, slice_index_or}
 use Rattle.std.proofs.lemmas.List.Elements.{Contains-append_cases}
 use Rattle.std.proofs.lemmas.Option.{slice_get_within, slice_get-get_or}
@@ -11,7 +11,7 @@ use Rattle.cg_model.specs.declared.mapping.Route.{Route}
 use Rattle.cg_model.specs.declared.mapping.Place.{Place}
 use Rattle.cg_model.specs.declared.array.Unit.{Unit}
 use Rattle.cg_flat.proofs.Lists.{item_at}
-use Rattle.cg_model.specs.Kernel.{Kernel, IsKernel, HasOperand, no_node, node, size}
+use Rattle.cg_model.specs.Kernel.{Kernel, IsKernel, no_node, node, size}
 use Rattle.cg_model.specs.Array.{Arch, IsArch, unit}
 use Rattle.cg_model.specs.Mapping.{Mapping, End, IsLegal, IsShaped, Brings, Goes, end_of, ends_of, ends_from, leaves, place, of_route, of_operand, positions_on, positions_after}
 use Rattle.cg_model.specs.Config.{Config}
@@ -78,6 +78,10 @@ routed K M shaped route m =
 pub source_is : (K : Kernel) (route : Route) (o : Operand) (u d : ℕ) (init : List ℕ) → route.node < size K → slice_get (node K route.node).operands route.arg ≡ Some o → o ≡ Edge u d init → IsSource K route u
 source_is K route o u d init lt e is = (lt, d, init, e ∙ ap Some is)
 
+-- and the kernel has that node
+pub source_known : (K : Kernel) → IsKernel K → (route : Route) (u : ℕ) → IsSource K route u → u < size K
+source_known K good route u is = good.wired.sources route.node route.arg u is.1 is.2 is.0 is.3
+
 edge_only : (o : Option Operand) (w u d : ℕ) (init : List ℕ) → o ≡ Some (Constant w) → o ≡ Some (Edge u d init) → ⊥
 edge_only o w u d init a b = cc
 
@@ -90,15 +94,12 @@ arg_within os p e = slice_get_within os p (Edge e.source e.distance e.init) e.is
 -- ---- where and when a route begins
 
 module _ (A : Arch) (K : Kernel) (M : Mapping) (valid : IsArch A) (good : IsKernel K) (legal : IsLegal A K M) (route : Route) (known : Contains M.routes route) (u : ℕ) (is : IsSource K route u) where
-  pub source_known : u < size K
-  source_known = good.wired.sources route.node route.arg u is.1 is.2 is.0 is.3
-
   pub unit_known : (place M u).unit < length A.units
-  unit_known = legal.units u source_known
+  unit_known = legal.units u (source_known K good route u is)
 
   pub leaves_soon : leaves A M u < 2 ^ 32
   leaves_soon =
-      let soon = legal.soon u source_known in
+      let soon = legal.soon u (source_known K good route u is) in
       let quick = (valid.latencies (place M u).unit unit_known).1 in
       omega arith
 

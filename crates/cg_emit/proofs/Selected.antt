@@ -1,13 +1,13 @@
 -- The selects that positions ask for, one after the other, are those of the mapping's configuration.
-use Rattle.std.proofs.Common.{◌≡◌, ℕ, zero, suc, ◌%◌, ◌<◌, ◌⊎◌, List, [], ◌∷◌, ◌++◌, length, get_or, Option, Some, None, Contains, refl, sym, ap, subst, ◌∙◌, arith, ⊎_elim, inl, inr, eqb, length-set}
+use Rattle.std.proofs.Common.{◌≡◌, ℕ, ◌%◌, ◌<◌, ◌⊎◌, List, [], ◌∷◌, ◌++◌, length, get_or, Option, Some, None, Contains, refl, sym, ap, subst, ◌∙◌, arith, ⊎_elim, inl, inr, eqb, length-set}
 use Rattle.std.specs.Prelude.{slice_index_or, slice_set, ◌&&◌}
 use Rattle.std.proofs.lemmas.Bool.{cases_eq, cond_both, and_parts, and_from, eqb-true, eq-eqb, true≢false}
 use Rattle.std.proofs.lemmas.List.{get_or-set_same, get_or-set_other}
 use Rattle.std.proofs.lemmas.Nat.{mod_below}
 use Rattle.cg_model.specs.Array.{Arch, resource}
 use Rattle.cg_model.specs.Mapping.{Position}
-use Rattle.cg_model.specs.Config.{Config, select, fields}
-use Rattle.cg_model.specs.Configured.{selected, select_in, place_of}
+use Rattle.cg_model.specs.Config.{Config, select}
+use Rattle.cg_model.specs.Configured.{selected, select_in}
 use Rattle.cg_model.specs.Canonical.{IsCanonical}
 use Rattle.cg_bits.specs.Changes.{with_select}
 use Rattle.cg_overlap.proofs.Facts.{Contains-first, Contains-later}

@@ -1,4 +1,4 @@
-use Rattle.std.proofs.Common.{◌≡◌, List, replicate, length, subst, sym, ap, ◌∙◌}
+use Rattle.std.proofs.Common.{replicate, length, subst, ap, ◌∙◌}
 use Rattle.cg_model.specs.Array.{Arch}
 use Rattle.cg_model.specs.Config.{Config}
 use Rattle.cg_model.specs.Kernel.{IsKernel}

@@ -1,5 +1,4 @@
-use Rattle.std.proofs.Common.{◌≡◌, ℕ, List, Result, Ok, Err, IfOk, subst, sym, ap, ◌∙◌}
-use Rattle.std.specs.declared.alloc.AllocError.{AllocError}
+use Rattle.std.proofs.Common.{◌≡◌, ℕ, List, Result, Ok, Err, IfOk, subst, sym}
 use Rattle.cg_model.specs.Array.{Arch}
 use Rattle.cg_model.specs.Config.{Config}
 use Rattle.cg_bits.specs.Ranges.{IsBytes}

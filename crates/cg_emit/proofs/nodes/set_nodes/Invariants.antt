@@ -3,9 +3,9 @@ use Rattle.cg_model.specs.Canonical.{IsCanonical}
 use Rattle.cg_emit.specs.Building.{HasNodes}
 use Rattle.cg_emit.proofs.nodes.set_nodes.Given as goal
 
-abbrev pub invariant-loop-number : goal.invariant-loop-number
-invariant-loop-number l = record {
+abbrev pub invariant-loop-node : goal.invariant-loop-node
+invariant-loop-node l = record {
   canonical : IsCanonical l.legal.arch l.config;
-  nodes : HasNodes l.legal.arch l.legal.kernel l.legal.mapping l.config l.number;
+  nodes : HasNodes l.legal.arch l.legal.kernel l.legal.mapping l.config l.node;
   selects : l.config.selects ≡ l.initial.config.selects;
 }

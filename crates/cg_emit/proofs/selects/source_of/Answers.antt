@@ -1,8 +1,5 @@
-use Rattle.std.proofs.Common.{◌≡◌, List, length, Some, sym, ap, subst, ◌∙◌, arith}
-use Rattle.std.specs.Prelude.{slice_get}
-use Rattle.std.proofs.lemmas.Option.{slice_get-get_or}
+use Rattle.std.proofs.Common.{List, length, Some, ap, ◌∙◌, arith}
 use Rattle.cg_model.specs.declared.kernel.Node.{Node}
-use Rattle.cg_model.specs.declared.kernel.Operand.{Operand}
 use Rattle.cg_model.specs.Kernel.{Kernel, node}
 use Rattle.cg_emit.proofs.Placed.{node_read}
 use Rattle.cg_emit.proofs.Routes.{routed, source_is, no_constant, arg_within, operand_read}
@@ -34,8 +31,8 @@ unreachable-requires c =
     no_constant K c.args.route.now c.in-Const.field-0 r
     (operand_read c.as_slice.result.now (node K c.args.route.now.node).operands c.args.route.now.arg c.index-as_slice-route.result c.index-as_slice-route.is same within ∙ ap Some c.in-Const.is)
 
-pub returns : goal.returns
-returns c =
+pub returns-clause-source : goal.returns-clause-source
+returns-clause-source c =
     let K = c.args.legal.now.kernel in
     let r = routed K c.args.legal.now.mapping c.mapping-mapping.ensures.legal.shape c.args.route.now c.requires in
     let read = node_read K c.nodes.result.now c.args.route.now.node c.index-nodes-route.result c.index-nodes-route.is (c.nodes.ensures.nodes ∙ ap (λ (k : Kernel). k.nodes) c.kernel.ensures) r.within in

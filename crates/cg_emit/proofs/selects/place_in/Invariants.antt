@@ -1,6 +1,6 @@
 use Rattle.std.proofs.Common.{◌≡◌, ◌+◌, suc, drop}
 use Rattle.cg_model.specs.Configured.{place_of}
-use Rattle.cg_emit.proofs.selects.select_of.Given as goal
+use Rattle.cg_emit.proofs.selects.place_in.Given as goal
 
 abbrev pub invariant-loop-driver : goal.invariant-loop-driver
 invariant-loop-driver l =
