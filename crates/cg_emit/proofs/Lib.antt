@@ -1,0 +1,7 @@
+mod Padded
+mod Placed
+mod Selected
+mod Paths
+mod Routes
+mod Whole
+mod Overlapped
