@@ -9,12 +9,12 @@ use Rattle.cg_files.specs.Held.{Holds, Appends}
 use Rattle.cg_tiles.proofs.Solved.{some_answer}
 use Rattle.cg_check.specs.Legal.{Mapped}
 use Rattle.cg_check.specs.Rules.{Violation, violation}
-use Rattle.cg_check.proofs.Kept.{legal_from, legal_none}
+use Rattle.cg_check.proofs.Judged.{legal_from, keeps_all, breaks, rules_of}
 use Rattle.cg_answers.specs.Sources.{pair_of, mapped_of, AreMapped}
 use Rattle.cg_answers.specs.Check.{IsCheck, checked, checked_by, legal_report, illegal_report, AreGiven, IsLegalInput, HoldMapped, IsLegalCheck, IsIllegalCheck}
 use Rattle.cg_answers.proofs.Sound.{IsSound}
 use Rattle.cg_answers.proofs.Wholes.{whole, differ}
-use Rattle.cg_answers.proofs.Mapped.{IsRefusal, AreRefused, refused_given, given_of, valid_given, mapped_is, IsAlike, equal, refusals, alike}
+use Rattle.cg_answers.proofs.Mapped.{IsRefusal, AreRefused, refused_given, given_of, valid_given, IsValid, mapped_is, IsAlike, equal, refusals, alike}
 
 -- ---- status and writes
 
@@ -62,13 +62,21 @@ same_check arch kernel mapping a b p q =
 pub given_legal : (arch kernel mapping : File) (a : IsLegalInput arch kernel mapping) (mapped : Result Mapped Outcome) → AreMapped arch kernel mapping mapped → mapped ≡ Ok a.mapped
 given_legal arch kernel mapping a mapped g = g.mapped_is ∙ mapped_is arch kernel mapping a.mapped g.given a.given g.is_given g.no_memory
 
--- and it violates no rule
-pub no_violation : (m : Mapped) → IsLegal m.arch m.kernel m.mapping → violation m.arch m.kernel m.mapping ≡ None
-no_violation m legal = legal_none m.arch m.kernel m.mapping legal
+-- it violates no rule
+no_violation_by : (m : Mapped) (v : Option Violation) → violation m.arch m.kernel m.mapping ≡ v → IsValid m → IsLegal m.arch m.kernel m.mapping → v ≡ None
+no_violation_by m None e valid legal = refl
+no_violation_by m (Some v) e valid legal = absurd (breaks m.arch m.kernel m.mapping valid.arch valid.kernel valid.shape v.rule v.place e (rules_of m.arch m.kernel m.mapping legal v.rule))
+
+pub no_violation : (m : Mapped) → IsValid m → IsLegal m.arch m.kernel m.mapping → violation m.arch m.kernel m.mapping ≡ None
+no_violation m valid legal = no_violation_by m (violation m.arch m.kernel m.mapping) refl valid legal
+
+-- and what violates none is legal
+pub legal_without : (m : Mapped) → IsValid m → violation m.arch m.kernel m.mapping ≡ None → IsLegal m.arch m.kernel m.mapping
+legal_without m valid none = legal_from m.arch m.kernel m.mapping valid.arch valid.kernel valid.shape (keeps_all m.arch m.kernel m.mapping valid.arch valid.kernel valid.shape none)
 
 pub accepted_check : (arch kernel mapping : File) (o : Outcome) → IsLegalInput arch kernel mapping → IsCheck arch kernel mapping o → o.status ≡ Done
 accepted_check arch kernel mapping o a p =
-    ap (λ x. x.status) p.outcome ∙ ap (λ x. (checked x).status) (given_legal arch kernel mapping a p.mapped p.given) ∙ ap (λ v. (checked_by a.mapped v).status) (no_violation a.mapped a.legal)
+    ap (λ x. x.status) p.outcome ∙ ap (λ x. (checked x).status) (given_legal arch kernel mapping a p.mapped p.given) ∙ ap (λ v. (checked_by a.mapped v).status) (no_violation a.mapped (valid_given arch.bytes kernel.bytes mapping.bytes a.mapped a.given) a.legal)
 
 -- ---- what there is
 
@@ -98,7 +106,7 @@ module _ (arch kernel mapping : Name) (f g h : File) (before after : Moment) (ar
       record {
         mapped = m;
         read = hold_mapped m given;
-        legal = legal_from m.arch m.kernel m.mapping (valid_given f.bytes g.bytes h.bytes m given).shape e;
+        legal = legal_without m (valid_given f.bytes g.bytes h.bytes m given) e;
         put = subst (λ report. Appends before.taken report after.taken) (ap (λ x. x.report) is) (whole o.status o.report before after done c.put);
       }
   legal_by m (Some v) o e given is done c = absurd (let z : No ≡ Done = sym (ap (λ x. x.status) is) ∙ done in cc)
@@ -109,7 +117,7 @@ module _ (arch kernel mapping : Name) (f g h : File) (before after : Moment) (ar
       record {
         mapped = m;
         read = hold_mapped m given;
-        illegal = λ legal. let z : None ≡ Some v = sym (no_violation m legal) ∙ e in absurd (cc);
+        illegal = λ legal. let z : None ≡ Some v = sym (no_violation m (valid_given f.bytes g.bytes h.bytes m given) legal) ∙ e in absurd (cc);
         lowest = v;
         lowest_is = e;
         put = subst (λ x. IsPut x.status x.report before after) is c.put;

@@ -27,7 +27,6 @@ use Rattle.cg_bits.proofs.Answered.{config_is, none_answered}
 use Rattle.cg_bits.proofs.Packed.{some_bits}
 use Rattle.cg_check.specs.Legal.{Mapped}
 use Rattle.cg_check.specs.Rules.{Violation, violation}
-use Rattle.cg_check.proofs.Kept.{legal_from}
 use Rattle.cg_emit.specs.Emitted.{RunLikeTurns, RunLikeTurnsAlone}
 use Rattle.cg_emit.proofs.Overlapped.{one_config, does_turns}
 use Rattle.cg_answers.specs.Sources.{pair_of, mapped_of, AreMapped}
@@ -37,7 +36,7 @@ use Rattle.cg_answers.specs.Run.{LeavesTurns}
 use Rattle.cg_answers.proofs.Sound.{IsSound}
 use Rattle.cg_answers.proofs.Wholes.{whole, one_write}
 use Rattle.cg_answers.proofs.Mapped.{IsRefusal, AreRefused, refused_given, given_of, valid_given, IsValid, IsAlike, equal, refusals, alike}
-use Rattle.cg_answers.proofs.Checked.{sound_refusal, given_legal, no_violation, hold_mapped, illegal_by}
+use Rattle.cg_answers.proofs.Checked.{sound_refusal, given_legal, no_violation, legal_without, hold_mapped, illegal_by}
 
 -- ---- what the bytes do
 
@@ -122,13 +121,13 @@ accepted_by out m (Some v) o e p = absurd (cc)
 
 pub accepted_emit : (arch kernel mapping : File) (out : Name) (o : Outcome) → IsLegalInput arch kernel mapping → IsEmit arch kernel mapping out o → o.status ≡ Done
 accepted_emit arch kernel mapping out o a p =
-    accepted_by out a.mapped (violation a.mapped.arch a.mapped.kernel a.mapped.mapping) o (no_violation a.mapped a.legal) (subst (λ z. IsEmission out z o) (given_legal arch kernel mapping a p.mapped p.given) p.emission)
+    accepted_by out a.mapped (violation a.mapped.arch a.mapped.kernel a.mapped.mapping) o (no_violation a.mapped (valid_given arch.bytes kernel.bytes mapping.bytes a.mapped a.given) a.legal) (subst (λ z. IsEmission out z o) (given_legal arch kernel mapping a p.mapped p.given) p.emission)
 
 -- ---- what there is
 
 some_by : (out : Name) (m : Mapped) (v : Option Violation) → violation m.arch m.kernel m.mapping ≡ v → IsValid m → (o : Outcome) × IsEmittedBy out m v o
 some_by out m None e valid =
-    let legal = legal_from m.arch m.kernel m.mapping valid.shape e in
+    let legal = legal_without m valid e in
     let spelled = some_bits m.arch (config_of m) (canonical m.arch m.kernel m.mapping valid.kernel legal valid.shape.places) in
     (record { status = Done; report = emit_report m; writes = record { name = out; bytes = spelled.0 } ∷ [] }, record { bytes = spelled.0; spelled = spelled.1; outcome = refl })
 some_by out m (Some v) e valid = (reports No (illegal_report m.arch m.kernel v), refl)
@@ -151,7 +150,7 @@ module _ (arch kernel mapping out : Name) (f g h : File) (before after : Moment)
   emitted_by : (m : Mapped) (v : Option Violation) (o : Outcome) → violation m.arch m.kernel m.mapping ≡ v → AreGiven f.bytes g.bytes h.bytes m → IsEmittedBy out m v o → o.status ≡ Done → Completed o before after Done → IsEmittedRun arch kernel mapping out before after
   emitted_by m None o e given is done c =
       let valid = valid_given f.bytes g.bytes h.bytes m given in
-      let legal = legal_from m.arch m.kernel m.mapping valid.shape e in
+      let legal = legal_without m valid e in
       record {
         mapped = m;
         read = hold_mapped arch kernel mapping f g h before after arch_held kernel_held mapping_held m given;

@@ -13,7 +13,7 @@ use Rattle.cg_mapping.specs.Answer as mappings
 use Rattle.cg_tiles.specs.Answer.{AreValidBytes}
 use Rattle.cg_check.specs.Legal.{Mapped}
 use Rattle.cg_check.specs.Rules.{Violation, violation}
-use Rattle.cg_check.specs.Texts.{violation_text}
+use Rattle.cg_check.specs.Texts.{rule_text}
 use Rattle.cg_answers.specs.Sources.{AreMapped}
 
 -- the mapping is legal
@@ -22,7 +22,7 @@ legal_report = line_of (codes "legal" ∷ [])
 
 -- the lowest rule that it violates, at its first place
 abbrev pub illegal_report : Arch → Kernel → Violation → Bytes
-illegal_report A K v = line_of (codes "illegal " ∷ violation_text A K v ∷ [])
+illegal_report A K v = line_of (codes "illegal " ∷ rule_text A K v.rule v.place ∷ [])
 
 -- by the violation, if there is one
 abbrev pub checked_by : Mapped → Option Violation → Outcome

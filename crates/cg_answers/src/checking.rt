@@ -7,7 +7,7 @@ ghost use Rattle.cg_check.specs.Rules.{violation};
 ghost use Rattle.cg_answers.specs.Check.{IsCheck, checked_by, illegal_report, legal_report};
 
 use crate::sources::{Given, Sources, read_sources};
-use cg_check::{Arch, CheckVerdict, Kernel, Violation, check as check_mapping, violation_text};
+use cg_check::{Arch, CheckVerdict, Kernel, Rule, RulePlace, check as check_mapping, rule_text};
 use cg_ending::{File, Outcome, Status};
 use std::alloc::{AllocError, Global};
 
@@ -38,7 +38,7 @@ fn checked(alloc: Global, sources: Sources) -> Result<Outcome, AllocError>
     } = sources;
     match check_mapping(alloc, &arch, &kernel, mapping)? {
         CheckVerdict::Legal(_) => legal(alloc),
-        CheckVerdict::Illegal { violation, .. } => illegal(alloc, &arch, &kernel, violation),
+        CheckVerdict::Illegal { rule, place, .. } => illegal(alloc, &arch, &kernel, rule, place),
     }
 }
 
@@ -58,13 +58,15 @@ pub(crate) fn illegal(
     alloc: Global,
     arch: &Arch,
     kernel: &Kernel,
-    violation: Violation,
+    rule: Rule,
+    place: RulePlace,
 ) -> Result<Outcome, AllocError>
-    ensures { IfOk result (λ o. outcome_of o ≡ reports No (illegal_report arch.now kernel.now violation)) }
+    ensures { IfOk result (λ o. outcome_of o
+        ≡ reports No (illegal_report arch.now kernel.now (record { rule = rule; place = place }))) }
 {
-    let text = violation_text(alloc, arch, kernel, violation)?;
-    let place = text.as_str();
-    let report = format!(in alloc; "illegal {place}\n")?;
+    let text = rule_text(alloc, arch, kernel, rule, place)?;
+    let broken = text.as_str();
+    let report = format!(in alloc; "illegal {broken}\n")?;
     Ok(Outcome {
         status: Status::No,
         report: report.into_bytes(),

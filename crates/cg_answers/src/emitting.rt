@@ -39,7 +39,7 @@ fn emitted(alloc: Global, sources: Sources, out: &str) -> Result<Outcome, AllocE
     } = sources;
     match check(alloc, &arch, &kernel, mapping)? {
         CheckVerdict::Legal(legal) => written(alloc, &legal, out),
-        CheckVerdict::Illegal { violation, .. } => illegal(alloc, &arch, &kernel, violation),
+        CheckVerdict::Illegal { rule, place, .. } => illegal(alloc, &arch, &kernel, rule, place),
     }
 }
 
