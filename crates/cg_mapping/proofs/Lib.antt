@@ -1,2 +1,4 @@
+pub mod EdgeOperands
 pub mod Numbered
+pub mod Steps
 pub mod Tallies

@@ -11,4 +11,4 @@ numbered_within numbers own items name k is e = let h = position_from-within (λ
 
 -- items that are the same have the same numbers
 pub numbering_of : {S T : Type 0} (numbers : IndexMap (String Global) ℕ S) (own : T → Option (List ℕ)) (xs ys : List T) → xs ≡ ys → IsNumbering numbers own xs → IsNumbering numbers own ys
-numbering_of numbers own xs ys e is = let P : List T → Type 0 = λ l. IsNumbering numbers own l in subst P e is
+numbering_of {T = T} numbers own xs ys e is = let P : List T → Type 0 = λ l. IsNumbering numbers own l in subst P e is

@@ -1,8 +1,9 @@
 -- One place a node, and one route an edge operand.
-use Rattle.std.specs.Prelude.{ℕ, ◌==◌, ◌&&◌, Bool, List, [], ◌∷◌, Option, Some, None, Result, Ok, Err, count_by, option_map, if◌then◌else◌}
+use Rattle.std.specs.Prelude.{ℕ, ◌==◌, ◌&&◌, Bool, List, [], ◌∷◌, Option, Some, None, Result, Ok, Err, count_by, length, option_map, slice_index_or, if◌then◌else◌}
 use Rattle.std.specs.List.{range_with_len}
 use Rattle.cg_model.specs.First.{first_such}
-use Rattle.cg_model.specs.Kernel.{Kernel, size, node}
+use Rattle.cg_model.specs.Kernel.{Kernel, no_node}
+use Rattle.cg_model.specs.declared.kernel.Node.{Node}
 use Rattle.cg_model.specs.Mapping.{Mapping, End, ends_from}
 use Rattle.cg_model.specs.declared.mapping.Place.{Place}
 use Rattle.cg_model.specs.declared.mapping.Route.{Route}
@@ -41,21 +42,32 @@ abbrev pub each_or_fault : {K T : Type 0} → (K → Option T) → (K → Mappin
 each_or_fault give fault [] = Ok []
 each_or_fault give fault (k ∷ ks) = and_rest (fault k) (give k) (each_or_fault give fault ks)
 
+-- the name of node v
+abbrev pub name_at : List Node → ℕ → List ℕ
+name_at nodes v = (slice_index_or nodes v no_node).name
+
 -- P6 Incomplete: a node hasn't exactly one place
-abbrev pub node_fault : Kernel → ℕ → MappingFault
-node_fault K v = fault.Incomplete (gap.Node (node K v).name)
+abbrev pub node_fault : List Node → ℕ → MappingFault
+node_fault nodes v = fault.Incomplete (gap.Node (name_at nodes v))
 
 -- or an edge operand hasn't exactly one route
-abbrev pub arg_fault : Kernel → End → MappingFault
-arg_fault K e = fault.Incomplete (gap.Arg (node K e.node).name e.arg)
+abbrev pub arg_fault : List Node → End → MappingFault
+arg_fault nodes e = fault.Incomplete (gap.Arg (name_at nodes e.node) e.arg)
 
 -- the one place of each node in order, or the first node without exactly one
-unfoldable pub places_of : Kernel → List NodePlace → Result (List Place) MappingFault
-places_of K places = each_or_fault (only_place places) (node_fault K) (range_with_len 0 (size K))
+abbrev pub each_place : List Node → List NodePlace → Result (List Place) MappingFault
+each_place nodes places = each_or_fault (only_place places) (node_fault nodes) (range_with_len 0 (length nodes))
 
--- the one route to each edge operand in the order of nodes and operands, or the first operand without exactly one
+unfoldable pub places_of : Kernel → List NodePlace → Result (List Place) MappingFault
+places_of K places = each_place K.nodes places
+
+-- the one route to each of these operands, or the first operand without exactly one
+abbrev pub each_route : List Node → List Route → List End → Result (List Route) MappingFault
+each_route nodes routes ends = each_or_fault (only_route routes) (arg_fault nodes) ends
+
+-- to each edge operand in the order of nodes and operands
 unfoldable pub routes_of : Kernel → List Route → Result (List Route) MappingFault
-routes_of K routes = each_or_fault (only_route routes) (arg_fault K) (ends_from 0 K.nodes)
+routes_of K routes = each_route K.nodes routes (ends_from 0 K.nodes)
 
 -- nodes go before operands
 abbrev pub mapping_from : ℕ → Result (List Place) MappingFault → Result (List Route) MappingFault → Result Mapping MappingFault

@@ -1,7 +1,9 @@
 //! Mappings of kernels on architectures: their type and their text.
 #![tactic(auto)]
 
+mod complete;
 mod directory;
+mod ends;
 mod fault;
 mod mapping;
 mod named;
