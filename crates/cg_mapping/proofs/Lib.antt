@@ -1,3 +1,4 @@
+pub mod Answered
 pub mod EdgeOperands
 pub mod Numbered
 pub mod Steps

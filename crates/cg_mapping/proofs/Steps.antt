@@ -1,5 +1,5 @@
 -- One item after another, each with what it gives; and a table that tells what that is.
-use Rattle.std.proofs.Common.{◌≡◌, ◌≢◌, ℕ, zero, suc, ◌+◌, ◌-◌, ◌*◌, ◌<◌, ◌≤◌, ◌==◌, ◌&&◌, List, [], ◌∷◌, ◌++◌, append_assoc, length, map, drop, get_or, Option, Some, None, Result, Ok, Err, Bool, true, false, refl, ap, sym, ◌∙◌, arith}
+use Rattle.std.proofs.Common.{◌≡◌, ◌≢◌, ℕ, zero, suc, ◌+◌, ◌-◌, ◌*◌, ◌<◌, ◌≤◌, ◌==◌, ◌&&◌, List, [], ◌∷◌, ◌++◌, append_assoc, length, map, drop, get_or, Option, Some, None, Result, Ok, Err, Bool, true, false, refl, ap, sym, ◌∙◌, arith, Decides}
 use Rattle.std.specs.Prelude.{slice_get}
 use Rattle.std.specs.Option.{option_map}
 use Rattle.std.specs.List.{range_with_len}
@@ -47,9 +47,12 @@ place_only table size places v is h =
 
 -- routes to different operands have different numbers
 same_slot : (v w p q : ℕ) → p < 3 → q < 3 → (3 * v + p == 3 * w + q) ≡ ((v == w) && (p == q))
-same_slot v w p q hp hq = same_from_decides _ _ {P = (v ≡ w) × (p ≡ q)}
-    (λ e. let same = eqb-true (3 * v + p) (3 * w + q) e in (omega (arith, same), omega (arith, same)), λ both. eq-eqb _ _ (let first = both.0 in let second = both.1 in omega (arith, first, second)))
-    (λ e. let parts = and_parts (v == w) (p == q) e in (eqb-true v w parts.0, eqb-true p q parts.1), λ both. and_from _ _ (eq-eqb v w both.0) (eq-eqb p q both.1))
+same_slot v w p q hp hq =
+    let by_slot : Decides (3 * v + p == 3 * w + q) ((v ≡ w) × (p ≡ q)) =
+    (λ e. let same = eqb-true (3 * v + p) (3 * w + q) e in (omega (arith, same), omega (arith, same)), λ both. let first = both.0 in let second = both.1 in eq-eqb _ _ (omega (arith, first, second))) in
+    let by_parts : Decides ((v == w) && (p == q)) ((v ≡ w) × (p ≡ q)) =
+    (λ e. let parts = and_parts (v == w) (p == q) e in (eqb-true v w parts.0, eqb-true p q parts.1), λ both. and_from _ _ (eq-eqb v w both.0) (eq-eqb p q both.1)) in
+    same_from_decides _ _ by_slot by_parts
 
 pub route_only : (table : List Seen) (size : ℕ) (routes : List Route) (e : EdgeOperand) → IsTally table size (map slot_of routes) → AreShort routes → e.arg < 3 → 3 * e.node + e.arg < size
     → picked (get_or table (3 * e.node + e.arg) Never) routes ≡ only_route routes (as_end e)

@@ -79,7 +79,8 @@ impl<'a> Model for Directory<'a> {
 }
 
 impl<'a> Directory<'a> {
-    ghost use Rattle.std.specs.Prelude.{◌≡◌, IfOk};
+    ghost use Rattle.std.specs.Prelude.{◌≡◌, IfOk, OnOk};
+    ghost use Rattle.cg_model.specs.Kernel.{IsKernel};
     ghost use Rattle.cg_mapping.specs.Names as spec;
 
     /// Takes the names of an architecture and a kernel up.
@@ -88,7 +89,8 @@ impl<'a> Directory<'a> {
         arch: &'a Arch,
         kernel: &'a Kernel,
     ) -> Result<Directory<'a>, AllocError>
-        ensures { IfOk result (λ d. d ≡ record { arch = arch.now; kernel = kernel.now }) }
+        ensures pair { IfOk result (λ d. d ≡ record { arch = arch.now; kernel = kernel.now }) }
+        ensures valid { OnOk result (IsKernel kernel.now) }
     {
         let nodes = numbers_of(alloc, kernel.nodes())?;
         let units = numbers_of(alloc, arch.units())?;
