@@ -1,0 +1,5 @@
+pub mod Answered
+pub mod EdgeOperands
+pub mod Numbered
+pub mod Steps
+pub mod Tallies

@@ -1,0 +1,12 @@
+pub mod Answer
+pub mod Complete
+pub mod Directory
+pub mod Ends
+pub mod Limits
+pub mod Names
+pub mod Printed
+pub mod Rules
+pub mod Sound
+pub mod Tally
+pub mod Texts
+pub mod Written

@@ -1,0 +1,15 @@
+use Rattle.std.proofs.Common.{arith, ◌≡◌, ◌+◌, Some, cond, bytes_eq, ap, ◌∙◌}
+use Rattle.std.specs.Option.{option_or}
+use Rattle.cg_model.proofs.Positions.{position_from-more}
+use Rattle.cg_names.specs.Numbers.{has_name}
+use Rattle.cg_mapping.proofs.directory.numbers_of.Goals as goal
+
+pub loop-number-preserved : goal.loop-number-preserved
+loop-number-preserved g c = λ name.
+    let more = position_from-more (λ item. has_name name (Some (g.T.Called.own_name item))) 0 c.args.items.now c.loop-number.number c.index-items-number.result (omega arith) in
+    let new = c.in_ok-add_first.ensures name in
+    let before = c.loop-number.invariant name in
+    let own = c.name.ensures in
+    let is = c.index-items-number.is in
+    let same : 0 + c.loop-number.number ≡ c.loop-number.number = omega arith in
+    cc

@@ -1,0 +1,103 @@
+//! From bytes to a mapping.
+ghost use Rattle.std.specs.Prelude.{◌≡◌, IfOk};
+ghost use Rattle.serde_json.specs.View.{view};
+ghost use Rattle.cg_model.specs.Answers.{Gives};
+ghost use Rattle.cg_model.specs.Mapping.{IsShaped};
+ghost use Rattle.cg_mapping.specs.Answer as spec;
+ghost use Rattle.cg_mapping.specs.Ends.{AreShort};
+ghost use Rattle.cg_mapping.specs.Rules as rules;
+ghost use Rattle.cg_mapping.specs.Sound.{NamesParts, IsWithinLimits};
+ghost use Rattle.cg_mapping.specs.Written as written_form;
+
+use crate::complete::mapping_of;
+use crate::directory::Directory;
+use crate::fault::MappingFault;
+use crate::mapping::Mapping;
+use crate::named::NamedMapping;
+use crate::names::named_of;
+use crate::reading::written_of;
+use crate::rules::{too_large, unknown_key};
+use crate::written::WrittenMapping;
+use cg_arch::Arch;
+use cg_json::{JsonFault, json_value};
+use cg_kernel::Kernel;
+use cg_reading::Misfit;
+use serde_json::Value;
+use std::alloc::Global;
+
+/// The mapping of the kernel on the architecture that the bytes spell, with its places and routes in order whatever their
+/// order in the file; or the lowest fault that applies, at its first place. It need not be legal.
+pub fn read_mapping(
+    alloc: Global,
+    arch: &Arch,
+    kernel: &Kernel,
+    bytes: &[u8],
+) -> Result<Mapping, MappingFault>
+    ensures answer { Gives MappingFault.Memory result (spec.answer_of arch.now kernel.now bytes.now) }
+    ensures shaped { IfOk result (λ mapping. IsShaped kernel.now mapping) }
+    ensures named { IfOk result (λ mapping. NamesParts arch.now mapping) }
+    ensures within { IfOk result IsWithinLimits }
+{
+    answer(alloc, arch, kernel, bytes)
+}
+
+fn answer(
+    alloc: Global,
+    arch: &Arch,
+    kernel: &Kernel,
+    bytes: &[u8],
+) -> Result<Mapping, MappingFault>
+    ensures { Gives MappingFault.Memory result (spec.answer_of arch.now kernel.now bytes.now) }
+{
+    match json_value(alloc, bytes) {
+        Ok(value) => mapping_in(alloc, arch, kernel, &value),
+        Err(JsonFault::NotJson) => Err(MappingFault::NotJson),
+        Err(JsonFault::Memory) => Err(MappingFault::Memory),
+    }
+}
+
+fn mapping_in(
+    alloc: Global,
+    arch: &Arch,
+    kernel: &Kernel,
+    value: &Value,
+) -> Result<Mapping, MappingFault>
+    ensures { Gives MappingFault.Memory result (spec.answer_written arch.now kernel.now (written_form.written_of (view value.now))) }
+{
+    match written_of(alloc, value) {
+        Ok(written) => known(alloc, arch, kernel, &written),
+        Err(Misfit::WrongShape(place)) => Err(MappingFault::WrongShape(place)),
+        Err(Misfit::Memory) => Err(MappingFault::Memory),
+    }
+}
+
+/// The answer from P3 on.
+fn known(
+    alloc: Global,
+    arch: &Arch,
+    kernel: &Kernel,
+    written: &WrittenMapping,
+) -> Result<Mapping, MappingFault>
+    ensures { Gives MappingFault.Memory result (spec.answer_known arch.now kernel.now written.now (rules.unknown_key written.now)) }
+{
+    if let Some(place) = unknown_key(written) {
+        return Err(MappingFault::UnknownKey(place));
+    }
+    let directory = Directory::of(alloc, arch, kernel)?;
+    match named_of(alloc, &directory, written) {
+        Ok(named) => within(alloc, kernel, &named),
+        Err(Misfit::WrongShape(place)) => Err(MappingFault::UnknownName(place)),
+        Err(Misfit::Memory) => Err(MappingFault::Memory),
+    }
+}
+
+/// The answer from P5 on.
+fn within(alloc: Global, kernel: &Kernel, named: &NamedMapping) -> Result<Mapping, MappingFault>
+    requires { AreShort named.now.routes }
+    ensures { Gives MappingFault.Memory result (spec.answer_within kernel.now named.now (rules.too_large named.now)) }
+{
+    if let Some(place) = too_large(named) {
+        return Err(MappingFault::TooLarge(place));
+    }
+    mapping_of(alloc, kernel, named)
+}
