@@ -153,7 +153,7 @@ fn arg_fault(alloc: Global, nodes: &[Node], end: &EdgeOperand) -> MappingFault
 }
 
 /// The name of a node.
-fn name_at(nodes: &[Node], number: usize) -> &str
+pub fn name_at(nodes: &[Node], number: usize) -> &str
     ensures { result.now ≡ spec.name_at nodes.now number }
 {
     match nodes.get(number) {
