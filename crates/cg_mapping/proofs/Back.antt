@@ -1,13 +1,12 @@
 -- What is printed of a mapping reads back as that mapping.
-use Rattle.std.proofs.Common.{◌≡◌, ℕ, zero, suc, ◌+◌, ◌<◌, ◌≤◌, ◌^◌, ◌==◌, List, [], ◌∷◌, length, map, Option, Some, None, Result, Ok, Err, Bool, true, false, cond, codes, refl, ap, sym, ◌∙◌, arith, lit<, IsUtf8, subst}
-use Rattle.std.specs.Prelude.{slice_get, nat_lt}
-use Rattle.std.specs.Option.{option_map, option_and_then, option_map_or, option_or}
+use Rattle.std.proofs.Common.{◌≡◌, ℕ, zero, suc, ◌+◌, ◌<◌, ◌≤◌, ◌^◌, ◌==◌, List, [], ◌∷◌, length, map, Some, None, Ok, Bool, true, false, cond, refl, ap, sym, ◌∙◌, arith, lit<, IsUtf8}
+use Rattle.std.specs.Prelude.{slice_get}
+use Rattle.std.specs.Option.{option_map, option_and_then, option_map_or}
 use Rattle.std.specs.List.{position_from, range_with_len}
 use Rattle.std.proofs.lemmas.Bool.{lt-ltb, le-ltb, eq-eqb, eqb-true, and_parts, and_from}
 use Rattle.std.proofs.lemmas.List.{length-map}
 use Rattle.std.proofs.lemmas.List.FromFn.{length-range_with_len}
 use Rattle.std.proofs.lemmas.Option.{slice_get_within, slice_get-get_or, get_or_from_slice_get}
-use Rattle.serde_json.specs.Data.{Data, no_members, member, array, object, string}
 use Rattle.serde_json.specs.Find.{as_str}
 use Rattle.serde_json.specs.Read.{read}
 use Rattle.serde_json.specs.View.{items_of}
@@ -20,21 +19,19 @@ use Rattle.cg_model.specs.declared.array.Unit.{Unit}
 use Rattle.cg_model.specs.declared.kernel.Node.{Node}
 use Rattle.cg_model.specs.declared.mapping.Place.{Place}
 use Rattle.cg_model.specs.declared.mapping.Route.{Route}
-use Rattle.cg_model.proofs.Elements.{map_get}
 use Rattle.cg_reading.specs.Items.{all_of, all_or_first, and_rest}
 use Rattle.cg_json.specs.Members.{word_in, listed}
 use Rattle.cg_json.proofs.Reading.{value_of-read, listed-items_of}
-use Rattle.cg_kernel_text.proofs.Elements.{all_of-map, all_or_first-map, map-same}
-use Rattle.cg_mapping.specs.Written.{MappingPlace, WrittenPlace, WrittenRoute, WrittenMapping, place_in, place_from, route_in, route_from, joined, written_from, written_of}
+use Rattle.cg_kernel_text.proofs.Elements.{all_of-map, all_or_first-map}
+use Rattle.cg_mapping.specs.Written.{WrittenPlace, WrittenRoute, WrittenMapping, place_in, place_from, route_in, route_from, joined, written_from, written_of}
 use Rattle.cg_mapping.specs.Rules.{NodePlace, NamedMapping, first_of, place_has_other, route_has_other, is_late, is_long, unknown_key, too_large}
 use Rattle.cg_mapping.specs.Names as names
 use Rattle.cg_mapping.specs.Names.{node_number, unit_number, resource_number, takes_edge, is_edge, place_of, place_at, route_of, route_at, end_at, named_of}
-use Rattle.cg_mapping.specs.Complete.{MappingFault, is_of_node, only_such, only_place, ends_at, only_route, node_fault, arg_fault, places_of, routes_of, mapping_from, mapping_of, name_at}
+use Rattle.cg_mapping.specs.Complete.{is_of_node, only_place, ends_at, only_route, node_fault, arg_fault, places_of, routes_of, mapping_from, mapping_of, name_at}
 use Rattle.cg_mapping.specs.Answer.{answer_within, answer_named, answer_known, answer_written, answer_in, answer_of}
 use Rattle.cg_mapping.specs.Limits.{greatest_interval, longest_path}
 use Rattle.cg_mapping.specs.Sound.{NamesParts, IsWithinLimits}
-use Rattle.cg_mapping.specs.Printed.{word_data, unit_name, resource_name, place_data, places_data, step_data, route_data, data_of}
-use Rattle.cg_mapping.specs.declared.fault.MappingPlace.TheVariants as at
+use Rattle.cg_mapping.specs.Printed.{word_data, unit_name, resource_name, places_data, step_data, route_data, data_of}
 use Rattle.cg_mapping.proofs.Answered.{edge_few}
 use Rattle.cg_mapping.proofs.Once.{number_back, only_back, each_back, edge_from, ends_once}
 

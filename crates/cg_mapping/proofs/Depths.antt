@@ -11,7 +11,7 @@ use Rattle.cg_model.specs.declared.array.Unit.{Unit}
 use Rattle.cg_model.specs.declared.kernel.Node.{Node}
 use Rattle.cg_model.specs.declared.mapping.Place.{Place}
 use Rattle.cg_model.specs.declared.mapping.Route.{Route}
-use Rattle.cg_mapping.specs.Printed.{step_data, place_data, places_data, route_data, data_of}
+use Rattle.cg_mapping.specs.Printed.{step_data, places_data, route_data, data_of}
 
 items_no_float : {X : Type 0} (f : X → Data) (xs : List X) → ((x : X) → has_float (f x) ≡ false) → items_have_float (items_of (map f xs)) ≡ false
 items_no_float f [] h = refl

@@ -21,7 +21,11 @@ use std::alloc::{AllocError, Global};
 const MOST_OPERANDS: usize = 3;
 
 /// The mapping with its places and routes in order, or P6 where it isn't complete.
-pub fn mapping_of(alloc: Global, kernel: &Kernel, named: &NamedMapping) -> Result<Mapping, MappingFault>
+pub fn mapping_of(
+    alloc: Global,
+    kernel: &Kernel,
+    named: &NamedMapping,
+) -> Result<Mapping, MappingFault>
     requires { AreShort named.now.routes }
     ensures { Gives MappingFault.Memory result (spec.mapping_of kernel.now named.now) }
 {
