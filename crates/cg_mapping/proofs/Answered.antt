@@ -1,5 +1,5 @@
 -- What holds of a mapping that is answered.
-use Rattle.std.proofs.Common.{◌≡◌, ℕ, zero, suc, ◌+◌, ◌<◌, ◌≤◌, ◌==◌, List, [], ◌∷◌, length, map, Option, Some, None, Result, Ok, Err, Bool, true, false, cond, refl, ap, sym, ◌∙◌, arith, subst}
+use Rattle.std.proofs.Common.{◌≡◌, ℕ, zero, suc, ◌+◌, ◌<◌, ◌≤◌, ◌==◌, List, [], ◌∷◌, length, map, Option, Some, None, Result, Ok, Err, Bool, true, false, cond, refl, ap, sym, ◌∙◌, arith}
 use Rattle.std.specs.Prelude.{slice_get, count_by, nat_lt, IfOk}
 use Rattle.std.specs.Option.{option_map, option_and_then, option_map_or, option_or}
 use Rattle.std.specs.List.{position_from, range_with_len}
@@ -20,11 +20,11 @@ use Rattle.cg_model.proofs.Positions.{position_from-within}
 use Rattle.cg_model.specs.declared.kernel.Node.{Node}
 use Rattle.cg_reading.specs.Items as items
 use Rattle.cg_names.specs.Numbers.{has_name}
-use Rattle.cg_mapping.specs.Written.{MappingPlace, WrittenPlace, WrittenRoute, WrittenMapping, written_of}
-use Rattle.cg_mapping.specs.Rules.{NodePlace, NamedMapping, first_of, is_late, is_long, too_large, unknown_key}
+use Rattle.cg_mapping.specs.Written.{MappingPlace, WrittenMapping, written_of}
+use Rattle.cg_mapping.specs.Rules.{NodePlace, NamedMapping, is_late, is_long, too_large, unknown_key}
 use Rattle.cg_mapping.proofs.EdgeOperands.{operands_few}
 use Rattle.cg_mapping.specs.Names.{is_edge, node_number, unit_number, resource_number, takes_edge, place_at, place_of, end_at, route_at, route_of, joined, named_of}
-use Rattle.cg_mapping.specs.Complete.{MappingFault, only_such, is_of_node, only_place, ends_at, only_route, and_rest, each_or_fault, each_place, each_route, node_fault, arg_fault, places_of, routes_of, mapping_from, mapping_of}
+use Rattle.cg_mapping.specs.Complete.{MappingFault, only_such, is_of_node, only_place, ends_at, only_route, and_rest, each_or_fault, node_fault, arg_fault, places_of, routes_of, mapping_from, mapping_of}
 use Rattle.cg_mapping.specs.Answer.{answer_within, answer_named, answer_known, answer_written, answer_in, answer_of}
 use Rattle.cg_mapping.specs.Limits.{greatest_interval, longest_path}
 use Rattle.cg_mapping.specs.Sound.{NamesParts, IsWithinLimits}

@@ -10,7 +10,6 @@ use Rattle.cg_model.specs.declared.kernel.Node.{Node}
 use Rattle.cg_model.specs.declared.kernel.Operand.{Operand}
 use Rattle.cg_model.specs.declared.kernel.Operand.TheVariants.{Const as Constant, Edge}
 use Rattle.cg_model.specs.Mapping.{End, ends_of, ends_from}
-use Rattle.cg_model.proofs.Elements.{map_get}
 use Rattle.cg_mapping.specs.Ends.{EdgeOperand, as_end, AreWithin}
 use Rattle.cg_mapping.proofs.Steps.{Has}
 

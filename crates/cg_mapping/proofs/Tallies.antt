@@ -39,15 +39,17 @@ seen_by : {X : Type 0} (t : X → Bool) (xs : List X) (i : ℕ) (d : X) (s : See
 seen_by t xs i d Never true h is seen =
     let more = count_by_more_yes t xs i d h is in
     let none = position_none t 0 (take i xs) (counted t (take i xs) ∙ seen) in
-    let here : 0 + i ≡ i = omega arith in
-    (omega (arith, more, seen),
-    position_from-more t 0 xs i d h ∙ ap (λ o. option_or o (cond (t (get_or xs i d)) (Some (0 + i)) None)) none ∙ ap (λ b. cond b (Some (0 + i)) None) is ∙ ap Some here)
+    let here : 0 + i ≡ i = omega arith in (
+      omega (arith, more, seen),
+      position_from-more t 0 xs i d h ∙ ap (λ o. option_or o (cond (t (get_or xs i d)) (Some (0 + i)) None)) none ∙ ap (λ b. cond b (Some (0 + i)) None) is ∙ ap Some here,
+    )
 seen_by t xs i d (Once j) true h is seen = let more = count_by_more_yes t xs i d h is in let one = seen.0 in omega (arith, more, one)
 seen_by t xs i d Again true h is seen = let more = count_by_more_yes t xs i d h is in omega (arith, more, seen)
 seen_by t xs i d Never false h is seen = count_by_more_no t xs i d h is ∙ seen
-seen_by t xs i d (Once j) false h is seen =
-    (count_by_more_no t xs i d h is ∙ seen.0,
-    position_from-more t 0 xs i d h ∙ ap (λ o. option_or o (cond (t (get_or xs i d)) (Some (0 + i)) None)) seen.1)
+seen_by t xs i d (Once j) false h is seen = (
+  count_by_more_no t xs i d h is ∙ seen.0,
+  position_from-more t 0 xs i d h ∙ ap (λ o. option_or o (cond (t (get_or xs i d)) (Some (0 + i)) None)) seen.1,
+)
 seen_by t xs i d Again false h is seen = let more = count_by_more_no t xs i d h is in omega (arith, more, seen)
 
 -- what was seen of one more item

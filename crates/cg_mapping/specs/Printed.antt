@@ -2,7 +2,10 @@
 use Rattle.std.specs.Prelude.{ℕ, ◌+◌, List, [], ◌∷◌, map, codes, slice_index_or}
 use Rattle.serde_json.specs.Data.{Data, number, unsigned, string, array, object, no_members, member}
 use Rattle.serde_json.specs.View.{items_of}
-use Rattle.cg_model.specs.Array.{Arch, unit, resource}
+use Rattle.cg_model.specs.Array.{Arch}
+use Rattle.cg_model.specs.declared.array.Kind.TheVariants.{Wire}
+use Rattle.cg_model.specs.declared.array.Resource.{Resource}
+use Rattle.cg_model.specs.declared.array.Unit.{Unit}
 use Rattle.cg_model.specs.Kernel.{Kernel}
 use Rattle.cg_model.specs.Mapping.{Mapping}
 use Rattle.cg_model.specs.declared.kernel.Node.{Node}
@@ -13,35 +16,42 @@ use Rattle.cg_mapping.specs.Complete.{name_at}
 abbrev pub word_data : ℕ → Data
 word_data w = number (unsigned w)
 
+-- the name of unit x, and of resource r
+abbrev pub unit_name : List Unit → ℕ → List ℕ
+unit_name units x = (slice_index_or units x (record { name = []; ops = []; latency = 1; ports = []; out = 0 })).name
+
+abbrev pub resource_name : List Resource → ℕ → List ℕ
+resource_name resources r = (slice_index_or resources r (record { name = []; kind = Wire; drivers = [] })).name
+
 -- the place of node v, with its keys in alphabetical order
-abbrev pub place_data : Arch → List Node → ℕ → Place → Data
-place_data A nodes v p = object
+abbrev pub place_data : List Node → List Unit → ℕ → Place → Data
+place_data nodes units v p = object
     (member (codes "node") (string (name_at nodes v))
     (member (codes "time") (word_data p.time)
-    (member (codes "unit") (string (unit A p.unit).name) no_members)))
+    (member (codes "unit") (string (unit_name units p.unit)) no_members)))
 
 -- the places of the nodes from v on
-abbrev pub places_data : Arch → List Node → ℕ → List Place → List Data
-places_data A nodes v [] = []
-places_data A nodes v (p ∷ ps) = place_data A nodes v p ∷ places_data A nodes (v + 1) ps
+abbrev pub places_data : List Node → List Unit → ℕ → List Place → List Data
+places_data nodes units v [] = []
+places_data nodes units v (p ∷ ps) = place_data nodes units v p ∷ places_data nodes units (v + 1) ps
 
 -- a resource of a path
-abbrev pub step_data : Arch → ℕ → Data
-step_data A r = string (resource A r).name
+abbrev pub step_data : List Resource → ℕ → Data
+step_data resources r = string (resource_name resources r)
 
-abbrev pub route_data : Arch → List Node → Route → Data
-route_data A nodes r = object
+abbrev pub route_data : List Node → List Resource → Route → Data
+route_data nodes resources r = object
     (member (codes "arg") (word_data r.arg)
-    (member (codes "path") (array (items_of (map (step_data A) r.path)))
+    (member (codes "path") (array (items_of (map (step_data resources) r.path)))
     (member (codes "to") (string (name_at nodes r.node)) no_members)))
 
-abbrev pub mapping_data : Arch → List Node → Mapping → Data
-mapping_data A nodes M = object
+abbrev pub mapping_data : List Node → List Unit → List Resource → Mapping → Data
+mapping_data nodes units resources M = object
     (member (codes "format") (string (codes "cgm1"))
     (member (codes "ii") (word_data M.ii)
-    (member (codes "places") (array (items_of (places_data A nodes 0 M.places)))
-    (member (codes "routes") (array (items_of (map (route_data A nodes) M.routes))) no_members))))
+    (member (codes "places") (array (items_of (places_data nodes units 0 M.places)))
+    (member (codes "routes") (array (items_of (map (route_data nodes resources) M.routes))) no_members))))
 
 -- the value that a mapping of the kernel on the architecture is printed as
 unfoldable pub data_of : Arch → Kernel → Mapping → Data
-data_of A K M = mapping_data A K.nodes M
+data_of A K M = mapping_data K.nodes A.units A.resources M

@@ -1,5 +1,5 @@
 -- What a table keeps of the numbers that fall on each of its places.
-use Rattle.std.specs.Prelude.{◌≡◌, ℕ, ◌==◌, ◌<◌, ◌≤◌, Bool, List, length, count_by, Option, Some, None, slice_get, slice_index_or, if◌then◌else◌}
+use Rattle.std.specs.Prelude.{◌≡◌, ℕ, ◌==◌, ◌<◌, ◌≤◌, Bool, List, length, count_by, Option, Some, None, slice_get, slice_index_or}
 use Rattle.std.specs.List.{position_from}
 pub use Rattle.cg_mapping.specs.declared.tally.Seen.{Seen}
 use Rattle.cg_mapping.specs.declared.tally.Seen.TheVariants.{Never, Once, Again}

@@ -21,7 +21,11 @@ use std::alloc::{AllocError, Global};
 const MOST_OPERANDS: usize = 3;
 
 /// The mapping with its places and routes in order, or P6 where it isn't complete.
-pub fn mapping_of(alloc: Global, kernel: &Kernel, named: &NamedMapping) -> Result<Mapping, MappingFault>
+pub fn mapping_of(
+    alloc: Global,
+    kernel: &Kernel,
+    named: &NamedMapping,
+) -> Result<Mapping, MappingFault>
     requires { AreShort named.now.routes }
     ensures { Gives MappingFault.Memory result (spec.mapping_of kernel.now named.now) }
 {
@@ -153,7 +157,7 @@ fn arg_fault(alloc: Global, nodes: &[Node], end: &EdgeOperand) -> MappingFault
 }
 
 /// The name of a node.
-fn name_at(nodes: &[Node], number: usize) -> &str
+pub fn name_at(nodes: &[Node], number: usize) -> &str
     ensures { result.now ≡ spec.name_at nodes.now number }
 {
     match nodes.get(number) {

@@ -8,7 +8,7 @@ use cg_model::{Node, Operand};
 use std::alloc::{AllocError, Global};
 
 /// An edge operand: the number of its node, and its own.
-#[derive(Clone, Copy, Debug, PartialEq, Eq)]
+#[derive(Clone, Copy)]
 pub struct EdgeOperand {
     pub node: usize,
     pub arg: usize,

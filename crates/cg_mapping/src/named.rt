@@ -3,7 +3,7 @@
 use cg_model::{Items, Place, Route};
 
 /// A place, with the number of its node.
-#[derive(Clone, Copy, Debug, PartialEq, Eq)]
+#[derive(Clone, Copy)]
 pub struct NodePlace {
     pub node: u32,
     pub place: Place,

@@ -104,7 +104,11 @@ fn end_of(directory: &Directory, written: &WrittenRoute) -> Option<u32>
     ensures { result ≡ spec.end_at directory.now.kernel written.now.arg (spec.node_number directory.now.kernel written.now.to) }
 {
     match directory.node_number(written.to.as_str()) {
-        Some(node) => if directory.takes_edge(node, written.arg) { Some(node) } else { None },
+        Some(node) => if directory.takes_edge(node, written.arg) {
+            Some(node)
+        } else {
+            None
+        },
         None => None,
     }
 }

@@ -6,7 +6,7 @@ ghost use Rattle.cg_mapping.specs.Tally as spec;
 use std::alloc::{AllocError, Global};
 
 /// How often a number was seen, and at which place, if only once.
-#[derive(Clone, Copy, Debug, PartialEq, Eq)]
+#[derive(Clone, Copy)]
 pub enum Seen {
     Never,
     Once(usize),

@@ -1,4 +1,4 @@
-use Rattle.std.proofs.Common.{◌+◌, ◌∙◌, ◌++◌, ◌∷◌, [], ap, Err, arith}
+use Rattle.std.proofs.Common.{◌+◌, ◌∙◌, ◌++◌, ◌∷◌, [], ap, Err}
 use Rattle.cg_reading.proofs.Lists.{before}
 use Rattle.cg_mapping.proofs.EdgeOperands.{end_has}
 use Rattle.cg_mapping.proofs.Steps.{routes_left, route_more, route_stop}

@@ -1,5 +1,5 @@
-use Rattle.std.proofs.Common.{◌∙◌, ap, map, List, length, subst}
-use Rattle.cg_mapping.specs.Ends.{EdgeOperand, as_end, AreWithin}
+use Rattle.std.proofs.Common.{◌∙◌, ap, map}
+use Rattle.cg_mapping.specs.Ends.{as_end}
 use Rattle.cg_mapping.proofs.EdgeOperands.{ends_within}
 use Rattle.cg_mapping.proofs.complete.routes_of.Goals as goal
 

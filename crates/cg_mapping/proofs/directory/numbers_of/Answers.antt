@@ -1,5 +1,4 @@
-use Rattle.std.proofs.Common.{arith, ◌≡◌, ◌+◌, Some, cond, bytes_eq, ap, ◌∙◌}
-use Rattle.std.specs.Option.{option_or}
+use Rattle.std.proofs.Common.{arith, ◌≡◌, ◌+◌, Some}
 use Rattle.cg_model.proofs.Positions.{position_from-more}
 use Rattle.cg_names.specs.Numbers.{has_name}
 use Rattle.cg_mapping.proofs.directory.numbers_of.Goals as goal

@@ -4,4 +4,4 @@ use Rattle.cg_mapping.specs.Printed.{route_data}
 use Rattle.cg_mapping.proofs.print.routes_value.Given as goal
 
 abbrev pub invariant-loop-route : goal.invariant-loop-route
-invariant-loop-route l = map view l.list.items ≡ map (route_data l.arch l.nodes) (take l.route-index l.routes)
+invariant-loop-route l = map view l.list.items ≡ map (route_data l.nodes l.resources) (take l.route-index l.routes)

@@ -1,4 +1,4 @@
-use Rattle.std.proofs.Common.{◌≡◌, ℕ, List, ◌+◌, ◌==◌, sym, ap, ◌∙◌, length, subst, get_or, take, refl}
+use Rattle.std.proofs.Common.{List, ◌+◌, ◌==◌, sym, ap, ◌∙◌, length, subst, get_or, take, refl}
 use Rattle.std.proofs.lemmas.List.{length-set}
 use Rattle.cg_mapping.specs.Tally.{Seen, IsSeen}
 use Rattle.cg_mapping.specs.declared.tally.Seen.TheVariants.{Never}

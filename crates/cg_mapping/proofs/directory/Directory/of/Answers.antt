@@ -1,4 +1,3 @@
-use Rattle.std.proofs.Common.{Some}
 use Rattle.cg_mapping.proofs.Numbered.{numbering_of}
 use Rattle.cg_mapping.proofs.directory.Directory.of.Goals as goal
 
