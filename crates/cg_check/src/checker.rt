@@ -41,25 +41,46 @@ fn first_violation(
     ensures { IfOk result (λ v. v ≡ violation arch.now kernel.now mapping.now) }
 {
     if let Some(place) = wrong_interval(arch, mapping) {
-        return Ok(Some(Violation { rule: Rule::L1, place }));
+        return Ok(Some(Violation {
+            rule: Rule::L1,
+            place,
+        }));
     }
     if let Some(place) = misplaced(arch, kernel, mapping) {
-        return Ok(Some(Violation { rule: Rule::L2, place }));
+        return Ok(Some(Violation {
+            rule: Rule::L2,
+            place,
+        }));
     }
     if let Some(place) = shared_slot(alloc, arch, mapping)? {
-        return Ok(Some(Violation { rule: Rule::L3, place }));
+        return Ok(Some(Violation {
+            rule: Rule::L3,
+            place,
+        }));
     }
     if let Some(place) = late_edge(kernel, mapping) {
-        return Ok(Some(Violation { rule: Rule::L4, place }));
+        return Ok(Some(Violation {
+            rule: Rule::L4,
+            place,
+        }));
     }
     if let Some(place) = unbrought(arch, kernel, mapping) {
-        return Ok(Some(Violation { rule: Rule::L5, place }));
+        return Ok(Some(Violation {
+            rule: Rule::L5,
+            place,
+        }));
     }
     if let Some(place) = first_clash(alloc, Sharing::Value, arch, kernel, mapping)? {
-        return Ok(Some(Violation { rule: Rule::L6, place }));
+        return Ok(Some(Violation {
+            rule: Rule::L6,
+            place,
+        }));
     }
     if let Some(place) = first_clash(alloc, Sharing::Way, arch, kernel, mapping)? {
-        return Ok(Some(Violation { rule: Rule::L7, place }));
+        return Ok(Some(Violation {
+            rule: Rule::L7,
+            place,
+        }));
     }
     Ok(None)
 }
@@ -85,8 +106,6 @@ pub fn check<'a>(
             place,
             mapping,
         }),
-        None => Ok(CheckVerdict::Legal(LegalMapping::new(
-            arch, kernel, mapping,
-        ))),
+        None => Ok(CheckVerdict::Legal(LegalMapping::new(arch, kernel, mapping))),
     }
 }

@@ -1,5 +1,4 @@
-use Rattle.std.proofs.Common.{◌≡◌, ◌<◌, length, sym, ◌∙◌, arith, ap}
-use Rattle.cg_model.specs.Kernel.{Kernel}
+use Rattle.std.proofs.Common.{sym, ◌∙◌, arith}
 use Rattle.cg_check.specs.declared.rule.Rule.TheVariants.{L1, L2, L3, L4, L5, L6, L7}
 use Rattle.cg_check.proofs.Kept.{interval_kept, units_kept}
 use Rattle.cg_check.proofs.Judged.{first_here, first_later, first_none}
