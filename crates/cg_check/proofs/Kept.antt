@@ -1,24 +1,20 @@
 -- L1 to L5: a mapping keeps the rule just where no place violates it.
-use Rattle.std.proofs.Common.{◌≡◌, ℕ, ◌+◌, ◌*◌, ◌%◌, ◌<◌, ◌≤◌, Bool, true, false, cond, List, take, length, get_or, Option, Some, None, Contains, refl, sym, ap, ◌∙◌, subst, arith, ⊎_elim, eqb-true, eq-eqb}
-use Rattle.std.specs.Prelude.{◌&&◌, ◌⊎◌, not, eqb, nat_lt, nat_le, slice_get}
+use Rattle.std.proofs.Common.{◌≡◌, ℕ, ◌%◌, ◌<◌, Bool, true, false, cond, take, length, Some, None, refl, sym, ap, ◌∙◌, subst, arith, ⊎_elim, eqb-true, eq-eqb}
+use Rattle.std.specs.Prelude.{◌&&◌, not, eqb, nat_lt, nat_le, slice_get}
 use Rattle.std.specs.Option.{option_map}
 use Rattle.std.proofs.lemmas.Bool.{and_parts, and_from, not-false, not_from_true, ltb-true, leb-true, lt-ltb, le-leb, cases_order, cond-true, both_ways, false_from_ne_true}
 use Rattle.std.proofs.lemmas.Option.{slice_get-get_or, slice_get_within, get_or_from_slice_get}
 use Rattle.cg_word.proofs.Marks.{among_from, among_it}
-use Rattle.cg_model.specs.declared.kernel.OrderEdge.{OrderEdge}
-use Rattle.cg_model.specs.declared.kernel.Operand.TheVariants.{Edge}
-use Rattle.cg_model.specs.Kernel.{Kernel, HasOperand, HasOrder, size, node}
-use Rattle.cg_model.specs.Array.{Arch, unit}
+use Rattle.cg_model.specs.Kernel.{Kernel, size}
+use Rattle.cg_model.specs.Array.{Arch}
 use Rattle.cg_model.specs.declared.mapping.Place.{Place}
-use Rattle.cg_model.specs.declared.mapping.Route.{Route}
-use Rattle.cg_model.specs.Mapping.{Mapping, Brings, place}
+use Rattle.cg_model.specs.Mapping.{Mapping, place}
 use Rattle.cg_model.proofs.Options.{map_none}
 use Rattle.cg_model.proofs.Positions.{first_from_none}
-use Rattle.cg_model.proofs.Elements.{any_true, any_false, take_get}
+use Rattle.cg_model.proofs.Elements.{any_true, take_get}
 use Rattle.cg_check.specs.Edges.{data_edge}
-use Rattle.cg_check.specs.declared.rule.RulePlace.{RulePlace}
 use Rattle.cg_check.specs.declared.rule.RulePlace.TheVariants as at
-use Rattle.cg_check.specs.Rules.{Rule, L1, L2, L3, L4, L5, Keeps, StandsWell, violated, is_interval, stands_well, is_shared, is_after, is_brought, brings, end_place}
+use Rattle.cg_check.specs.Rules.{L1, L2, L3, L4, L5, Keeps, StandsWell, violated, is_interval, stands_well, is_shared, is_after, is_brought, brings, end_place}
 use Rattle.cg_check.proofs.Lists.{any_of, Contains-get, taken_get, first_from_clear, first_such_clear, first_such_not}
 use Rattle.cg_check.proofs.Links.{arrives_it, brings_of}
 

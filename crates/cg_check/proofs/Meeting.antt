@@ -1,7 +1,7 @@
 -- L6 and L7: positions that meet are alike just where no resource in no slot has two that aren't.
-use Rattle.std.proofs.Common.{◌≡◌, ℕ, suc, ◌+◌, ◌*◌, ◌%◌, ◌<◌, ◌≤◌, Bool, true, false, cond, List, [], ◌∷◌, length, Option, Some, None, Contains, refl, sym, ap, ◌∙◌, subst, arith, inl, inr, ⊎_elim, eqb-true, eq-eqb}
-use Rattle.std.specs.Prelude.{◌&&◌, ◌⊎◌, not, eqb, slice_get}
-use Rattle.std.proofs.lemmas.Bool.{and_parts, and_from, not-false, not_from_true, false_from_ne_true, cond-true, cond-false, cases_lt, true≢false, both_ways, not-true, not_from_false}
+use Rattle.std.proofs.Common.{◌≡◌, ℕ, ◌+◌, ◌%◌, ◌<◌, ◌≤◌, Bool, true, false, cond, List, [], ◌∷◌, length, Option, Some, None, Contains, refl, sym, ap, ◌∙◌, subst, ⊎_elim, eqb-true, eq-eqb}
+use Rattle.std.specs.Prelude.{◌&&◌, not, eqb, slice_get}
+use Rattle.std.proofs.lemmas.Bool.{and_parts, and_from, not-false, not_from_true, cond-false, cases_lt}
 use Rattle.std.proofs.lemmas.List.{get_or_past}
 use Rattle.std.proofs.lemmas.Nat.{mod_below}
 use Rattle.cg_model.specs.declared.kernel.Operand.{Operand}
@@ -12,10 +12,9 @@ use Rattle.cg_model.specs.Kernel.{Kernel, IsKernel, HasOperand, size, node}
 use Rattle.cg_model.specs.Array.{Arch, IsArch, resource, unit, delay}
 use Rattle.cg_model.specs.Mapping.{Mapping, Position, Goes, Brings, place, positions, positions_after, positions_on, of_operand, of_route, leaves}
 use Rattle.cg_overlap.proofs.Facts.{Contains-cases, Contains-nil, Contains-flat_map_from}
-use Rattle.cg_check.specs.declared.rule.RulePlace.{RulePlace}
 use Rattle.cg_check.specs.declared.rule.RulePlace.TheVariants as at
-use Rattle.cg_check.specs.Rules.{Rule, L2, L5, L6, L7, Keeps, AreAlike, violated, same_value, same_from, same_way, is_on, clashes, first_below, first_clash}
-use Rattle.cg_check.proofs.Lists.{any_of, any_in, any_not, any_none, and_not, first_below_none, first_below_clear}
+use Rattle.cg_check.specs.Rules.{L2, L5, L6, L7, Keeps, AreAlike, violated, same_value, same_from, same_way, is_on, clashes, first_below, first_clash}
+use Rattle.cg_check.proofs.Lists.{any_not, any_none, and_not, first_below_none, first_below_clear}
 
 -- ---- what the tests of two positions say
 

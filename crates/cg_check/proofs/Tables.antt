@@ -1,7 +1,7 @@
 -- After all positions were claimed, the table has a clash just where two positions aren't alike.
-use Rattle.std.proofs.Common.{◌≡◌, ◌≢◌, ℕ, suc, ◌+◌, ◌*◌, ◌/◌, ◌%◌, ◌<◌, ◌≤◌, Bool, true, false, cond, List, [], ◌∷◌, ◌++◌, length, replicate, drop, get_or, add-one, Option, Some, None, Contains, refl, sym, ap, ◌∙◌, subst, arith, inl, inr, ⊎_elim, eqb-true, eq-eqb, append_assoc}
-use Rattle.std.specs.Prelude.{◌&&◌, ◌⊎◌, not, eqb, flat_map}
-use Rattle.std.proofs.lemmas.Bool.{and_parts, and_from, not_from_true, not_from_false, cases_Bool, both_ways, cond-true, cond-false}
+use Rattle.std.proofs.Common.{◌≡◌, ◌≢◌, ℕ, suc, ◌+◌, ◌*◌, ◌/◌, ◌%◌, ◌<◌, Bool, true, false, cond, List, [], ◌∷◌, ◌++◌, length, replicate, drop, get_or, add-one, Option, Some, None, Contains, refl, sym, ap, ◌∙◌, subst, arith, ⊎_elim, eqb-true, eq-eqb, append_assoc}
+use Rattle.std.specs.Prelude.{◌&&◌, flat_map}
+use Rattle.std.proofs.lemmas.Bool.{and_parts, and_from, not_from_true, not_from_false, cases_Bool, both_ways}
 use Rattle.std.proofs.lemmas.List.{get_or-set_same, get_or-set_other, length-set, get_or-replicate, length-replicate, append-nil}
 use Rattle.std.proofs.lemmas.List.Elements.{Contains-push, Contains-push_cases, Contains-append_left}
 use Rattle.std.proofs.lemmas.Nat.{mul-add-lt, div-mul-add, mod-mul-add, mod_below}
@@ -14,15 +14,14 @@ use Rattle.cg_model.specs.declared.mapping.Route.{Route}
 use Rattle.cg_model.specs.Mapping.{Mapping, Position, positions, positions_on, of_operand, leaves}
 use Rattle.cg_check.specs.Edges.{DataEdge, data_edge}
 use Rattle.cg_overlap.proofs.Facts.{Contains-nil}
-use Rattle.cg_check.specs.declared.rule.RulePlace.{RulePlace}
 use Rattle.cg_check.specs.declared.rule.RulePlace.TheVariants as at
 use Rattle.cg_check.specs.declared.stop.Stop.{Stop}
 use Rattle.cg_check.specs.declared.stop.Sharing.{Sharing}
 use Rattle.cg_check.specs.declared.stop.Sharing.TheVariants.{Value, Way}
 use Rattle.cg_check.specs.declared.stop.Cell.{Cell}
 use Rattle.cg_check.specs.declared.stop.Cell.TheVariants.{Free, Held, Clash}
-use Rattle.cg_check.specs.Rules.{same_value, same_way, is_on, clashes, first_below, first_clash, violated}
-use Rattle.cg_check.specs.Claims.{position_of, stop_of, alike, rule_of, with_claim, cell, index_of, claimed, claims, is_clash, clash_on, clash_in}
+use Rattle.cg_check.specs.Rules.{is_on, clashes, first_clash, violated}
+use Rattle.cg_check.specs.Claims.{position_of, alike, rule_of, with_claim, cell, index_of, claimed, claims, is_clash, clash_in}
 use Rattle.cg_check.proofs.Lists.{any_of, any_none, and_not, first_below_same}
 use Rattle.cg_check.proofs.Meeting.{values_same, same_values, ways_same, same_ways}
 
@@ -115,7 +114,7 @@ one_cell sharing ii resources ps table p r s some t lr ls =
     (subst (λ c. IsCell sharing (is_on ii r s) (ps ++ p ∷ []) c) (sym (get_or-set_same table (index_of ii p) _ Free within)) (there sharing (is_on ii r s) ps _ p on old)))
     (λ off.
     let apart : r * ii + s ≢ index_of ii p =
-        λ e. let (a, b) = places_apart ii r s p.resource (p.time % ii) ls (mod_below p.time ii some) e in both_ways _ off (and_from _ _ (eq-eqb _ _ (sym a)) (eq-eqb _ _ (sym b))) in
+    λ e. let (a, b) = places_apart ii r s p.resource (p.time % ii) ls (mod_below p.time ii some) e in both_ways _ off (and_from _ _ (eq-eqb _ _ (sym a)) (eq-eqb _ _ (sym b))) in
     subst (λ c. IsCell sharing (is_on ii r s) (ps ++ p ∷ []) c) (sym (get_or-set_other table (index_of ii p) (r * ii + s) _ Free apart)) (elsewhere sharing (is_on ii r s) ps _ p off (t.cells r s lr ls)))
     (cases_Bool (is_on ii r s p))
 
@@ -164,7 +163,7 @@ pub claims-routes : (f : Route → List Position) (sharing : Sharing) (ii : ℕ)
     claims sharing ii (claims sharing ii table (f route)) (flat_map f (drop (i + 1) routes)) ≡ claims sharing ii table (flat_map f (drop i routes))
 claims-routes f sharing ii table routes i route l at =
     let opened : flat_map f (drop i routes) ≡ f route ++ flat_map f (drop (i + 1) routes) =
-        ap (flat_map f) (drop-cons routes i route l) ∙ ap (λ z. f z ++ flat_map f (drop (suc i) routes)) (sym at) ∙ ap (λ n. f route ++ flat_map f (drop n routes)) (sym (add-one i)) in
+    ap (flat_map f) (drop-cons routes i route l) ∙ ap (λ z. f z ++ flat_map f (drop (suc i) routes)) (sym at) ∙ ap (λ n. f route ++ flat_map f (drop n routes)) (sym (add-one i)) in
     sym (ap (claims sharing ii table) opened ∙ claims-append sharing ii table (f route) (flat_map f (drop (i + 1) routes)))
 
 -- the positions of a path for an edge, if there is one

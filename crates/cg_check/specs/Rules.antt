@@ -5,7 +5,6 @@ use Rattle.std.specs.Option.{option_map, option_or}
 use Rattle.cg_word.specs.Sets.{among}
 use Rattle.cg_model.specs.First.{first_from, first_such}
 use Rattle.cg_model.specs.Limits.{latest_time}
-use Rattle.cg_model.specs.declared.kernel.Node.{Node}
 use Rattle.cg_model.specs.declared.kernel.OrderEdge.{OrderEdge}
 use Rattle.cg_model.specs.declared.kernel.Operand.TheVariants.{Edge}
 use Rattle.cg_model.specs.Kernel.{Kernel, HasOperand, HasOrder, size, node}

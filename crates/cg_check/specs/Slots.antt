@@ -1,5 +1,5 @@
 -- The slots of units that nodes have taken.
-use Rattle.std.specs.Prelude.{◌≡◌, ℕ, ◌+◌, ◌*◌, ◌%◌, ◌<◌, Bool, true, false, ◌&&◌, eqb, List, length, take, drop, Option, slice_index_or}
+use Rattle.std.specs.Prelude.{◌≡◌, ℕ, ◌+◌, ◌*◌, ◌%◌, ◌<◌, Bool, false, ◌&&◌, eqb, List, length, take, drop, Option, slice_index_or}
 use Rattle.std.specs.List.{list_any}
 use Rattle.cg_model.specs.First.{first_from}
 use Rattle.cg_check.specs.Rules.{is_shared}
@@ -8,6 +8,14 @@ use Rattle.cg_model.specs.declared.mapping.Place.{Place}
 -- one of these places has unit x and slot s
 abbrev pub takes : ℕ → List Place → ℕ → ℕ → Bool
 takes ii places x s = list_any (λ q. eqb q.unit x && eqb (q.time % ii) s) places
+
+-- place number v
+abbrev pub place_in : List Place → ℕ → Place
+place_in places v = slice_index_or places v (record { unit = 0; time = 0 })
+
+-- the mark of a place: those of a unit are one behind the other, by slot
+abbrev pub mark_of : ℕ → Place → ℕ
+mark_of ii p = p.unit * ii + p.time % ii
 
 -- a mark for each slot of each unit, set where one of these places takes it
 pub record AreMarks (ii units : ℕ) (places : List Place) (marks : List Bool) : Type 0 where

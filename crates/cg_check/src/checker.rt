@@ -1,5 +1,5 @@
 //! The exact checker of mappings.
-ghost use Rattle.std.specs.Prelude.{◌≡◌, IfOk};
+ghost use Rattle.std.specs.Prelude.{◌≡◌, IfOk, Some};
 ghost use Rattle.cg_model.specs.Mapping.{IsShaped};
 ghost use Rattle.cg_check.specs.Rules.{violation};
 ghost use Rattle.cg_check.specs.Verdict.{IsVerdict, JudgesLegality, JudgesRules};
@@ -30,6 +30,13 @@ pub enum CheckVerdict<'a> {
     },
 }
 
+/// What is answered where a rule is violated.
+fn violation_at(rule: Rule, place: RulePlace) -> Option<Violation>
+    ensures { result ≡ Some (record { rule = rule; place = place }) }
+{
+    Some(Violation { rule, place })
+}
+
 /// The lowest rule that is violated, at its first place.
 fn first_violation(
     alloc: Global,
@@ -41,25 +48,25 @@ fn first_violation(
     ensures { IfOk result (λ v. v ≡ violation arch.now kernel.now mapping.now) }
 {
     if let Some(place) = wrong_interval(arch, mapping) {
-        return Ok(Some(Violation { rule: Rule::L1, place }));
+        return Ok(violation_at(Rule::L1, place));
     }
     if let Some(place) = misplaced(arch, kernel, mapping) {
-        return Ok(Some(Violation { rule: Rule::L2, place }));
+        return Ok(violation_at(Rule::L2, place));
     }
     if let Some(place) = shared_slot(alloc, arch, mapping)? {
-        return Ok(Some(Violation { rule: Rule::L3, place }));
+        return Ok(violation_at(Rule::L3, place));
     }
     if let Some(place) = late_edge(kernel, mapping) {
-        return Ok(Some(Violation { rule: Rule::L4, place }));
+        return Ok(violation_at(Rule::L4, place));
     }
     if let Some(place) = unbrought(arch, kernel, mapping) {
-        return Ok(Some(Violation { rule: Rule::L5, place }));
+        return Ok(violation_at(Rule::L5, place));
     }
     if let Some(place) = first_clash(alloc, Sharing::Value, arch, kernel, mapping)? {
-        return Ok(Some(Violation { rule: Rule::L6, place }));
+        return Ok(violation_at(Rule::L6, place));
     }
     if let Some(place) = first_clash(alloc, Sharing::Way, arch, kernel, mapping)? {
-        return Ok(Some(Violation { rule: Rule::L7, place }));
+        return Ok(violation_at(Rule::L7, place));
     }
     Ok(None)
 }
@@ -85,8 +92,6 @@ pub fn check<'a>(
             place,
             mapping,
         }),
-        None => Ok(CheckVerdict::Legal(LegalMapping::new(
-            arch, kernel, mapping,
-        ))),
+        None => Ok(CheckVerdict::Legal(LegalMapping::new(arch, kernel, mapping))),
     }
 }

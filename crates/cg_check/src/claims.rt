@@ -73,14 +73,7 @@ fn next(arch: &Arch, stop: Stop, resource: u32) -> Stop
 }
 
 /// Claims the stops of a path from its first one on.
-fn claim_path(
-    table: &mut [Cell],
-    sharing: Sharing,
-    arch: &Arch,
-    ii: u32,
-    start: Stop,
-    rest: &[u32],
-)
+fn claim_path(table: &mut [Cell], sharing: Sharing, arch: &Arch, ii: u32, start: Stop, rest: &[u32])
     requires interval { 0 < ii }
     requires soon { start.time < 2 ^ 33 }
     ensures { table.new ≡ spec.claims sharing ii table.old (spec.position_of start ∷ mappings.positions_after arch.now start.source start.resource start.time rest.now) }

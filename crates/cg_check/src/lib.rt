@@ -17,5 +17,5 @@ mod texts;
 pub use cg_mapping::{Arch, Kernel, Mapping, Place, Route};
 pub use checker::{CheckVerdict, check};
 pub use legal::LegalMapping;
-pub use rule::{Rule, RulePlace};
+pub use rule::{Rule, RulePlace, Violation};
 pub use texts::rule_text;

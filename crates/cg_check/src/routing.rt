@@ -57,8 +57,7 @@ fn is_brought(arch: &Arch, kernel: &Kernel, mapping: &Mapping, route: &Route) ->
         Some(edge) => {
             let target = place(mapping, route.node);
             let port = port(arch, target.unit, route.arg);
-            let end =
-                u64::from(target.time) + u64::from(mapping.ii()) * u64::from(edge.distance);
+            let end = u64::from(target.time) + u64::from(mapping.ii()) * u64::from(edge.distance);
             arrives(arch, mapping, edge.source, route.path.as_slice(), port, end)
         }
     }
@@ -69,7 +68,8 @@ fn is_brought(arch: &Arch, kernel: &Kernel, mapping: &Mapping, route: &Route) ->
 pub(crate) fn unbrought(arch: &Arch, kernel: &Kernel, mapping: &Mapping) -> Option<RulePlace>
     ensures { result ≡ violated L5 arch.now kernel.now mapping.now }
 {
-    for route in mapping.routes() {
+    let routes = mapping.routes();
+    for route in routes {
         if !is_brought(arch, kernel, mapping, route) {
             return Some(RulePlace::Arg {
                 node: route.node,

@@ -14,8 +14,8 @@ loop-route-preserved c =
     let route = c.route-item.result in
     let i = c.loop-route.route-index in
     let step : claims c.args.sharing M.ii (claims c.args.sharing M.ii c.loop-route.table (f route)) (flat_map f (drop (i + 1) M.routes)) ≡ claims c.args.sharing M.ii c.loop-route.table (flat_map f (drop i M.routes)) =
-        subst (λ (z : List Route). claims c.args.sharing M.ii (claims c.args.sharing M.ii c.loop-route.table (f route)) (flat_map f (drop (i + 1) z)) ≡ claims c.args.sharing M.ii c.loop-route.table (flat_map f (drop i z))) c.routes-route-items.ensures
-        (claims-routes f c.args.sharing M.ii c.loop-route.table c.routes-route-items.result.now i route c.loop-route-test.true c.route-item.is) in
+    subst (λ (z : List Route). claims c.args.sharing M.ii (claims c.args.sharing M.ii c.loop-route.table (f route)) (flat_map f (drop (i + 1) z)) ≡ claims c.args.sharing M.ii c.loop-route.table (flat_map f (drop i z))) c.routes-route-items.ensures
+    (claims-routes f c.args.sharing M.ii c.loop-route.table c.routes-route-items.result.now i route c.loop-route-test.true c.route-item.is) in
     ap (λ z. claims c.args.sharing M.ii z (flat_map f (drop (i + 1) M.routes))) c.claim_route.ensures ∙ step ∙ c.loop-route.invariant
 
 pub returns : goal.returns
