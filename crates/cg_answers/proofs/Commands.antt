@@ -26,7 +26,7 @@ use Rattle.cg_answers.specs.Run.{run_by}
 use Rattle.cg_answers.proofs.Sound.{IsSound}
 use Rattle.cg_answers.proofs.Run.{same_array, sound_run, accepted_run, named_run}
 use Rattle.cg_answers.proofs.Checked.{same_check, sound_check, accepted_check, quiet_check}
-use Rattle.cg_answers.proofs.Emitting.{same_emit, sound_emit, accepted_emit, named_emit}
+use Rattle.cg_answers.proofs.Bitstream.{same_emit, sound_emit, accepted_emit, named_emit}
 use Rattle.cg_answers.specs.Commands.{IsAnswer, Accepts}
 
 -- an unaliased run has no first pair

@@ -21,7 +21,7 @@ use Rattle.cg_answers.specs.TurnsOnImage.{IsTurnsOnImage, IsOnKernel, IsOnImage,
 use Rattle.cg_answers.specs.Flat.{IsFlat, flat_by}
 use Rattle.cg_answers.specs.Run.{IsRun, run_by}
 use Rattle.cg_answers.proofs.Checked.{some_check}
-use Rattle.cg_answers.proofs.Emitting.{some_emit}
+use Rattle.cg_answers.proofs.Bitstream.{some_emit}
 use Rattle.cg_answers.specs.Commands.{IsAnswer}
 
 -- after a valid kernel, whatever comes of the image

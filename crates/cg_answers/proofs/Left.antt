@@ -38,7 +38,7 @@ use Rattle.cg_answers.proofs.Commands.{turns_is, on_image_is}
 use Rattle.cg_answers.proofs.Run.{valid_array, spelled_answer}
 use Rattle.cg_answers.proofs.Wholes.{whole, one_write, one_read, first_read, second_read, three_read, differ}
 use Rattle.cg_answers.proofs.Checked.{legal_left, illegal_left}
-use Rattle.cg_answers.proofs.Emitting.{leaves_turns, emitted_left, unemitted_left}
+use Rattle.cg_answers.proofs.Bitstream.{leaves_turns, emitted_left, unemitted_left}
 
 -- ---- `turns KERNEL TURNS`
 

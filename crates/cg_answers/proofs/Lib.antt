@@ -6,7 +6,7 @@ pub mod Run
 pub mod Wholes
 pub mod Mapped
 pub mod Checked
-pub mod Emitting
+pub mod Bitstream
 pub mod Commands
 pub mod Imaged
 pub mod Left

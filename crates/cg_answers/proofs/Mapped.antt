@@ -15,7 +15,7 @@ use Rattle.cg_kernel.specs.Answer as kernels
 use Rattle.cg_kernel.proofs.Spelled.{spelled_valid}
 use Rattle.cg_mapping.specs.declared.fault.MappingFault.{MappingFault}
 use Rattle.cg_mapping.specs.Answer as mappings
-use Rattle.cg_mapping.proofs.Shaped.{answer_shaped}
+use Rattle.cg_mapping.proofs.Answered.{answered-shaped}
 use Rattle.cg_check.specs.Legal.{Mapped}
 use Rattle.cg_answers.specs.Sources.{Pair, pair_by, pair_of, mapped_by, mapped_of, AreMapped}
 use Rattle.cg_answers.specs.Check.{AreGiven}
@@ -78,7 +78,7 @@ pub record IsValid (m : Mapped) : Type 0 where
 
 pub valid_given : (arch kernel mapping : Bytes) (m : Mapped) → AreGiven arch kernel mapping m → IsValid m
 valid_given arch kernel mapping m g =
-    record { arch = valid_array arch m.arch g.arch_is; kernel = spelled_valid kernel m.kernel g.kernel_is; shape = answer_shaped m.arch m.kernel mapping m.mapping g.mapping_is }
+    record { arch = valid_array arch m.arch g.arch_is; kernel = spelled_valid kernel m.kernel g.kernel_is; shape = answered-shaped m.arch m.kernel mapping (Ok m.mapping) (sym g.mapping_is) }
 
 -- ---- one answer
 
