@@ -79,15 +79,17 @@ fn run_like_turns(legal: &LegalMapping<'_>)
     overlaps_alone();
 }
 
-/// The bits of a legal mapping.
+/// The bits of a legal mapping. An array that runs them works on several turns at once, and does what the turns do one
+/// after the other.
 pub fn emit(alloc: Global, legal: &LegalMapping<'_>) -> Result<Vec<u8>, AllocError>
     ensures bits { IfOk result (λ bytes. AreBits legal.now.arch (configuration_of legal.now.arch legal.now.kernel legal.now.mapping) bytes.items) }
-    // They spell nothing else, and no other bytes spell it.
+    // They spell no other configuration, no other bytes spell it, and reading the bytes gives it back.
     ensures only { IfOk result (λ bytes. (C : configs.Config) → AreBits legal.now.arch C bytes.items → C ≡ configuration_of legal.now.arch legal.now.kernel legal.now.mapping) }
     ensures one_spelling { IfOk result (λ bytes. (others : List ℕ) → IsBytes others → AreBits legal.now.arch (configuration_of legal.now.arch legal.now.kernel legal.now.mapping) others → others ≡ bytes.items) }
     ensures read { IfOk result (λ bytes. answer_of legal.now.arch bytes.items ≡ Ok (configuration_of legal.now.arch legal.now.kernel legal.now.mapping)) }
 
-    // The overlap theorem.
+    // The overlap theorem: in a cycle nothing carries or begins two values, and the run does what the turns do, in each
+    // cycle and in the end.
     ensures once { CarriesOne legal.now.arch legal.now.kernel legal.now.mapping }
     ensures overlaps { IfOk result (λ bytes. RunLikeTurns legal.now.arch legal.now.kernel legal.now.mapping bytes.items) }
     ensures overlaps_alone { IfOk result (λ bytes. RunLikeTurnsAlone legal.now.arch legal.now.kernel legal.now.mapping bytes.items) }

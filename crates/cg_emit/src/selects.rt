@@ -50,7 +50,8 @@ fn select_of(arch: &Arch, resource: u32, driver: u32) -> u32
     place_in(resource.drivers.as_slice(), driver)
 }
 
-/// Sets the selects along a path that goes on from a resource, on which the value is at a time.
+/// Sets the selects along a path that goes on from a resource, on which a value is at a time; which node's value it is
+/// makes no difference.
 fn set_links(config: &mut Config, arch: &Arch, mut from: u32, mut time: u32, path: &[u32])
     requires canonical { IsCanonical arch.now config.old }
     requires path { GoesInTime arch.now from time path.now }
