@@ -24,3 +24,6 @@ pub use mapping::Mapping;
 pub use print::print_mapping;
 pub use read::read_mapping;
 pub use texts::mapping_fault_text;
+
+#[cfg(test)]
+mod tests;
