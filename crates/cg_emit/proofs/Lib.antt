@@ -4,4 +4,4 @@ mod Selected
 mod Paths
 mod Routes
 mod Whole
-mod Overlapped
+pub mod Overlapped
