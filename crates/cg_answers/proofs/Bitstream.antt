@@ -26,7 +26,8 @@ use Rattle.cg_bits.specs.Spelling.{AreBits}
 use Rattle.cg_bits.proofs.Answered.{config_is, none_answered}
 use Rattle.cg_bits.proofs.Packed.{some_bits}
 use Rattle.cg_check.specs.Legal.{Mapped}
-use Rattle.cg_check.specs.Rules.{Violation, violation}
+use Rattle.cg_check.specs.declared.rule.Violation.{Violation}
+use Rattle.cg_check.specs.Rules.{violation}
 use Rattle.cg_emit.specs.Emitted.{RunLikeTurns, RunLikeTurnsAlone}
 use Rattle.cg_emit.proofs.Overlapped.{one_config, does_turns}
 use Rattle.cg_answers.specs.Sources.{pair_of, mapped_of, AreMapped}

@@ -8,7 +8,8 @@ use Rattle.cg_ending.specs.Refusals.{reports}
 use Rattle.cg_files.specs.Held.{Holds, Appends}
 use Rattle.cg_tiles.proofs.Solved.{some_answer}
 use Rattle.cg_check.specs.Legal.{Mapped}
-use Rattle.cg_check.specs.Rules.{Violation, violation}
+use Rattle.cg_check.specs.declared.rule.Violation.{Violation}
+use Rattle.cg_check.specs.Rules.{violation}
 use Rattle.cg_check.proofs.Judged.{legal_from, keeps_all, breaks, rules_of}
 use Rattle.cg_answers.specs.Sources.{pair_of, mapped_of, AreMapped}
 use Rattle.cg_answers.specs.Check.{IsCheck, checked, checked_by, legal_report, illegal_report, AreGiven, IsLegalInput, HoldMapped, IsLegalCheck, IsIllegalCheck}

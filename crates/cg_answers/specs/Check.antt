@@ -12,7 +12,8 @@ use Rattle.cg_kernel.specs.Answer as kernels
 use Rattle.cg_mapping.specs.Answer as mappings
 use Rattle.cg_tiles.specs.Answer.{AreValidBytes}
 use Rattle.cg_check.specs.Legal.{Mapped}
-use Rattle.cg_check.specs.Rules.{Violation, violation}
+use Rattle.cg_check.specs.declared.rule.Violation.{Violation}
+use Rattle.cg_check.specs.Rules.{violation}
 use Rattle.cg_check.specs.Texts.{rule_text}
 use Rattle.cg_answers.specs.Sources.{AreMapped}
 
