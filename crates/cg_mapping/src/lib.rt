@@ -24,6 +24,3 @@ pub use mapping::Mapping;
 pub use print::print_mapping;
 pub use read::read_mapping;
 pub use texts::mapping_fault_text;
-
-#[cfg(test)]
-mod tests;
