@@ -33,7 +33,7 @@ use Rattle.cg_answers.specs.Turns.{turns_by, IsTurned}
 use Rattle.cg_answers.specs.TurnsOnImage.{IsOnKernel, IsOnImage, imaged, IsRunOnImage, IsOrderedRun, IsUnorderedRun}
 use Rattle.cg_answers.specs.Flat.{flat_by, IsFlattened}
 use Rattle.cg_answers.specs.Run.{run_by, run_by_bits, run_by_image, ran, too_large, IsArrayRun}
-use Rattle.cg_answers.specs.Commands.{IsAnswer, Leaves}
+use Rattle.cg_answers.specs.Commands.{IsAnswer, Leaves, LeavesDone, LeavesNo}
 use Rattle.cg_answers.proofs.Commands.{turns_is, on_image_is}
 use Rattle.cg_answers.proofs.Run.{valid_array, spelled_answer}
 use Rattle.cg_answers.proofs.Wholes.{whole, one_write, one_read, first_read, second_read, three_read, differ}
@@ -188,70 +188,85 @@ is_silent BudgetSpent = true
 is_silent _ = false
 
 pub silent : (command : Command) (inputs outputs : List Name) (status : Status) (before after : Moment) → is_silent status ≡ true → Leaves command inputs outputs status before after
-silent (Turns n) (file ∷ []) [] Done before after h = cc
-silent (TurnsOnImage n) (file ∷ input ∷ []) (out ∷ []) Done before after h = cc
-silent (TurnsOnImage n) (file ∷ input ∷ []) (out ∷ []) No before after h = cc
-silent Flat (file ∷ []) (out ∷ []) Done before after h = cc
-silent (Run n) (arch ∷ file ∷ input ∷ []) (out ∷ []) Done before after h = cc
-silent Check (arch ∷ kernel ∷ mapping ∷ []) [] Done before after h = cc
-silent Check (arch ∷ kernel ∷ mapping ∷ []) [] No before after h = cc
-silent Emit (arch ∷ kernel ∷ mapping ∷ []) (out ∷ []) Done before after h = cc
-silent Emit (arch ∷ kernel ∷ mapping ∷ []) (out ∷ []) No before after h = cc
-silent _ _ _ _ before after h = tt
+silent command inputs outputs Done before after h = absurd (cc)
+silent command inputs outputs No before after h = absurd (cc)
+silent command inputs outputs Memory before after h = tt
+silent command inputs outputs Usage before after h = tt
+silent command inputs outputs Malformed before after h = tt
+silent command inputs outputs Impossible before after h = tt
+silent command inputs outputs ReadFault before after h = tt
+silent command inputs outputs WriteFault before after h = tt
+silent command inputs outputs BudgetSpent before after h = tt
+
+left_done : (command : Command) (inputs outputs : List Name) (files : List File) (o : Outcome) (before after : Moment)
+    → AreRead before.held inputs files → IsAnswer command files outputs o → o.status ≡ Done → Completed o before after Done → LeavesDone command inputs outputs before after
+left_done (Turns n) (file ∷ []) [] (f ∷ []) o before after read answer is c =
+    turned_by n file f (answer_of f.bytes) o before after (one_read before.held file f read) refl (turns_is n f o answer) is c
+left_done (TurnsOnImage n) (file ∷ input ∷ []) (out ∷ []) (f ∷ g ∷ []) o before after read answer is c =
+    ordered_on_kernel n file input out f g (answer_of f.bytes) o before after (first_read before.held file input f g read) (second_read before.held file input f g read) refl (on_image_is n f g out o answer) is c
+left_done Flat (file ∷ []) (out ∷ []) (f ∷ []) o before after read answer is c =
+    flattened_by file out f answer.given o before after (one_read before.held file f read) answer.is_given answer.outcome is c
+left_done (Turns n) (file ∷ []) [] [] o before after read answer is c = absurd answer
+left_done (Turns n) (file ∷ []) [] (f ∷ g ∷ fs) o before after read answer is c = absurd answer
+left_done (TurnsOnImage n) (file ∷ input ∷ []) (out ∷ []) [] o before after read answer is c = absurd answer
+left_done (TurnsOnImage n) (file ∷ input ∷ []) (out ∷ []) (f ∷ []) o before after read answer is c = absurd answer
+left_done (TurnsOnImage n) (file ∷ input ∷ []) (out ∷ []) (f ∷ g ∷ h ∷ fs) o before after read answer is c = absurd answer
+left_done Flat (file ∷ []) (out ∷ []) [] o before after read answer is c = absurd answer
+left_done Flat (file ∷ []) (out ∷ []) (f ∷ g ∷ fs) o before after read answer is c = absurd answer
+left_done (Run n) (arch ∷ file ∷ input ∷ []) (out ∷ []) (f ∷ g ∷ h ∷ []) o before after read answer is c =
+    let r = three_read before.held arch file input f g h read in
+    run_done n arch file input out f g h answer.given o before after r.0 r.1 r.2 answer.is_given answer.outcome is c
+left_done (Run n) (arch ∷ file ∷ input ∷ []) (out ∷ []) [] o before after read answer is c = absurd answer
+left_done (Run n) (arch ∷ file ∷ input ∷ []) (out ∷ []) (f ∷ []) o before after read answer is c = absurd answer
+left_done (Run n) (arch ∷ file ∷ input ∷ []) (out ∷ []) (f ∷ g ∷ []) o before after read answer is c = absurd answer
+left_done (Run n) (arch ∷ file ∷ input ∷ []) (out ∷ []) (f ∷ g ∷ h ∷ k ∷ fs) o before after read answer is c = absurd answer
+left_done Check (arch ∷ kernel ∷ mapping ∷ []) [] (f ∷ g ∷ h ∷ []) o before after read answer is c =
+    let r = three_read before.held arch kernel mapping f g h read in
+    legal_left arch kernel mapping f g h before after r.0 r.1 r.2 o answer is c
+left_done Check (arch ∷ kernel ∷ mapping ∷ []) [] [] o before after read answer is c = absurd answer
+left_done Check (arch ∷ kernel ∷ mapping ∷ []) [] (f ∷ []) o before after read answer is c = absurd answer
+left_done Check (arch ∷ kernel ∷ mapping ∷ []) [] (f ∷ g ∷ []) o before after read answer is c = absurd answer
+left_done Check (arch ∷ kernel ∷ mapping ∷ []) [] (f ∷ g ∷ h ∷ k ∷ fs) o before after read answer is c = absurd answer
+left_done Emit (arch ∷ kernel ∷ mapping ∷ []) (out ∷ []) (f ∷ g ∷ h ∷ []) o before after read answer is c =
+    let r = three_read before.held arch kernel mapping f g h read in
+    emitted_left arch kernel mapping out f g h before after r.0 r.1 r.2 o answer is c
+left_done Emit (arch ∷ kernel ∷ mapping ∷ []) (out ∷ []) [] o before after read answer is c = absurd answer
+left_done Emit (arch ∷ kernel ∷ mapping ∷ []) (out ∷ []) (f ∷ []) o before after read answer is c = absurd answer
+left_done Emit (arch ∷ kernel ∷ mapping ∷ []) (out ∷ []) (f ∷ g ∷ []) o before after read answer is c = absurd answer
+left_done Emit (arch ∷ kernel ∷ mapping ∷ []) (out ∷ []) (f ∷ g ∷ h ∷ k ∷ fs) o before after read answer is c = absurd answer
+left_done _ _ _ _ o before after read answer is c = tt
+
+left_no : (command : Command) (inputs outputs : List Name) (files : List File) (o : Outcome) (before after : Moment)
+    → AreRead before.held inputs files → IsAnswer command files outputs o → o.status ≡ No → Completed o before after No → LeavesNo command inputs outputs before after
+left_no (TurnsOnImage n) (file ∷ input ∷ []) (out ∷ []) (f ∷ g ∷ []) o before after read answer is c =
+    unordered_on_kernel n file input out f g (answer_of f.bytes) o before after (first_read before.held file input f g read) (second_read before.held file input f g read) refl (on_image_is n f g out o answer) is c
+left_no (TurnsOnImage n) (file ∷ input ∷ []) (out ∷ []) [] o before after read answer is c = absurd answer
+left_no (TurnsOnImage n) (file ∷ input ∷ []) (out ∷ []) (f ∷ []) o before after read answer is c = absurd answer
+left_no (TurnsOnImage n) (file ∷ input ∷ []) (out ∷ []) (f ∷ g ∷ h ∷ fs) o before after read answer is c = absurd answer
+left_no Check (arch ∷ kernel ∷ mapping ∷ []) [] (f ∷ g ∷ h ∷ []) o before after read answer is c =
+    let r = three_read before.held arch kernel mapping f g h read in
+    illegal_left arch kernel mapping f g h before after r.0 r.1 r.2 o answer is c
+left_no Check (arch ∷ kernel ∷ mapping ∷ []) [] [] o before after read answer is c = absurd answer
+left_no Check (arch ∷ kernel ∷ mapping ∷ []) [] (f ∷ []) o before after read answer is c = absurd answer
+left_no Check (arch ∷ kernel ∷ mapping ∷ []) [] (f ∷ g ∷ []) o before after read answer is c = absurd answer
+left_no Check (arch ∷ kernel ∷ mapping ∷ []) [] (f ∷ g ∷ h ∷ k ∷ fs) o before after read answer is c = absurd answer
+left_no Emit (arch ∷ kernel ∷ mapping ∷ []) (out ∷ []) (f ∷ g ∷ h ∷ []) o before after read answer is c =
+    let r = three_read before.held arch kernel mapping f g h read in
+    unemitted_left arch kernel mapping out f g h before after r.0 r.1 r.2 o answer is c
+left_no Emit (arch ∷ kernel ∷ mapping ∷ []) (out ∷ []) [] o before after read answer is c = absurd answer
+left_no Emit (arch ∷ kernel ∷ mapping ∷ []) (out ∷ []) (f ∷ []) o before after read answer is c = absurd answer
+left_no Emit (arch ∷ kernel ∷ mapping ∷ []) (out ∷ []) (f ∷ g ∷ []) o before after read answer is c = absurd answer
+left_no Emit (arch ∷ kernel ∷ mapping ∷ []) (out ∷ []) (f ∷ g ∷ h ∷ k ∷ fs) o before after read answer is c = absurd answer
+left_no _ _ _ _ o before after read answer is c = tt
 
 pub left : (command : Command) (inputs outputs : List Name) (files : List File) (o : Outcome) (status : Status) (before after : Moment)
     → AreRead before.held inputs files → IsAnswer command files outputs o → o.status ≡ status → Completed o before after status → Leaves command inputs outputs status before after
-left (Turns n) (file ∷ []) [] (f ∷ []) o Done before after read answer is c =
-    turned_by n file f (answer_of f.bytes) o before after (one_read before.held file f read) refl (turns_is n f o answer) is c
-left (TurnsOnImage n) (file ∷ input ∷ []) (out ∷ []) (f ∷ g ∷ []) o Done before after read answer is c =
-    ordered_on_kernel n file input out f g (answer_of f.bytes) o before after (first_read before.held file input f g read) (second_read before.held file input f g read) refl (on_image_is n f g out o answer) is c
-left (TurnsOnImage n) (file ∷ input ∷ []) (out ∷ []) (f ∷ g ∷ []) o No before after read answer is c =
-    unordered_on_kernel n file input out f g (answer_of f.bytes) o before after (first_read before.held file input f g read) (second_read before.held file input f g read) refl (on_image_is n f g out o answer) is c
-left Flat (file ∷ []) (out ∷ []) (f ∷ []) o Done before after read answer is c =
-    flattened_by file out f answer.given o before after (one_read before.held file f read) answer.is_given answer.outcome is c
-left (Turns n) (file ∷ []) [] [] o Done before after read answer is c = absurd answer
-left (Turns n) (file ∷ []) [] (f ∷ g ∷ fs) o Done before after read answer is c = absurd answer
-left (TurnsOnImage n) (file ∷ input ∷ []) (out ∷ []) [] o Done before after read answer is c = absurd answer
-left (TurnsOnImage n) (file ∷ input ∷ []) (out ∷ []) (f ∷ []) o Done before after read answer is c = absurd answer
-left (TurnsOnImage n) (file ∷ input ∷ []) (out ∷ []) (f ∷ g ∷ h ∷ fs) o Done before after read answer is c = absurd answer
-left (TurnsOnImage n) (file ∷ input ∷ []) (out ∷ []) [] o No before after read answer is c = absurd answer
-left (TurnsOnImage n) (file ∷ input ∷ []) (out ∷ []) (f ∷ []) o No before after read answer is c = absurd answer
-left (TurnsOnImage n) (file ∷ input ∷ []) (out ∷ []) (f ∷ g ∷ h ∷ fs) o No before after read answer is c = absurd answer
-left Flat (file ∷ []) (out ∷ []) [] o Done before after read answer is c = absurd answer
-left Flat (file ∷ []) (out ∷ []) (f ∷ g ∷ fs) o Done before after read answer is c = absurd answer
-left (Run n) (arch ∷ file ∷ input ∷ []) (out ∷ []) (f ∷ g ∷ h ∷ []) o Done before after read answer is c =
-    let r = three_read before.held arch file input f g h read in
-    run_done n arch file input out f g h answer.given o before after r.0 r.1 r.2 answer.is_given answer.outcome is c
-left (Run n) (arch ∷ file ∷ input ∷ []) (out ∷ []) [] o Done before after read answer is c = absurd answer
-left (Run n) (arch ∷ file ∷ input ∷ []) (out ∷ []) (f ∷ []) o Done before after read answer is c = absurd answer
-left (Run n) (arch ∷ file ∷ input ∷ []) (out ∷ []) (f ∷ g ∷ []) o Done before after read answer is c = absurd answer
-left (Run n) (arch ∷ file ∷ input ∷ []) (out ∷ []) (f ∷ g ∷ h ∷ k ∷ fs) o Done before after read answer is c = absurd answer
-left Check (arch ∷ kernel ∷ mapping ∷ []) [] (f ∷ g ∷ h ∷ []) o Done before after read answer is c =
-    let r = three_read before.held arch kernel mapping f g h read in
-    legal_left arch kernel mapping f g h before after r.0 r.1 r.2 o answer is c
-left Check (arch ∷ kernel ∷ mapping ∷ []) [] [] o Done before after read answer is c = absurd answer
-left Check (arch ∷ kernel ∷ mapping ∷ []) [] (f ∷ []) o Done before after read answer is c = absurd answer
-left Check (arch ∷ kernel ∷ mapping ∷ []) [] (f ∷ g ∷ []) o Done before after read answer is c = absurd answer
-left Check (arch ∷ kernel ∷ mapping ∷ []) [] (f ∷ g ∷ h ∷ k ∷ fs) o Done before after read answer is c = absurd answer
-left Check (arch ∷ kernel ∷ mapping ∷ []) [] (f ∷ g ∷ h ∷ []) o No before after read answer is c =
-    let r = three_read before.held arch kernel mapping f g h read in
-    illegal_left arch kernel mapping f g h before after r.0 r.1 r.2 o answer is c
-left Check (arch ∷ kernel ∷ mapping ∷ []) [] [] o No before after read answer is c = absurd answer
-left Check (arch ∷ kernel ∷ mapping ∷ []) [] (f ∷ []) o No before after read answer is c = absurd answer
-left Check (arch ∷ kernel ∷ mapping ∷ []) [] (f ∷ g ∷ []) o No before after read answer is c = absurd answer
-left Check (arch ∷ kernel ∷ mapping ∷ []) [] (f ∷ g ∷ h ∷ k ∷ fs) o No before after read answer is c = absurd answer
-left Emit (arch ∷ kernel ∷ mapping ∷ []) (out ∷ []) (f ∷ g ∷ h ∷ []) o Done before after read answer is c =
-    let r = three_read before.held arch kernel mapping f g h read in
-    emitted_left arch kernel mapping out f g h before after r.0 r.1 r.2 o answer is c
-left Emit (arch ∷ kernel ∷ mapping ∷ []) (out ∷ []) [] o Done before after read answer is c = absurd answer
-left Emit (arch ∷ kernel ∷ mapping ∷ []) (out ∷ []) (f ∷ []) o Done before after read answer is c = absurd answer
-left Emit (arch ∷ kernel ∷ mapping ∷ []) (out ∷ []) (f ∷ g ∷ []) o Done before after read answer is c = absurd answer
-left Emit (arch ∷ kernel ∷ mapping ∷ []) (out ∷ []) (f ∷ g ∷ h ∷ k ∷ fs) o Done before after read answer is c = absurd answer
-left Emit (arch ∷ kernel ∷ mapping ∷ []) (out ∷ []) (f ∷ g ∷ h ∷ []) o No before after read answer is c =
-    let r = three_read before.held arch kernel mapping f g h read in
-    unemitted_left arch kernel mapping out f g h before after r.0 r.1 r.2 o answer is c
-left Emit (arch ∷ kernel ∷ mapping ∷ []) (out ∷ []) [] o No before after read answer is c = absurd answer
-left Emit (arch ∷ kernel ∷ mapping ∷ []) (out ∷ []) (f ∷ []) o No before after read answer is c = absurd answer
-left Emit (arch ∷ kernel ∷ mapping ∷ []) (out ∷ []) (f ∷ g ∷ []) o No before after read answer is c = absurd answer
-left Emit (arch ∷ kernel ∷ mapping ∷ []) (out ∷ []) (f ∷ g ∷ h ∷ k ∷ fs) o No before after read answer is c = absurd answer
-left _ _ _ _ o _ before after read answer is c = tt
+left command inputs outputs files o Done before after read answer is c = left_done command inputs outputs files o before after read answer is c
+left command inputs outputs files o No before after read answer is c = left_no command inputs outputs files o before after read answer is c
+left command inputs outputs files o Memory before after read answer is c = tt
+left command inputs outputs files o Usage before after read answer is c = tt
+left command inputs outputs files o Malformed before after read answer is c = tt
+left command inputs outputs files o Impossible before after read answer is c = tt
+left command inputs outputs files o ReadFault before after read answer is c = tt
+left command inputs outputs files o WriteFault before after read answer is c = tt
+left command inputs outputs files o BudgetSpent before after read answer is c = tt

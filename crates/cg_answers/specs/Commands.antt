@@ -56,16 +56,25 @@ Accepts Check (arch ∷ kernel ∷ mapping ∷ []) = IsLegalInput arch kernel ma
 Accepts Emit (arch ∷ kernel ∷ mapping ∷ []) = IsLegalInput arch kernel mapping
 Accepts _ _ = ⊥
 
--- what a command whose input and output files have these names leaves where it ends with this status: what is held, and what
--- was put
+-- what a command whose input and output files have these names leaves where it ends with Done: what is held, and what was put
+abbrev pub LeavesDone : Command → List Name → List Name → Moment → Moment → Type 0
+LeavesDone (Turns n) (file ∷ []) [] before after = IsTurned n file before after
+LeavesDone (TurnsOnImage n) (file ∷ input ∷ []) (out ∷ []) before after = IsOrderedRun n file input out before after
+LeavesDone Flat (file ∷ []) (out ∷ []) before after = IsFlattened file out before after
+LeavesDone (Run n) (arch ∷ file ∷ input ∷ []) (out ∷ []) before after = IsArrayRun n arch file input out before after
+LeavesDone Check (arch ∷ kernel ∷ mapping ∷ []) [] before after = IsLegalCheck arch kernel mapping before after
+LeavesDone Emit (arch ∷ kernel ∷ mapping ∷ []) (out ∷ []) before after = IsEmittedRun arch kernel mapping out before after
+LeavesDone _ _ _ before after = Unit {0}
+
+-- what it leaves where it ends with No
+abbrev pub LeavesNo : Command → List Name → List Name → Moment → Moment → Type 0
+LeavesNo (TurnsOnImage n) (file ∷ input ∷ []) (out ∷ []) before after = IsUnorderedRun n file input out before after
+LeavesNo Check (arch ∷ kernel ∷ mapping ∷ []) [] before after = IsIllegalCheck arch kernel mapping before after
+LeavesNo Emit (arch ∷ kernel ∷ mapping ∷ []) (out ∷ []) before after = IsIllegalCheck arch kernel mapping before after
+LeavesNo _ _ _ before after = Unit {0}
+
+-- what it leaves by its status: of the statuses that aren't its own the table of statuses speaks
 abbrev pub Leaves : Command → List Name → List Name → Status → Moment → Moment → Type 0
-Leaves (Turns n) (file ∷ []) [] Done before after = IsTurned n file before after
-Leaves (TurnsOnImage n) (file ∷ input ∷ []) (out ∷ []) Done before after = IsOrderedRun n file input out before after
-Leaves (TurnsOnImage n) (file ∷ input ∷ []) (out ∷ []) No before after = IsUnorderedRun n file input out before after
-Leaves Flat (file ∷ []) (out ∷ []) Done before after = IsFlattened file out before after
-Leaves (Run n) (arch ∷ file ∷ input ∷ []) (out ∷ []) Done before after = IsArrayRun n arch file input out before after
-Leaves Check (arch ∷ kernel ∷ mapping ∷ []) [] Done before after = IsLegalCheck arch kernel mapping before after
-Leaves Check (arch ∷ kernel ∷ mapping ∷ []) [] No before after = IsIllegalCheck arch kernel mapping before after
-Leaves Emit (arch ∷ kernel ∷ mapping ∷ []) (out ∷ []) Done before after = IsEmittedRun arch kernel mapping out before after
-Leaves Emit (arch ∷ kernel ∷ mapping ∷ []) (out ∷ []) No before after = IsIllegalCheck arch kernel mapping before after
-Leaves _ _ _ _ before after = Unit {0}
+Leaves command inputs outputs Done before after = LeavesDone command inputs outputs before after
+Leaves command inputs outputs No before after = LeavesNo command inputs outputs before after
+Leaves command inputs outputs _ before after = Unit {0}
