@@ -1,4 +1,4 @@
-//! L1 to L4: the interval, places and order edges.
+//! L1, L2 and L4: the interval, places and order edges.
 ghost use Rattle.std.specs.Prelude.{◌≡◌, ◌<◌, length};
 ghost use Rattle.cg_model.specs.Array.{Arch as ArchOf};
 ghost use Rattle.cg_model.specs.Kernel.{Kernel as KernelOf, size};
