@@ -19,6 +19,3 @@ pub use checker::{CheckVerdict, check};
 pub use legal::LegalMapping;
 pub use rule::{Rule, RulePlace, Violation};
 pub use texts::rule_text;
-
-#[cfg(test)]
-mod tests;
