@@ -1,29 +1,27 @@
-//! A file with its places and routes in another order, and what reports say of files with a fault.
+//! A file with its places and routes in another order, and what reports say of one that lacks a route.
 
 use crate::{mapping_fault_text, print_mapping, read_mapping};
-use cg_arch::{Arch, Element, Name, Names, Op, OpSet, Parts, validate};
-use cg_kernel::{Kernel, read_kernel};
+use cg_arch::{Element, Name, Names, Op, OpSet, Parts, validate};
+use cg_kernel::read_kernel;
 use cg_model::Items;
 use std::alloc::{AllocError, Global};
 use std::test::Fail;
 
-/// Names that are parted by blanks.
-fn names(alloc: Global, text: &str) -> Result<Names, AllocError> {
+/// The drivers of each list: the unit's out and the register.
+fn drivers(alloc: Global) -> Result<Names, AllocError> {
     let mut names = Vec::new(alloc);
-    for word in text.split(' ') {
-        names.push(Name::copy_of(alloc, word)?)?;
-    }
+    names.push(Name::copy_of(alloc, "r0c0_u_o")?)?;
+    names.push(Name::copy_of(alloc, "r0c0_r")?)?;
     Ok(Names::new(names))
 }
 
 /// A register and a unit of two ports, each driven by both.
 fn one_unit(alloc: Global) -> Result<Parts, AllocError> {
-    let drivers = "r0c0_u_o r0c0_r";
-    let ports = vec![in alloc; names(alloc, drivers)?, names(alloc, drivers)?]?;
+    let ports = vec![in alloc; drivers(alloc)?, drivers(alloc)?]?;
     let elements = vec![in alloc;
         Element::Register {
             name: Name::copy_of(alloc, "r0c0_r")?,
-            drivers: names(alloc, drivers)?,
+            drivers: drivers(alloc)?,
         },
         Element::Unit {
             name: Name::copy_of(alloc, "r0c0_u")?,
@@ -50,18 +48,9 @@ const MIXED: &[u8] =
 const IN_ORDER: &[u8] =
     b"{\"format\":\"cgm1\",\"ii\":3,\"places\":[{\"node\":\"i\",\"time\":0,\"unit\":\"r0c0_u\"},{\"node\":\"s\",\"time\":1,\"unit\":\"r0c0_u\"},{\"node\":\"o\",\"time\":2,\"unit\":\"r0c0_u\"}],\"routes\":[{\"arg\":0,\"path\":[\"r0c0_u_o\",\"r0c0_r\",\"r0c0_r\",\"r0c0_u_a\"],\"to\":\"s\"},{\"arg\":1,\"path\":[\"r0c0_u_o\",\"r0c0_u_b\"],\"to\":\"s\"},{\"arg\":0,\"path\":[\"r0c0_u_o\",\"r0c0_u_a\"],\"to\":\"o\"}]}";
 
-/// What is said of the fault of a file; nothing where there is none.
-fn fault_of(
-    alloc: Global,
-    arch: &Arch,
-    kernel: &Kernel,
-    bytes: &[u8],
-) -> Result<String, AllocError> {
-    match read_mapping(alloc, arch, kernel, bytes) {
-        Ok(_) => Ok(String::new(alloc)),
-        Err(fault) => mapping_fault_text(alloc, &fault),
-    }
-}
+/// Nothing goes to the output's operand.
+const WITHOUT_ROUTE: &[u8] =
+    b"{\"format\":\"cgm1\",\"ii\":3,\"places\":[{\"node\":\"i\",\"time\":0,\"unit\":\"r0c0_u\"},{\"node\":\"s\",\"time\":1,\"unit\":\"r0c0_u\"},{\"node\":\"o\",\"time\":2,\"unit\":\"r0c0_u\"}],\"routes\":[{\"arg\":0,\"path\":[],\"to\":\"s\"},{\"arg\":1,\"path\":[],\"to\":\"s\"}]}";
 
 #[test]
 fn reads_a_mixed_file_and_prints_it_in_order(rt: HostRuntime) -> Result<(), Fail> {
@@ -75,35 +64,16 @@ fn reads_a_mixed_file_and_prints_it_in_order(rt: HostRuntime) -> Result<(), Fail
 }
 
 #[test]
-fn tells_faults_and_places(rt: HostRuntime) -> Result<(), Fail> {
+fn tells_the_operand_without_a_route(rt: HostRuntime) -> Result<(), Fail> {
     let alloc = rt.alloc();
     let arch = validate(alloc, &one_unit(alloc)?)?;
     let kernel = read_kernel(alloc, SUM)?;
-    let files = [
-        (b"{".as_slice(), "P1 NotJson file"),
-        (
-            b"{\"format\":\"cgm1\",\"ii\":3,\"places\":[{\"node\":\"i\"}],\"routes\":[]}",
-            "P2 WrongShape places 0",
-        ),
-        (
-            b"{\"format\":\"cgm1\",\"ii\":3,\"places\":[],\"routes\":[],\"x\":0}",
-            "P3 UnknownKey file",
-        ),
-        (
-            b"{\"format\":\"cgm1\",\"ii\":3,\"places\":[],\"routes\":[{\"to\":\"i\",\"arg\":0,\"path\":[]}]}",
-            "P4 UnknownName routes 0",
-        ),
-        (
-            b"{\"format\":\"cgm1\",\"ii\":65536,\"places\":[],\"routes\":[]}",
-            "P5 TooLarge file",
-        ),
-        (
-            b"{\"format\":\"cgm1\",\"ii\":3,\"places\":[{\"node\":\"i\",\"unit\":\"r0c0_u\",\"time\":0}],\"routes\":[]}",
-            "P6 Incomplete node s",
-        ),
-    ];
-    for (bytes, text) in files {
-        assert_eq!(rt; fault_of(alloc, &arch, &kernel, bytes)?.as_str(), text);
+    match read_mapping(alloc, &arch, &kernel, WITHOUT_ROUTE) {
+        Ok(_) => assert!(rt; false),
+        Err(fault) => {
+            let text = mapping_fault_text(alloc, &fault)?;
+            assert_eq!(rt; text.as_str(), "P6 Incomplete arg o 0");
+        }
     }
     Ok(())
 }
