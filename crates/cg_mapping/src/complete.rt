@@ -1,9 +1,6 @@
 //! One place a node, and one route an edge operand.
-ghost use Rattle.std.specs.Prelude.{◌≡◌, ◌≢◌, ◌<◌, ◌*◌, ◌+◌, IfOk, length, map, option_map};
-ghost use Rattle.std.specs.Option.{option_copied};
+ghost use Rattle.std.specs.Prelude.{◌≡◌, ◌≢◌, ◌<◌, ◌*◌, IfOk, length, map};
 ghost use Rattle.cg_model.specs.Answers.{Gives};
-ghost use Rattle.cg_model.specs.Kernel.{size};
-ghost use Rattle.cg_model.specs.Mapping as mappings;
 ghost use Rattle.cg_mapping.specs.Ends.{as_end, node_of, slot_of, AreShort, AreWithin};
 ghost use Rattle.cg_mapping.specs.Tally.{IsTally};
 ghost use Rattle.cg_mapping.specs.Complete as spec;

@@ -1,9 +1,8 @@
 //! The edge operands of a kernel.
-ghost use Rattle.std.specs.Prelude.{◌≡◌, ◌++◌, ◌+◌, ◌<◌, ◌^◌, length, IfOk, OnOk, map};
+ghost use Rattle.std.specs.Prelude.{◌≡◌, ◌++◌, IfOk, OnOk, map};
 ghost use Rattle.cg_model.specs.Mapping as mappings;
 ghost use Rattle.cg_mapping.specs.Ends as spec;
 
-use cg_kernel::Kernel;
 use cg_model::{Node, Operand};
 use std::alloc::{AllocError, Global};
 
