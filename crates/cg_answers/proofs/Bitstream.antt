@@ -1,11 +1,9 @@
 -- What `emit` answers, and what its bytes do.
-use Rattle.std.proofs.Common.{◌≡◌, ℕ, ◌<◌, List, [], ◌∷◌, length, Option, Some, None, Result, Ok, Err, refl, sym, ◌∙◌, ap, subst, ◌⊎◌, inl, inr, ⊎_elim}
+use Rattle.std.proofs.Common.{◌≡◌, ℕ, List, [], ◌∷◌, length, Option, Some, None, Result, Ok, Err, refl, sym, ◌∙◌, ap, subst, ◌⊎◌, inl, inr, ⊎_elim}
 use Rattle.sha2.proofs.Facts256.{length-sha256}
 use Rattle.cg_model.specs.Work.{Image}
 use Rattle.cg_model.specs.Array.{Arch, IsArch}
 use Rattle.cg_model.specs.Kernel.{Kernel, IsKernel}
-use Rattle.cg_model.specs.Turns.{turns_left}
-use Rattle.cg_model.specs.Order.{IsUnaliased, HasNoAccess}
 use Rattle.cg_model.specs.Config.{Config}
 use Rattle.cg_model.specs.Configured.{configuration_of}
 use Rattle.cg_model.specs.Machine.{machine_left}
@@ -14,7 +12,7 @@ use Rattle.cg_overlap.proofs.Single.{carries_one}
 use Rattle.cg_overlap.proofs.Canonical.{canonical}
 use Rattle.cg_overlap.proofs.Overlap.{follows, leaves_the_same, begins_only, follows_alone, leaves_alone, unaliased_without}
 use Rattle.cg_ending.specs.declared.outcome.Status.TheVariants.{Done, Malformed, No}
-use Rattle.cg_ending.specs.Outcome.{Name, Bytes, File, Outcome, names_of}
+use Rattle.cg_ending.specs.Outcome.{Name, File, Outcome, names_of}
 use Rattle.cg_ending.specs.Ends.{Moment, Completed, Wrote}
 use Rattle.cg_ending.specs.Refusals.{reports}
 use Rattle.cg_files.specs.Held.{Holds, Appends}
@@ -32,7 +30,7 @@ use Rattle.cg_emit.specs.Emitted.{RunLikeTurns, RunLikeTurnsAlone}
 use Rattle.cg_emit.proofs.Overlapped.{one_config, does_turns}
 use Rattle.cg_answers.specs.Sources.{pair_of, mapped_of, AreMapped}
 use Rattle.cg_answers.specs.Check.{illegal_report, AreGiven, IsLegalInput, IsIllegalCheck}
-use Rattle.cg_answers.specs.Emit.{IsEmit, IsEmitted, IsEmittedBy, IsEmission, IsEmittedRun, config_of, emit_report}
+use Rattle.cg_answers.specs.Emit.{IsEmit, IsEmittedBy, IsEmission, IsEmittedRun, config_of, emit_report}
 use Rattle.cg_answers.specs.Run.{LeavesTurns}
 use Rattle.cg_answers.proofs.Sound.{IsSound}
 use Rattle.cg_answers.proofs.Wholes.{whole, one_write}

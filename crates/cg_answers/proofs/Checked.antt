@@ -1,5 +1,5 @@
 -- What `check` answers.
-use Rattle.std.proofs.Common.{◌≡◌, ◌≢◌, List, [], ◌∷◌, Option, Some, None, Result, Ok, Err, refl, sym, ◌∙◌, ap, subst}
+use Rattle.std.proofs.Common.{◌≡◌, [], Option, Some, None, Result, Ok, Err, refl, sym, ◌∙◌, ap, subst}
 use Rattle.cg_model.specs.Mapping.{IsLegal}
 use Rattle.cg_ending.specs.declared.outcome.Status.TheVariants.{Done, Malformed, No}
 use Rattle.cg_ending.specs.Outcome.{Name, File, Outcome}
@@ -12,9 +12,9 @@ use Rattle.cg_check.specs.declared.rule.Violation.{Violation}
 use Rattle.cg_check.specs.Rules.{violation}
 use Rattle.cg_check.proofs.Judged.{legal_from, keeps_all, breaks, rules_of}
 use Rattle.cg_answers.specs.Sources.{pair_of, mapped_of, AreMapped}
-use Rattle.cg_answers.specs.Check.{IsCheck, checked, checked_by, legal_report, illegal_report, AreGiven, IsLegalInput, HoldMapped, IsLegalCheck, IsIllegalCheck}
+use Rattle.cg_answers.specs.Check.{IsCheck, checked, checked_by, illegal_report, AreGiven, IsLegalInput, HoldMapped, IsLegalCheck, IsIllegalCheck}
 use Rattle.cg_answers.proofs.Sound.{IsSound}
-use Rattle.cg_answers.proofs.Wholes.{whole, differ}
+use Rattle.cg_answers.proofs.Wholes.{whole}
 use Rattle.cg_answers.proofs.Mapped.{IsRefusal, AreRefused, refused_given, given_of, valid_given, IsValid, mapped_is, IsAlike, equal, refusals, alike}
 
 -- ---- status and writes

@@ -1,9 +1,7 @@
 -- What commands leave where their outcome came.
-use Rattle.std.proofs.Common.{◌≡◌, ℕ, List, [], ◌∷◌, length, nat_lt, cond, Option, Some, None, Result, Ok, Err, Bool, true, false, refl, sym, ◌∙◌, ap, subst, inl, inr}
-use Rattle.std.proofs.lemmas.List.Elements.{All-head, All-tail}
+use Rattle.std.proofs.Common.{◌≡◌, ℕ, List, [], ◌∷◌, length, nat_lt, cond, Option, Some, None, Result, Ok, Err, Bool, true, false, refl, sym, ◌∙◌, ap, subst}
 use Rattle.std.proofs.lemmas.Bool.{ltb-false}
-use Rattle.std.proofs.lemmas.Slice.Eq.{bytes_eq-Decides}
-use Rattle.cg_files.specs.Held.{Held, Holds, Appends}
+use Rattle.cg_files.specs.Held.{Holds, Appends}
 use Rattle.cg_model.specs.Kernel.{Kernel}
 use Rattle.cg_model.specs.Work.{Image}
 use Rattle.cg_model.specs.Turns.{turns_left}
@@ -11,8 +9,8 @@ use Rattle.cg_model.specs.Array.{Arch}
 use Rattle.cg_flat.specs.Text.{text_of}
 use Rattle.cg_ending.specs.declared.outcome.Status.{Status}
 use Rattle.cg_ending.specs.declared.outcome.Status.TheVariants.{Done, Memory, Usage, Malformed, Impossible, ReadFault, WriteFault, BudgetSpent, No}
-use Rattle.cg_ending.specs.Outcome.{Name, Bytes, File, Outcome}
-use Rattle.cg_ending.specs.Reads.{AreRead, IsRead}
+use Rattle.cg_ending.specs.Outcome.{Name, File, Outcome}
+use Rattle.cg_ending.specs.Reads.{AreRead}
 use Rattle.cg_ending.specs.Ends.{Moment, Completed, Wrote, IsPut}
 use Rattle.cg_kernel.specs.declared.fault.KernelFault.{KernelFault}
 use Rattle.cg_kernel.specs.Answer.{answer_of}

@@ -1,5 +1,5 @@
 -- What three files give: an architecture, a kernel and a mapping, or a refusal.
-use Rattle.std.proofs.Common.{◌≡◌, ◌≢◌, List, [], Result, Ok, Err, refl, sym, ◌∙◌, ap, subst}
+use Rattle.std.proofs.Common.{◌≡◌, ◌≢◌, [], Result, Ok, Err, refl, sym, ◌∙◌, ap, subst}
 use Rattle.cg_model.specs.Array.{Arch, IsArch}
 use Rattle.cg_model.specs.Kernel.{Kernel, IsKernel}
 use Rattle.cg_model.specs.Mapping.{Mapping, IsShaped}

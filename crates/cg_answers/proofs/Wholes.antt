@@ -1,5 +1,5 @@
 -- What was read, written and put where a command's outcome came.
-use Rattle.std.proofs.Common.{◌≡◌, List, [], ◌∷◌, cond, Some, None, refl, sym, ◌∙◌, ap, subst, inl, inr}
+use Rattle.std.proofs.Common.{◌≡◌, [], ◌∷◌, cond, Some, None, refl, sym, ◌∙◌, ap, subst, inl, inr}
 use Rattle.std.proofs.lemmas.List.Elements.{All-head, All-tail}
 use Rattle.std.proofs.lemmas.Slice.Eq.{bytes_eq-Decides}
 use Rattle.cg_files.specs.Held.{Held, Holds, Appends}

@@ -2,7 +2,7 @@
 use Rattle.std.specs.Prelude.{◌≡◌, [], ◌∷◌, Option, Some, None, Result, Ok, Err, codes}
 use Rattle.cg_model.specs.Array.{Arch}
 use Rattle.cg_model.specs.Kernel.{Kernel}
-use Rattle.cg_model.specs.Mapping.{Mapping, IsLegal}
+use Rattle.cg_model.specs.Mapping.{IsLegal}
 use Rattle.cg_ending.specs.declared.outcome.Status.TheVariants.{Done, No}
 use Rattle.cg_files.specs.Held.{Holds, Appends}
 use Rattle.cg_ending.specs.Outcome.{Name, Bytes, File, Outcome, line_of}

@@ -1,5 +1,5 @@
 -- `emit ARCH KERNEL MAPPING OUT`.
-use Rattle.std.specs.Prelude.{◌≡◌, ℕ, [], ◌∷◌, Option, Some, None, Result, Ok, Err, codes, decimal}
+use Rattle.std.specs.Prelude.{◌≡◌, [], ◌∷◌, Option, Some, None, Result, Ok, Err, codes, decimal}
 use Rattle.cg_model.specs.Mapping.{IsLegal}
 use Rattle.cg_model.specs.Config.{Config}
 use Rattle.cg_model.specs.Configured.{configuration_of}
