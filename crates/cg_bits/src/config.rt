@@ -4,7 +4,7 @@ ghost use Rattle.cg_model.specs.Canonical.{stage_of};
 
 use crate::reading::NO_ARG;
 use cg_arch::Arch;
-use cg_contexts::{Contexts, UnitFields};
+use cg_contexts::{Contexts, UnitFields, UnitHead, told_by};
 use std::alloc::{AllocError, Global};
 use std::marker::Model;
 
@@ -245,5 +245,13 @@ impl Contexts for Config {
 
     fn unit(&self, unit: u32, slot: u32) -> UnitFields {
         self.fields_in(slot as usize)[unit as usize]
+    }
+
+    fn head(&self, unit: u32, slot: u32) -> UnitHead {
+        UnitHead::of(&self.fields_in(slot as usize)[unit as usize])
+    }
+
+    fn told(&self, unit: u32, slot: u32, place: usize, turn: u32) -> Option<u32> {
+        told_by(&self.fields_in(slot as usize)[unit as usize], place, turn)
     }
 }

@@ -1,12 +1,19 @@
 //! What is read of a configuration, however it is kept: in tables, or as bits that are read in place.
 #![tactic(auto)]
 
-ghost use Rattle.std.specs.Prelude.{◌≡◌};
+ghost use Rattle.std.specs.Prelude.{◌≡◌, ◌<◌};
 ghost use Rattle.cg_model.specs.Config as configs;
+ghost use Rattle.cg_model.specs.Canonical.{arity_of};
 ghost use Rattle.cg_contexts.specs.Known.{HasSelect, HasUnit};
+ghost use Rattle.cg_contexts.specs.Told.{head_of, told};
+
+mod head;
+mod told;
 
 pub use cg_model::{ArgFields, UnitFields};
 pub use cg_word::Op;
+pub use head::UnitHead;
+pub use told::told_by;
 
 /// A configuration of an array.
 pub trait Contexts {
@@ -29,4 +36,16 @@ pub trait Contexts {
     fn unit(&self, unit: u32, slot: u32) -> UnitFields
         requires { HasUnit (config self.now) unit slot }
         ensures { result ≡ configs.fields (config self.now) unit slot };
+
+    /// What a unit begins in a slot, without its arguments.
+    fn head(&self, unit: u32, slot: u32) -> UnitHead
+        requires { HasUnit (config self.now) unit slot }
+        ensures { result ≡ head_of (configs.fields (config self.now) unit slot) };
+
+    /// The word that a unit is told for an argument of its operation in a turn: the immediate, or the turn's initial word.
+    /// Where it is told none, the argument is the word on its port.
+    fn told(&self, unit: u32, slot: u32, place: usize, turn: u32) -> Option<u32>
+        requires known { HasUnit (config self.now) unit slot }
+        requires argument { place < arity_of (configs.fields (config self.now) unit slot).op }
+        ensures { result ≡ told (configs.fields (config self.now) unit slot) place turn };
 }

@@ -9,6 +9,7 @@ mod settle;
 mod sim;
 mod streams;
 mod texts;
+mod unit_in_slot;
 mod units;
 
 pub use fault::SimFault;

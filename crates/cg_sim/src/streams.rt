@@ -8,7 +8,7 @@ ghost use Rattle.cg_sim.specs.Reserved.{stream, all_words, AreMarkedIn, AreMarke
 
 use crate::effects::Stream;
 use cg_arch::Arch;
-use cg_contexts::{Contexts, UnitFields};
+use cg_contexts::{Contexts, Op};
 use cg_model::Words;
 use cg_pad::PORTS;
 use std::alloc::{AllocError, Global};
@@ -57,18 +57,18 @@ fn mark_used<C: Contexts>(units: usize, contexts: &C, slot: u32, used: &mut [boo
     ensures marked { AreMarkedIn (C.config contexts.now) units slot used.new }
 {
     for x in 0..units {
-        let fields = contexts.unit(x as u32, slot);
-        if is_output(&fields) {
-            used[fields.port as usize] = true;
+        let head = contexts.head(x as u32, slot);
+        if gives_output(head.op) {
+            used[head.port as usize] = true;
         }
     }
 }
 
-/// Whether the fields name an output.
-fn is_output(fields: &UnitFields) -> bool
-    ensures { result ≡ gives_output fields.now.op }
+/// Whether it is an output.
+fn gives_output(op: Option<Op>) -> bool
+    ensures { result ≡ gives_output op }
 {
-    match fields.op {
+    match op {
         Some(op) => op.is_output(),
         None => false,
     }

@@ -2,6 +2,7 @@
 ghost use Rattle.std.specs.Prelude.{◌≡◌, ◌<◌, ◌≤◌, ◌+◌, ◌*◌, ◌^◌, ℕ, length, slice_index, vec_len, vec_capacity};
 ghost use Rattle.cg_model.specs.Limits.{latest_time, most_turns, most_units};
 ghost use Rattle.cg_model.specs.Config as configs;
+ghost use Rattle.cg_model.specs.Canonical.{arity_of};
 ghost use Rattle.cg_model.specs.Machine.{begun, argument, arguments};
 ghost use Rattle.cg_contexts.specs.Known.{HasUnit};
 ghost use Rattle.cg_sim.specs.Settle.{terminals};
@@ -10,88 +11,88 @@ ghost use Rattle.cg_sim.specs.Effects.{on_ports, works_on, HasRoom, AreRoomy, Be
 use crate::effects::{Effects, hold, send};
 use crate::moment::Moment;
 use crate::plan::Terminals;
-use cg_contexts::{Contexts, UnitFields};
+use crate::unit_in_slot::UnitInSlot;
+use cg_contexts::Contexts;
 use cg_pad::{Image, Work};
 
-/// An argument of a unit that is active.
-fn argument_word(
-    fields: &UnitFields,
+/// An argument of a unit that is active: what it is told, else the word on its port.
+fn argument_word<C: Contexts>(
+    unit: &UnitInSlot<'_, C>,
     place: usize,
     turn: u32,
     ports: [u32; 3],
     words: &[u32],
 ) -> u32
-    requires place { place < 3 }
+    requires argument { place < arity_of unit.now.op }
     requires ports { (p : ℕ) → p < 3 → slice_index ports p < length words.now }
-    ensures { result ≡ argument fields.now turn (on_ports ports words.now place) (configs.arg fields.now place) }
+    ensures { result ≡ argument unit.now turn (on_ports ports words.now place) (configs.arg unit.now place) }
 {
-    let arg = &fields.args[place];
-    if arg.fixed {
-        fields.immediate
-    } else if turn < arg.count {
-        initial_word(arg.init, turn)
-    } else {
-        words[ports[place] as usize]
+    match unit.told(place, turn) {
+        Some(word) => word,
+        None => word_on_port(ports, place, words),
     }
 }
 
-/// The initial word of a turn, 0 past the last.
-fn initial_word(init: [u32; 4], turn: u32) -> u32
-    ensures { result ≡ slice_index init turn }
+/// The word on a port.
+fn word_on_port(ports: [u32; 3], place: usize, words: &[u32]) -> u32
+    requires place { place < 3 }
+    requires ports { (p : ℕ) → p < 3 → slice_index ports p < length words.now }
+    ensures { result ≡ on_ports ports words.now place }
 {
-    if turn < 4 { init[turn as usize] } else { 0 }
+    words[ports[place] as usize]
 }
 
 /// Argument number `place` of so many, 0 past the last.
-fn operand(
-    fields: &UnitFields,
+fn operand<C: Contexts>(
+    unit: &UnitInSlot<'_, C>,
     count: u32,
     place: usize,
     turn: u32,
     ports: [u32; 3],
     words: &[u32],
 ) -> u32
-    requires place { place < 3 }
+    requires count { count ≤ arity_of unit.now.op }
     requires ports { (p : ℕ) → p < 3 → slice_index ports p < length words.now }
-    ensures { result ≡ slice_index (arguments fields.now turn (on_ports ports words.now) count) place }
+    ensures { result ≡ slice_index (arguments unit.now turn (on_ports ports words.now) count) place }
 {
     if place < count as usize {
-        argument_word(fields, place, turn, ports, words)
+        argument_word(unit, place, turn, ports, words)
     } else {
         0
     }
 }
 
 /// What a unit begins, if anything: its result is returned, its store waits for the end of the cycle.
-fn begin(
+fn begin<C: Contexts>(
     image: &Image,
-    fields: &UnitFields,
+    unit: &UnitInSlot<'_, C>,
     n: u32,
     round: u32,
     ports: [u32; 3],
     words: &[u32],
     effects: &mut Effects,
 ) -> u32
-    requires rounds { fields.now.stage + n < 2 ^ 32 }
+    requires rounds { unit.now.stage + n < 2 ^ 32 }
     requires ports { (p : ℕ) → p < 3 → slice_index ports p < length words.now }
     requires pending { vec_len effects.old.pending < vec_capacity effects.old.pending }
     requires outside { effects.old.outside < 2 ^ 63 }
-    requires room { HasRoom effects.old.streams.items fields.now n round }
-    ensures work { Begins image.now (begun fields.now n round (on_ports ports words.now)) effects.old effects.new result }
+    requires room { HasRoom effects.old.streams.items unit.now n round }
+    ensures work { Begins image.now (begun unit.now n round (on_ports ports words.now)) effects.old effects.new result }
     ensures few { effects.new.outside ≤ effects.old.outside + 1 }
 {
-    let Some(op) = fields.op else { return 0 };
-    if round < fields.stage || round >= fields.stage + n {
+    let head = unit.head();
+    let Some(op) = head.op else { return 0 };
+    if round < head.stage || round >= head.stage + n {
         return 0;
     }
-    let turn = round - fields.stage;
+    let turn = round - head.stage;
     let count = op.arity();
-    let a = operand(fields, count, 0, turn, ports, words);
-    let b = operand(fields, count, 1, turn, ports, words);
-    let c = operand(fields, count, 2, turn, ports, words);
+    let a = operand(unit, count, 0, turn, ports, words);
+    let b = operand(unit, count, 1, turn, ports, words);
+    let c = operand(unit, count, 2, turn, ports, words);
     let work = Work {
         op,
-        port: fields.port,
+        port: head.port,
         turn,
         args: [a, b, c],
     };
@@ -128,9 +129,9 @@ pub(crate) fn begin_units<C: Contexts>(
     ensures few { effects.new.outside ≤ effects.old.outside + length units.now }
 {
     for x in 0..units.len() {
-        let fields = contexts.unit(x as u32, moment.slot);
+        let unit = UnitInSlot::new(contexts, x as u32, moment.slot);
         let ports = units[x].ports;
-        let result = begin(image, &fields, n, moment.round, ports, words, effects);
+        let result = begin(image, &unit, n, moment.round, ports, words, effects);
         history[4 * x + moment.row] = result;
     }
 }

@@ -3,6 +3,7 @@
 use crate::context_view::ContextView;
 use cg_arch::Arch;
 use cg_bits::{BitsFault, Contexts, HEADER, UnitFields, check_bits, ii_in, stages_in};
+use cg_contexts::UnitHead;
 use std::marker::Model;
 
 /// The configuration that lent bytes spell. Contracts see it as this configuration.
@@ -74,5 +75,13 @@ impl<'a> Contexts for ConfigView<'a> {
 
     fn unit(&self, unit: u32, slot: u32) -> UnitFields {
         self.context(slot).unit(unit).fields()
+    }
+
+    fn head(&self, unit: u32, slot: u32) -> UnitHead {
+        self.context(slot).unit(unit).head()
+    }
+
+    fn told(&self, unit: u32, slot: u32, place: usize, turn: u32) -> Option<u32> {
+        self.context(slot).unit(unit).told(place, turn)
     }
 }

@@ -5,9 +5,11 @@ ghost use Rattle.cg_model.specs.Config.{arg, no_arg};
 ghost use Rattle.cg_bits.specs.Numbers.{bits_of_bytes, number_at};
 ghost use Rattle.cg_bits.specs.Format.{cgb2};
 ghost use Rattle.cg_bits.specs.Reading.{unit_in};
+ghost use Rattle.cg_contexts.specs.Told.{head_of, told};
 ghost use Rattle.cg_view.specs.Held.{HoldsUnit};
 
 use cg_bits::{ArgFields, CGB2, NO_ARG, UnitFields, number_at, op_of};
+use cg_contexts::UnitHead;
 use cg_word::Op;
 use std::marker::Model;
 
@@ -50,10 +52,12 @@ impl<'a> Model for UnitView<'a> {
 }
 
 impl<'a> UnitView<'a> {
-    ghost use Rattle.std.specs.Prelude.{◌≡◌};
+    ghost use Rattle.std.specs.Prelude.{◌≡◌, ◌<◌};
+    ghost use Rattle.cg_model.specs.Canonical.{arity_of};
     ghost use Rattle.cg_bits.specs.Numbers.{bits_of_bytes};
     ghost use Rattle.cg_bits.specs.Format.{cgb2};
     ghost use Rattle.cg_bits.specs.Reading.{unit_in};
+    ghost use Rattle.cg_contexts.specs.Told.{head_of, told};
     ghost use Rattle.cg_view.specs.Held.{HoldsUnit};
 
     /// The unit of that many ports at a place in the bits.
@@ -70,6 +74,54 @@ impl<'a> UnitView<'a> {
         ensures { result ≡ self.now }
     {
         unit_fields(self.body, self.at, self.ports)
+    }
+
+    /// What it begins, without its arguments. The first 26 bits alone are read.
+    pub fn head(&self) -> UnitHead
+        ensures { result ≡ head_of self.now }
+    {
+        unit_head(self.body, self.at, self.ports)
+    }
+
+    /// The word that it is told for an argument of its operation in a turn, if any. Of the argument's bits its mode and count
+    /// are read, and of the words no more than the one that is told.
+    pub fn told(&self, place: usize, turn: u32) -> Option<u32>
+        requires { place < arity_of self.now.op }
+        ensures { result ≡ told self.now place turn }
+    {
+        unit_told(self.body, self.at, self.ports, place, turn)
+    }
+}
+
+/// What a unit of that many ports begins, without its arguments. The first 26 bits are its operation's code, its stage and its
+/// port.
+fn unit_head(body: &[u8], at: usize, ports: usize) -> UnitHead
+    requires { HoldsUnit body.now at ports }
+    ensures { result ≡ head_of (unit_in cgb2 ports (bits_of_bytes body.now) at) }
+{
+    let head = number_at(body, at, 26);
+    UnitHead {
+        op: op_of(CGB2, head >> 20),
+        stage: (head >> 4) % 65536,
+        port: head % 16,
+    }
+}
+
+/// The word that a unit of that many ports is told for an argument in a turn, if any. The argument's first four bits are its
+/// mode and the count of its initial words.
+fn unit_told(body: &[u8], at: usize, ports: usize, place: usize, turn: u32) -> Option<u32>
+    requires held { HoldsUnit body.now at ports }
+    requires port { place < ports }
+    ensures { result ≡ told (unit_in cgb2 ports (bits_of_bytes body.now) at) place turn }
+{
+    let arg_at = at + 58 + place * 132;
+    let head = number_at(body, arg_at, 4);
+    if head >> 3 == 1 {
+        Some(number_at(body, at + 26, 32))
+    } else if turn < head % 8 {
+        Some(number_at(body, arg_at + 4 + turn as usize * 32, 32))
+    } else {
+        None
     }
 }
 

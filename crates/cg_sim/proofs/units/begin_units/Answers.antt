@@ -21,8 +21,8 @@ loop-x-preserved g c =
     let x = c.loop-x.x in
     let image = c.args.image.now in
     let works : ℕ → Option Work = works_on C us c.args.n c.args.moment.slot c.args.moment.round c.args.words.now in
-    let same : begun c.unit-fields.result c.args.n c.args.moment.round (on_ports (terminals us x).ports c.args.words.now) ≡ works x =
-    ap (λ (F : UnitFields). begun F c.args.n c.args.moment.round (on_ports (terminals us x).ports c.args.words.now)) c.unit-fields.ensures in
+    let same : begun c.new-unit.result c.args.n c.args.moment.round (on_ports (terminals us x).ports c.args.words.now) ≡ works x =
+    ap (λ (F : UnitFields). begun F c.args.n c.args.moment.round (on_ports (terminals us x).ports c.args.words.now)) c.new-unit.ensures in
     let one : Begins image (works x) c.loop-x.effects c.begin-result.new.effects c.begin-result.result = subst (λ (o : Option Work). Begins image o c.loop-x.effects c.begin-result.new.effects c.begin-result.result) same c.begin-result.ensures.work in
     let right : c.begin-result.result ≡ result_of image c.args.effects.now.memory (works x) = one.result_is ∙ ap (λ (m : List ℕ). result_of image m (works x)) c.loop-x.invariant.effects.memory in
     let place : 4 * x + c.args.moment.row < length c.loop-x.history = search rules in

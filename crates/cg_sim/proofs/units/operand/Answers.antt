@@ -4,9 +4,9 @@ use Rattle.cg_sim.proofs.Arguments.{argument_at, argument_past}
 use Rattle.cg_sim.proofs.units.operand.Goals as goal
 
 pub returns-then-place-count : goal.returns-then-place-count
-returns-then-place-count c =
-    c.argument_word.ensures ∙ sym (argument_at c.args.fields.now c.args.turn (on_ports c.args.ports c.args.words.now) c.args.count c.args.place c.if-place-count.true)
+returns-then-place-count g c =
+    c.argument_word.ensures ∙ sym (argument_at c.args.unit.now c.args.turn (on_ports c.args.ports c.args.words.now) c.args.count c.args.place c.if-place-count.true)
 
 pub returns-else-place-count : goal.returns-else-place-count
-returns-else-place-count c =
-    sym (argument_past c.args.fields.now c.args.turn (on_ports c.args.ports c.args.words.now) c.args.count c.args.place c.if-place-count.false)
+returns-else-place-count g c =
+    sym (argument_past c.args.unit.now c.args.turn (on_ports c.args.ports c.args.words.now) c.args.count c.args.place c.if-place-count.false)
