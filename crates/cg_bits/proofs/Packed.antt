@@ -43,7 +43,7 @@ more_packed bits many rest =
       padding = rest.padding;
       short = rest.short;
       are = flat_map-cons (bits_of 8) (number first) rest.body ∙ ap (λ z. z ++ bits_of_bytes rest.body) (byte_bits first eight) ∙ ap (λ z. first ++ z) rest.are
-      ∙ sym (append_assoc first (drop 8 bits) zeros) ∙ ap (λ z. z ++ zeros) (take-append-drop 8 bits);
+          ∙ sym (append_assoc first (drop 8 bits) zeros) ∙ ap (λ z. z ++ zeros) (take-append-drop 8 bits);
     }
 
 packed : (k : ℕ) (bits : List Bool) → length bits ≤ k → ArePacked bits
