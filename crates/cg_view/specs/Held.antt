@@ -1,5 +1,5 @@
 -- What is known of the bytes that a view reads.
-use Rattle.std.specs.Prelude.{ℕ, ◌+◌, ◌*◌, ◌/◌, ◌<◌, ◌≤◌, ◌^◌, List, length}
+use Rattle.std.specs.Prelude.{◌≡◌, ℕ, ◌+◌, ◌*◌, ◌/◌, ◌<◌, ◌≤◌, ◌^◌, List, length}
 use Rattle.cg_word.specs.Word.{all_ops}
 use Rattle.cg_model.specs.Array.{Arch, IsArch}
 use Rattle.cg_model.specs.Canonical.{IsCanonical, AreFields, arity_of}
@@ -15,6 +15,12 @@ pub record HoldBits (A : Arch) (bytes : List ℕ) : Type 0 where
   pub header : 40 ≤ length bytes
   pub whole : 40 + (ii_in bytes * slot_len cgb2 A + 7) / 8 ≤ length bytes
   pub canonical : IsCanonical A (config_of A bytes)
+
+-- that many bits are the length of a slot
+pub record IsHeld (A : Arch) (bytes : List ℕ) (bits : ℕ) : Type 0 where
+  pub held : HoldBits A bytes
+  pub slot : bits ≡ slot_len cgb2 A
+  pub short : bits < 2 ^ 32
 
 -- the body holds a unit of that many ports at a place, and its fields keep the rules of canonical configurations
 pub record HoldsUnit (body : List ℕ) (at n : ℕ) : Type 0 where

@@ -6,23 +6,25 @@ use cg_bits::{BitsFault, Contexts, HEADER, UnitFields, check_bits, ii_in, stages
 use cg_contexts::UnitHead;
 use std::marker::Model;
 
-/// The configuration that lent bytes spell. Contracts see it as this configuration.
+/// The configuration that lent bytes spell. Contracts see it as this configuration. It keeps the length of a slot in bits,
+/// which is asked for at every field.
 #[derive(Drop)]
 pub struct ConfigView<'a> {
     arch: &'a Arch,
     bytes: &'a [u8],
+    slot_bits: usize,
 }
 
 impl<'a> Model for ConfigView<'a> {
     ghost use Rattle.cg_model.specs.Config as configs;
     ghost use Rattle.cg_bits.specs.Answers.{config_of};
-    ghost use Rattle.cg_view.specs.Held.{HoldBits};
+    ghost use Rattle.cg_view.specs.Held.{IsHeld};
 
     ghost Value = { configs.Config };
 
     ghost view = { λ v. config_of v.arch.now v.bytes.now };
 
-    ghost invariant = { λ v. HoldBits v.arch.now v.bytes.now };
+    ghost invariant = { λ v. IsHeld v.arch.now v.bytes.now v.slot_bits };
 }
 
 impl<'a> ConfigView<'a> {
@@ -43,7 +45,11 @@ impl<'a> ConfigView<'a> {
         ensures all { (C : configs.Config) → AreBits arch.now C bytes.now → result ≡ Ok C }
     {
         match check_bits(arch, bytes) {
-            Ok(()) => Ok(ConfigView { arch, bytes }),
+            Ok(()) => Ok(ConfigView {
+                arch,
+                bytes,
+                slot_bits: arch.slot_bits() as usize,
+            }),
             Err(fault) => Err(fault),
         }
     }
@@ -53,7 +59,7 @@ impl<'a> ConfigView<'a> {
         requires { slot < self.now.ii }
         ensures { result ≡ slot_of self.now slot }
     {
-        let at = slot as usize * self.arch.slot_bits() as usize;
+        let at = slot as usize * self.slot_bits;
         ContextView::new(self.arch, &self.bytes[HEADER..], at)
     }
 }

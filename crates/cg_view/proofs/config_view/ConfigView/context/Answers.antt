@@ -1,4 +1,4 @@
-use Rattle.std.proofs.Common.{◌<◌, ◌*◌, ◌^◌, drop, sym, ap, subst, ◌∙◌, arith}
+use Rattle.std.proofs.Common.{◌<◌, ◌*◌, ◌^◌, drop, sym, ap, subst, ◌∙◌}
 use Rattle.cg_model.specs.Config.{Config}
 use Rattle.cg_bits.specs.Numbers.{bits_of_bytes}
 use Rattle.cg_bits.specs.Format.{cgb2, slot_len}
@@ -14,9 +14,10 @@ new-requires c =
     let A = c.self.inside.arch.now in
     let bytes = c.self.inside.bytes.now in
     let in_time : c.args.slot < ii_in bytes = subst (λ (z : Config). c.args.slot < z.ii) (sym c.self.view_is) c.requires in
-    let short : slot_len cgb2 A < 2 ^ 32 = subst (λ z. z < 2 ^ 32) c.slot_bits.ensures (omega arith) in
-    subst (λ b. HoldsSlot A b (c.args.slot * c.slot_bits.result)) (sym (body_is bytes))
-    (subst (λ z. HoldsSlot A (drop 40 bytes) (c.args.slot * z)) (sym c.slot_bits.ensures) (slot_held A bytes c.args.slot c.self.invariant in_time short))
+    let slot_is_long = c.self.invariant.slot in
+    let short : slot_len cgb2 A < 2 ^ 32 = subst (λ z. z < 2 ^ 32) slot_is_long c.self.invariant.short in
+    subst (λ b. HoldsSlot A b (c.args.slot * c.self.inside.slot_bits)) (sym (body_is bytes))
+    (subst (λ z. HoldsSlot A (drop 40 bytes) (c.args.slot * z)) (sym slot_is_long) (slot_held A bytes c.args.slot c.self.invariant.held in_time short))
 
 pub returns : goal.returns
 unfolding config_in
@@ -24,5 +25,5 @@ returns c =
     let A = c.self.inside.arch.now in
     let bytes = c.self.inside.bytes.now in
     let in_time : c.args.slot < ii_in bytes = subst (λ (z : Config). c.args.slot < z.ii) (sym c.self.view_is) c.requires in
-    c.new.ensures ∙ ap (λ b. slot_in A (bits_of_bytes b) (c.args.slot * c.slot_bits.result)) (body_is bytes) ∙ ap (λ z. slot_in A (body_bits bytes) (c.args.slot * z)) c.slot_bits.ensures
+    c.new.ensures ∙ ap (λ b. slot_in A (bits_of_bytes b) (c.args.slot * c.self.inside.slot_bits)) (body_is bytes) ∙ ap (λ z. slot_in A (body_bits bytes) (c.args.slot * z)) c.self.invariant.slot
     ∙ slot_is A bytes c.args.slot in_time ∙ ap (λ (z : Config). slot_of z c.args.slot) c.self.view_is

@@ -1,4 +1,4 @@
-use Rattle.std.proofs.Common.{sym, ap}
+use Rattle.std.proofs.Common.{sym, ap, arith}
 use Rattle.cg_arch.specs.Kept.{digest_of}
 use Rattle.cg_bits.specs.Format.{cgb2}
 use Rattle.cg_bits.specs.Answers.{faults_of, config_of, unless_fault}
@@ -12,7 +12,11 @@ invariant_of-result c =
     let bytes = c.args.bytes.now in
     let none = none_answered _ _ (faults_of A bytes) c.in-Ok.ensures.answer in
     let started = none_started cgb2 is_cgb2 A (digest_of A) bytes none in
-    record { valid = c.check_bits.ensures.valid; header = started.header; whole = started.whole; canonical = c.in-Ok.ensures.bits.canonical }
+    record {
+      held = record { valid = c.check_bits.ensures.valid; header = started.header; whole = started.whole; canonical = c.in-Ok.ensures.bits.canonical };
+      slot = c.slot_bits.ensures;
+      short = omega arith;
+    }
 
 pub returns-in-Ok-clause-answer : goal.returns-in-Ok-clause-answer
 returns-in-Ok-clause-answer c =
