@@ -1,0 +1,11 @@
+//! The least interval at which a kernel may run on an architecture, and why each lower one is impossible.
+#![tactic(auto)]
+
+mod halves;
+mod interval;
+mod laws;
+mod unoffered;
+
+pub use cg_edges::{Arch, EdgeId, Kernel};
+pub use interval::{Certificate, IntervalVerdict, LeastInterval, bound, verdict};
+pub use laws::{certifies, excludes, one_least};
