@@ -25,17 +25,6 @@ module _ (A : Arch) (K : Kernel) (all : AllOffered A K) where
       subst (λ z. IsBetween A K 0 z None) (sym e)
       (record { order = omega arith; within = omega arith; shown = refl; free = free_at A K good small all (limit K) (omega arith) })
 
-  pub between_above : (low middle high : ℕ) (below : Option Certificate) (c : Certificate) → IsBetween A K low high below → low < middle → middle < high → ShowsForbidden A K middle c → IsBetween A K middle high (Some c)
-  between_above low middle high below c b l m s = record { order = m; within = b.within; shown = shown_after middle c (omega arith) s; free = b.free }
-
-  pub between_below : (low middle high : ℕ) (below : Option Certificate) → IsBetween A K low high below → low < middle → middle < high → HasNoRecurrence A K middle → IsBetween A K low middle below
-  between_below low middle high below b l m free = record { order = l; within = (let w = b.within in omega arith); shown = b.shown; free = free }
-
-  pub between_done : (low high : ℕ) (below : Option Certificate) → IsBetween A K low high below → high ≤ low + 1 → IsLeastFree A K (record { interval = high; below = below })
-  between_done low high below b h =
-      let o = b.order in
-      record { some = omega arith; free = b.free; shown = (let e : low + 1 ≡ high = omega arith in subst (λ z. IsShownBelow A K z below) e b.shown) }
-
   -- ---- from there on
 
   pub open_found : (found : Found) → IsLeastFree A K found → HasNoOverfull A K found.interval → IsLeastOpen A K found
@@ -46,21 +35,6 @@ module _ (A : Arch) (K : Kernel) (all : AllOffered A K) where
       let l = overfull_early A K all low set over in
       subst (λ z. IsAbove A K low z set) (sym e)
       (record { some = p; order = omega arith; within = omega arith; free = free; overfull = (over, own); none = none_overfull_at A K all (limit K) (omega arith) })
-
-  above_same : (low high low' high' : ℕ) (set set' : List Op) → low' ≡ low → high' ≡ high → set' ≡ set → IsAbove A K low high set → IsAbove A K low' high' set'
-  above_same low high low' high' set set' e f g a = subst (λ z. IsAbove A K z high' set') (sym e) (subst (λ z. IsAbove A K low z set') (sym f) (subst (λ z. IsAbove A K low high z) (sym g) a))
-
-  pub above_above : (low middle high low' high' : ℕ) (set more set' : List Op) → IsAbove A K low high set → low < middle → middle < high → IsOverfull A K middle more × AreOfNodes K more →
-      low' ≡ middle → high' ≡ high → set' ≡ more → IsAbove A K low' high' set'
-  above_above low middle high low' high' set more set' a l m o e f g =
-      let s = a.some in
-      above_same middle high low' high' more set' e f g
-      (record { some = omega arith; order = m; within = a.within; free = free_above A K low middle (omega arith) a.free; overfull = o; none = a.none })
-
-  pub above_below : (low middle high low' high' : ℕ) (set set' : List Op) → IsAbove A K low high set → low < middle → middle < high → HasNoOverfull A K middle →
-      low' ≡ low → high' ≡ middle → set' ≡ set → IsAbove A K low' high' set'
-  above_below low middle high low' high' set set' a l m none e f g =
-      above_same low middle low' high' set set' e f g (record { some = a.some; order = l; within = (let w = a.within in omega arith); free = a.free; overfull = a.overfull; none = none })
 
   pub above_done : (low high : ℕ) (set : List Op) (c : Certificate) → c ≡ Class set → IsAbove A K low high set → high ≤ low + 1 → IsLeastOpen A K (record { interval = high; below = Some c })
   above_done low high set c is a h =

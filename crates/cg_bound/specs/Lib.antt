@@ -1,2 +1,3 @@
 pub mod Bound
 pub mod Search
+pub mod Text

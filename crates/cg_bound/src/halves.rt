@@ -6,8 +6,8 @@ ghost use Rattle.cg_bound.specs.Bound.{AllOffered, HasNoRecurrence};
 ghost use Rattle.cg_bound.specs.Search as spec;
 
 use crate::interval::Certificate;
+use crate::overfull::overfull_at;
 use cg_arch::Arch;
-use cg_class::{Assignment, assign};
 use cg_edges::latencies_are_small;
 use cg_kernel::Kernel;
 use cg_recur::{Recur, recurrence};
@@ -31,9 +31,9 @@ pub(crate) fn least_open(
     ensures { IfOk result (spec.IsLeastOpen arch.now kernel.now) }
 {
     let free = least_free(alloc, arch, kernel)?;
-    match assign(alloc, arch, kernel, free.interval)? {
-        Assignment::Units(_) => Ok(free),
-        Assignment::Overfull(set) => above_class(alloc, arch, kernel, free.interval, set),
+    match overfull_at(alloc, arch, kernel, free.interval)? {
+        None => Ok(free),
+        Some(set) => above_class(alloc, arch, kernel, free.interval, set),
     }
 }
 
@@ -83,12 +83,12 @@ fn above_class(
     let mut set = overfull;
     while high - low > 1 {
         let middle = low + (high - low) / 2;
-        match assign(alloc, arch, kernel, middle)? {
-            Assignment::Overfull(more) => {
+        match overfull_at(alloc, arch, kernel, middle)? {
+            Some(more) => {
                 low = middle;
                 set = more;
             }
-            Assignment::Units(_) => high = middle,
+            None => high = middle,
         }
     }
     Ok(Found {

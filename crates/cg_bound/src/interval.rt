@@ -4,9 +4,9 @@ ghost use Rattle.cg_bound.specs.declared.interval.Certificate.TheVariants.{Class
 ghost use Rattle.cg_bound.specs.Bound.{IsVerdict, HasCertificate, Excludes, IsBound};
 
 use crate::halves::least_open;
+use crate::overfull::overfull_at;
 use crate::unoffered::first_unoffered;
 use cg_arch::Arch;
-use cg_class::{Assignment, assign};
 use cg_edges::EdgeId;
 use cg_kernel::Kernel;
 use cg_recur::{Recur, recurrence};
@@ -59,9 +59,9 @@ pub fn verdict(
     }
     match recurrence(alloc, arch, kernel, ii)? {
         Recur::Cycle(ids) => Ok(IntervalVerdict::Impossible(Certificate::Cycle(ids))),
-        Recur::Times(_) => match assign(alloc, arch, kernel, ii)? {
-            Assignment::Overfull(set) => Ok(IntervalVerdict::Impossible(Certificate::Class(set))),
-            Assignment::Units(_) => Ok(IntervalVerdict::Allowed),
+        Recur::Times(_) => match overfull_at(alloc, arch, kernel, ii)? {
+            Some(set) => Ok(IntervalVerdict::Impossible(Certificate::Class(set))),
+            None => Ok(IntervalVerdict::Allowed),
         },
     }
 }

@@ -1,6 +1,8 @@
 use Rattle.std.proofs.Common.{inl, inr, subst}
+use Rattle.std.specs.Prelude.{MatchOption}
 use Rattle.cg_recur.specs.Recurrences as recur
-use Rattle.cg_class.specs.Class as class
+use Rattle.cg_class.specs.Class.{IsOverfull, AreOfNodes}
+use Rattle.cg_bound.specs.Bound.{HasNoOverfull}
 use Rattle.cg_bound.proofs.Legal.{excluded}
 use Rattle.cg_bound.proofs.Intervals.{one_shown, unoffered_certifies, certified}
 use Rattle.cg_bound.proofs.interval.verdict.Goals as goal
@@ -25,9 +27,9 @@ returns-in-Cycle-clause-excludes c =
     let answer = subst (recur.IsAnswer A K c.args.ii) c.in-Cycle.is c.in_ok-ids.ensures in
     excluded A K c.args.ii c.nodes-nodes.ensures.valid (inl (c.in-Cycle.ids.items, answer.0))
 
-pub returns-in-Overfull-clause-excludes : goal.returns-in-Overfull-clause-excludes
-returns-in-Overfull-clause-excludes c =
+pub returns-in-Some-2-clause-excludes : goal.returns-in-Some-2-clause-excludes
+returns-in-Some-2-clause-excludes c =
     let A = c.args.arch.now in
     let K = c.args.kernel.now in
-    let answer = subst (class.IsAnswer A K c.args.ii) c.in-Overfull.is c.in_ok-set-in-Times.ensures in
-    excluded A K c.args.ii c.nodes-nodes.ensures.valid (inr (c.in-Overfull.set, answer.0))
+    let answer = subst (λ o. MatchOption o (HasNoOverfull A K c.args.ii) (λ set. IsOverfull A K c.args.ii set × AreOfNodes K set)) c.in-Some-2.is c.in_ok-set-in-Times.ensures in
+    excluded A K c.args.ii c.nodes-nodes.ensures.valid (inr (c.in-Some-2.set, answer.0))
