@@ -1,7 +1,7 @@
 -- The search by halves: what is known at its begin, after a step and at its end.
-use Rattle.std.proofs.Common.{◌≡◌, ℕ, ◌+◌, ◌-◌, ◌*◌, ◌<◌, ◌≤◌, List, Some, None, refl, sym, subst, arith, inr}
+use Rattle.std.proofs.Common.{◌≡◌, ℕ, ◌+◌, ◌-◌, ◌<◌, ◌≤◌, List, Some, None, refl, sym, subst, arith, inr}
 use Rattle.cg_word.specs.declared.op.Op.{Op}
-use Rattle.cg_model.specs.Kernel.{Kernel, IsKernel, size}
+use Rattle.cg_model.specs.Kernel.{Kernel, IsKernel}
 use Rattle.cg_model.specs.Array.{Arch}
 use Rattle.cg_edges.specs.Edges.{latency}
 use Rattle.cg_class.specs.Class.{IsOverfull, AreOfNodes}
@@ -11,7 +11,6 @@ use Rattle.cg_bound.specs.declared.interval.Certificate.TheVariants.{Class}
 use Rattle.cg_bound.specs.Bound.{AllOffered, HasNoRecurrence, HasNoOverfull, ShowsForbidden, Shows, IsShownBelow}
 use Rattle.cg_bound.specs.Search.{limit, IsBetween, IsAbove, IsLeastFree, IsLeastOpen}
 use Rattle.cg_bound.proofs.Intervals.{free_above, mii_from, free_at, none_overfull_at, overfull_early}
-use Rattle.std.specs.Prelude.{Option}
 
 module _ (A : Arch) (K : Kernel) (all : AllOffered A K) where
   -- what is shown at l is shown below l + 1

@@ -1,6 +1,6 @@
 -- Intervals that are forbidden, ones that are open, and the least one.
-use Rattle.std.proofs.Common.{◌≡◌, ◌↔◌, ℕ, zero, suc, ◌+◌, ◌-◌, ◌*◌, ◌<◌, ◌≤◌, List, [], ◌∷◌, length, cond, Bool, true, false, Option, Some, None, refl, sym, ap, ◌∙◌, subst, arith, inl, inr, ⊎_elim, mul-le-mul_right}
-use Rattle.std.specs.Prelude.{◌⊎◌, slice_get}
+use Rattle.std.proofs.Common.{◌≡◌, ◌↔◌, ℕ, zero, suc, ◌+◌, ◌-◌, ◌*◌, ◌<◌, ◌≤◌, List, [], ◌∷◌, length, Bool, true, false, Option, Some, None, refl, sym, ap, ◌∙◌, subst, arith, inl, inr, ⊎_elim, mul-le-mul_right}
+use Rattle.std.specs.Prelude.{slice_get}
 use Rattle.std.proofs.lemmas.Bool.{cases_lt, cases_Bool, cond-true, cond-false}
 use Rattle.std.proofs.Math.Nat.{mul-le-mul_left}
 use Rattle.cg_word.specs.declared.op.Op.{Op}
@@ -13,7 +13,6 @@ use Rattle.cg_model.specs.declared.array.Unit.{Unit}
 use Rattle.cg_model.specs.Kernel.{Kernel, HasOperand, IsKernel, size, node, no_node}
 use Rattle.cg_model.specs.Array.{Arch}
 use Rattle.cg_edges.specs.declared.edge.Edge.{Edge}
-use Rattle.cg_edges.specs.declared.edge.EdgeId.{EdgeId}
 use Rattle.cg_edges.specs.declared.edge.EdgeId.TheVariants.{Arg, Order}
 use Rattle.cg_edges.specs.Edges.{edge_of, of_operand, of_order, latency}
 use Rattle.cg_edges.specs.Chain.{IsTight}

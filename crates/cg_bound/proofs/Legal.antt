@@ -12,7 +12,7 @@ use Rattle.cg_model.specs.declared.kernel.Operand.TheVariants.{Const as Constant
 use Rattle.cg_model.specs.declared.kernel.OrderEdge.{OrderEdge}
 use Rattle.cg_model.specs.declared.array.Unit.{Unit}
 use Rattle.cg_model.specs.Kernel.{Kernel, HasOperand, IsKernel, size, node, no_node}
-use Rattle.cg_model.specs.Array.{Arch, unit, delay}
+use Rattle.cg_model.specs.Array.{Arch, delay}
 use Rattle.cg_model.specs.Mapping.{Mapping, place, Goes, IsLegal}
 use Rattle.cg_edges.specs.declared.edge.Edge.{Edge}
 use Rattle.cg_edges.specs.declared.edge.EdgeId.{EdgeId}

@@ -2,4 +2,3 @@ pub mod Legal
 pub mod Offers
 pub mod Intervals
 pub mod Halving
-pub mod Texts

@@ -1,5 +1,5 @@
 -- Operations that no unit offers: the test, the first one, and the set of one.
-use Rattle.std.proofs.Common.{◌≡◌, ℕ, zero, suc, ◌+◌, ◌*◌, ◌<◌, ◌≤◌, List, [], ◌∷◌, length, find, cond, eqb, Bool, true, false, Option, Some, None, refl, sym, ap, ◌∙◌, subst, arith, ⊎_elim, eqb-true, eq-eqb, rules}
+use Rattle.std.proofs.Common.{◌≡◌, ℕ, suc, ◌+◌, ◌*◌, ◌<◌, ◌≤◌, List, [], ◌∷◌, length, find, cond, eqb, Bool, true, false, Option, Some, None, refl, sym, ap, ◌∙◌, arith, ⊎_elim, eqb-true, eq-eqb, rules}
 use Rattle.std.specs.Prelude.{slice_index_or, not, ◌||◌, MatchOption, ⊤}
 use Rattle.std.specs.List.{list_any}
 use Rattle.std.proofs.lemmas.Bool.{cases_Bool, cond-true, cond-false, and_from, and_parts, true≢false}
@@ -12,7 +12,7 @@ use Rattle.cg_word.proofs.Codes.{same_code, op_again}
 use Rattle.cg_model.specs.declared.kernel.Node.{Node}
 use Rattle.cg_model.specs.declared.array.Unit.{Unit}
 use Rattle.cg_model.specs.Kernel.{Kernel, node, no_node, size}
-use Rattle.cg_model.specs.Array.{Arch, unit}
+use Rattle.cg_model.specs.Array.{Arch}
 use Rattle.cg_class.specs.Class.{IsOverfull, AreOfNodes, offers_one}
 use Rattle.cg_class.specs.Search.{op_at, ops_at, no_unit}
 use Rattle.cg_class.proofs.Totals.{total, total_zero, total_more, sum_by_total}

@@ -1,10 +1,9 @@
 -- What reports say of an impossible interval.
-use Rattle.std.specs.Prelude.{ℕ, List, [], ◌∷◌, ◌++◌, flat_map, if◌then◌else◌, codes, decimal, Option, Some, None}
+use Rattle.std.specs.Prelude.{ℕ, List, ◌∷◌, ◌++◌, flat_map, codes, decimal, Option, Some, None}
 use Rattle.cg_word.specs.declared.op.Op.{Op}
-use Rattle.cg_word.specs.Word.{name_of, all_ops}
-use Rattle.cg_word.specs.Sets.{among}
 use Rattle.cg_model.specs.Kernel.{Kernel, node}
 use Rattle.cg_model.specs.Array.{Arch}
+use Rattle.cg_flat.specs.Text.{op_words}
 use Rattle.cg_edges.specs.declared.edge.EdgeId.{EdgeId}
 use Rattle.cg_edges.specs.declared.edge.EdgeId.TheVariants.{Arg, Order}
 use Rattle.cg_edges.specs.Edges.{edge_of}
@@ -25,13 +24,6 @@ edge_word K id = 32 ∷ edge_text K id
 abbrev pub edge_words : Kernel → List EdgeId → List ℕ
 edge_words K ids = flat_map (edge_word K) ids
 
--- the operations of a set in the order of their codes, each after a blank
-abbrev pub op_word : List Op → Op → List ℕ
-op_word set op = if among set op then 32 ∷ name_of op else []
-
-abbrev pub op_words : List Op → List ℕ
-op_words set = flat_map (op_word set) all_ops
-
 -- which interval: that of so many cycles, or every one
 abbrev pub interval_text : Option ℕ → List ℕ
 interval_text (Some ii) = codes "impossible at ii " ++ (decimal ii ++ codes ": ")
@@ -48,7 +40,7 @@ counts_text nodes units = codes " nodes " ++ (decimal nodes ++ (codes " units " 
 abbrev pub cycle_text : Arch → Kernel → List EdgeId → List ℕ
 cycle_text A K ids = codes "cycle" ++ (edge_words K ids ++ sums_text (latencies (edge_of A K) ids) (distances (edge_of A K) ids))
 
--- a set of operations with the numbers of its nodes and units
+-- a set of operations in the order of their codes, with the numbers of its nodes and units
 abbrev pub class_text : Arch → Kernel → List Op → List ℕ
 class_text A K set = codes "class" ++ (op_words set ++ counts_text (nodes_in K.nodes set) (units_for A.units set))
 

@@ -21,7 +21,10 @@ pub(crate) fn count_nodes(nodes: &[Node], set: OpSet) -> usize
 pub(crate) fn count_units(units: &[Unit], set: OpSet) -> usize
     ensures { result ≡ units_for units.now set }
 {
-    units.iter().filter(|unit| offers_one(set, unit.ops)).count()
+    units
+        .iter()
+        .filter(|unit| offers_one(set, unit.ops))
+        .count()
 }
 
 /// Whether some operation of a set is offered.

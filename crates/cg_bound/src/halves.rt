@@ -22,11 +22,7 @@ pub(crate) struct Found {
 }
 
 /// The least interval that nothing forbids.
-pub(crate) fn least_open(
-    alloc: Global,
-    arch: &Arch,
-    kernel: &Kernel,
-) -> Result<Found, AllocError>
+pub(crate) fn least_open(alloc: Global, arch: &Arch, kernel: &Kernel) -> Result<Found, AllocError>
     requires { AllOffered arch.now kernel.now }
     ensures { IfOk result (spec.IsLeastOpen arch.now kernel.now) }
 {

@@ -1,6 +1,7 @@
 //! What reports say of an impossible interval.
 ghost use Rattle.std.specs.Prelude.{◌≡◌, ◌++◌, IfOk, OnOk, string_bytes};
 ghost use Rattle.cg_model.specs.Kernel.{node};
+ghost use Rattle.cg_flat.specs.Text as flat;
 ghost use Rattle.cg_bound.specs.Text as spec;
 
 use crate::counts::{count_nodes, count_units, sums};
@@ -118,7 +119,7 @@ fn push_class(
 
 /// Adds the names of operations in the order of their codes, each after a blank.
 fn push_ops(text: &mut Vec<u8>, set: OpSet) -> Result<(), AllocError>
-    ensures { OnOk result (text.new.items ≡ text.old.items ++ spec.op_words set) }
+    ensures { OnOk result (text.new.items ≡ text.old.items ++ flat.op_words set) }
 {
     for op in &Op::ALL {
         push_op(text, set, *op)?;
@@ -128,7 +129,7 @@ fn push_ops(text: &mut Vec<u8>, set: OpSet) -> Result<(), AllocError>
 
 /// Adds a blank and the name of an operation, where it is in the set.
 fn push_op(text: &mut Vec<u8>, set: OpSet, op: Op) -> Result<(), AllocError>
-    ensures { OnOk result (text.new.items ≡ text.old.items ++ spec.op_word set op) }
+    ensures { OnOk result (text.new.items ≡ text.old.items ++ flat.op_word set op) }
 {
     if set.has(op) {
         text.push(b' ')?;

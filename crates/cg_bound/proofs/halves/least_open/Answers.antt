@@ -1,4 +1,4 @@
-use Rattle.std.proofs.Common.{subst, None}
+use Rattle.std.proofs.Common.{subst}
 use Rattle.std.specs.Prelude.{MatchOption}
 use Rattle.cg_class.specs.Class.{IsOverfull, AreOfNodes}
 use Rattle.cg_bound.specs.Bound.{HasNoOverfull}

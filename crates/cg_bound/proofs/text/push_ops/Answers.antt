@@ -1,8 +1,8 @@
 use Rattle.std.proofs.Common.{◌∙◌, ◌++◌, ap, sym, append_assoc, take, flat_map, get_or}
 use Rattle.cg_word.specs.declared.op.Op.TheVariants.{Const}
 use Rattle.cg_word.specs.Word.{all_ops}
-use Rattle.cg_bound.specs.Text.{op_word}
-use Rattle.cg_bound.proofs.Texts.{flat_map-more}
+use Rattle.cg_flat.specs.Text.{op_word}
+use Rattle.cg_flat.proofs.Lists.{flat_map-more}
 use Rattle.cg_bound.proofs.text.push_ops.Goals as goal
 
 pub loop-op-preserved : goal.loop-op-preserved

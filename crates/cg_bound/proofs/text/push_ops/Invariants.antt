@@ -1,6 +1,6 @@
 use Rattle.std.proofs.Common.{◌≡◌, ◌++◌, take, flat_map}
 use Rattle.cg_word.specs.Word.{all_ops}
-use Rattle.cg_bound.specs.Text.{op_word}
+use Rattle.cg_flat.specs.Text.{op_word}
 use Rattle.cg_bound.proofs.text.push_ops.Given as goal
 
 abbrev pub invariant-loop-op : goal.invariant-loop-op

@@ -1,4 +1,4 @@
-use Rattle.std.proofs.Common.{◌≡◌, find, sym, ap, ◌∙◌}
+use Rattle.std.proofs.Common.{find, sym, ap, ◌∙◌}
 use Rattle.cg_word.specs.Word.{all_ops}
 use Rattle.cg_bound.specs.Search.{is_unoffered}
 use Rattle.cg_bound.proofs.Offers.{first_found}
