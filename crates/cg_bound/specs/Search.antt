@@ -24,18 +24,18 @@ offers op u = among u.ops op
 abbrev pub is_unoffered : List Unit → List Node → Op → Bool
 is_unoffered units nodes op = list_any (has_op op) nodes && not (list_any (offers op) units)
 
--- an interval that is open where each operation is offered: no latency is above 4
+-- an interval that is open where each operation is offered, since no latency is above 4
 abbrev pub limit : Kernel → ℕ
 limit K = 4 * size K + 1
 
--- below `high`, which is free of recurrences, what is shown of `low`
+-- low is below high, `below` is what is shown of it, and no recurrence forbids high
 pub record IsBetween (A : Arch) (K : Kernel) (low high : ℕ) (below : Option Certificate) : Type 0 where
   pub order : low < high
   pub within : high ≤ limit K
   pub shown : IsShownBelow A K (low + 1) below
   pub free : HasNoRecurrence A K high
 
--- below `high`, which is open, a set that is overfull at `low`
+-- low is below high, the set is overfull there, and no set is overfull at high; from low on there is no recurrence
 pub record IsAbove (A : Arch) (K : Kernel) (low high : ℕ) (set : List Op) : Type 0 where
   pub some : 1 ≤ low
   pub order : low < high

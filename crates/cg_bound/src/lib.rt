@@ -6,6 +6,8 @@ mod halves;
 mod interval;
 mod laws;
 mod overfull;
+#[cfg(test)]
+mod tests;
 mod text;
 mod unoffered;
 
