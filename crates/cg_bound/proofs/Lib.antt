@@ -1,0 +1,4 @@
+pub mod Legal
+pub mod Offers
+pub mod Intervals
+pub mod Halving

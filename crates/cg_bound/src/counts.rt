@@ -1,0 +1,55 @@
+//! The nodes and units of a set of operations, counted, and the sums over a chain of edges.
+ghost use Rattle.std.specs.Prelude.{◌≡◌};
+ghost use Rattle.cg_edges.specs.Chain.{latencies, distances};
+ghost use Rattle.cg_edges.specs.Edges.{edge_of};
+ghost use Rattle.cg_class.specs.Class.{offers_one, nodes_in, units_for};
+
+use cg_arch::Arch;
+use cg_edges::{EdgeId, find_edge};
+use cg_kernel::Kernel;
+use cg_model::{Node, Unit};
+use cg_word::{Op, OpSet};
+
+/// The number of nodes whose operation is in a set.
+pub(crate) fn count_nodes(nodes: &[Node], set: OpSet) -> usize
+    ensures { result ≡ nodes_in nodes.now set }
+{
+    nodes.iter().filter(|node| set.has(node.op)).count()
+}
+
+/// The number of units that offer an operation of a set.
+pub(crate) fn count_units(units: &[Unit], set: OpSet) -> usize
+    ensures { result ≡ units_for units.now set }
+{
+    units
+        .iter()
+        .filter(|unit| offers_one(set, unit.ops))
+        .count()
+}
+
+/// Whether some operation of a set is offered.
+#[tactic(auto, unfolding(cg_class::specs::Class::offers_one))]
+fn offers_one(set: OpSet, offered: OpSet) -> bool
+    ensures { result ≡ offers_one set offered }
+{
+    Op::ALL
+        .iter()
+        .copied()
+        .any(move |op: Op| set.has(op) && offered.has(op))
+}
+
+/// The sum of the latencies of a chain of edges, and that of their distances.
+pub(crate) fn sums(arch: &Arch, kernel: &Kernel, ids: &[EdgeId]) -> (u128, u128)
+    ensures latency { result.0 ≡ latencies (edge_of arch.now kernel.now) ids.now }
+    ensures distance { result.1 ≡ distances (edge_of arch.now kernel.now) ids.now }
+{
+    let mut latency: u128 = 0;
+    let mut distance: u128 = 0;
+    for id in ids {
+        if let Some(edge) = find_edge(arch, kernel, *id) {
+            latency += edge.latency as u128;
+            distance += edge.distance as u128;
+        }
+    }
+    (latency, distance)
+}

@@ -1,0 +1,17 @@
+//! The least interval at which a kernel may run on an architecture, and why each lower one is impossible.
+#![tactic(auto)]
+
+mod counts;
+mod halves;
+mod interval;
+mod laws;
+mod overfull;
+#[cfg(test)]
+mod tests;
+mod text;
+mod unoffered;
+
+pub use cg_edges::{Arch, EdgeId, Kernel};
+pub use interval::{Certificate, IntervalVerdict, LeastInterval, bound, verdict};
+pub use laws::{certifies, excludes, one_least};
+pub use text::certificate_text;
