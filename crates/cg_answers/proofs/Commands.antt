@@ -6,7 +6,7 @@ use Rattle.cg_ending.specs.Outcome.{Name, File, Outcome, names_of}
 use Rattle.cg_kernel.specs.declared.fault.KernelFault.{KernelFault}
 use Rattle.cg_kernel.specs.Answer.{answer_of}
 use Rattle.cg_command.specs.declared.plans.Command.{Command}
-use Rattle.cg_command.specs.declared.plans.Command.TheVariants.{Turns, TurnsOnImage, Flat, Run, Check, Emit}
+use Rattle.cg_command.specs.declared.plans.Command.TheVariants.{Turns, TurnsOnImage, Flat, Run, Bound, Check, Emit}
 use Rattle.cg_model.specs.Work.{Image}
 use Rattle.cg_model.specs.Order.{IsUnaliased}
 use Rattle.cg_pad.specs.declared.fault.ImageFault.{ImageFault}
@@ -25,6 +25,7 @@ use Rattle.cg_answers.specs.Flat.{flat_by}
 use Rattle.cg_answers.specs.Run.{run_by}
 use Rattle.cg_answers.proofs.Sound.{IsSound}
 use Rattle.cg_answers.proofs.Run.{same_array, sound_run, accepted_run, named_run}
+use Rattle.cg_answers.proofs.Bounded.{same_bound, sound_bound, accepted_bound, quiet_bound}
 use Rattle.cg_answers.proofs.Checked.{same_check, sound_check, accepted_check, quiet_check}
 use Rattle.cg_answers.proofs.Bitstream.{same_emit, sound_emit, accepted_emit, named_emit}
 use Rattle.cg_answers.specs.Commands.{IsAnswer, Accepts}
@@ -76,6 +77,7 @@ same_status (Turns n) (f ∷ []) [] a b p q = ap (λ o. o.status) (p ∙ sym q)
 same_status (TurnsOnImage n) (f ∷ g ∷ []) (out ∷ []) a b p q = same_on_kernel n f g out (answer_of f.bytes) a b (on_image_is n f g out a p) (on_image_is n f g out b q)
 same_status Flat (f ∷ []) (out ∷ []) a b p q = same_flat f out a b p.given q.given p.is_given q.is_given p.no_memory q.no_memory p.outcome q.outcome
 same_status (Run n) (f ∷ g ∷ h ∷ []) (out ∷ []) a b p q = same_run n f g h out a b p.given q.given p.is_given q.is_given p.no_memory q.no_memory p.outcome q.outcome
+same_status Bound (f ∷ g ∷ []) [] a b p q = same_bound f g a b p q
 same_status Check (f ∷ g ∷ h ∷ []) [] a b p q = same_check f g h a b p q
 same_status Emit (f ∷ g ∷ h ∷ []) (out ∷ []) a b p q = same_emit f g h out a b p q
 same_status _ _ _ a b p q = absurd p
@@ -110,6 +112,7 @@ sound (Turns n) (f ∷ []) [] o p = rw (turns_is n f o p) (sound_turns n f (answ
 sound (TurnsOnImage n) (f ∷ g ∷ []) (out ∷ []) o p = sound_on_kernel n f g out (answer_of f.bytes) o (on_image_is n f g out o p)
 sound Flat (f ∷ []) (out ∷ []) o p = rw p.outcome (sound_flat f out p.given)
 sound (Run n) (f ∷ g ∷ h ∷ []) (out ∷ []) o p = rw p.outcome (sound_run n f g h out p.given)
+sound Bound (f ∷ g ∷ []) [] o p = sound_bound f g o p
 sound Check (f ∷ g ∷ h ∷ []) [] o p = sound_check f g h o p
 sound Emit (f ∷ g ∷ h ∷ []) (out ∷ []) o p = sound_emit f g h out o p
 sound _ _ _ o p = absurd p
@@ -141,6 +144,7 @@ accepted (Turns n) (f ∷ []) [] o a p = ap (λ x. x.status) (turns_is n f o p) 
 accepted (TurnsOnImage n) (f ∷ g ∷ []) (out ∷ []) o a p = accepted_kernel n a.kernel a.image f g out (answer_of f.bytes) o a.kernel_is a.image_is a.unaliased (on_image_is n f g out o p)
 accepted Flat (f ∷ []) (out ∷ []) o a p = accepted_flat f out a.0 p.given o a.1 p.is_given p.no_memory p.outcome
 accepted (Run n) (f ∷ g ∷ h ∷ []) (out ∷ []) o a p = accepted_run n f g h out o a p
+accepted Bound (f ∷ g ∷ []) [] o a p = accepted_bound f g o a p
 accepted Check (f ∷ g ∷ h ∷ []) [] o a p = accepted_check f g h o a p
 accepted Emit (f ∷ g ∷ h ∷ []) (out ∷ []) o a p = accepted_emit f g h out o a p
 accepted _ _ _ o a p = absurd p
@@ -166,6 +170,10 @@ quiet (Run n) (f ∷ []) o p = absurd p
 quiet (Run n) (f ∷ g ∷ []) o p = absurd p
 quiet (Run n) (f ∷ g ∷ h ∷ []) o p = absurd p
 quiet (Run n) (f ∷ g ∷ h ∷ k ∷ fs) o p = absurd p
+quiet Bound (f ∷ g ∷ []) o p = quiet_bound f g o p
+quiet Bound [] o p = absurd p
+quiet Bound (f ∷ []) o p = absurd p
+quiet Bound (f ∷ g ∷ h ∷ fs) o p = absurd p
 quiet Check (f ∷ g ∷ h ∷ []) o p = quiet_check f g h o p
 quiet Check [] o p = absurd p
 quiet Check (f ∷ []) o p = absurd p
@@ -199,6 +207,7 @@ named (Turns n) (f ∷ []) [] o p = inr (ap (λ x. x.writes) (turns_is n f o p) 
 named (TurnsOnImage n) (f ∷ g ∷ []) (out ∷ []) o p = named_on_kernel n f g out (answer_of f.bytes) o (on_image_is n f g out o p)
 named Flat (f ∷ []) (out ∷ []) o p = named_flat f out p.given o p.outcome
 named (Run n) (f ∷ g ∷ h ∷ []) (out ∷ []) o p = named_run n f g h out p.given o p.outcome
+named Bound (f ∷ g ∷ []) [] o p = inr (quiet_bound f g o p)
 named Check (f ∷ g ∷ h ∷ []) [] o p = inr (quiet_check f g h o p)
 named Emit (f ∷ g ∷ h ∷ []) (out ∷ []) o p = named_emit f g h out o p
 named _ _ _ o p = absurd p

@@ -11,7 +11,7 @@ use Rattle.cg_pad.specs.Bytes as images
 use Rattle.cg_turns.proofs.Decided.{some_pair}
 use Rattle.cg_tiles.proofs.Solved.{some_answer}
 use Rattle.cg_command.specs.declared.plans.Command.{Command}
-use Rattle.cg_command.specs.declared.plans.Command.TheVariants.{Turns, TurnsOnImage, Flat, Run, Check, Emit}
+use Rattle.cg_command.specs.declared.plans.Command.TheVariants.{Turns, TurnsOnImage, Flat, Run, Bound, Check, Emit}
 use Rattle.cg_command.specs.Words.{HasShape}
 use Rattle.cg_ending.specs.Refusals.{malformed_of}
 use Rattle.cg_kernel.specs.Texts.{kernel_fault_text}
@@ -20,6 +20,7 @@ use Rattle.cg_answers.specs.Turns.{turns_of}
 use Rattle.cg_answers.specs.TurnsOnImage.{IsTurnsOnImage, IsOnKernel, IsOnImage, imaged}
 use Rattle.cg_answers.specs.Flat.{IsFlat, flat_by}
 use Rattle.cg_answers.specs.Run.{IsRun, run_by}
+use Rattle.cg_answers.proofs.Bounded.{some_bounding}
 use Rattle.cg_answers.proofs.Checked.{some_check}
 use Rattle.cg_answers.proofs.Bitstream.{some_emit}
 use Rattle.cg_answers.specs.Commands.{IsAnswer}
@@ -74,6 +75,11 @@ some_outcome (Run n) (f ∷ g ∷ []) outputs shape = absurd (omega (arith, shap
 some_outcome (Run n) (f ∷ g ∷ h ∷ k ∷ fs) outputs shape = absurd (omega (arith, shape.0))
 some_outcome (Run n) (f ∷ g ∷ h ∷ []) [] shape = absurd (omega (arith, shape.1))
 some_outcome (Run n) (f ∷ g ∷ h ∷ []) (out ∷ other ∷ outs) shape = absurd (omega (arith, shape.1))
+some_outcome Bound (f ∷ g ∷ []) [] shape = some_bounding f g
+some_outcome Bound [] outputs shape = absurd (omega (arith, shape.0))
+some_outcome Bound (f ∷ []) outputs shape = absurd (omega (arith, shape.0))
+some_outcome Bound (f ∷ g ∷ h ∷ fs) outputs shape = absurd (omega (arith, shape.0))
+some_outcome Bound (f ∷ g ∷ []) (out ∷ outs) shape = absurd (omega (arith, shape.1))
 some_outcome Check (f ∷ g ∷ h ∷ []) [] shape = some_check f g h
 some_outcome Check [] outputs shape = absurd (omega (arith, shape.0))
 some_outcome Check (f ∷ []) outputs shape = absurd (omega (arith, shape.0))

@@ -26,7 +26,7 @@ use Rattle.cg_bits.specs.Answers as bits
 use Rattle.cg_model.specs.Config.{Config}
 use Rattle.cg_model.specs.Machine.{machine_left}
 use Rattle.cg_command.specs.declared.plans.Command.{Command}
-use Rattle.cg_command.specs.declared.plans.Command.TheVariants.{Turns, TurnsOnImage, Flat, Run, Check, Emit}
+use Rattle.cg_command.specs.declared.plans.Command.TheVariants.{Turns, TurnsOnImage, Flat, Run, Bound, Check, Emit}
 use Rattle.cg_answers.specs.Turns.{turns_by, IsTurned}
 use Rattle.cg_answers.specs.TurnsOnImage.{IsOnKernel, IsOnImage, imaged, IsRunOnImage, IsOrderedRun, IsUnorderedRun}
 use Rattle.cg_answers.specs.Flat.{flat_by, IsFlattened}
@@ -35,6 +35,7 @@ use Rattle.cg_answers.specs.Commands.{IsAnswer, Leaves, LeavesDone, LeavesNo}
 use Rattle.cg_answers.proofs.Commands.{turns_is, on_image_is}
 use Rattle.cg_answers.proofs.Run.{valid_array, spelled_answer}
 use Rattle.cg_answers.proofs.Wholes.{whole, one_write, one_read, first_read, second_read, three_read, differ}
+use Rattle.cg_answers.proofs.Bounded.{bound_left}
 use Rattle.cg_answers.proofs.Checked.{legal_left, illegal_left}
 use Rattle.cg_answers.proofs.Bitstream.{leaves_turns, emitted_left, unemitted_left}
 
@@ -218,6 +219,11 @@ left_done (Run n) (arch ∷ file ∷ input ∷ []) (out ∷ []) [] o before afte
 left_done (Run n) (arch ∷ file ∷ input ∷ []) (out ∷ []) (f ∷ []) o before after read answer is c = absurd answer
 left_done (Run n) (arch ∷ file ∷ input ∷ []) (out ∷ []) (f ∷ g ∷ []) o before after read answer is c = absurd answer
 left_done (Run n) (arch ∷ file ∷ input ∷ []) (out ∷ []) (f ∷ g ∷ h ∷ k ∷ fs) o before after read answer is c = absurd answer
+left_done Bound (arch ∷ kernel ∷ []) [] (f ∷ g ∷ []) o before after read answer is c =
+    bound_left arch kernel f g before after (first_read before.held arch kernel f g read) (second_read before.held arch kernel f g read) o answer is c
+left_done Bound (arch ∷ kernel ∷ []) [] [] o before after read answer is c = absurd answer
+left_done Bound (arch ∷ kernel ∷ []) [] (f ∷ []) o before after read answer is c = absurd answer
+left_done Bound (arch ∷ kernel ∷ []) [] (f ∷ g ∷ h ∷ fs) o before after read answer is c = absurd answer
 left_done Check (arch ∷ kernel ∷ mapping ∷ []) [] (f ∷ g ∷ h ∷ []) o before after read answer is c =
     let r = three_read before.held arch kernel mapping f g h read in
     legal_left arch kernel mapping f g h before after r.0 r.1 r.2 o answer is c

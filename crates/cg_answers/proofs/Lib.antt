@@ -7,6 +7,7 @@ pub mod Wholes
 pub mod Mapped
 pub mod Checked
 pub mod Bitstream
+pub mod Bounded
 pub mod Commands
 pub mod Imaged
 pub mod Left

@@ -7,7 +7,7 @@ use Rattle.cg_ending.specs.Outcome.{Name, File, Outcome}
 use Rattle.cg_ending.specs.Ends.{Moment}
 use Rattle.cg_kernel.specs.Answer.{answer_of}
 use Rattle.cg_command.specs.declared.plans.Command.{Command}
-use Rattle.cg_command.specs.declared.plans.Command.TheVariants.{Turns, TurnsOnImage, Flat, Run, Check, Emit}
+use Rattle.cg_command.specs.declared.plans.Command.TheVariants.{Turns, TurnsOnImage, Flat, Run, Bound, Check, Emit}
 use Rattle.cg_pad.specs.Bytes as images
 use Rattle.cg_model.specs.Work.{Image}
 use Rattle.cg_model.specs.Array.{Arch}
@@ -17,6 +17,7 @@ use Rattle.cg_answers.specs.Turns.{turns_of, IsTurned}
 use Rattle.cg_answers.specs.TurnsOnImage.{IsTurnsOnImage, IsOrderedRun, IsUnorderedRun}
 use Rattle.cg_answers.specs.Flat.{IsFlat, IsFlattened}
 use Rattle.cg_answers.specs.Run.{IsRun, IsRunnable, IsArrayRun}
+use Rattle.cg_answers.specs.Bound.{IsBoundOf, IsPairInput, IsBoundRun}
 use Rattle.cg_answers.specs.Check.{IsCheck, IsLegalInput, IsLegalCheck, IsIllegalCheck}
 use Rattle.cg_answers.specs.Emit.{IsEmit, IsEmittedRun}
 
@@ -26,6 +27,7 @@ IsAnswer (Turns n) (file ∷ []) [] o = o ≡ turns_of n file
 IsAnswer (TurnsOnImage n) (file ∷ input ∷ []) (out ∷ []) o = IsTurnsOnImage n file input out o
 IsAnswer Flat (file ∷ []) (out ∷ []) o = IsFlat file out o
 IsAnswer (Run n) (arch ∷ file ∷ input ∷ []) (out ∷ []) o = IsRun n arch file input out o
+IsAnswer Bound (arch ∷ kernel ∷ []) [] o = IsBoundOf arch kernel o
 IsAnswer Check (arch ∷ kernel ∷ mapping ∷ []) [] o = IsCheck arch kernel mapping o
 IsAnswer Emit (arch ∷ kernel ∷ mapping ∷ []) (out ∷ []) o = IsEmit arch kernel mapping out o
 IsAnswer _ _ _ o = ⊥
@@ -52,6 +54,7 @@ Accepts (Turns n) (file ∷ []) = SpellsKernel file
 Accepts (TurnsOnImage n) (file ∷ input ∷ []) = IsUnaliasedRun n file input
 Accepts Flat (file ∷ []) = GivesArch file
 Accepts (Run n) (arch ∷ file ∷ input ∷ []) = IsRunnable arch file input
+Accepts Bound (arch ∷ kernel ∷ []) = IsPairInput arch kernel
 Accepts Check (arch ∷ kernel ∷ mapping ∷ []) = IsLegalInput arch kernel mapping
 Accepts Emit (arch ∷ kernel ∷ mapping ∷ []) = IsLegalInput arch kernel mapping
 Accepts _ _ = ⊥
@@ -62,6 +65,7 @@ LeavesDone (Turns n) (file ∷ []) [] before after = IsTurned n file before afte
 LeavesDone (TurnsOnImage n) (file ∷ input ∷ []) (out ∷ []) before after = IsOrderedRun n file input out before after
 LeavesDone Flat (file ∷ []) (out ∷ []) before after = IsFlattened file out before after
 LeavesDone (Run n) (arch ∷ file ∷ input ∷ []) (out ∷ []) before after = IsArrayRun n arch file input out before after
+LeavesDone Bound (arch ∷ kernel ∷ []) [] before after = IsBoundRun arch kernel before after
 LeavesDone Check (arch ∷ kernel ∷ mapping ∷ []) [] before after = IsLegalCheck arch kernel mapping before after
 LeavesDone Emit (arch ∷ kernel ∷ mapping ∷ []) (out ∷ []) before after = IsEmittedRun arch kernel mapping out before after
 LeavesDone _ _ _ before after = Unit {0}

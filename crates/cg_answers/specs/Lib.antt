@@ -5,6 +5,7 @@ pub mod Flat
 pub mod Run
 pub mod Sources
 pub mod Given
+pub mod Bound
 pub mod Check
 pub mod Emit
 pub mod Commands

@@ -4,6 +4,7 @@ ghost use Rattle.cg_ending.specs.Outcome.{file_of, outcome_of};
 ghost use Rattle.cg_command.specs.Words.{HasShape};
 ghost use Rattle.cg_answers.specs.Commands.{IsAnswer};
 
+use crate::bounding::bound;
 use crate::checking::check;
 use crate::emitting::emit;
 use crate::flattening::flat;
@@ -37,6 +38,7 @@ pub fn answer(alloc: Global, plan: &Plan, files: &[File]) -> Result<Outcome, All
             &files[2],
             plan.outputs[0].as_str(),
         ),
+        Command::Bound => bound(alloc, &files[0], &files[1]),
         Command::Check => check(alloc, &files[0], &files[1], &files[2]),
         Command::Emit => emit(
             alloc,

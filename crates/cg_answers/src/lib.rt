@@ -2,6 +2,7 @@
 #![tactic(auto)]
 
 mod answering;
+mod bounding;
 mod checking;
 mod emitting;
 mod flattening;

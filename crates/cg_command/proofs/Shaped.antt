@@ -4,8 +4,8 @@ use Rattle.std.specs.Str.{bytes_eq}
 use Rattle.std.specs.Str.Parse.{digits_value}
 use Rattle.std.proofs.lemmas.Bool.{leb-true}
 use Rattle.cg_model.specs.Limits.{most_turns}
-use Rattle.cg_command.specs.declared.plans.Command.TheVariants.{Turns, TurnsOnImage, Flat, Run, Check, Emit}
-use Rattle.cg_command.specs.Words.{Text, Arguments, Plan, HasShape, is_number, number_up_to, turns_of, turns_plan, flat_plan, run_plan, check_plan, emit_plan, is_empty, without_options, command_plan, arguments_of, plan_of}
+use Rattle.cg_command.specs.declared.plans.Command.TheVariants.{Turns, TurnsOnImage, Flat, Run, Bound, Check, Emit}
+use Rattle.cg_command.specs.Words.{Text, Arguments, Plan, HasShape, is_number, number_up_to, turns_of, turns_plan, flat_plan, run_plan, bound_plan, check_plan, emit_plan, is_empty, without_options, command_plan, arguments_of, plan_of}
 
 -- the plan has the shape of its command
 abbrev pub IsShaped : Plan → Type 0
@@ -63,6 +63,12 @@ run_shaped (arch ∷ bits ∷ turns ∷ input ∷ output ∷ []) =
     numbered_shaped (turns_of turns) (λ n. record { command = Run n; inputs = arch ∷ bits ∷ input ∷ []; outputs = output ∷ [] }) (λ n e. (refl, refl, number_few most_turns turns n e))
 run_shaped (a ∷ b ∷ c ∷ d ∷ e ∷ f ∷ more) = none_shaped
 
+bound_shaped : (words : List Text) → AreShaped (bound_plan words)
+bound_shaped [] = none_shaped
+bound_shaped (a ∷ []) = none_shaped
+bound_shaped (arch ∷ kernel ∷ []) = one_shaped (record { command = Bound; inputs = arch ∷ kernel ∷ []; outputs = [] }) (refl, refl)
+bound_shaped (a ∷ b ∷ c ∷ more) = none_shaped
+
 check_shaped : (words : List Text) → AreShaped (check_plan words)
 check_shaped [] = none_shaped
 check_shaped (a ∷ []) = none_shaped
@@ -86,8 +92,9 @@ command_shaped name said =
     either_shaped (bytes_eq name (codes "turns")) (without_options turns_plan said) _ (without_shaped turns_plan said (turns_shaped said.words))
     (either_shaped (bytes_eq name (codes "flat")) (without_options flat_plan said) _ (without_shaped flat_plan said (flat_shaped said.words))
     (either_shaped (bytes_eq name (codes "run")) (without_options run_plan said) _ (without_shaped run_plan said (run_shaped said.words))
+    (either_shaped (bytes_eq name (codes "bound")) (without_options bound_plan said) _ (without_shaped bound_plan said (bound_shaped said.words))
     (either_shaped (bytes_eq name (codes "check")) (without_options check_plan said) _ (without_shaped check_plan said (check_shaped said.words))
-    (either_shaped (bytes_eq name (codes "emit")) (without_options emit_plan said) None (without_shaped emit_plan said (emit_shaped said.words)) none_shaped))))
+    (either_shaped (bytes_eq name (codes "emit")) (without_options emit_plan said) None (without_shaped emit_plan said (emit_shaped said.words)) none_shaped)))))
 
 said_shaped : (name : Text) (o : Option Arguments) → AreShaped (option_and_then (command_plan name) o)
 said_shaped name None = none_shaped

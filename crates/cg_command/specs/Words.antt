@@ -5,7 +5,7 @@ use Rattle.std.specs.Str.{bytes_eq}
 use Rattle.cg_model.specs.Limits.{most_turns}
 pub use Rattle.cg_command.specs.Numbers.{Text, is_number, number_up_to, positive, turns_of, interval_of, seed_of, moves_of}
 use Rattle.cg_command.specs.declared.plans.Command.{Command}
-use Rattle.cg_command.specs.declared.plans.Command.TheVariants.{Turns, TurnsOnImage, Flat, Run, Check, Emit}
+use Rattle.cg_command.specs.declared.plans.Command.TheVariants.{Turns, TurnsOnImage, Flat, Run, Bound, Check, Emit}
 use Rattle.cg_command.specs.declared.plans.Plan.{Plan as PlanValue}
 use Rattle.cg_command.specs.declared.arguments.Arguments.{Arguments as ArgumentsValue}
 use Rattle.cg_command.specs.declared.arguments.Given.{Given as GivenValue}
@@ -156,6 +156,11 @@ run_plan (arch ∷ bits ∷ turns ∷ input ∷ output ∷ []) =
     option_map (λ n. record { command = Run n; inputs = arch ∷ bits ∷ input ∷ []; outputs = output ∷ [] }) (turns_of turns)
 run_plan _ = None
 
+-- bound ARCH KERNEL
+abbrev pub bound_plan : List Text → Option Plan
+bound_plan (arch ∷ kernel ∷ []) = Some (record { command = Bound; inputs = arch ∷ kernel ∷ []; outputs = [] })
+bound_plan _ = None
+
 -- check ARCH KERNEL MAPPING
 abbrev pub check_plan : List Text → Option Plan
 check_plan (arch ∷ kernel ∷ mapping ∷ []) = Some (record { command = Check; inputs = arch ∷ kernel ∷ mapping ∷ []; outputs = [] })
@@ -181,9 +186,10 @@ command_plan name said =
     if bytes_eq name (codes "turns") then without_options turns_plan said
     else (if bytes_eq name (codes "flat") then without_options flat_plan said
     else (if bytes_eq name (codes "run") then without_options run_plan said
+    else (if bytes_eq name (codes "bound") then without_options bound_plan said
     else (if bytes_eq name (codes "check") then without_options check_plan said
     else (if bytes_eq name (codes "emit") then without_options emit_plan said
-    else None))))
+    else None)))))
 
 -- what the words ask, None where they fit no command
 unfoldable pub plan_of : List Text → Option Plan
@@ -196,5 +202,6 @@ HasShape (Turns turns) inputs outputs = (inputs ≡ 1) × (outputs ≡ 0) × (tu
 HasShape (TurnsOnImage turns) inputs outputs = (inputs ≡ 2) × (outputs ≡ 1) × (turns ≤ most_turns)
 HasShape Flat inputs outputs = (inputs ≡ 1) × (outputs ≡ 1)
 HasShape (Run turns) inputs outputs = (inputs ≡ 3) × (outputs ≡ 1) × (turns ≤ most_turns)
+HasShape Bound inputs outputs = (inputs ≡ 2) × (outputs ≡ 0)
 HasShape Check inputs outputs = (inputs ≡ 3) × (outputs ≡ 0)
 HasShape Emit inputs outputs = (inputs ≡ 3) × (outputs ≡ 1)

@@ -18,6 +18,8 @@ pub enum Command {
     Flat,
     /// `run ARCH BITS TURNS IN OUT`: so many turns of the array under a configuration, from an image, and the result image.
     Run { turns: u32 },
+    /// `bound ARCH KERNEL`: the least interval that nothing forbids, and what forbids the one below it.
+    Bound,
     /// `check ARCH KERNEL MAPPING`: whether the mapping is legal.
     Check,
     /// `emit ARCH KERNEL MAPPING OUT`: the bits of a legal mapping.
@@ -60,6 +62,7 @@ fn command_plan(alloc: Global, name: &str, said: &Arguments) -> Result<Option<Pl
         "turns" if has_no_options(said) => turns_plan(alloc, said.words.as_slice()),
         "flat" if has_no_options(said) => flat_plan(alloc, said.words.as_slice()),
         "run" if has_no_options(said) => run_plan(alloc, said.words.as_slice()),
+        "bound" if has_no_options(said) => bound_plan(alloc, said.words.as_slice()),
         "check" if has_no_options(said) => check_plan(alloc, said.words.as_slice()),
         "emit" if has_no_options(said) => emit_plan(alloc, said.words.as_slice()),
         _ => Ok(None),
@@ -143,6 +146,25 @@ fn run_plan(alloc: Global, words: &[&str]) -> Result<Option<Plan>, AllocError>
                 outputs: vec![in alloc; String::from_str(alloc, output)?]?,
             }))
         }
+        _ => Ok(None),
+    }
+}
+
+fn bound_plan(alloc: Global, words: &[&str]) -> Result<Option<Plan>, AllocError>
+    ensures plan { IfOk result
+        (λ p. option_map spec.planned p ≡ spec.bound_plan (map (λ word. word.now) words.now)) }
+    ensures shape { IfOk result (λ p. IfSome p
+        (λ plan. HasShape plan.command (vec_len plan.inputs) (vec_len plan.outputs))) }
+{
+    match words {
+        [arch, kernel] => Ok(Some(Plan {
+            command: Command::Bound,
+            inputs: vec![in alloc;
+                String::from_str(alloc, arch)?,
+                String::from_str(alloc, kernel)?,
+            ]?,
+            outputs: Vec::new(alloc),
+        })),
         _ => Ok(None),
     }
 }
