@@ -2,3 +2,4 @@ pub mod Legal
 pub mod Offers
 pub mod Intervals
 pub mod Halving
+pub mod Always

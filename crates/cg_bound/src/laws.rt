@@ -1,10 +1,11 @@
 //! Laws of intervals. Every function here has an empty body, and its clauses speak of the definitions alone.
 ghost use Rattle.std.specs.Prelude.{◌≡◌, ◌<◌, ◌≤◌, ◌↔◌, ℕ};
 ghost use Rattle.cg_model.specs.Kernel.{Kernel, IsKernel};
-ghost use Rattle.cg_model.specs.Array.{Arch};
+ghost use Rattle.cg_model.specs.Array.{Arch, IsArch};
 ghost use Rattle.cg_model.specs.Mapping.{Mapping, IsLegal};
 ghost use Rattle.cg_bound.specs.declared.interval.Certificate.{Certificate};
-ghost use Rattle.cg_bound.specs.Bound.{IsForbidden, IsMii, Certifies, Shows, ShowsUnoffered};
+ghost use Rattle.cg_bound.specs.declared.interval.LeastInterval.{LeastInterval};
+ghost use Rattle.cg_bound.specs.Bound.{IsForbidden, IsMii, Certifies, Shows, ShowsUnoffered, IsBound};
 
 /// No legal mapping has an interval that a recurrence or an overfull set of operations forbids.
 pub fn excludes()
@@ -22,4 +23,10 @@ pub fn one_least()
 pub fn certifies()
     ensures shown { (A : Arch) (K : Kernel) (ii : ℕ) (certificate : Certificate) → Shows A K ii certificate → Certifies A K ii certificate }
     ensures unoffered { (A : Arch) (K : Kernel) (ii : ℕ) (certificate : Certificate) → ShowsUnoffered A K certificate → Certifies A K ii certificate }
+{}
+
+/// Each valid kernel has an answer on each valid architecture: a least interval with what is shown below it, or an operation
+/// that no unit offers.
+pub fn always_bounded()
+    ensures { (A : Arch) (K : Kernel) → IsArch A → IsKernel K → (b : LeastInterval) × IsBound A K b }
 {}

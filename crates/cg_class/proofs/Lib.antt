@@ -5,3 +5,4 @@ pub mod Moves
 pub mod Visits
 pub mod Shifts
 pub mod Answers
+pub mod Subsets

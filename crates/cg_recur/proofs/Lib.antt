@@ -5,3 +5,6 @@ pub mod Paths
 pub mod Cycles
 pub mod Names
 pub mod Named
+pub mod Visits
+pub mod Closing
+pub mod Decided
