@@ -21,6 +21,7 @@ use Rattle.cg_bound.specs.declared.interval.Certificate.{Certificate}
 use Rattle.cg_bound.specs.declared.interval.Certificate.TheVariants.{Cycle, Class}
 use Rattle.cg_bound.specs.declared.interval.LeastInterval.{LeastInterval}
 use Rattle.cg_bound.specs.Bound.{IsBound, IsBoundBy, IsForbidden, ShowsUnoffered}
+use Rattle.cg_bound.proofs.Always.{some_bound}
 use Rattle.cg_bound.proofs.Legal.{excluded}
 use Rattle.cg_bound.proofs.Offers.{never_open}
 use Rattle.cg_answers.specs.Sources.{Pair, pair_by, pair_of, ArePaired}
@@ -126,7 +127,7 @@ accepted_bound arch kernel o a b = accepted_by a.pair o (subst (λ z. IsBounding
 some_by : (arch kernel : File) (pair : Result Pair Outcome) → ArePaired arch kernel pair → (o : Outcome) × IsBounding pair o
 some_by arch kernel (Ok p) given =
     let g = given_pair arch kernel p given in
-    let b : (b : LeastInterval) × IsBound p.arch p.kernel b = ? in
+    let b = some_bound p.arch p.kernel (valid_array arch.bytes p.arch g.arch_is) (spelled_valid kernel.bytes p.kernel g.kernel_is) in
     (reports Done (bound_report p b.0), record { least = b.0; is_least = b.1; outcome = refl })
 some_by arch kernel (Err e) given = (e, refl)
 
