@@ -24,7 +24,7 @@ use Rattle.cg_bound.specs.Bound.{IsBound, IsBoundBy, IsForbidden, ShowsUnoffered
 use Rattle.cg_bound.proofs.Always.{some_bound}
 use Rattle.cg_bound.proofs.Legal.{excluded}
 use Rattle.cg_bound.proofs.Offers.{never_open}
-use Rattle.cg_answers.specs.Sources.{Pair, pair_by, pair_of, ArePaired}
+use Rattle.cg_answers.specs.Sources.{Pair, pair_by, pair_of}
 use Rattle.cg_answers.specs.Bound.{IsBoundOf, IsBounding, IsBounded, IsPairInput, IsBelow, IsBoundRun, bound_report}
 use Rattle.cg_answers.proofs.Run.{same_array, valid_array}
 use Rattle.cg_answers.proofs.Sound.{IsSound}
@@ -41,6 +41,16 @@ refused_by A kernel (Err f) = record { status = refl; quiet = refl }
 refused_of : (arch : Name) (kernel : File) (r : Result Arch TilesFault) → AreRefused (pair_of arch kernel r)
 refused_of arch kernel (Ok A) = refused_by A kernel.name (kernels.answer_of kernel.bytes)
 refused_of arch kernel (Err f) = record { status = refl; quiet = refl }
+
+-- what the files give
+record ArePaired (arch kernel : File) (pair : Result Pair Outcome) : Type 0 where
+  pub given : Result Arch TilesFault
+  pub is_given : tiles.IsAnswer arch.bytes given
+  pub no_memory : given ≢ Err fault.Memory
+  pub pair_is : pair ≡ pair_of arch.name kernel given
+
+paired : (arch kernel : File) (o : Outcome) (b : IsBoundOf arch kernel o) → ArePaired arch kernel (pair_of arch.name kernel b.given)
+paired arch kernel o b = record { given = b.given; is_given = b.is_given; no_memory = b.no_memory; pair_is = refl }
 
 refused_pair : (arch kernel : File) (pair : Result Pair Outcome) → ArePaired arch kernel pair → AreRefused pair
 refused_pair arch kernel pair g = subst AreRefused (sym g.pair_is) (refused_of arch.name kernel g.given)
@@ -87,14 +97,14 @@ sound_by (Ok p) o r b = subst IsSound (sym b.outcome) (record { own = refl; quie
 sound_by (Err e) o r b = subst IsSound (sym b) (sound_refusal e r)
 
 pub sound_bound : (arch kernel : File) (o : Outcome) → IsBoundOf arch kernel o → IsSound o
-sound_bound arch kernel o b = sound_by b.pair o (refused_pair arch kernel b.pair b.given) b.bounding
+sound_bound arch kernel o b = sound_by (pair_of arch.name kernel b.given) o (refused_of arch.name kernel b.given) b.bounding
 
 quiet_by : (pair : Result Pair Outcome) (o : Outcome) → AreRefused pair → IsBounding pair o → o.writes ≡ []
 quiet_by (Ok p) o r b = ap (λ x. x.writes) b.outcome
 quiet_by (Err e) o r b = ap (λ x. x.writes) b ∙ r.quiet
 
 pub quiet_bound : (arch kernel : File) (o : Outcome) → IsBoundOf arch kernel o → o.writes ≡ []
-quiet_bound arch kernel o b = quiet_by b.pair o (refused_pair arch kernel b.pair b.given) b.bounding
+quiet_bound arch kernel o b = quiet_by (pair_of arch.name kernel b.given) o (refused_of arch.name kernel b.given) b.bounding
 
 same_bounding : (pair : Result Pair Outcome) (a b : Outcome) → IsBounding pair a → IsBounding pair b → a.status ≡ b.status
 same_bounding (Ok p) a b x y = ap (λ z. z.status) x.outcome ∙ sym (ap (λ z. z.status) y.outcome)
@@ -111,8 +121,8 @@ same_by x y a b r q (refusals o t d e) p s =
 
 pub same_bound : (arch kernel : File) (a b : Outcome) → IsBoundOf arch kernel a → IsBoundOf arch kernel b → a.status ≡ b.status
 same_bound arch kernel a b p q =
-    same_by p.pair q.pair a b (refused_pair arch kernel p.pair p.given) (refused_pair arch kernel q.pair q.given)
-    (alike_by arch kernel p.pair q.pair p.given.given q.given.given p.given.is_given q.given.is_given p.given.no_memory q.given.no_memory p.given.pair_is q.given.pair_is) p.bounding q.bounding
+    same_by (pair_of arch.name kernel p.given) (pair_of arch.name kernel q.given) a b (refused_of arch.name kernel p.given) (refused_of arch.name kernel q.given)
+    (alike_by arch kernel _ _ p.given q.given p.is_given q.is_given p.no_memory q.no_memory refl refl) p.bounding q.bounding
 
 -- ---- what is accepted
 
@@ -120,7 +130,7 @@ accepted_by : (p : Pair) (o : Outcome) → IsBounded p o → o.status ≡ Done
 accepted_by p o b = ap (λ x. x.status) b.outcome
 
 pub accepted_bound : (arch kernel : File) (o : Outcome) → IsPairInput arch kernel → IsBoundOf arch kernel o → o.status ≡ Done
-accepted_bound arch kernel o a b = accepted_by a.pair o (subst (λ z. IsBounding z o) (b.given.pair_is ∙ pair_is arch kernel a b.given.given b.given.is_given b.given.no_memory) b.bounding)
+accepted_bound arch kernel o a b = accepted_by a.pair o (subst (λ z. IsBounding z o) (pair_is arch kernel a b.given b.is_given b.no_memory) b.bounding)
 
 -- ---- what there is
 
@@ -137,17 +147,17 @@ some_bounding arch kernel =
     let pair = pair_of arch.name kernel a.0 in
     let given : ArePaired arch kernel pair = record { given = a.0; is_given = a.2; no_memory = a.1; pair_is = refl } in
     let e = some_by arch kernel pair given in
-    (e.0, record { pair = pair; given = given; bounding = e.1 })
+    (e.0, record { given = a.0; is_given = a.2; no_memory = a.1; bounding = e.1 })
 
 -- ---- what is left
 
 -- what is shown where an operation is unoffered forbids every interval
 forbidden_by : (A : Arch) (K : Kernel) (ii : ℕ) (c : Certificate) → ShowsUnoffered A K c → IsForbidden A K ii
 forbidden_by A K ii (Cycle ids) s = absurd s
-forbidden_by A K ii (Class set) s = inr (s.0 ∷ [], never_open A K s.0 s.1.0.unoffered ii)
+forbidden_by A K ii (Class set) (op, first, same) = inr (op ∷ [], never_open A K op first.unoffered ii)
 
 below_forbidden : (A : Arch) (K : Kernel) (mii : Option ℕ) (below : Option Certificate) → IsBoundBy A K mii below → (ii : ℕ) → 1 ≤ ii → IsBelow mii ii → IsForbidden A K ii
-below_forbidden A K (Some m) below b ii p l = b.1.0.below ii p l
+below_forbidden A K (Some m) below (all, mii, shown) ii p l = mii.below ii p l
 below_forbidden A K None (Some c) b ii p l = forbidden_by A K ii c b
 below_forbidden A K None None b ii p l = absurd b
 
@@ -171,4 +181,4 @@ module _ (arch kernel : Name) (f g : File) (before after : Moment) (arch_held : 
   left_by (Err e) o given b done c = absurd (let r = refused_pair f g (Err e) given in let z : Malformed ≡ Done = sym r.status ∙ sym (ap (λ x. x.status) b) ∙ done in cc)
 
   pub bound_left : (o : Outcome) → IsBoundOf f g o → o.status ≡ Done → Completed o before after Done → IsBoundRun arch kernel before after
-  bound_left o b done c = left_by b.pair o b.given b.bounding done c
+  bound_left o b done c = left_by (pair_of f.name g b.given) o (paired f g o b) b.bounding done c

@@ -1,5 +1,5 @@
 -- `bound ARCH KERNEL`.
-use Rattle.std.specs.Prelude.{◌≡◌, ℕ, ◌-◌, ◌<◌, ◌≤◌, ⊤, [], ◌∷◌, ◌++◌, Option, Some, None, Result, Ok, Err, codes, decimal, option_map}
+use Rattle.std.specs.Prelude.{◌≡◌, ◌≢◌, ℕ, ◌-◌, ◌<◌, ◌≤◌, ⊤, [], ◌∷◌, ◌++◌, Option, Some, None, Result, Ok, Err, codes, decimal, option_map}
 use Rattle.cg_model.specs.Array.{Arch}
 use Rattle.cg_model.specs.Kernel.{Kernel}
 use Rattle.cg_model.specs.Mapping.{Mapping, IsLegal}
@@ -9,12 +9,15 @@ use Rattle.cg_ending.specs.Outcome.{Name, Bytes, File, Outcome, line_of}
 use Rattle.cg_ending.specs.Ends.{Moment}
 use Rattle.cg_ending.specs.Refusals.{reports}
 use Rattle.cg_kernel.specs.Answer as kernels
+use Rattle.cg_grid.specs.declared.fault.TilesFault.{TilesFault}
+use Rattle.cg_grid.specs.declared.fault.TilesFault.TheVariants as fault
+use Rattle.cg_tiles.specs.Answer as tiles
 use Rattle.cg_tiles.specs.Answer.{AreValidBytes}
 use Rattle.cg_bound.specs.declared.interval.Certificate.{Certificate}
 use Rattle.cg_bound.specs.declared.interval.LeastInterval.{LeastInterval}
 use Rattle.cg_bound.specs.Bound.{IsBound}
 use Rattle.cg_bound.specs.Text.{certificate_text}
-use Rattle.cg_answers.specs.Sources.{Pair, ArePaired}
+use Rattle.cg_answers.specs.Sources.{Pair, pair_of}
 
 -- the least interval, if there is one
 abbrev pub first_line : Option ℕ → Bytes
@@ -44,10 +47,12 @@ abbrev pub IsBounding : Result Pair Outcome → Outcome → Type 0
 IsBounding (Ok p) o = IsBounded p o
 IsBounding (Err refused) o = o ≡ refused
 
+-- by what the first file gives: an architecture, or a fault, of which only the loop may be chosen
 pub record IsBoundOf (arch kernel : File) (o : Outcome) : Type 0 where
-  pub pair : Result Pair Outcome
-  pub given : ArePaired arch kernel pair
-  pub bounding : IsBounding pair o
+  pub given : Result Arch TilesFault
+  pub is_given : tiles.IsAnswer arch.bytes given
+  pub no_memory : given ≢ Err fault.Memory
+  pub bounding : IsBounding (pair_of arch.name kernel given) o
 
 -- the files give an architecture and a kernel
 pub record IsPairInput (arch kernel : File) : Type 0 where

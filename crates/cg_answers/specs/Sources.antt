@@ -42,14 +42,7 @@ abbrev pub mapped_of : File → Result Pair Outcome → Result Mapped Outcome
 mapped_of mapping (Ok pair) = mapped_by pair mapping.name (mappings.answer_of pair.arch pair.kernel mapping.bytes)
 mapped_of mapping (Err refused) = Err refused
 
--- what the first two files give. Of the architecture's faults only the loop may be chosen
-pub record ArePaired (arch kernel : File) (pair : Result Pair Outcome) : Type 0 where
-  pub given : Result Arch TilesFault
-  pub is_given : tiles.IsAnswer arch.bytes given
-  pub no_memory : given ≢ Err fault.Memory
-  pub pair_is : pair ≡ pair_of arch.name kernel given
-
--- what all three give. Of the architecture's faults only the loop may be chosen
+-- what the three files give. Of the architecture's faults only the loop may be chosen
 pub record AreMapped (arch kernel mapping : File) (mapped : Result Mapped Outcome) : Type 0 where
   pub given : Result Arch TilesFault
   pub is_given : tiles.IsAnswer arch.bytes given
