@@ -1,8 +1,7 @@
 -- What `bound` answers.
-use Rattle.std.proofs.Common.{◌≡◌, ◌≢◌, ℕ, ◌≤◌, ◌<◌, List, [], ◌∷◌, Option, Some, None, Result, Ok, Err, refl, sym, ◌∙◌, ap, subst, inl, inr}
-use Rattle.cg_model.specs.Array.{Arch, IsArch}
-use Rattle.cg_model.specs.Kernel.{Kernel, IsKernel}
-use Rattle.cg_model.specs.Mapping.{Mapping, IsLegal}
+use Rattle.std.proofs.Common.{◌≡◌, ◌≢◌, ℕ, ◌≤◌, [], ◌∷◌, Option, Some, None, Result, Ok, Err, refl, sym, ◌∙◌, ap, subst, inr}
+use Rattle.cg_model.specs.Array.{Arch}
+use Rattle.cg_model.specs.Kernel.{Kernel}
 use Rattle.cg_ending.specs.declared.outcome.Status.TheVariants.{Done, Malformed}
 use Rattle.cg_ending.specs.Outcome.{Name, File, Outcome}
 use Rattle.cg_ending.specs.Ends.{Moment, Completed}
@@ -19,8 +18,7 @@ use Rattle.cg_kernel.specs.Answer as kernels
 use Rattle.cg_kernel.proofs.Spelled.{spelled_valid}
 use Rattle.cg_bound.specs.declared.interval.Certificate.{Certificate}
 use Rattle.cg_bound.specs.declared.interval.Certificate.TheVariants.{Cycle, Class}
-use Rattle.cg_bound.specs.declared.interval.LeastInterval.{LeastInterval}
-use Rattle.cg_bound.specs.Bound.{IsBound, IsBoundBy, IsForbidden, ShowsUnoffered}
+use Rattle.cg_bound.specs.Bound.{IsBoundBy, IsForbidden, ShowsUnoffered}
 use Rattle.cg_bound.proofs.Always.{some_bound}
 use Rattle.cg_bound.proofs.Legal.{excluded}
 use Rattle.cg_bound.proofs.Offers.{never_open}

@@ -1,7 +1,8 @@
 //! The help.
 
 /// The commands and their words, a line for each.
-pub const COMMANDS: &str = "bound ARCH KERNEL             finds the least interval that nothing forbids
+pub const COMMANDS: &str =
+    "bound ARCH KERNEL             finds the least interval that nothing forbids
 check ARCH KERNEL MAPPING     says whether a mapping is legal
 emit ARCH KERNEL MAPPING OUT  writes the bits of a legal mapping
 flat ARCH OUT                 writes the flat text of an architecture
