@@ -1,0 +1,4 @@
+pub mod Graph
+pub mod Lists
+pub mod Users
+pub mod Nodes
