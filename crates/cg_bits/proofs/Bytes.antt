@@ -1,5 +1,5 @@
 -- One spelling of each configuration, and one configuration of each spelling.
-use Rattle.std.proofs.Common.{◌≡◌, ℕ, zero, suc, ◌+◌, ◌*◌, ◌<◌, ◌≤◌, Bool, true, false, cond, List, [], ◌∷◌, ◌++◌, length, take, drop, get_or, replicate, refl, sym, ap, subst, ◌∙◌, arith, length-append}
+use Rattle.std.proofs.Common.{◌≡◌, ℕ, suc, ◌+◌, ◌*◌, ◌<◌, ◌≤◌, Bool, true, false, cond, List, [], ◌∷◌, ◌++◌, length, take, drop, get_or, replicate, refl, sym, ap, subst, ◌∙◌, arith, length-append}
 use Rattle.std.proofs.lemmas.List.{take_at, drop_at, get_or-drop, length-replicate}
 use Rattle.std.proofs.lemmas.List.Concat.{flat_map-cons}
 use Rattle.std.proofs.lemmas.Nat.{from_be_bytes-to_be_bytes_2}
@@ -14,7 +14,7 @@ use Rattle.cg_bits.specs.Spelling.{slots, header, Spells}
 use Rattle.cg_bits.specs.Reading.{config_in, config_at, ii_in, stages_in}
 use Rattle.cg_model.specs.Canonical.{IsCanonical, stage_of, greatest_of, last_stage, is_on}
 use Rattle.cg_bits.proofs.Numbers.{length-bits_of, number-bits}
-use Rattle.cg_bits.proofs.Units.{stage_fits}
+use Rattle.cg_config.proofs.Canonical.{stage_fits, greatest_below}
 use Rattle.cg_bits.proofs.Slots.{slots_read}
 
 pub length-bits_of_bytes : (bytes : List ℕ) → length (bits_of_bytes bytes) ≡ 8 * length bytes
@@ -33,11 +33,6 @@ bytes_same (x ∷ xs) (y ∷ ys) a b e =
     let tails : bits_of_bytes xs ≡ bits_of_bytes ys = sym (drop_at (bits_of 8 x) (bits_of_bytes xs) 8 (length-bits_of 8 x)) ∙ ap (drop 8) opened ∙ drop_at (bits_of 8 y) (bits_of_bytes ys) 8 (length-bits_of 8 y) in
     let one : x ≡ y = sym (number-bits 8 x (a 0)) ∙ ap number heads ∙ number-bits 8 y (b 0) in
     ap (λ z. z ∷ xs) one ∙ ap (λ zs. y ∷ zs) (bytes_same xs ys (λ i. a (suc i)) (λ i. b (suc i)) tails)
-
-pub greatest_below : (f : ℕ → ℕ) (n b : ℕ) → ((i : ℕ) → i < n → f i ≤ b) → greatest_of f n ≤ b
-unfolding greatest_of
-greatest_below f zero b h = omega arith
-greatest_below f (suc n) b h = let before = greatest_below f n b (λ i lt. h i (omega arith)) in let last = h n (omega arith) in omega arith
 
 stage_below : (f : UnitFields) (b : ℕ) (o : Bool) → f.stage ≤ b → cond o f.stage 0 ≤ b
 stage_below f b true h = h

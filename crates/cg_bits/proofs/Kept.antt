@@ -1,12 +1,13 @@
 -- The fields of a unit that are read without a complaint keep the rules, and fields that keep them bring no complaint.
-use Rattle.std.proofs.Common.{◌≡◌, ℕ, ◌+◌, ◌*◌, ◌^◌, ◌<◌, ◌≤◌, Bool, true, cond, not, ltb, eqb, leb, List, [], length, refl, sym, ap, subst, ◌∙◌, arith, ⊎_elim}
+use Rattle.std.proofs.Common.{◌≡◌, ℕ, ◌+◌, ◌*◌, ◌^◌, ◌<◌, ◌≤◌, Bool, true, cond, ltb, List, [], length, refl, sym, ap, subst, ◌∙◌, arith, ⊎_elim}
 use Rattle.std.specs.Prelude.{slice_index}
-use Rattle.std.proofs.lemmas.Bool.{cases_lt, lt-ltb, le-ltb, or_left, and_from}
+use Rattle.std.proofs.lemmas.Bool.{cases_lt, lt-ltb, le-ltb}
 use Rattle.std.proofs.lemmas.List.{get_or-replicate}
 use Rattle.std.proofs.lemmas.List.FromFn.{get_or-map-range_with_len}
 use Rattle.cg_word.specs.declared.op.Op.{Op}
 use Rattle.cg_model.specs.declared.config.UnitFields.{UnitFields}
 use Rattle.cg_model.specs.Config.{no_arg, arg}
+use Rattle.cg_config.proofs.Canonical.{zero_mode, zero_count, zero_word}
 use Rattle.cg_bits.specs.Numbers.{number_at}
 use Rattle.cg_bits.specs.Ranges.{IsFormat}
 use Rattle.cg_bits.specs.declared.format.Format.{Format}
@@ -16,16 +17,6 @@ use Rattle.cg_model.specs.Canonical.{AreFields, mode_right, count_right, word_ri
 use Rattle.cg_bits.specs.Faults.{unless, arg_breaches, unit_breaches}
 use Rattle.cg_bits.proofs.Fields.{number_at-below}
 use Rattle.cg_bits.proofs.None.{none_both, both_none, none_unless, unless_none, none_joined, joined_none}
-
--- an argument that is all zero keeps the rules
-pub zero_mode : (f : UnitFields) (p : ℕ) → arg f p ≡ no_arg → mode_right f p ≡ true
-zero_mode f p e = or_left _ _ (ap (λ a. not a.fixed) e)
-
-pub zero_count : (f : UnitFields) (p : ℕ) → arg f p ≡ no_arg → count_right f p ≡ true
-zero_count f p e = and_from _ _ (ap (λ a. leb a.count 4) e) (or_left _ _ (ap (λ a. eqb a.count 0) e))
-
-pub zero_word : (f : UnitFields) (p k : ℕ) → k < 4 → arg f p ≡ no_arg → word_right f p k ≡ true
-zero_word f p k lt e = or_left _ _ (ap (λ a. eqb (slice_index a.init k) 0) e ∙ ap (λ z. eqb z 0) (get_or-replicate 4 k 0 0 lt))
 
 module _ (F : Format) (is : IsFormat F) (n : ℕ) (few : n ≤ 3) (bits : List Bool) (at : ℕ) (room : at + (args_at F + n * arg_len) ≤ length bits) where
   abbrev f : UnitFields

@@ -19,6 +19,5 @@ pub mod Started
 pub mod Answered
 pub mod Written
 pub mod Tables
-pub mod Changed
 mod Rows
 pub mod Packed

@@ -1,5 +1,5 @@
 -- The checks of the code are the parts of the list of faults.
-use Rattle.std.proofs.Common.{◌≡◌, ℕ, zero, suc, ◌+◌, ◌*◌, ◌/◌, ◌<◌, ◌&&◌, ◌||◌, not, leb, eqb, max, Bool, true, false, List, ◌++◌, length, map, drop, refl, sym, ap, ◌∙◌, append_assoc, arith}
+use Rattle.std.proofs.Common.{◌≡◌, ℕ, zero, suc, ◌+◌, ◌*◌, ◌/◌, ◌<◌, ◌&&◌, ◌||◌, not, leb, eqb, Bool, true, false, List, ◌++◌, length, map, drop, refl, sym, ap, ◌∙◌, append_assoc, arith}
 use Rattle.cg_model.specs.declared.config.UnitFields.{UnitFields}
 use Rattle.cg_model.specs.Array.{Arch, resource, unit}
 use Rattle.cg_model.specs.Config.{Config, fields}
@@ -14,13 +14,9 @@ use Rattle.cg_bits.specs.Reading.{select_place, unit_place, ii_in, stages_in, bo
 use Rattle.cg_bits.specs.Faults as Faults
 use Rattle.cg_bits.specs.Faults.{unless, unit_breaches}
 use Rattle.cg_bits.specs.Checks.{fields_there, select_faults, slot_faults, slot_stage, padding_faults, port_at, repeated_faults, used_before, uses, gives_to, field_faults, end_faults, start_faults}
+use Rattle.cg_config.proofs.Canonical.{greatest_same}
 use Rattle.cg_bits.proofs.Slots.{select_read, fields_read}
 use Rattle.cg_bits.proofs.Outputs.{joined_same}
-
-pub greatest_same : (f g : ℕ → ℕ) (n : ℕ) → ((i : ℕ) → i < n → f i ≡ g i) → greatest_of f n ≡ greatest_of g n
-unfolding greatest_of
-greatest_same f g zero h = refl
-greatest_same f g (suc n) h = ap (λ z. max z (f n)) (greatest_same f g n (λ i lt. h i (omega arith))) ∙ ap (λ z. max (greatest_of g n) z) (h n (omega arith))
 
 pub any_same : (f g : ℕ → Bool) (n : ℕ) → ((i : ℕ) → i < n → f i ≡ g i) → any_below f n ≡ any_below g n
 unfolding any_below

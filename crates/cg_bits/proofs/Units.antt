@@ -7,6 +7,7 @@ use Rattle.cg_word.specs.declared.op.Op.{Op}
 use Rattle.cg_model.specs.declared.config.ArgFields.{ArgFields}
 use Rattle.cg_model.specs.declared.config.UnitFields.{UnitFields}
 use Rattle.cg_model.specs.Config.{no_arg, arg}
+use Rattle.cg_config.proofs.Canonical.{stage_fits}
 use Rattle.cg_bits.specs.Numbers.{bits_of, number_at}
 use Rattle.cg_bits.specs.Parts.{joined, Holds}
 use Rattle.cg_flat.specs.Slots.{total}
@@ -32,9 +33,6 @@ false_true b e f = absurd cc
 
 pub count_four : (ops : List Op) (f : UnitFields) (p : ℕ) → AreFields ops f → p < 3 → (arg f p).count ≤ 4
 count_four ops f p are lt = leb-true _ _ (and_parts _ _ (are.count p lt)).0
-
-pub stage_fits : (ops : List Op) (f : UnitFields) → AreFields ops f → f.stage ≤ 65534
-stage_fits ops f are = leb-true _ _ (and_parts _ _ are.stage).0
 
 -- from the arity on, arguments are all zero
 pub idle : (ops : List Op) (f : UnitFields) (p : ℕ) → AreFields ops f → p < 3 → arity_of f.op ≤ p → arg f p ≡ no_arg

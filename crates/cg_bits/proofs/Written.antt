@@ -7,7 +7,8 @@ use Rattle.cg_bits.specs.Format.{cgb2, ports}
 use Rattle.cg_bits.specs.Ranges.{HasRanges}
 use Rattle.cg_bits.proofs.Room.{room_of}
 use Rattle.cg_bits.proofs.Codes.{code_known}
-use Rattle.cg_bits.proofs.Units.{count_four, stage_fits}
+use Rattle.cg_config.proofs.Canonical.{stage_fits}
+use Rattle.cg_bits.proofs.Units.{count_four}
 
 -- the fields of a canonical configuration have room in their bits
 pub unit_fits : (A : Arch) (C : Config) (x slot : ℕ) → IsArch A → IsCanonical A C → x < length A.units → slot < C.ii → HasRanges cgb2 (ports A x) (fields C x slot)

@@ -7,5 +7,4 @@ pub mod Faults
 pub mod Answers
 pub mod Ranges
 pub mod Checks
-pub mod Changes
 pub mod Texts

@@ -4,7 +4,6 @@
 mod all_slots;
 mod check;
 mod checking;
-mod config;
 mod fault;
 mod field;
 mod format;
@@ -17,14 +16,14 @@ mod texts;
 mod writer;
 mod writing;
 
+pub use cg_config::{Config, NO_ARG};
 pub use cg_contexts::{ArgFields, Contexts, UnitFields};
 pub use check::check_bits;
-pub use config::Config;
 pub use fault::BitsFault;
 pub use field::number_at;
 pub use format::{CGB2, Format};
 pub use header::{HEADER, ii_in, stages_in};
-pub use reading::{NO_ARG, arg_at, op_of, unit_at};
+pub use reading::{arg_at, op_of, unit_at};
 pub use reading_all::read_bits;
 pub use texts::bits_fault_text;
 pub use writing::write_bits;

@@ -7,15 +7,9 @@ ghost use Rattle.cg_bits.specs.Ranges.{IsFormat};
 
 use crate::field::number_at;
 use crate::format::Format;
+use cg_config::NO_ARG;
 use cg_contexts::{ArgFields, UnitFields};
 use cg_word::Op;
-
-/// An argument that is all zero.
-pub const NO_ARG: ArgFields = ArgFields {
-    fixed: false,
-    count: 0,
-    init: [0; 4],
-};
 
 /// The operation of a code: none for 0, and none above the greatest code.
 pub fn op_of(format: Format, code: u32) -> Option<Op>

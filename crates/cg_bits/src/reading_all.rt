@@ -13,13 +13,13 @@ ghost use Rattle.cg_bits.specs.Checks.{fields_there};
 
 use crate::all_slots::Slots;
 use crate::check::check_bits;
-use crate::config::{Config, Row};
 use crate::fault::BitsFault;
 use crate::field::number_at;
 use crate::format::CGB2;
 use crate::header::{HEADER, ii_in, slot_len, stages_in};
 use crate::reading::unit_at;
 use cg_arch::Arch;
+use cg_config::{Config, Row};
 use cg_contexts::UnitFields;
 use std::alloc::{AllocError, Global};
 

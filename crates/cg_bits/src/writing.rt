@@ -11,9 +11,9 @@ ghost use Rattle.cg_bits.specs.Format.{cgb2, code_of, ports};
 ghost use Rattle.cg_bits.specs.Spelling.{arg_bits, unit_bits, slots, AreBits};
 ghost use Rattle.cg_bits.specs.Ranges.{HasRanges, IsBytes};
 
-use crate::config::Config;
 use crate::writer::BitWriter;
 use cg_arch::Arch;
+use cg_config::Config;
 use cg_contexts::{ArgFields, Contexts, UnitFields};
 use cg_word::Op;
 use std::alloc::{AllocError, Global};

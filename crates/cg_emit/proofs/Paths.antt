@@ -10,7 +10,7 @@ use Rattle.cg_model.specs.Mapping.{Goes, positions_after}
 use Rattle.cg_model.specs.Config.{Config}
 use Rattle.cg_model.specs.Configured.{place_of}
 use Rattle.cg_flat.proofs.Lists.{links_of, item_at}
-use Rattle.cg_bits.specs.Changes.{with_select}
+use Rattle.cg_config.specs.Changes.{with_select}
 use Rattle.cg_overlap.proofs.Facts.{Contains-nil, Contains-cases}
 use Rattle.cg_emit.specs.Building.{GoesInTime, with_positions}
 

@@ -16,7 +16,7 @@ use Rattle.cg_model.specs.Mapping.{Mapping, IsLegal, place}
 use Rattle.cg_model.specs.Config.{Config, fields, off}
 use Rattle.cg_model.specs.Configured.{node_on, node_fields, fields_by}
 use Rattle.cg_model.specs.Canonical.{IsCanonical, AreFields, gives_output, clash}
-use Rattle.cg_bits.specs.Changes.{with_fields, LeavesPortsFree}
+use Rattle.cg_config.specs.Changes.{with_fields, LeavesPortsFree}
 use Rattle.cg_overlap.proofs.Emitted.{node_is, node_keeps}
 use Rattle.cg_overlap.proofs.Selects.{node_found}
 use Rattle.cg_emit.specs.Building.{HasNodes}

@@ -9,7 +9,7 @@ use Rattle.cg_model.specs.Mapping.{Position}
 use Rattle.cg_model.specs.Config.{Config, select}
 use Rattle.cg_model.specs.Configured.{selected, select_in}
 use Rattle.cg_model.specs.Canonical.{IsCanonical}
-use Rattle.cg_bits.specs.Changes.{with_select}
+use Rattle.cg_config.specs.Changes.{with_select}
 use Rattle.cg_overlap.proofs.Facts.{Contains-first, Contains-later}
 use Rattle.cg_emit.specs.Building.{with_position, with_positions}
 

@@ -11,7 +11,7 @@ use Rattle.cg_model.specs.Array.{Arch, resource}
 use Rattle.cg_model.specs.Mapping.{Mapping, Position, Goes}
 use Rattle.cg_model.specs.Config.{Config, fields}
 use Rattle.cg_model.specs.Configured.{selected, node_on, fields_by}
-use Rattle.cg_bits.specs.Changes.{with_select}
+use Rattle.cg_config.specs.Changes.{with_select}
 
 -- ---- what a node asks fits a unit's fields
 

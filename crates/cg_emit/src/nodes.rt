@@ -5,7 +5,7 @@ ghost use Rattle.cg_model.specs.Kernel.{size};
 ghost use Rattle.cg_model.specs.Mapping.{IsLegal, place};
 ghost use Rattle.cg_model.specs.Configured.{node_fields};
 ghost use Rattle.cg_model.specs.Canonical.{IsCanonical};
-ghost use Rattle.cg_bits.specs.Changes.{all_off};
+ghost use Rattle.cg_config.specs.Changes.{all_off};
 ghost use Rattle.cg_emit.specs.Building.{HasNodes};
 
 use crate::fields::node_fields;

@@ -3,9 +3,9 @@ use Rattle.std.specs.declared.alloc.AllocError.{AllocError}
 use Rattle.cg_model.specs.Array.{Arch}
 use Rattle.cg_model.specs.Config.{Config}
 use Rattle.cg_model.specs.Canonical.{IsCanonical}
-use Rattle.cg_bits.specs.Changes.{all_off}
-use Rattle.cg_bits.proofs.Changed.{off_canonical}
-use Rattle.cg_bits.proofs.config.Config.new.Goals as goal
+use Rattle.cg_config.specs.Changes.{all_off}
+use Rattle.cg_config.proofs.Changed.{off_canonical}
+use Rattle.cg_config.proofs.config.Config.new.Goals as goal
 
 canonical : (A : Arch) (C : Config) (r : Result Config AllocError) → IsCanonical A C → IfOk r (λ D. D ≡ C) → IfOk r (λ D. IsCanonical A D)
 canonical A C (Ok D) right e = subst (IsCanonical A) (sym e) right

@@ -1,6 +1,6 @@
 use Rattle.std.proofs.Common.{◌++◌, [], ◌∷◌, replicate, ap, ◌∙◌}
 use Rattle.std.proofs.lemmas.List.{replicate-append-replicate}
-use Rattle.cg_bits.proofs.config.rows_of.Goals as goal
+use Rattle.cg_config.proofs.config.rows_of.Goals as goal
 
 pub loop-row-preserved : goal.loop-row-preserved
 loop-row-preserved g c =

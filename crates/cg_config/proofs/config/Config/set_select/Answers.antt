@@ -1,7 +1,7 @@
 use Rattle.std.proofs.Common.{sym, subst, arith}
 use Rattle.cg_model.specs.Canonical.{IsCanonical}
-use Rattle.cg_bits.proofs.Changed.{select_canonical}
-use Rattle.cg_bits.proofs.config.Config.set_select.Goals as goal
+use Rattle.cg_config.proofs.Changed.{select_canonical}
+use Rattle.cg_config.proofs.config.Config.set_select.Goals as goal
 
 pub put_select-requires : goal.put_select-requires
 put_select-requires c =

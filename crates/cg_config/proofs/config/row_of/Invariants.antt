@@ -1,5 +1,5 @@
 use Rattle.std.proofs.Common.{◌≡◌, replicate}
-use Rattle.cg_bits.proofs.config.row_of.Given as goal
+use Rattle.cg_config.proofs.config.row_of.Given as goal
 
 abbrev pub invariant-loop-item : goal.invariant-loop-item
 invariant-loop-item g l = l.items.items ≡ replicate l._item l.item

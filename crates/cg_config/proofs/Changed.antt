@@ -9,10 +9,8 @@ use Rattle.cg_model.specs.declared.config.UnitFields.{UnitFields}
 use Rattle.cg_model.specs.Array.{Arch, resource, unit}
 use Rattle.cg_model.specs.Config.{Config, select, fields, arg, no_arg, off}
 use Rattle.cg_model.specs.Canonical.{IsCanonical, AreFields, is_on, gives_output, clash, port_free, any_below, stage_of, greatest_of, last_stage}
-use Rattle.cg_bits.specs.Changes.{all_off, with_select, with_fields, LeavesPortsFree}
-use Rattle.cg_bits.proofs.Bytes.{greatest_below}
-use Rattle.cg_bits.proofs.Kept.{zero_mode, zero_count, zero_word}
-use Rattle.cg_bits.proofs.Linked.{greatest_same}
+use Rattle.cg_config.specs.Changes.{all_off, with_select, with_fields, LeavesPortsFree}
+use Rattle.cg_config.proofs.Canonical.{greatest_below, greatest_same, zero_mode, zero_count, zero_word}
 
 -- ---- tests of all numbers below one
 

@@ -2,11 +2,18 @@
 ghost use Rattle.std.specs.Prelude.{◌≡◌, replicate, IfOk};
 ghost use Rattle.cg_model.specs.Canonical.{stage_of};
 
-use crate::reading::NO_ARG;
+use crate::rows::Row;
 use cg_arch::Arch;
-use cg_contexts::{Contexts, UnitFields, UnitHead, told_by};
+use cg_contexts::{ArgFields, Contexts, UnitFields, UnitHead, told_by};
 use std::alloc::{AllocError, Global};
 use std::marker::Model;
+
+/// An argument that is all zero.
+pub const NO_ARG: ArgFields = ArgFields {
+    fixed: false,
+    count: 0,
+    init: [0; 4],
+};
 
 /// The fields of a unit that is off.
 pub const OFF: UnitFields = UnitFields {
@@ -16,46 +23,6 @@ pub const OFF: UnitFields = UnitFields {
     immediate: 0,
     args: [NO_ARG; 3],
 };
-
-/// A list whose items are set in place.
-#[derive(Drop)]
-pub(crate) struct Row<T> {
-    items: Vec<T>,
-}
-
-impl<T> Model for Row<T> {
-    ghost use Rattle.std.specs.Prelude.{List};
-
-    ghost Value = { List T };
-
-    ghost view = { λ r. r.items.items };
-}
-
-impl<T: Copy> Row<T> {
-    ghost use Rattle.std.specs.Prelude.{◌≡◌, ◌<◌, length, slice_set};
-
-    /// Takes the items over.
-    pub fn new(items: Vec<T>) -> Row<T>
-        ensures { result ≡ items.items }
-    {
-        Row { items }
-    }
-
-    /// Lends the items.
-    pub fn as_slice(&self) -> &[T]
-        ensures { result.now ≡ self.now }
-    {
-        &self.items
-    }
-
-    /// Sets an item.
-    pub fn set(&mut self, index: usize, item: T)
-        requires { index < length self.old }
-        ensures { self.new ≡ slice_set self.old index item }
-    {
-        self.items[index] = item;
-    }
-}
 
 /// A configuration in tables. Contracts see it as the configuration.
 #[derive(Drop)]
@@ -79,7 +46,7 @@ impl Config {
     ghost use Rattle.cg_model.specs.Array as arrays;
     ghost use Rattle.cg_model.specs.Config as configs;
     ghost use Rattle.cg_model.specs.Canonical.{IsCanonical, AreFields};
-    ghost use Rattle.cg_bits.specs.Changes.{all_off, with_select, with_fields, LeavesPortsFree};
+    ghost use Rattle.cg_config.specs.Changes.{all_off, with_select, with_fields, LeavesPortsFree};
 
     /// A configuration that is off everywhere, of so many slots.
     pub fn new(alloc: Global, arch: &Arch, ii: u32) -> Result<Config, AllocError>
@@ -158,7 +125,7 @@ impl Config {
     }
 
     /// A configuration of these tables.
-    pub(crate) fn from_rows(
+    pub fn from_rows(
         ii: u32,
         stages: u32,
         selects: Vec<Row<u32>>,
@@ -175,7 +142,7 @@ impl Config {
     }
 
     /// The selects of a slot, by resource.
-    pub(crate) fn selects_in(&self, slot: usize) -> &[u32]
+    pub fn selects_in(&self, slot: usize) -> &[u32]
         requires { slot < length self.now.selects }
         ensures { result.now ≡ slice_index_or self.now.selects slot [] }
     {
@@ -183,7 +150,7 @@ impl Config {
     }
 
     /// The fields of a slot, by unit.
-    pub(crate) fn fields_in(&self, slot: usize) -> &[UnitFields]
+    pub fn fields_in(&self, slot: usize) -> &[UnitFields]
         requires { slot < length self.now.units }
         ensures { result.now ≡ slice_index_or self.now.units slot [] }
     {

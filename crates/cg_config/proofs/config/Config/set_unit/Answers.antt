@@ -1,9 +1,9 @@
 use Rattle.std.proofs.Common.{sym, subst, arith}
 use Rattle.cg_model.specs.Array.{unit}
 use Rattle.cg_model.specs.Canonical.{IsCanonical}
-use Rattle.cg_bits.proofs.Units.{stage_fits}
-use Rattle.cg_bits.proofs.Changed.{fields_canonical}
-use Rattle.cg_bits.proofs.config.Config.set_unit.Goals as goal
+use Rattle.cg_config.proofs.Canonical.{stage_fits}
+use Rattle.cg_config.proofs.Changed.{fields_canonical}
+use Rattle.cg_config.proofs.config.Config.set_unit.Goals as goal
 
 pub put_fields-requires : goal.put_fields-requires
 put_fields-requires c =
