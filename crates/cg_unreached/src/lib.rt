@@ -6,6 +6,8 @@ mod archs;
 #[cfg(test)]
 mod bits;
 #[cfg(test)]
+mod graphs;
+#[cfg(test)]
 mod texts;
 #[cfg(test)]
 mod words;
