@@ -1,0 +1,14 @@
+//! The claims of a node.
+
+/// A claim on a node, and how often it is used.
+#[derive(Clone, Copy, Debug, PartialEq, Eq, Drop)]
+pub struct ClaimUse {
+    /// The node of the kernel whose value it is.
+    pub source: u32,
+    /// The cycle of the first turn in which the value is there.
+    pub time: u32,
+    /// The resource from which it comes; none where a path begins.
+    pub before: Option<u32>,
+    /// The number of positions that make this claim.
+    pub uses: u64,
+}

@@ -1,0 +1,10 @@
+//! Claims on the nodes of the modulo routing resource graph, and what a link costs there.
+#![tactic(auto)]
+
+mod claim;
+pub mod laws;
+mod usage;
+
+pub use cg_mrrg::{Arch, MNode, Mrrg};
+pub use claim::ClaimUse;
+pub use usage::Usage;
