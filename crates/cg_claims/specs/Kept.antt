@@ -1,5 +1,5 @@
 -- The claims of each node as a list, each once with the number of its uses.
-use Rattle.std.specs.Prelude.{◌≡◌, ℕ, zero, suc, ◌+◌, ◌%◌, ◌/◌, ◌<◌, ◌⊎◌, if◌then◌else◌, true, List, [], ◌∷◌, ◌++◌, Option, Some, None, replicate, All, AllPairs, sum_by}
+use Rattle.std.specs.Prelude.{◌≡◌, ℕ, zero, suc, ◌%◌, ◌/◌, ◌<◌, ◌⊎◌, if◌then◌else◌, true, List, [], ◌∷◌, ◌++◌, Option, Some, None, replicate, All, AllPairs, sum_by}
 use Rattle.cg_model.specs.Mapping.{Position}
 use Rattle.cg_mrrg.specs.declared.links.MNode.{MNode}
 use Rattle.cg_claims.specs.Claims.{same, uses, is_at}

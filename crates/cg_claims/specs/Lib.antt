@@ -1,3 +1,6 @@
 pub mod Claims
 pub mod Table
 pub mod Kept
+pub mod Lists
+pub mod Nodes
+pub mod Along

@@ -1,6 +1,6 @@
 -- Use tables: the positions of the paths that were added, and a history for each node; what a link
 -- costs there.
-use Rattle.std.specs.Prelude.{◌≡◌, ℕ, ◌+◌, ◌*◌, ◌<◌, nat_lt, if◌then◌else◌, List, length, map, slice_index}
+use Rattle.std.specs.Prelude.{◌≡◌, ℕ, ◌+◌, ◌*◌, nat_lt, if◌then◌else◌, List, length, map, slice_index}
 use Rattle.std.specs.List.{range_with_len, list_any}
 use Rattle.cg_model.specs.Array.{Arch}
 use Rattle.cg_model.specs.Mapping.{Position}

@@ -2,7 +2,7 @@
 #![tactic(auto)]
 
 mod claim;
-pub mod laws;
+mod list;
 mod usage;
 
 pub use cg_mrrg::{Arch, MNode, Mrrg};

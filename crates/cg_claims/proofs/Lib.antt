@@ -1,0 +1,10 @@
+pub mod Uses
+pub mod Different
+pub mod Order
+pub mod Lists
+pub mod Sums
+pub mod Nodes
+pub mod Tables
+pub mod Counts
+pub mod Along
+pub mod Found
