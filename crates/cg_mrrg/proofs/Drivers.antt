@@ -43,14 +43,14 @@ or_so false = refl
 any_more : (x : ℕ) (ds : List ℕ) (p : ℕ) → p < length ds → list_any (eqb x) (take (suc p) ds) ≡ (list_any (eqb x) (take p ds) || (eqb x (get_or ds p 0) || false))
 any_more x ds p h = ap (list_any (eqb x)) (take-suc ds p 0 h) ∙ list_any-append (eqb x) (take p ds) (get_or ds p 0 ∷ [])
 
-any_other : (x : ℕ) (ds : List ℕ) (p : ℕ) → p < length ds → x ≢ get_or ds p 0 → list_any (eqb x) (take (suc p) ds) ≡ list_any (eqb x) (take p ds)
+pub any_other : (x : ℕ) (ds : List ℕ) (p : ℕ) → p < length ds → x ≢ get_or ds p 0 → list_any (eqb x) (take (suc p) ds) ≡ list_any (eqb x) (take p ds)
 any_other x ds p h ne = any_more x ds p h ∙ ap (λ z. list_any (eqb x) (take p ds) || (z || false)) (ne_eqb x (get_or ds p 0) ne) ∙ or_not (list_any (eqb x) (take p ds))
 
-any_here : (ds : List ℕ) (p : ℕ) → p < length ds → list_any (eqb (get_or ds p 0)) (take (suc p) ds) ≡ true
+pub any_here : (ds : List ℕ) (p : ℕ) → p < length ds → list_any (eqb (get_or ds p 0)) (take (suc p) ds) ≡ true
 any_here ds p h = any_more (get_or ds p 0) ds p h ∙ ap (λ z. list_any (eqb (get_or ds p 0)) (take p ds) || (z || false)) (eq-eqb (get_or ds p 0) (get_or ds p 0) refl) ∙ or_so (list_any (eqb (get_or ds p 0)) (take p ds))
 
 -- a number that is none of the first j
-none_before : (x : ℕ) (ds : List ℕ) (j : ℕ) → j ≤ length ds → ((k : ℕ) → k < j → x ≢ get_or ds k 0) → list_any (eqb x) (take j ds) ≡ false
+pub none_before : (x : ℕ) (ds : List ℕ) (j : ℕ) → j ≤ length ds → ((k : ℕ) → k < j → x ≢ get_or ds k 0) → list_any (eqb x) (take j ds) ≡ false
 none_before x ds zero h ne = refl
 none_before x ds (suc j) h ne = any_other x ds j (omega (arith, h)) (ne j (omega arith)) ∙ none_before x ds j (omega (arith, h)) (λ k l. ne k (omega (arith, l)))
 

@@ -1,13 +1,9 @@
-// A library with one function.
+//! Least paths in the modulo routing resource graph.
 #![tactic(auto)]
 
-ghost use Rattle.std.specs.Prelude.{◌≡◌};
-ghost use Rattle.cg_route.specs.Echo.{echo_of};
+mod least;
+mod search;
+mod step;
 
-// The `ensures` clause is the contract: what `echo` returns is `echo_of` of its argument, a definition
-// in `specs/Echo.antt`, which a caller's clause can cite too.
-pub fn echo(x: usize) -> usize
-    ensures { result ≡ echo_of x }
-{
-    x
-}
+pub use cg_claims::{MNode, Mrrg, Usage};
+pub use least::least_path;

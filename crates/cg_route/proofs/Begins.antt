@@ -1,0 +1,144 @@
+-- The ways on through registers, one more at a time.
+use Rattle.std.proofs.Common.{◌≡◌, ◌≢◌, ℕ, zero, suc, ◌+◌, ◌<◌, ◌≤◌, eqb, Bool, true, false, List, [], ◌∷◌, length, length-set, get_or, set, Option, Some, None, refl, sym, ap, ◌∙◌, subst, arith, ⊎_elim, inl, inr, eqb-true}
+use Rattle.std.specs.Prelude.{◌⊎◌, ◌||◌, ◌&&◌, Contains, replicate}
+use Rattle.std.specs.List.{list_any}
+use Rattle.std.proofs.lemmas.Bool.{cases_lt, cases_eq, cases_Bool, eq-eqb, ne_eqb, false≢true}
+use Rattle.std.proofs.lemmas.List.{get_or-replicate, get_or_past, length-replicate, get_or-set_same, get_or-set_other}
+use Rattle.std.proofs.lemmas.Map.Views.{Contains-from_any}
+use Rattle.cg_model.specs.Array.{delay_by}
+use Rattle.cg_model.specs.declared.array.Kind.{Kind}
+use Rattle.cg_model.specs.declared.array.Kind.TheVariants.{Wire, Register, Port, Out}
+use Rattle.cg_route.specs.Layers.{Step, Sought, Layer, size, at, onward, drivers, Drives, delay_into, link, cost, better, IsBest, IsPassed, IsBegun, IsBelow, entered}
+use Rattle.cg_route.proofs.Best.{best_same, best_skip, best_more}
+
+-- a link takes one cycle, or none
+kind_delay : (k : Kind) → (delay_by k ≡ 0) ⊎ (delay_by k ≡ 1)
+kind_delay Register = inr refl
+kind_delay Wire = inl refl
+kind_delay Port = inl refl
+kind_delay Out = inl refl
+
+pub one_or_none : (S : Sought) (r : ℕ) → (delay_into S r ≡ 0) ⊎ (delay_into S r ≡ 1)
+one_or_none S r = kind_delay _
+
+pub onward_now : (S : Sought) (here later : Layer) (r : ℕ) → delay_into S r ≡ 0 → onward S here later r ≡ at here r
+onward_now S here later r e = rw (eq-eqb (delay_into S r) 0 e) refl
+
+pub onward_later : (S : Sought) (here later : Layer) (r : ℕ) → delay_into S r ≡ 1 → onward S here later r ≡ at later r
+onward_later S here later r e = rw (ne_eqb (delay_into S r) 0 (λ z. omega (arith, e, z))) refl
+
+-- the test for a driver
+pub is_driver : (ds : List ℕ) (q : ℕ) → list_any (eqb q) ds ≡ true → Contains ds q
+is_driver ds q t = Contains-from_any (λ x y. eqb-true x y) q ds t
+
+any_at : (ds : List ℕ) (i q d : ℕ) → i < length ds → get_or ds i d ≡ q → list_any (eqb q) ds ≡ true
+any_at [] i q d h e = absurd (omega arith)
+any_at (x ∷ ds) zero q d h e = rw (eq-eqb q x (sym e)) refl
+any_at (x ∷ ds) (suc i) q d h e = or_right (eqb q x) _ (any_at ds i q d (omega arith) e)
+  where
+    or_right : (a b : Bool) → b ≡ true → (a || b) ≡ true
+    or_right true b h = refl
+    or_right false b h = h
+
+pub no_driver : (ds : List ℕ) (q : ℕ) → list_any (eqb q) ds ≡ false → Contains ds q → ⊥
+no_driver ds q f m = false≢true (sym f ∙ any_at ds m.0 q q m.1 m.2)
+
+-- where links to it have no delay, the price to r from time t on is that at time t
+pub cost_now : (S : Sought) (q t s r : ℕ) → t + delay_into S r ≡ s → cost S q t r ≡ link S s r q
+cost_now S q t s r e = ap (λ z. link S z r q) e
+
+-- nothing was looked at
+pub begun_none : (S : Sought) (t : ℕ) (later here : Layer) → here ≡ replicate (size S) None → IsBegun S t 0 later here
+begun_none S t later here is =
+    record {
+      all = ap (λ (l : Layer). length l) is ∙ length-replicate (size S) None;
+      each = λ q l.
+          subst (λ e. IsBest (λ x. Drives S q x × (delay_into S x ≡ 1) × (x < 0)) (at later) (cost S q t) e)
+          (sym (ap (λ h. at h q) is ∙ get_or-replicate (size S) q None None l)) (λ x u. absurd (omega (arith, u.2)));
+    }
+
+-- at the end there is no later layer
+pub begun_end : (S : Sought) (t : ℕ) (here : Layer) → here ≡ replicate (size S) None → IsBegun S t (size S) [] here
+begun_end S t here is =
+    record {
+      all = ap (λ (l : Layer). length l) is ∙ length-replicate (size S) None;
+      each = λ q l.
+          subst (λ e. IsBest (λ x. Drives S q x × (delay_into S x ≡ 1) × (x < size S)) (at []) (cost S q t) e)
+          (sym (ap (λ h. at h q) is ∙ get_or-replicate (size S) q None None l)) (λ x u. refl);
+    }
+
+pub none_below : (S : Sought) (high : ℕ) (here : Layer) → here ≡ replicate (size S) None → IsBelow high here
+none_below S high here is q s e =
+    ⊎_elim
+    (λ (a : q < size S). let z : at here q ≡ None = ap (λ h. at h q) is ∙ get_or-replicate (size S) q None None a in absurd (cc))
+    (λ (a : size S ≤ q).
+    let long = ap (λ (l : Layer). length l) is ∙ length-replicate (size S) None in
+    let z : at here q ≡ None = get_or_past here q None (omega arith) in absurd (cc))
+    (cases_lt q (size S))
+
+module _ (S : Sought) (t i : ℕ) (later old : Layer) (h : IsBegun S t i later old) where
+  abbrev Before : ℕ → ℕ → Type 0
+  Before q x = Drives S q x × (delay_into S x ≡ 1) × (x < i)
+
+  abbrev After : ℕ → ℕ → Type 0
+  After q x = Drives S q x × (delay_into S x ≡ 1) × (x < i + 1)
+
+  to : (q x : ℕ) → Before q x → After q x
+  to q x b = (b.0, b.1, omega (arith, b.2))
+
+  from : (q x : ℕ) → After q x → Before q x ⊎ (i ≡ x)
+  from q x a = ⊎_elim (λ l. inl (a.0, a.1, l)) (λ (l : i ≤ x). inr (omega (arith, a.2))) (cases_lt x i)
+
+  -- resource i is no register, or doesn't take the word of q
+  same_as : (q : ℕ) → q < size S → ((Drives S q i × (delay_into S i ≡ 1)) → ⊥) → IsBest (After q) (at later) (cost S q t) (at old q)
+  same_as q l never =
+      best_same (Before q) (After q) (at later) (at later) (cost S q t) (at old q) (to q)
+      (λ x a. ⊎_elim (λ b. b) (λ (e : i ≡ x). absurd (never (subst (λ y. Drives S q y) (sym e) a.0, subst (λ y. delay_into S y ≡ 1) (sym e) a.1))) (from q x a))
+      (λ x a. refl) (h.each q l)
+
+  pub begun_past : delay_into S i ≢ 1 → IsBegun S t (i + 1) later old
+  begun_past ne = record { all = h.all; each = λ q l. same_as q l (λ a. ne a.1) }
+
+  pub begun_more : (new : Layer) (s : ℕ) (e : Option Step) → e ≡ at later i → t + 1 ≡ s → delay_into S i ≡ 1 → IsPassed S s i e old new → IsBegun S t (i + 1) later new
+  begun_more new s None is time one p =
+      subst (λ l. IsBegun S t (i + 1) later l) (sym p)
+      (record { all = h.all; each = λ q l. best_skip (Before q) (After q) (at later) (cost S q t) i (to q) (from q) (at old q) (sym is) (h.each q l) })
+  begun_more new s (Some o) is time one p =
+      record {
+        all = p.all ∙ h.all;
+        each = λ q l.
+            ⊎_elim
+            (λ (a : list_any (eqb q) (drivers S i) ≡ true).
+            let price : cost S q t i ≡ link S s i q = cost_now S q t s i (ap (λ d. t + d) one ∙ time) in
+            let now : at new q ≡ better (at old q) (cost S q t i + o.price) i = p.drivers q a ∙ ap (λ c. better (at old q) (c + o.price) i) (sym price) in
+            subst (λ e. IsBest (After q) (at later) (cost S q t) e) (sym now)
+            (best_more (Before q) (After q) (at later) (cost S q t) i (to q) (from q) o (is_driver (drivers S i) q a, one, omega arith) (sym is) (at old q) (h.each q l)))
+            (λ (a : list_any (eqb q) (drivers S i) ≡ false).
+            subst (λ e. IsBest (After q) (at later) (cost S q t) e) (sym (p.others q a)) (same_as q l (λ b. no_driver (drivers S i) q a b.0)))
+            (cases_Bool (list_any (eqb q) (drivers S i)));
+      }
+
+-- entering the end makes nothing dearer
+pub entered_below : (S : Sought) (k r high : ℕ) (old : Layer) → r < length old → IsBelow high old → IsBelow high (entered S k r old)
+entered_below S k r high old known h =
+    ⊎_elim
+    (λ (b : (eqb k 0 && eqb r S.to) ≡ true). rw b (λ q s is.
+    ⊎_elim
+    (λ (a : q ≡ r).
+    let z : Some (record { price = 0; next = r }) ≡ Some s = sym (get_or-set_same old r (Some (record { price = 0; next = r })) None known) ∙ subst (λ x. at (set old r (Some (record { price = 0; next = r }))) x ≡ Some s) a is in
+    let w : record { price = 0; next = r } ≡ s = cc in
+    omega (arith, ap (λ (y : Step). y.price) w))
+    (λ a. h q s (sym (get_or-set_other old r q (Some (record { price = 0; next = r })) None a) ∙ is))
+    (cases_eq q r)))
+    (λ (b : (eqb k 0 && eqb r S.to) ≡ false). rw b h)
+    (cases_Bool (eqb k 0 && eqb r S.to))
+
+pub entered_long : (S : Sought) (k r : ℕ) (old : Layer) → length (entered S k r old) ≡ length old
+entered_long S k r old =
+    ⊎_elim
+    (λ (b : (eqb k 0 && eqb r S.to) ≡ true). rw b (length-set old r (Some (record { price = 0; next = r }))))
+    (λ (b : (eqb k 0 && eqb r S.to) ≡ false). rw b refl)
+    (cases_Bool (eqb k 0 && eqb r S.to))
+
+pub more_below : (low high : ℕ) (layer : Layer) → low ≤ high → IsBelow low layer → IsBelow high layer
+more_below low high layer le h q s is = let z = h q s is in omega arith

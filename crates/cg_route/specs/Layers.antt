@@ -1,0 +1,170 @@
+-- How least paths are searched: by layers of time, from the end back.
+use Rattle.std.specs.Prelude.{◌≡◌, ℕ, zero, suc, ◌+◌, ◌-◌, ◌*◌, ◌^◌, ◌<◌, ◌≤◌, ◌⊎◌, ◌&&◌, ◌||◌, true, false, eqb, nat_lt, if◌then◌else◌, List, [], ◌∷◌, length, Contains, Option, Some, None, slice_index_or, slice_set}
+use Rattle.std.specs.List.{list_any}
+use Rattle.cg_model.specs.Array.{IsArch, resource, delay}
+use Rattle.cg_level.specs.Topological.{IsTopological}
+use Rattle.cg_claims.specs.Table.{Table, link_price}
+pub use Rattle.cg_route.specs.declared.step.Step.{Step}
+
+-- what is sought: the ways of the value of `source` to a resource at a time; and an order of the
+-- resources in which each stands after those that drive it without delay
+pub record Sought : Type 0 where
+  pub table : Table
+  pub order : List ℕ
+  pub source : ℕ
+  pub to : ℕ
+  pub end : ℕ
+
+-- the number of resources
+abbrev pub size : Sought → ℕ
+size S = length S.table.arch.resources
+
+-- the delay of a link into r
+abbrev pub delay_into : Sought → ℕ → ℕ
+delay_into S r = delay S.table.arch r
+
+pub record IsSearch (S : Sought) : Type 0 where
+  pub arch : IsArch S.table.arch
+  pub interval : (0 < S.table.interval) × (S.table.interval ≤ 64)
+  pub order : IsTopological S.table.arch.resources S.order
+  pub to : S.to < size S
+
+-- where q stands in a list
+unfoldable pub place_of : ℕ → List ℕ → ℕ
+place_of q [] = 0
+place_of q (x ∷ xs) = if eqb x q then 0 else suc (place_of q xs)
+
+-- where q stands in the order
+abbrev pub rank : Sought → ℕ → ℕ
+rank S q = place_of q S.order
+
+-- the drivers of r
+abbrev pub drivers : Sought → ℕ → List ℕ
+drivers S r = (resource S.table.arch r).drivers
+
+-- q drives r
+abbrev pub Drives : Sought → ℕ → ℕ → Type 0
+Drives S q r = Contains (drivers S r) q
+
+-- a layer has for each resource the least price from there to the end, and the next resource
+abbrev pub Layer : Type 0
+Layer = List (Option Step)
+
+-- layer k of a list, that of the time k cycles before the end
+abbrev pub layer_at : List Layer → ℕ → Layer
+layer_at layers k = slice_index_or layers k []
+
+-- the layer of the next cycle
+abbrev pub later_at : List Layer → ℕ → Layer
+later_at layers zero = []
+later_at layers (suc k) = layer_at layers k
+
+abbrev pub at : Layer → ℕ → Option Step
+at layer q = slice_index_or layer q None
+
+-- the way on from r: into a register it goes on a cycle later
+abbrev pub onward : Sought → Layer → Layer → ℕ → Option Step
+onward S here later r = if eqb (delay_into S r) 0 then at here r else at later r
+
+-- the price of the link from q to r, which ends at time s
+abbrev pub link : Sought → ℕ → ℕ → ℕ → ℕ
+link S s r q = link_price S.table (record { source = S.source; resource = r; time = s; from = Some q })
+
+-- and of the link along which q is left at time t
+abbrev pub cost : Sought → ℕ → ℕ → ℕ → ℕ
+cost S q t r = link S (t + delay_into S r) r q
+
+-- the better of what was found and of going to r for that price
+abbrev pub better : Option Step → ℕ → ℕ → Option Step
+better None price r = Some (record { price = price; next = r })
+better (Some s) price r =
+    if nat_lt price s.price || (eqb price s.price && nat_lt r s.next)
+    then Some (record { price = price; next = r })
+    else Some s
+
+-- s goes to one of `IsUser`, for the least price, and to the least of those
+pub record IsChoice (IsUser : ℕ → Type 0) (rest : ℕ → Option Step) (price : ℕ → ℕ) (s : Step) : Type 0 where
+  pub next : IsUser s.next
+  pub after : Step
+  pub goes_on : rest s.next ≡ Some after
+  pub is : s.price ≡ price s.next + after.price
+  pub least : (r : ℕ) (o : Step) → IsUser r → rest r ≡ Some o →
+      (s.price < price r + o.price) ⊎ ((s.price ≡ price r + o.price) × (s.next ≤ r))
+
+-- the best way on, where there is one
+abbrev pub IsBest : (ℕ → Type 0) → (ℕ → Option Step) → (ℕ → ℕ) → Option Step → Type 0
+IsBest IsUser rest price None = (r : ℕ) → IsUser r → rest r ≡ None
+IsBest IsUser rest price (Some s) = IsChoice IsUser rest price s
+
+-- the entry of q in layer k, of time t; layer 0 is that of the end
+pub record IsEntry (S : Sought) (k t q : ℕ) (rest : ℕ → Option Step) (e : Option Step) : Type 0 where
+  pub at_end : q ≡ S.to → k ≡ 0 → e ≡ Some (record { price = 0; next = S.to })
+  pub before : ((q ≡ S.to) × (k ≡ 0) → ⊥) → IsBest (Drives S q) rest (cost S q t) e
+
+-- no price of the layer is beyond that
+abbrev pub IsBelow : ℕ → Layer → Type 0
+IsBelow high layer = (q : ℕ) (s : Step) → at layer q ≡ Some s → s.price ≤ high
+
+-- no price is beyond that many links
+abbrev pub IsWithin : ℕ → Layer → Type 0
+IsWithin links layer = IsBelow (links * 2 ^ 52) layer
+
+pub record IsLayer (S : Sought) (k t : ℕ) (later here : Layer) : Type 0 where
+  pub all : length here ≡ size S
+  pub entries : (q : ℕ) → q < size S → IsEntry S k t q (onward S here later) (at here q)
+
+-- the layers of the last cycles
+pub record AreLayers (S : Sought) (layers : List Layer) : Type 0 where
+  pub each : (k t : ℕ) → k < length layers → k + t ≡ S.end → IsLayer S k t (later_at layers k) (layer_at layers k)
+
+-- each of these drivers of r, but no other resource, was offered the way through r at time s for that
+-- price
+pub record AreOffered (S : Sought) (s r price : ℕ) (ds : List ℕ) (old new : Layer) : Type 0 where
+  pub all : length new ≡ length old
+  pub drivers : (q : ℕ) → list_any (eqb q) ds ≡ true → at new q ≡ better (at old q) (link S s r q + price) r
+  pub others : (q : ℕ) → list_any (eqb q) ds ≡ false → at new q ≡ at old q
+
+-- all its drivers were
+abbrev pub IsOffered : Sought → ℕ → ℕ → ℕ → Layer → Layer → Type 0
+IsOffered S s r price old new = AreOffered S s r price (drivers S r) old new
+
+-- where there is a way on from r
+abbrev pub IsPassed : Sought → ℕ → ℕ → Option Step → Layer → Layer → Type 0
+IsPassed S s r None old new = new ≡ old
+IsPassed S s r (Some o) old new = IsOffered S s r o.price old new
+
+-- the entry of r where it is visited in layer k, of which `old` has what was found before
+abbrev pub entered : Sought → ℕ → ℕ → Layer → Layer
+entered S k r old = if eqb k 0 && eqb r S.to then slice_set old r (Some (record { price = 0; next = r })) else old
+
+-- r got its entry in layer k, and its drivers were offered the way through it, where links to it have
+-- no delay
+abbrev pub IsVisited : Sought → ℕ → ℕ → Layer → Layer → Type 0
+IsVisited S k r old new =
+    (delay_into S r ≡ 0 → IsPassed S (S.end - k) r (at (entered S k r old) r) (entered S k r old) new) × (delay_into S r ≡ 1 → new ≡ entered S k r old)
+
+-- at time t each resource has its best way on through the first i resources, where they are registers
+pub record IsBegun (S : Sought) (t i : ℕ) (later here : Layer) : Type 0 where
+  pub all : length here ≡ size S
+  pub each : (q : ℕ) → q < size S →
+      IsBest (λ x. Drives S q x × (delay_into S x ≡ 1) × (x < i)) (at later) (cost S q t) (at here q)
+
+-- the resources from place p of the order on have their entries; the others have their best way on
+-- through registers and through those
+pub record IsSettled (S : Sought) (k t p : ℕ) (later here : Layer) : Type 0 where
+  pub all : length here ≡ size S
+  pub entries : (q : ℕ) → q < size S → p ≤ rank S q → IsEntry S k t q (onward S here later) (at here q)
+  pub others : (q : ℕ) → q < size S → rank S q < p →
+      IsBest (λ x. Drives S q x × ((delay_into S x ≡ 1) ⊎ (p ≤ rank S x))) (onward S here later) (cost S q t) (at here q)
+
+-- the path goes from q in layer k to the end, by the next resource of each entry
+abbrev pub Follows : Sought → List Layer → ℕ → ℕ → List ℕ → Type 0
+Follows S layers k q [] = (q ≡ S.to) × (k ≡ 0)
+Follows S layers k q (x ∷ path) =
+    ((q ≡ S.to) × (k ≡ 0) → ⊥) × (delay_into S x ≤ k) × (s : Step) × (at (layer_at layers k) q ≡ Some s) × (s.next ≡ x)
+    × Follows S layers (k - delay_into S x) x path
+
+-- each entry but the end's goes on to another
+pub record Leads (S : Sought) (layers : List Layer) : Type 0 where
+  pub onward : (k q : ℕ) (s : Step) → k < length layers → q < size S → at (layer_at layers k) q ≡ Some s → ((q ≡ S.to) × (k ≡ 0) → ⊥) →
+      Drives S q s.next × (delay_into S s.next ≤ k) × ((o : Step) × (at (layer_at layers (k - delay_into S s.next)) s.next ≡ Some o))

@@ -1,0 +1,309 @@
+//! The search for a least path.
+ghost use Rattle.std.specs.Prelude.{◌≡◌, ◌≢◌, ◌<◌, ◌≤◌, ◌^◌, ◌*◌, ◌+◌, ℕ, ◌-◌, [], ◌∷◌, List, IfSome, IfNone, replicate, Option, Some, None, length, IfOk};
+ghost use Rattle.cg_route.specs.Layers as spec;
+
+use crate::step::{Step, better};
+use cg_claims::{MNode, Mrrg, Usage};
+use cg_model::Items;
+use std::alloc::{AllocError, Global};
+use std::marker::Model;
+
+/// A search for ways of a source's value to a resource at a time.
+#[derive(Drop)]
+pub(crate) struct Search<'s, 'a> {
+    graph: &'s Mrrg<'a>,
+    usage: &'s Usage<'a>,
+    order: &'a [u32],
+    count: usize,
+    interval: u32,
+    source: u32,
+    to: u32,
+    end: u32,
+}
+
+impl<'s, 'a> Model for Search<'s, 'a> {
+    ghost use Rattle.std.specs.Prelude.{◌≡◌, length};
+    ghost use Rattle.cg_route.specs.Layers.{Sought, IsSearch};
+
+    ghost Value = { Sought };
+
+    ghost view = { λ s. record { table = s.usage.now; order = s.order.now; source = s.source; to = s.to; end = s.end } };
+
+    ghost invariant = { λ s. IsSearch (record { table = s.usage.now; order = s.order.now; source = s.source; to = s.to; end = s.end }) × (s.graph.now.arch ≡ s.usage.now.arch) × (s.graph.now.interval ≡ s.usage.now.interval) × (s.count ≡ length s.usage.now.arch.resources) × (s.interval ≡ s.usage.now.interval) };
+}
+
+impl<'s, 'a> Search<'s, 'a> {
+    ghost use Rattle.std.specs.Prelude.{◌≡◌, ◌≢◌, ◌<◌, ◌≤◌, ◌^◌, ◌*◌, ◌+◌, ℕ, ◌-◌, [], ◌∷◌, List, IfSome, IfNone, replicate, Option, Some, None, length, IfOk, ◌%◌, ◌&&◌, eqb};
+    ghost use Rattle.std.specs.List.{list_any};
+    ghost use Rattle.cg_model.specs.Mapping.{Position};
+    ghost use Rattle.cg_claims.specs.Table as tables;
+    ghost use Rattle.cg_route.specs.Layers as spec;
+
+    /// A search in a graph, by the prices of a use table.
+    pub(crate) fn new(
+        graph: &'s Mrrg<'a>,
+        usage: &'s Usage<'a>,
+        source: u32,
+        to: u32,
+        end: u32,
+    ) -> Search<'s, 'a>
+        requires arch { graph.now.arch ≡ usage.now.arch }
+        requires interval { graph.now.interval ≡ usage.now.interval }
+        requires to { to < length graph.now.arch.resources }
+        ensures table { result.table ≡ usage.now }
+        ensures source { result.source ≡ source }
+        ensures to { result.to ≡ to }
+        ensures end { result.end ≡ end }
+        ensures search { spec.IsSearch result }
+    {
+        Search {
+            graph,
+            usage,
+            order: graph.order(),
+            count: graph.arch().resources().len(),
+            interval: graph.interval(),
+            source,
+            to,
+            end,
+        }
+    }
+
+    /// The price of a link into a resource at a time: none where the value comes the same way already, else the toll.
+    fn link(&self, resource: u32, time: u32, driver: u32, toll: u128, shared: bool) -> u128
+        requires known { resource < spec.size self.now }
+        requires toll { toll ≡ tables.toll self.now.table (record { resource = resource; slot = time % self.now.table.interval }) }
+        requires small { toll ≤ 2 ^ 52 }
+        requires shared { shared ≡ list_any (λ (p : Position). eqb p.source self.now.source && eqb p.resource resource && eqb p.time time) self.now.table.positions }
+        ensures link { result ≡ spec.link self.now time resource driver }
+        ensures small { result ≤ 2 ^ 52 }
+    {
+        if shared && self.usage.has_claim(self.source, resource, time, driver) {
+            0
+        } else {
+            toll
+        }
+    }
+
+    /// Offers the drivers of a resource the way on through it, where it is at that time, for that price from there on.
+    fn offer(&self, resource: u32, time: u32, price: u128, layer: &mut [Option<Step>])
+        requires known { resource < spec.size self.now }
+        requires all { length layer.old ≡ spec.size self.now }
+        requires small { price ≤ 2 ^ 127 }
+        ensures offered { spec.IsOffered self.now time resource price layer.old layer.new }
+        ensures below { (high : ℕ) → price + 2 ^ 52 ≤ high → spec.IsBelow high layer.old → spec.IsBelow high layer.new }
+    {
+        let node = MNode {
+            resource,
+            slot: time % self.interval,
+        };
+        let toll = u128::from(self.usage.toll(node));
+        let shared = self.usage.has_value(self.source, resource, time);
+        for link in self.graph.links_into(node) {
+            let driver = link.node.resource;
+            let link = self.link(resource, time, driver, toll, shared);
+            let found = layer[driver as usize];
+            layer[driver as usize] = better(found, link + price, resource);
+        }
+    }
+
+    /// Offers them the way on through it, where there is one and a link into it takes that many cycles.
+    fn pass(
+        &self,
+        delay: u32,
+        resource: u32,
+        time: u32,
+        step: Option<Step>,
+        layer: &mut [Option<Step>],
+    )
+        requires known { resource < spec.size self.now }
+        requires all { length layer.old ≡ spec.size self.now }
+        requires small { (s : spec.Step) → step ≡ Some s → s.price ≤ 2 ^ 127 }
+        ensures passed { spec.delay_into self.now resource ≡ delay → spec.IsPassed self.now time resource step layer.old layer.new }
+        ensures kept { spec.delay_into self.now resource ≢ delay → layer.new ≡ layer.old }
+        ensures below { (high : ℕ) → ((s : spec.Step) → step ≡ Some s → s.price + 2 ^ 52 ≤ high) → spec.IsBelow high layer.old → spec.IsBelow high layer.new }
+    {
+        if let Some(step) = step {
+            if self.graph.delay_into(resource) == delay {
+                self.offer(resource, time, step.price, layer);
+            }
+        }
+    }
+
+    /// A layer without ways.
+    fn none(&self, alloc: Global) -> Result<Vec<Option<Step>>, AllocError>
+        ensures { IfOk result (λ v. v.items ≡ replicate (spec.size self.now) None) }
+    {
+        vec![in alloc; None; self.count]
+    }
+
+    /// Enters the ways on through registers, `k` cycles before the end: they go on in the layer of the cycle after.
+    fn carry(&self, k: u32, later: &[Option<Step>], here: &mut [Option<Step>])
+        requires some { 0 < k }
+        requires near { k ≤ 416 }
+        requires time { k ≤ self.now.end }
+        requires all { length later.now ≡ spec.size self.now }
+        requires within { spec.IsWithin (k * (spec.size self.now + 1)) later.now }
+        requires empty { here.old ≡ replicate (spec.size self.now) None }
+        ensures begun { spec.IsBegun self.now (self.now.end - k) (spec.size self.now) later.now here.new }
+        ensures within { spec.IsWithin (k * (spec.size self.now + 1) + 1) here.new }
+    {
+        for resource in 0..self.count {
+            let step = later[resource];
+            self.pass(1, resource as u32, self.end - k + 1, step, here);
+        }
+    }
+
+    /// Enters the end, where that is the resource in this layer.
+    fn enter(&self, k: u32, resource: u32, here: &mut [Option<Step>])
+        requires { resource < length here.old }
+        ensures { here.new ≡ spec.entered self.now k resource here.old }
+    {
+        if k == 0 && resource == self.to {
+            here[resource as usize] = Some(Step {
+                price: 0,
+                next: resource,
+            });
+        }
+    }
+
+    /// Enters a resource, and offers its drivers the way on through it, where links to it have no delay.
+    fn visit(&self, k: u32, resource: u32, here: &mut [Option<Step>])
+        requires known { resource < spec.size self.now }
+        requires time { k ≤ self.now.end }
+        requires all { length here.old ≡ spec.size self.now }
+        requires small { spec.IsBelow (2 ^ 127) here.old }
+        ensures visited { spec.IsVisited self.now k resource here.old here.new }
+        ensures below { (high : ℕ) → spec.IsBelow high here.old → spec.IsBelow (high + 2 ^ 52) here.new }
+    {
+        self.enter(k, resource, here);
+        let step = here[resource as usize];
+        self.pass(0, resource, self.end - k, step, here);
+    }
+
+    /// Enters the ways on through resources to which links have no delay, those that come later in the order first.
+    fn settle(&self, k: u32, here: &mut [Option<Step>])
+        requires near { k ≤ 416 }
+        requires time { k ≤ self.now.end }
+        requires small { spec.IsWithin (k * (spec.size self.now + 1) + 1) here.old }
+        requires all { length here.old ≡ spec.size self.now }
+        ensures settled { (later : spec.Layer) → spec.IsBegun self.now (self.now.end - k) (spec.size self.now) later here.old → spec.IsLayer self.now k (self.now.end - k) later here.new }
+        ensures within { spec.IsWithin ((k + 1) * (spec.size self.now + 1)) here.new }
+    {
+        for place in 0..self.count {
+            self.visit(k, self.order[self.count - 1 - place], here);
+        }
+    }
+
+    /// Enters the ways on from all resources, `k` cycles before the end.
+    fn fill(&self, k: u32, later: &[Option<Step>], here: &mut [Option<Step>])
+        requires near { k ≤ 416 }
+        requires time { k ≤ self.now.end }
+        requires none { k ≡ 0 → later.now ≡ [] }
+        requires all { 0 < k → length later.now ≡ spec.size self.now }
+        requires within { spec.IsWithin (k * (spec.size self.now + 1)) later.now }
+        requires empty { here.old ≡ replicate (spec.size self.now) None }
+        ensures layer { spec.IsLayer self.now k (self.now.end - k) later.now here.new }
+        ensures within { spec.IsWithin ((k + 1) * (spec.size self.now + 1)) here.new }
+    {
+        if k > 0 {
+            self.carry(k, later, here);
+        }
+        self.settle(k, here);
+    }
+
+    /// The layer of `k` cycles before the end, from that of the cycle after.
+    fn layer(
+        &self,
+        alloc: Global,
+        k: u32,
+        later: &[Option<Step>],
+    ) -> Result<Items<Option<Step>>, AllocError>
+        requires near { k ≤ 416 }
+        requires time { k ≤ self.now.end }
+        requires none { k ≡ 0 → later.now ≡ [] }
+        requires all { 0 < k → length later.now ≡ spec.size self.now }
+        requires within { spec.IsWithin (k * (spec.size self.now + 1)) later.now }
+        ensures layer { IfOk result (λ here. spec.IsLayer self.now k (self.now.end - k) later.now here) }
+        ensures within { IfOk result (λ here. spec.IsWithin ((k + 1) * (spec.size self.now + 1)) here) }
+    {
+        let mut here = self.none(alloc)?;
+        self.fill(k, later, &mut here);
+        Ok(Items::new(here))
+    }
+
+    /// The layers of the last cycles, the end's first.
+    pub(crate) fn layers(
+        &self,
+        alloc: Global,
+        last: u32,
+    ) -> Result<Vec<Items<Option<Step>>>, AllocError>
+        requires near { last ≤ 416 }
+        requires time { last ≤ self.now.end }
+        ensures all { IfOk result (λ v. length v.items ≡ last + 1) }
+        ensures layers { IfOk result (λ v. spec.AreLayers self.now v.items) }
+    {
+        let mut layers: Vec<Items<Option<Step>>> = Vec::new(alloc);
+        for k in 0..last + 1 {
+            let here = self.layer(alloc, k, later(&layers, k))?;
+            layers.push(here)?;
+        }
+        Ok(layers)
+    }
+
+    /// The path of next resources from a resource `last` cycles before the end.
+    pub(crate) fn trace(
+        &self,
+        alloc: Global,
+        layers: &[Items<Option<Step>>],
+        last: u32,
+        from: u32,
+    ) -> Result<Option<Vec<u32>>, AllocError>
+        requires leads { spec.Leads self.now layers.now }
+        requires last { last < length layers.now }
+        requires from { from < spec.size self.now }
+        ensures none { IfOk result (λ found. IfNone found (spec.at (spec.layer_at layers.now last) from ≡ None)) }
+        ensures path { IfOk result (λ found. IfSome found (λ path. (rest : List ℕ) × (path.items ≡ from ∷ rest) × spec.Follows self.now layers.now last from rest)) }
+    {
+        if entry_at(layers, last, from).is_none() {
+            return Ok(None);
+        }
+        let mut path = Vec::new(alloc);
+        path.push(from)?;
+        let mut k = last;
+        let mut q = from;
+        'walk: loop {
+            if q == self.to && k == 0 {
+                return Ok(Some(path));
+            }
+            let Some(step) = entry_at(layers, k, q) else {
+                return Ok(None);
+            };
+            path.push(step.next)?;
+            k -= self.graph.delay_into(step.next);
+            q = step.next;
+        }
+    }
+}
+
+/// The layer of the cycle after that of `k` cycles before the end.
+fn later(layers: &[Items<Option<Step>>], k: u32) -> &[Option<Step>]
+    requires { k ≤ length layers.now }
+    ensures { result.now ≡ spec.later_at layers.now k }
+{
+    if k == 0 {
+        &[]
+    } else {
+        layers[k as usize - 1].as_slice()
+    }
+}
+
+/// The way on from a resource `k` cycles before the end.
+fn entry_at(layers: &[Items<Option<Step>>], k: u32, resource: u32) -> Option<Step>
+    requires { k < length layers.now }
+    ensures { result ≡ spec.at (spec.layer_at layers.now k) resource }
+{
+    match layers[k as usize].as_slice().get(resource as usize) {
+        Some(step) => *step,
+        None => None,
+    }
+}

@@ -1,0 +1,29 @@
+//! Steps of a search.
+ghost use Rattle.std.specs.Prelude.{◌≡◌, Option, Some, None, slice_index_or};
+ghost use Rattle.cg_route.specs.Layers as spec;
+
+/// A way on from a resource to the end of a search.
+#[derive(Clone, Copy)]
+pub(crate) struct Step {
+    /// What it costs.
+    pub price: u128,
+    /// The next resource.
+    pub next: u32,
+}
+
+/// The better of what was found and of going to a resource for that price: the cheaper, and of equal ones that to the
+/// lower number.
+pub(crate) fn better(found: Option<Step>, price: u128, next: u32) -> Option<Step>
+    ensures { result ≡ spec.better found price next }
+{
+    match found {
+        Some(step) => {
+            if price < step.price || (price == step.price && next < step.next) {
+                Some(Step { price, next })
+            } else {
+                Some(step)
+            }
+        }
+        None => Some(Step { price, next }),
+    }
+}
