@@ -8,6 +8,7 @@ ghost use Rattle.cg_mrrg.specs.Users.{AreUsers, users_of};
 
 use crate::links::{Link, MNode, link_from, link_to};
 use crate::lists::LinkLists;
+use crate::registers::registers;
 use crate::users::users;
 use cg_arch::{Arch, Kind};
 use cg_model::Items;
@@ -23,17 +24,20 @@ pub struct Mrrg<'a> {
     interval: u32,
     into: LinkLists,
     out: LinkLists,
+    registers: Vec<Items<u32>>,
 }
 
 impl<'a> Model for Mrrg<'a> {
     ghost use Rattle.cg_mrrg.specs.Graph.{Graph};
+    ghost use Rattle.std.specs.Prelude.{length};
     ghost use Rattle.cg_mrrg.specs.Nodes.{IsKept};
+    ghost use Rattle.cg_mrrg.specs.Users.{AreRegisters};
 
     ghost Value = { Graph };
 
     ghost view = { λ g. record { arch = g.arch.now; interval = g.interval } };
 
-    ghost invariant = { λ g. IsKept g.arch.now g.interval g.into.links.items g.into.starts.items g.out.links.items g.out.starts.items };
+    ghost invariant = { λ g. IsKept g.arch.now g.interval g.into.links.items g.into.starts.items g.out.links.items g.out.starts.items × AreRegisters g.arch.now (length g.arch.now.resources) g.registers.items };
 }
 
 impl<'a> Mrrg<'a> {
@@ -53,6 +57,7 @@ impl<'a> Mrrg<'a> {
             interval,
             into: links_into(alloc, arch, interval)?,
             out: links_out(alloc, arch, interval)?,
+            registers: registers(alloc, arch)?,
         })
     }
 
@@ -110,6 +115,14 @@ impl<'a> Mrrg<'a> {
         self.out.get(self.place(node))
     }
 
+    /// The registers that a resource drives, ascending: where its links of one cycle lead, in each slot.
+    pub fn registers_after(&self, resource: u32) -> &[u32]
+        requires { resource < length self.now.arch.resources }
+        ensures { result.now ≡ spec.registers_after self.now.arch resource }
+    {
+        self.registers[resource as usize].as_slice()
+    }
+
     /// The number of a node: nodes are ordered by resource, then slot.
     fn place(&self, node: MNode) -> usize
         ensures { result ≡ node.resource * self.now.interval + node.slot }
@@ -119,7 +132,7 @@ impl<'a> Mrrg<'a> {
 }
 
 /// The cycles that a link into a resource takes.
-fn delay_of(arch: &Arch, resource: u32) -> u32
+pub(crate) fn delay_of(arch: &Arch, resource: u32) -> u32
     requires { resource < length arch.now.resources }
     ensures value { result ≡ delay arch.now resource }
     ensures small { result ≤ 1 }

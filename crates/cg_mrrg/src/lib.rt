@@ -4,6 +4,7 @@
 mod graph;
 mod links;
 mod lists;
+mod registers;
 mod users;
 
 pub use cg_arch::Arch;

@@ -12,5 +12,5 @@ returns c =
     let place : c.place.result ≡ n.resource * g.interval + n.slot = c.place.ensures ∙ ap (λ (z : Graph). n.resource * z.interval + n.slot) (sym c.self.view_is) in
     c.get.ensures
     ∙ ap (λ z. slice_range g.into.links.items (slice_index g.into.starts.items z) (slice_index g.into.starts.items (z + 1))) place
-    ∙ into_lent g.arch.now g.interval n.resource n.slot g.into.links.items g.into.starts.items c.self.invariant.into_parts node.resource node.slot
+    ∙ into_lent g.arch.now g.interval n.resource n.slot g.into.links.items g.into.starts.items c.self.invariant.0.into_parts node.resource node.slot
     ∙ ap (λ (z : Graph). links_into z n) c.self.view_is

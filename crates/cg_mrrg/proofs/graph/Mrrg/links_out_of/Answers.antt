@@ -12,5 +12,5 @@ returns c =
     let place : c.place.result ≡ n.resource * g.interval + n.slot = c.place.ensures ∙ ap (λ (z : Graph). n.resource * z.interval + n.slot) (sym c.self.view_is) in
     c.get.ensures
     ∙ ap (λ z. slice_range g.out.links.items (slice_index g.out.starts.items z) (slice_index g.out.starts.items (z + 1))) place
-    ∙ out_lent g.arch.now g.interval n.resource n.slot g.out.links.items g.out.starts.items c.self.invariant.out_parts node.resource node.slot
+    ∙ out_lent g.arch.now g.interval n.resource n.slot g.out.links.items g.out.starts.items c.self.invariant.0.out_parts node.resource node.slot
     ∙ ap (λ (z : Graph). links_out_of z n) c.self.view_is
