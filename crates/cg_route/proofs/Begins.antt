@@ -1,5 +1,5 @@
 -- The ways on through registers, one more at a time.
-use Rattle.std.proofs.Common.{◌≡◌, ◌≢◌, ℕ, zero, suc, ◌+◌, ◌<◌, ◌≤◌, eqb, Bool, true, false, List, [], ◌∷◌, length, length-set, get_or, set, Option, Some, None, refl, sym, ap, ◌∙◌, subst, arith, ⊎_elim, inl, inr, eqb-true}
+use Rattle.std.proofs.Common.{◌≡◌, ℕ, zero, suc, ◌+◌, ◌<◌, ◌≤◌, eqb, Bool, true, false, List, [], ◌∷◌, length, length-set, get_or, set, Some, None, refl, sym, ap, ◌∙◌, subst, arith, ⊎_elim, inl, inr, eqb-true}
 use Rattle.std.specs.Prelude.{◌⊎◌, ◌||◌, ◌&&◌, Contains, replicate}
 use Rattle.std.specs.List.{list_any}
 use Rattle.std.proofs.lemmas.Bool.{cases_lt, cases_eq, cases_Bool, eq-eqb, ne_eqb, false≢true}
@@ -8,8 +8,7 @@ use Rattle.std.proofs.lemmas.Map.Views.{Contains-from_any}
 use Rattle.cg_model.specs.Array.{delay_by}
 use Rattle.cg_model.specs.declared.array.Kind.{Kind}
 use Rattle.cg_model.specs.declared.array.Kind.TheVariants.{Wire, Register, Port, Out}
-use Rattle.cg_route.specs.Layers.{Step, Sought, Layer, size, at, onward, drivers, Drives, delay_into, link, cost, better, IsBest, IsPassed, IsBegun, IsBelow, entered}
-use Rattle.cg_route.proofs.Best.{best_same, best_skip, best_more}
+use Rattle.cg_route.specs.Layers.{Step, Sought, Layer, size, at, onward, Drives, delay_into, link, cost, IsBest, IsBegun, IsBelow, entered}
 
 -- a link takes one cycle, or none
 kind_delay : (k : Kind) → (delay_by k ≡ 0) ⊎ (delay_by k ≡ 1)
@@ -47,16 +46,6 @@ no_driver ds q f m = false≢true (sym f ∙ any_at ds m.0 q q m.1 m.2)
 pub cost_now : (S : Sought) (q t s r : ℕ) → t + delay_into S r ≡ s → cost S q t r ≡ link S s r q
 cost_now S q t s r e = ap (λ z. link S z r q) e
 
--- nothing was looked at
-pub begun_none : (S : Sought) (t : ℕ) (later here : Layer) → here ≡ replicate (size S) None → IsBegun S t 0 later here
-begun_none S t later here is =
-    record {
-      all = ap (λ (l : Layer). length l) is ∙ length-replicate (size S) None;
-      each = λ q l.
-          subst (λ e. IsBest (λ x. Drives S q x × (delay_into S x ≡ 1) × (x < 0)) (at later) (cost S q t) e)
-          (sym (ap (λ h. at h q) is ∙ get_or-replicate (size S) q None None l)) (λ x u. absurd (omega (arith, u.2)));
-    }
-
 -- at the end there is no later layer
 pub begun_end : (S : Sought) (t : ℕ) (here : Layer) → here ≡ replicate (size S) None → IsBegun S t (size S) [] here
 begun_end S t here is =
@@ -64,7 +53,7 @@ begun_end S t here is =
       all = ap (λ (l : Layer). length l) is ∙ length-replicate (size S) None;
       each = λ q l.
           subst (λ e. IsBest (λ x. Drives S q x × (delay_into S x ≡ 1) × (x < size S)) (at []) (cost S q t) e)
-          (sym (ap (λ h. at h q) is ∙ get_or-replicate (size S) q None None l)) (λ x u. refl);
+          (sym (ap (λ h. at h q) is ∙ get_or-replicate (size S) q None None l.0)) (λ x u. refl);
     }
 
 pub none_below : (S : Sought) (high : ℕ) (here : Layer) → here ≡ replicate (size S) None → IsBelow high here
@@ -75,48 +64,6 @@ none_below S high here is q s e =
     let long = ap (λ (l : Layer). length l) is ∙ length-replicate (size S) None in
     let z : at here q ≡ None = get_or_past here q None (omega arith) in absurd (cc))
     (cases_lt q (size S))
-
-module _ (S : Sought) (t i : ℕ) (later old : Layer) (h : IsBegun S t i later old) where
-  abbrev Before : ℕ → ℕ → Type 0
-  Before q x = Drives S q x × (delay_into S x ≡ 1) × (x < i)
-
-  abbrev After : ℕ → ℕ → Type 0
-  After q x = Drives S q x × (delay_into S x ≡ 1) × (x < i + 1)
-
-  to : (q x : ℕ) → Before q x → After q x
-  to q x b = (b.0, b.1, omega (arith, b.2))
-
-  from : (q x : ℕ) → After q x → Before q x ⊎ (i ≡ x)
-  from q x a = ⊎_elim (λ l. inl (a.0, a.1, l)) (λ (l : i ≤ x). inr (omega (arith, a.2))) (cases_lt x i)
-
-  -- resource i is no register, or doesn't take the word of q
-  same_as : (q : ℕ) → q < size S → ((Drives S q i × (delay_into S i ≡ 1)) → ⊥) → IsBest (After q) (at later) (cost S q t) (at old q)
-  same_as q l never =
-      best_same (Before q) (After q) (at later) (at later) (cost S q t) (at old q) (to q)
-      (λ x a. ⊎_elim (λ b. b) (λ (e : i ≡ x). absurd (never (subst (λ y. Drives S q y) (sym e) a.0, subst (λ y. delay_into S y ≡ 1) (sym e) a.1))) (from q x a))
-      (λ x a. refl) (h.each q l)
-
-  pub begun_past : delay_into S i ≢ 1 → IsBegun S t (i + 1) later old
-  begun_past ne = record { all = h.all; each = λ q l. same_as q l (λ a. ne a.1) }
-
-  pub begun_more : (new : Layer) (s : ℕ) (e : Option Step) → e ≡ at later i → t + 1 ≡ s → delay_into S i ≡ 1 → IsPassed S s i e old new → IsBegun S t (i + 1) later new
-  begun_more new s None is time one p =
-      subst (λ l. IsBegun S t (i + 1) later l) (sym p)
-      (record { all = h.all; each = λ q l. best_skip (Before q) (After q) (at later) (cost S q t) i (to q) (from q) (at old q) (sym is) (h.each q l) })
-  begun_more new s (Some o) is time one p =
-      record {
-        all = p.all ∙ h.all;
-        each = λ q l.
-            ⊎_elim
-            (λ (a : list_any (eqb q) (drivers S i) ≡ true).
-            let price : cost S q t i ≡ link S s i q = cost_now S q t s i (ap (λ d. t + d) one ∙ time) in
-            let now : at new q ≡ better (at old q) (cost S q t i + o.price) i = p.drivers q a ∙ ap (λ c. better (at old q) (c + o.price) i) (sym price) in
-            subst (λ e. IsBest (After q) (at later) (cost S q t) e) (sym now)
-            (best_more (Before q) (After q) (at later) (cost S q t) i (to q) (from q) o (is_driver (drivers S i) q a, one, omega arith) (sym is) (at old q) (h.each q l)))
-            (λ (a : list_any (eqb q) (drivers S i) ≡ false).
-            subst (λ e. IsBest (After q) (at later) (cost S q t) e) (sym (p.others q a)) (same_as q l (λ b. no_driver (drivers S i) q a b.0)))
-            (cases_Bool (list_any (eqb q) (drivers S i)));
-      }
 
 -- entering the end makes nothing dearer
 pub entered_below : (S : Sought) (k r high : ℕ) (old : Layer) → r < length old → IsBelow high old → IsBelow high (entered S k r old)

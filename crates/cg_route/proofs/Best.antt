@@ -17,6 +17,18 @@ best_same U V rest other price (Some s) to from same h =
       least = λ x o v e. h.least x o (from x v) (same x v ∙ e);
     }
 
+-- and where the prices are the same
+pub best_price : (U : ℕ → Type 0) (rest : ℕ → Option Step) (price other : ℕ → ℕ) (e : Option Step) → ((x : ℕ) → U x → price x ≡ other x) → IsBest U rest price e → IsBest U rest other e
+best_price U rest price other None same h = h
+best_price U rest price other (Some s) same h =
+    record {
+      next = h.next;
+      after = h.after;
+      goes_on = h.goes_on;
+      is = h.is ∙ ap (λ p. p + h.after.price) (same s.next h.next);
+      least = λ x o u e. let z = same x u in ⊎_elim (λ a. inl (omega (arith, a, z))) (λ a. inr (omega (arith, a.0, z), a.1)) (h.least x o u e);
+    }
+
 -- whichever is taken of what was found and of a new way
 better_new : (s : Step) (p r : ℕ) → (p < s.price) ⊎ ((p ≡ s.price) × (r < s.next)) → better (Some s) p r ≡ Some (record { price = p; next = r })
 better_new s p r (inl a) = rw (lt-ltb p s.price a) refl

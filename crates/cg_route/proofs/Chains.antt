@@ -7,8 +7,8 @@ use Rattle.cg_model.specs.Mapping.{Goes}
 use Rattle.cg_claims.specs.Table.{Table}
 use Rattle.cg_route.specs.Prices.{price, price_after}
 use Rattle.cg_route.specs.Least.{Ends, IsTimedPath, IsNotAfter, IsAtMost, IsLeastPath}
-use Rattle.cg_route.specs.Layers.{Step, Sought, Layer, size, at, layer_at, later_at, onward, Drives, delay_into, cost, AreLayers, IsChoice, IsBest, Follows}
-use Rattle.cg_route.proofs.Ranks.{driven}
+use Rattle.cg_route.specs.Layers.{Step, Sought, Layer, at, layer_at, later_at, onward, Drives, IsOpen, delay_into, cost, AreLayers, IsChoice, IsBest, Follows}
+use Rattle.cg_route.proofs.Ranks.{opened}
 use Rattle.cg_route.proofs.Begins.{one_or_none, onward_now, onward_later}
 
 pub goes_up : (S : Sought) (path : List ℕ) (q t r s : ℕ) → Goes S.table.arch q t path r s → t ≤ s
@@ -28,25 +28,25 @@ module _ (S : Sought) (layers : List Layer) (h : AreLayers S layers) where
       before zero m = absurd (omega arith)
       before (suc k) m = ap (λ j. at (layer_at layers j) x) (omega arith)
 
-  pub chosen : (k t q : ℕ) (s : Step) → q < size S → k < length layers → k + t ≡ S.end → ((q ≡ S.to) × (k ≡ 0) → ⊥) → at (layer_at layers k) q ≡ Some s →
+  pub chosen : (k t q : ℕ) (s : Step) → IsOpen S q → k < length layers → k + t ≡ S.end → ((q ≡ S.to) × (k ≡ 0) → ⊥) → at (layer_at layers k) q ≡ Some s →
       IsChoice (Drives S q) (onward S (layer_at layers k) (later_at layers k)) (cost S q t) s
   chosen k t q s a b e further is =
       subst (λ o. IsBest (Drives S q) (onward S (layer_at layers k) (later_at layers k)) (cost S q t) o) is (((h.each k t b e).entries q a).before further)
 
-  stuck : (k t q x : ℕ) → q < size S → k < length layers → k + t ≡ S.end → ((q ≡ S.to) × (k ≡ 0) → ⊥) → at (layer_at layers k) q ≡ None →
+  stuck : (k t q x : ℕ) → IsOpen S q → k < length layers → k + t ≡ S.end → ((q ≡ S.to) × (k ≡ 0) → ⊥) → at (layer_at layers k) q ≡ None →
       Drives S q x → onward S (layer_at layers k) (later_at layers k) x ≡ None
   stuck k t q x a b e further is m =
       (subst (λ o. IsBest (Drives S q) (onward S (layer_at layers k) (later_at layers k)) (cost S q t) o) is (((h.each k t b e).entries q a).before further)) x m
 
   -- the chain from an entry
-  pub follows_goes : (path : List ℕ) (q t k : ℕ) → q < size S → k < length layers → k + t ≡ S.end → Follows S layers k q path → Goes S.table.arch q t path S.to S.end
+  pub follows_goes : (path : List ℕ) (q t k : ℕ) → IsOpen S q → k < length layers → k + t ≡ S.end → Follows S layers k q path → Goes S.table.arch q t path S.to S.end
   follows_goes [] q t k a b e f = (f.0, omega (arith, f.1))
   follows_goes (x ∷ path) q t k a b e f =
       let c = chosen k t q f.2 a b e f.0 f.3 in
       let m : Drives S q x = subst (λ y. Drives S q y) f.4 c.next in
-      (m, follows_goes path x (t + delay_into S x) (k - delay_into S x) (driven S q x m) (omega arith) (omega (arith, f.1)) f.5)
+      (m, follows_goes path x (t + delay_into S x) (k - delay_into S x) (opened S q x m) (omega arith) (omega (arith, f.1)) f.5)
 
-  pub follows_price : (path : List ℕ) (q t k : ℕ) (s : Step) → q < size S → k < length layers → k + t ≡ S.end → Follows S layers k q path →
+  pub follows_price : (path : List ℕ) (q t k : ℕ) (s : Step) → IsOpen S q → k < length layers → k + t ≡ S.end → Follows S layers k q path →
       at (layer_at layers k) q ≡ Some s → s.price ≡ price_after S.table S.source q t path
   follows_price [] q t k s a b e f is =
       let z : Some (record { price = 0; next = S.to }) ≡ Some s = sym (((h.each k t b e).entries q a).at_end f.0 f.1) ∙ is in
@@ -60,7 +60,7 @@ module _ (S : Sought) (layers : List Layer) (h : AreLayers S layers) where
       let on : at (layer_at layers (k - delay_into S x)) x ≡ Some c.after =
       sym (onward_is x k f.1) ∙ subst (λ y. onward S (layer_at layers k) (later_at layers k) y ≡ Some c.after) next c.goes_on in
       let rest : c.after.price ≡ price_after S.table S.source x (t + delay_into S x) path =
-      follows_price path x (t + delay_into S x) (k - delay_into S x) c.after (driven S q x m) (omega arith) (omega (arith, f.1)) f.5 on in
+      follows_price path x (t + delay_into S x) (k - delay_into S x) c.after (opened S q x m) (omega arith) (omega (arith, f.1)) f.5 on in
       c.is ∙ ap (λ y. cost S q t y + c.after.price) next ∙ ap (λ p. cost S q t x + p) rest
 
   -- an entry is at most any path from there
@@ -69,7 +69,7 @@ module _ (S : Sought) (layers : List Layer) (h : AreLayers S layers) where
       (s : Step) × (at (layer_at layers k) q ≡ Some s) × (s.price ≤ price_after S.table S.source q t other) ×
       ((mine : List ℕ) → Follows S layers k q mine → s.price ≡ price_after S.table S.source q t other → IsNotAfter mine other)
 
-  beats_end : (q t k : ℕ) (other : List ℕ) → q < size S → k < length layers → k + t ≡ S.end → q ≡ S.to → k ≡ 0 → Beats q t k other
+  beats_end : (q t k : ℕ) (other : List ℕ) → IsOpen S q → k < length layers → k + t ≡ S.end → q ≡ S.to → k ≡ 0 → Beats q t k other
   beats_end q t k other a b e at_to last = (
     record { price = 0; next = S.to },
     ((h.each k t b e).entries q a).at_end at_to last,
@@ -80,7 +80,7 @@ module _ (S : Sought) (layers : List Layer) (h : AreLayers S layers) where
     ],
   )
 
-  beats_on : (q t k x : ℕ) (other : List ℕ) → q < size S → k < length layers → k + t ≡ S.end → ((q ≡ S.to) × (k ≡ 0) → ⊥) → delay_into S x ≤ k →
+  beats_on : (q t k x : ℕ) (other : List ℕ) → IsOpen S q → k < length layers → k + t ≡ S.end → ((q ≡ S.to) × (k ≡ 0) → ⊥) → delay_into S x ≤ k →
       Drives S q x → Beats x (t + delay_into S x) (k - delay_into S x) other → (o : Option Step) → at (layer_at layers k) q ≡ o → Beats q t k (x ∷ other)
   beats_on q t k x other a b e further l m (s', is', le', after') None is =
       let z = stuck k t q x a b e further is m in
@@ -111,18 +111,18 @@ module _ (S : Sought) (layers : List Layer) (h : AreLayers S layers) where
   is_end : (q k : ℕ) → ((q ≡ S.to) × (k ≡ 0)) ⊎ ((q ≡ S.to) × (k ≡ 0) → ⊥)
   is_end q k = ⊎_elim (λ a. ⊎_elim (λ b. inl (a, b)) (λ b. inr (λ c. b c.1)) (cases_eq k 0)) (λ a. inr (λ c. a c.0)) (cases_eq q S.to)
 
-  pub beats : (other : List ℕ) (q t k : ℕ) → q < size S → k < length layers → k + t ≡ S.end → Goes S.table.arch q t other S.to S.end → Beats q t k other
+  pub beats : (other : List ℕ) (q t k : ℕ) → IsOpen S q → k < length layers → k + t ≡ S.end → Goes S.table.arch q t other S.to S.end → Beats q t k other
   beats [] q t k a b e p = beats_end q t k [] a b e p.0 (omega (arith, p.1))
   beats (x ∷ other) q t k a b e p =
       let up = goes_up S other x (t + delay_into S x) S.to S.end p.1 in
       ⊎_elim (λ w. beats_end q t k (x ∷ other) a b e w.0 w.1)
       (λ w.
       beats_on q t k x other a b e w (omega arith) p.0
-      (beats other x (t + delay_into S x) (k - delay_into S x) (driven S q x p.0) (omega arith) (omega arith) p.1) (at (layer_at layers k) q) refl)
+      (beats other x (t + delay_into S x) (k - delay_into S x) (opened S q x p.0) (omega arith) (omega arith) p.1) (at (layer_at layers k) q) refl)
       (is_end q k)
 
   -- no path from an entry is better than its chain
-  at_most : (path : List ℕ) (q t k : ℕ) → q < size S → k < length layers → k + t ≡ S.end → Follows S layers k q path →
+  at_most : (path : List ℕ) (q t k : ℕ) → IsOpen S q → k < length layers → k + t ≡ S.end → Follows S layers k q path →
       (other : List ℕ) → Goes S.table.arch q t other S.to S.end → IsAtMost (price_after S.table S.source q t path) (q ∷ path) (price_after S.table S.source q t other) (q ∷ other)
   at_most path q t k a b e f other p =
       let w = beats other q t k a b e p in
@@ -133,7 +133,7 @@ module _ (S : Sought) (layers : List Layer) (h : AreLayers S layers) where
   abbrev ends : ℕ → ℕ → Ends
   ends from start = record { from = from; start = start; to = S.to; end = S.end }
 
-  pub is_least : (from start k : ℕ) (path : List ℕ) → from < size S → k < length layers → k + start ≡ S.end → Follows S layers k from path →
+  pub is_least : (from start k : ℕ) (path : List ℕ) → IsOpen S from → k < length layers → k + start ≡ S.end → Follows S layers k from path →
       IsLeastPath S.table S.source (record { from = from; start = start; to = S.to; end = S.end }) (from ∷ path)
   is_least from start k path a b e f =
       record {
@@ -144,7 +144,7 @@ module _ (S : Sought) (layers : List Layer) (h : AreLayers S layers) where
         ];
       }
 
-  pub is_none : (from start k : ℕ) → from < size S → k < length layers → k + start ≡ S.end → at (layer_at layers k) from ≡ None →
+  pub is_none : (from start k : ℕ) → IsOpen S from → k < length layers → k + start ≡ S.end → at (layer_at layers k) from ≡ None →
       (other : List ℕ) → IsTimedPath S.table.arch (record { from = from; start = start; to = S.to; end = S.end }) other → ⊥
   is_none from start k a b e is [] p = p
   is_none from start k a b e is (x ∷ rest) p =

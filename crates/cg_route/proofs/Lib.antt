@@ -6,3 +6,4 @@ pub mod Settles
 pub mod Chains
 pub mod Grows
 pub mod Cases
+pub mod Carries

@@ -95,7 +95,7 @@ one_of true n o s e = inl (cc)
 one_of false n o s e = inr (cc)
 
 -- a better way costs no more
-better_below : (high : ℕ) (e : Option Step) (price r : ℕ) → price ≤ high → ((s : Step) → e ≡ Some s → s.price ≤ high) → (s : Step) → better e price r ≡ Some s → s.price ≤ high
+pub better_below : (high : ℕ) (e : Option Step) (price r : ℕ) → price ≤ high → ((s : Step) → e ≡ Some s → s.price ≤ high) → (s : Step) → better e price r ≡ Some s → s.price ≤ high
 better_below high None price r le h s is = let z : record { price = price; next = r } ≡ s = cc in omega (arith, ap (λ (y : Step). y.price) z)
 better_below high (Some o) price r le h s is =
     ⊎_elim (λ e. omega (arith, le, ap (λ (y : Step). y.price) e)) (λ e. h s (ap Some e))

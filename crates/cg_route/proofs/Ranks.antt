@@ -1,6 +1,6 @@
 -- Where each resource stands in the order: each at one place, and before those that it drives without
 -- delay.
-use Rattle.std.proofs.Common.{◌≡◌, ℕ, zero, suc, ◌<◌, ◌≤◌, eqb, nat_lt, List, [], ◌∷◌, length, get_or, take, if◌then◌else◌, refl, sym, ap, ◌∙◌, subst, arith, ⊎_elim, eqb-true}
+use Rattle.std.proofs.Common.{◌≡◌, ℕ, zero, suc, ◌<◌, ◌≤◌, eqb, nat_lt, List, [], ◌∷◌, length, get_or, take, if◌then◌else◌, refl, sym, ap, ◌∙◌, subst, arith, ⊎_elim, inr, eqb-true}
 use Rattle.std.specs.Prelude.{Contains, map, slice_index}
 use Rattle.std.specs.List.{range_with_len}
 use Rattle.std.proofs.lemmas.Bool.{cases_lt, cases_eq, eq-eqb, ne_eqb, lt-ltb, le-ltb, cases_Bool}
@@ -12,7 +12,7 @@ use Rattle.std.proofs.lemmas.Map.Views.{Contains-from_any}
 use Rattle.cg_model.specs.declared.array.Resource.{Resource}
 use Rattle.cg_model.specs.declared.array.Kind.TheVariants.{Wire}
 use Rattle.cg_level.specs.Topological.{Passes}
-use Rattle.cg_route.specs.Layers.{Sought, IsSearch, size, rank, place_of, Drives, drivers, delay_into}
+use Rattle.cg_route.specs.Layers.{Sought, IsSearch, size, rank, place_of, Drives, IsOpen, drivers, delay_into}
 
 -- numbers below n of which no two are equal are at most n
 pigeons : (n : ℕ) (xs : List ℕ) → ((i : ℕ) → i < length xs → slice_index xs i < n) → ((i j : ℕ) → i < j → j < length xs → slice_index xs i ≡ slice_index xs j → ⊥) → length xs ≤ n
@@ -55,6 +55,10 @@ driven S q r m =
     let w : m.0 < 0 = subst (λ (l : List ℕ). m.0 < length l) e m.1 in
     absurd (omega arith))
     (cases_lt r (size S))
+
+-- and a path may meet it
+pub opened : (S : Sought) (q r : ℕ) → Drives S q r → IsOpen S r
+opened S q r m = (driven S q r m, inr (let l = m.1 in omega arith))
 
 -- each resource has one place
 pub record IsRanked (S : Sought) : Type 0 where

@@ -5,7 +5,7 @@ use Rattle.std.specs.Prelude.{◌⊎◌, ◌&&◌}
 use Rattle.std.specs.List.{list_any}
 use Rattle.std.proofs.lemmas.Bool.{cases_lt, cases_eq, cases_Bool, eq-eqb, and_parts}
 use Rattle.std.proofs.lemmas.List.{get_or-set_same, get_or-set_other}
-use Rattle.cg_route.specs.Layers.{Step, Sought, Layer, size, rank, at, onward, drivers, Drives, delay_into, link, cost, better, entered, IsBest, IsEntry, IsLayer, IsOffered, IsPassed, IsVisited, IsBegun, IsSettled}
+use Rattle.cg_route.specs.Layers.{Step, Sought, Layer, size, rank, at, onward, drivers, Drives, IsOpen, delay_into, link, cost, better, entered, IsBest, IsEntry, IsLayer, IsOffered, IsPassed, IsVisited, IsBegun, IsSettled}
 use Rattle.cg_route.proofs.Ranks.{IsRanked, driven}
 use Rattle.cg_route.proofs.Best.{best_same, best_skip, best_more}
 use Rattle.cg_route.proofs.Begins.{one_or_none, onward_now, onward_later, is_driver, no_driver, cost_now}
@@ -19,7 +19,7 @@ module _ (S : Sought) (ranked : IsRanked S) (k t : ℕ) (later : Layer) where
   settled_start here n is h =
       record {
         all = h.all;
-        entries = λ q l m. let p = (ranked.placed q l).0 in absurd (omega arith);
+        entries = λ q l m. let p = (ranked.placed q l.0).0 in absurd (omega arith);
         others = λ q l m.
             best_same (λ x. Drives S q x × (delay_into S x ≡ 1) × (x < n)) (Open n q) (at later) (onward S here later) (cost S q t) (at here q)
             (λ x u. (u.0, inl u.1))
@@ -80,7 +80,7 @@ module _ (S : Sought) (ranked : IsRanked S) (k t : ℕ) (later : Layer) where
     users : (q x : ℕ) → p ≤ rank S q → Drives S q x → (delay_into S x ≡ 1) ⊎ (p + 1 ≤ rank S x)
     users q x l d = ⊎_elim (λ (a : delay_into S x ≡ 0). let up = ranked.rises q x d a in inr (omega arith)) (λ a. inl a) (one_or_none S x)
 
-    mid_entry : (q : ℕ) → q < size S → p ≤ rank S q → IsEntry S k t q (onward S mid later) (at mid q)
+    mid_entry : (q : ℕ) → IsOpen S q → p ≤ rank S q → IsEntry S k t q (onward S mid later) (at mid q)
     mid_entry q l m =
         ⊎_elim
         (λ (e : q ≡ r).
@@ -90,10 +90,10 @@ module _ (S : Sought) (ranked : IsRanked S) (k t : ℕ) (later : Layer) where
           before = λ never.
               subst (λ o. IsBest (Drives S r) (onward S mid later) (cost S r t) o) (ap (λ l. at l r) (sym (mid_before never)))
               (best_same (Open (p + 1) r) (Drives S r) (onward S old later) (onward S mid later) (cost S r t) (at old r) (λ x u. u.0)
-              (λ x d. (d, users r x (omega arith) d)) (λ x d. on_mid x (users r x (omega arith) d)) (h.others r known (omega arith)));
+              (λ x d. (d, users r x (omega arith) d)) (λ x d. on_mid x (users r x (omega arith) d)) (h.others r (subst (λ y. IsOpen S y) e l) (omega arith)));
         }))
         (λ (ne : q ≢ r).
-        let more : p + 1 ≤ rank S q = ⊎_elim (λ y. y) (λ (y : rank S q < p + 1). absurd (ne (one_place q l (omega arith)))) (⊎_elim (λ y. inr y) (λ y. inl y) (cases_lt (rank S q) (p + 1))) in
+        let more : p + 1 ≤ rank S q = ⊎_elim (λ y. y) (λ (y : rank S q < p + 1). absurd (ne (one_place q l.0 (omega arith)))) (⊎_elim (λ y. inr y) (λ y. inl y) (cases_lt (rank S q) (p + 1))) in
         let e = h.entries q l more in
         subst (λ o. IsEntry S k t q (onward S mid later) o) (sym (mid_other q ne))
         (record {
@@ -102,7 +102,7 @@ module _ (S : Sought) (ranked : IsRanked S) (k t : ℕ) (later : Layer) where
         }))
         (cases_eq q r)
 
-    mid_open : (q : ℕ) → q < size S → rank S q < p → IsBest (Open (p + 1) q) (onward S mid later) (cost S q t) (at mid q)
+    mid_open : (q : ℕ) → IsOpen S q → rank S q < p → IsBest (Open (p + 1) q) (onward S mid later) (cost S q t) (at mid q)
     mid_open q l m =
         let ne : q ≢ r = λ e. let z = ap (λ j. rank S j) e in omega (arith, z, m, place) in
         subst (λ o. IsBest (Open (p + 1) q) (onward S mid later) (cost S q t) o) (sym (mid_other q ne))
@@ -119,7 +119,7 @@ module _ (S : Sought) (ranked : IsRanked S) (k t : ℕ) (later : Layer) where
         v.1
 
     -- r brings q no way on that wasn't seen
-    same_as : (q : ℕ) → q < size S → rank S q < p → (Drives S q r → (delay_into S r ≡ 1)) → IsBest (Open p q) (onward S mid later) (cost S q t) (at mid q)
+    same_as : (q : ℕ) → IsOpen S q → rank S q < p → (Drives S q r → (delay_into S r ≡ 1)) → IsBest (Open p q) (onward S mid later) (cost S q t) (at mid q)
     same_as q l m only =
         best_same (Open (p + 1) q) (Open p q) (onward S mid later) (onward S mid later) (cost S q t) (at mid q) (to q)
         (λ x v. ⊎_elim (λ u. u) (λ (e : r ≡ x). (v.0, inl (subst (λ y. delay_into S y ≡ 1) e (only (subst (λ y. Drives S q y) (sym e) v.0))))) (from q x v))

@@ -1,17 +1,21 @@
 -- How least paths are searched: by layers of time, from the end back.
-use Rattle.std.specs.Prelude.{◌≡◌, ℕ, zero, suc, ◌+◌, ◌-◌, ◌*◌, ◌^◌, ◌<◌, ◌≤◌, ◌⊎◌, ◌&&◌, ◌||◌, true, false, eqb, nat_lt, if◌then◌else◌, List, [], ◌∷◌, length, Contains, Option, Some, None, slice_index_or, slice_set}
-use Rattle.std.specs.List.{list_any}
-use Rattle.cg_model.specs.Array.{IsArch, resource, delay}
+use Rattle.std.specs.Prelude.{◌≡◌, ℕ, zero, suc, ◌+◌, ◌-◌, ◌*◌, ◌%◌, ◌^◌, ◌<◌, ◌≤◌, ◌⊎◌, ◌&&◌, ◌||◌, true, false, eqb, nat_lt, if◌then◌else◌, Bool, List, [], ◌∷◌, length, map, Contains, Option, Some, None, slice_index_or, slice_set}
+use Rattle.std.specs.List.{list_any, range_with_len}
+use Rattle.cg_model.specs.Array.{Arch, IsArch, resource, delay}
 use Rattle.cg_level.specs.Topological.{IsTopological}
-use Rattle.cg_claims.specs.Table.{Table, link_price}
+use Rattle.cg_model.specs.Mapping.{Position}
+use Rattle.cg_claims.specs.Claims.{same}
+use Rattle.cg_claims.specs.Table.{Table, toll, link_price}
 pub use Rattle.cg_route.specs.declared.step.Step.{Step}
+pub use Rattle.cg_route.specs.declared.step.Way.{Way}
 
--- what is sought: the ways of the value of `source` to a resource at a time; and an order of the
+-- what is sought: the ways of the value of `source` from a resource to another at a time; and an order of the
 -- resources in which each stands after those that drive it without delay
 pub record Sought : Type 0 where
   pub table : Table
   pub order : List ℕ
   pub source : ℕ
+  pub from : ℕ
   pub to : ℕ
   pub end : ℕ
 
@@ -46,7 +50,16 @@ drivers S r = (resource S.table.arch r).drivers
 abbrev pub Drives : Sought → ℕ → ℕ → Type 0
 Drives S q r = Contains (drivers S r) q
 
--- a layer has for each resource the least price from there to the end, and the next resource
+-- a path may meet q: it begins there, or another resource drives it
+abbrev pub IsOpen : Sought → ℕ → Type 0
+IsOpen S q = (q < size S) × ((q ≡ S.from) ⊎ (0 < length (drivers S q)))
+
+-- which resources are open
+pub record AreOpen (A : Arch) (from : ℕ) (met : List Bool) : Type 0 where
+  pub each : length met ≡ length A.resources
+  pub right : (q : ℕ) → q < length A.resources → slice_index_or met q false ≡ (nat_lt 0 (length (resource A q).drivers) || eqb q from)
+
+-- a layer has for each open resource the least price from there to the end, and the next resource
 abbrev pub Layer : Type 0
 Layer = List (Option Step)
 
@@ -111,7 +124,7 @@ IsWithin links layer = IsBelow (links * 2 ^ 52) layer
 
 pub record IsLayer (S : Sought) (k t : ℕ) (later here : Layer) : Type 0 where
   pub all : length here ≡ size S
-  pub entries : (q : ℕ) → q < size S → IsEntry S k t q (onward S here later) (at here q)
+  pub entries : (q : ℕ) → IsOpen S q → IsEntry S k t q (onward S here later) (at here q)
 
 -- the layers of the last cycles
 pub record AreLayers (S : Sought) (layers : List Layer) : Type 0 where
@@ -133,6 +146,30 @@ abbrev pub IsPassed : Sought → ℕ → ℕ → Option Step → Layer → Layer
 IsPassed S s r None old new = new ≡ old
 IsPassed S s r (Some o) old new = IsOffered S s r o.price old new
 
+-- the way on through r, where a link ends on it at time s: its price from there on, that with the toll,
+-- and whether the value is there already
+abbrev pub way_of : Sought → ℕ → ℕ → Option Step → Option Way
+way_of S s r None = None
+way_of S s r (Some o) =
+    Some (record {
+      onward = o.price;
+      through = toll S.table (record { resource = r; slot = s % S.table.interval }) + o.price;
+      shared = list_any (λ (p : Position). eqb p.source S.source && eqb p.resource r && eqb p.time s) S.table.positions;
+    })
+
+-- the ways on through all resources
+abbrev pub ways_of : Sought → ℕ → Layer → List (Option Way)
+ways_of S s later = map (λ r. way_of S s r (at later r)) (range_with_len 0 (size S))
+
+-- no toll of theirs is beyond 2 ^ 52
+abbrev pub AreCheap : List (Option Way) → Type 0
+AreCheap ways = (r : ℕ) (w : Way) → slice_index_or ways r None ≡ Some w → w.through ≤ w.onward + 2 ^ 52
+
+-- its price for a driver: the toll is spared where the value comes the same way
+abbrev pub way_price : Sought → ℕ → ℕ → ℕ → Way → ℕ
+way_price S s r q w =
+    if w.shared && list_any (same (record { source = S.source; resource = r; time = s; from = Some q })) S.table.positions then w.onward else w.through
+
 -- the entry of r where it is visited in layer k, of which `old` has what was found before
 abbrev pub entered : Sought → ℕ → ℕ → Layer → Layer
 entered S k r old = if eqb k 0 && eqb r S.to then slice_set old r (Some (record { price = 0; next = r })) else old
@@ -143,18 +180,18 @@ abbrev pub IsVisited : Sought → ℕ → ℕ → Layer → Layer → Type 0
 IsVisited S k r old new =
     (delay_into S r ≡ 0 → IsPassed S (S.end - k) r (at (entered S k r old) r) (entered S k r old) new) × (delay_into S r ≡ 1 → new ≡ entered S k r old)
 
--- at time t each resource has its best way on through the first i resources, where they are registers
+-- at time t each open resource has its best way on through the first i resources, where they are registers
 pub record IsBegun (S : Sought) (t i : ℕ) (later here : Layer) : Type 0 where
   pub all : length here ≡ size S
-  pub each : (q : ℕ) → q < size S →
+  pub each : (q : ℕ) → IsOpen S q →
       IsBest (λ x. Drives S q x × (delay_into S x ≡ 1) × (x < i)) (at later) (cost S q t) (at here q)
 
--- the resources from place p of the order on have their entries; the others have their best way on
+-- the open resources from place p of the order on have their entries; the others have their best way on
 -- through registers and through those
 pub record IsSettled (S : Sought) (k t p : ℕ) (later here : Layer) : Type 0 where
   pub all : length here ≡ size S
-  pub entries : (q : ℕ) → q < size S → p ≤ rank S q → IsEntry S k t q (onward S here later) (at here q)
-  pub others : (q : ℕ) → q < size S → rank S q < p →
+  pub entries : (q : ℕ) → IsOpen S q → p ≤ rank S q → IsEntry S k t q (onward S here later) (at here q)
+  pub others : (q : ℕ) → IsOpen S q → rank S q < p →
       IsBest (λ x. Drives S q x × ((delay_into S x ≡ 1) ⊎ (p ≤ rank S x))) (onward S here later) (cost S q t) (at here q)
 
 -- the path goes from q in layer k to the end, by the next resource of each entry
@@ -166,5 +203,5 @@ Follows S layers k q (x ∷ path) =
 
 -- each entry but the end's goes on to another
 pub record Leads (S : Sought) (layers : List Layer) : Type 0 where
-  pub onward : (k q : ℕ) (s : Step) → k < length layers → q < size S → at (layer_at layers k) q ≡ Some s → ((q ≡ S.to) × (k ≡ 0) → ⊥) →
+  pub onward : (k q : ℕ) (s : Step) → k < length layers → IsOpen S q → at (layer_at layers k) q ≡ Some s → ((q ≡ S.to) × (k ≡ 0) → ⊥) →
       Drives S q s.next × (delay_into S s.next ≤ k) × ((o : Step) × (at (layer_at layers (k - delay_into S s.next)) s.next ≡ Some o))

@@ -32,7 +32,7 @@ pub fn least_path(
     if end < start || end - start > 6 * graph.interval() + 32 {
         return Ok(None);
     }
-    let search = Search::new(graph, usage, source, to, end);
+    let search = Search::new(alloc, graph, usage, source, from, to, end)?;
     let layers = search.layers(alloc, end - start)?;
     search.trace(alloc, &layers, end - start, from)
 }

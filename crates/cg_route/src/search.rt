@@ -1,8 +1,8 @@
 //! The search for a least path.
-ghost use Rattle.std.specs.Prelude.{◌≡◌, ◌≢◌, ◌<◌, ◌≤◌, ◌^◌, ◌*◌, ◌+◌, ℕ, ◌-◌, [], ◌∷◌, List, IfSome, IfNone, replicate, Option, Some, None, length, IfOk};
+ghost use Rattle.std.specs.Prelude.{◌||◌, nat_lt, eqb, ◌≡◌, ◌≢◌, ◌<◌, ◌≤◌, ◌^◌, ◌*◌, ◌+◌, ℕ, ◌-◌, [], ◌∷◌, List, IfSome, IfNone, replicate, Option, Some, None, length, IfOk};
 ghost use Rattle.cg_route.specs.Layers as spec;
 
-use crate::step::{Step, better};
+use crate::step::{Step, Way, better};
 use cg_claims::{MNode, Mrrg, Usage};
 use cg_model::Items;
 use std::alloc::{AllocError, Global};
@@ -16,56 +16,64 @@ pub(crate) struct Search<'s, 'a> {
     order: &'a [u32],
     count: usize,
     interval: u32,
+    met: Vec<bool>,
     source: u32,
+    from: u32,
     to: u32,
     end: u32,
 }
 
 impl<'s, 'a> Model for Search<'s, 'a> {
     ghost use Rattle.std.specs.Prelude.{◌≡◌, length};
-    ghost use Rattle.cg_route.specs.Layers.{Sought, IsSearch};
+    ghost use Rattle.cg_route.specs.Layers.{Sought, IsSearch, AreOpen};
 
     ghost Value = { Sought };
 
-    ghost view = { λ s. record { table = s.usage.now; order = s.order.now; source = s.source; to = s.to; end = s.end } };
+    ghost view = { λ s. record { table = s.usage.now; order = s.order.now; source = s.source; from = s.from; to = s.to; end = s.end } };
 
-    ghost invariant = { λ s. IsSearch (record { table = s.usage.now; order = s.order.now; source = s.source; to = s.to; end = s.end }) × (s.graph.now.arch ≡ s.usage.now.arch) × (s.graph.now.interval ≡ s.usage.now.interval) × (s.count ≡ length s.usage.now.arch.resources) × (s.interval ≡ s.usage.now.interval) };
+    ghost invariant = { λ s. IsSearch (record { table = s.usage.now; order = s.order.now; source = s.source; from = s.from; to = s.to; end = s.end }) × (s.graph.now.arch ≡ s.usage.now.arch) × (s.graph.now.interval ≡ s.usage.now.interval) × (s.count ≡ length s.usage.now.arch.resources) × (s.interval ≡ s.usage.now.interval) × AreOpen s.usage.now.arch s.from s.met.items };
 }
 
 impl<'s, 'a> Search<'s, 'a> {
-    ghost use Rattle.std.specs.Prelude.{◌≡◌, ◌≢◌, ◌<◌, ◌≤◌, ◌^◌, ◌*◌, ◌+◌, ℕ, ◌-◌, [], ◌∷◌, List, IfSome, IfNone, replicate, Option, Some, None, length, IfOk, ◌%◌, ◌&&◌, eqb};
+    ghost use Rattle.std.specs.Prelude.{◌≡◌, ◌≢◌, ◌<◌, ◌≤◌, ◌^◌, ◌*◌, ◌+◌, ℕ, ◌-◌, [], ◌∷◌, List, IfSome, IfNone, replicate, Option, Some, None, length, IfOk, Contains, ◌%◌, ◌&&◌, eqb};
     ghost use Rattle.std.specs.List.{list_any};
     ghost use Rattle.cg_model.specs.Mapping.{Position};
+    ghost use Rattle.cg_mrrg.specs.Graph.{registers_after};
     ghost use Rattle.cg_claims.specs.Table as tables;
     ghost use Rattle.cg_route.specs.Layers as spec;
 
     /// A search in a graph, by the prices of a use table.
     pub(crate) fn new(
+        alloc: Global,
         graph: &'s Mrrg<'a>,
         usage: &'s Usage<'a>,
         source: u32,
+        from: u32,
         to: u32,
         end: u32,
-    ) -> Search<'s, 'a>
+    ) -> Result<Search<'s, 'a>, AllocError>
         requires arch { graph.now.arch ≡ usage.now.arch }
         requires interval { graph.now.interval ≡ usage.now.interval }
         requires to { to < length graph.now.arch.resources }
-        ensures table { result.table ≡ usage.now }
-        ensures source { result.source ≡ source }
-        ensures to { result.to ≡ to }
-        ensures end { result.end ≡ end }
-        ensures search { spec.IsSearch result }
+        ensures table { IfOk result (λ s. s.table ≡ usage.now) }
+        ensures source { IfOk result (λ s. s.source ≡ source) }
+        ensures from { IfOk result (λ s. s.from ≡ from) }
+        ensures to { IfOk result (λ s. s.to ≡ to) }
+        ensures end { IfOk result (λ s. s.end ≡ end) }
+        ensures search { IfOk result spec.IsSearch }
     {
-        Search {
+        Ok(Search {
             graph,
             usage,
             order: graph.order(),
             count: graph.arch().resources().len(),
             interval: graph.interval(),
+            met: met(alloc, graph, from)?,
             source,
+            from,
             to,
             end,
-        }
+        })
     }
 
     /// The price of a link into a resource at a time: none where the value comes the same way already, else the toll.
@@ -136,20 +144,132 @@ impl<'s, 'a> Search<'s, 'a> {
         vec![in alloc; None; self.count]
     }
 
-    /// Enters the ways on through registers, `k` cycles before the end: they go on in the layer of the cycle after.
-    fn carry(&self, k: u32, later: &[Option<Step>], here: &mut [Option<Step>])
-        requires some { 0 < k }
+    /// The way on through a resource, where it is at that time.
+    fn way(&self, resource: u32, time: u32, step: Option<Step>) -> Option<Way>
+        requires known { resource < spec.size self.now }
+        requires small { (s : spec.Step) → step ≡ Some s → s.price ≤ 2 ^ 127 }
+        ensures way { result ≡ spec.way_of self.now time resource step }
+        ensures cheap { (w : spec.Way) → result ≡ Some w → w.through ≤ w.onward + 2 ^ 52 }
+    {
+        let step = step?;
+        let node = MNode {
+            resource,
+            slot: time % self.interval,
+        };
+        Some(Way {
+            onward: step.price,
+            through: u128::from(self.usage.toll(node)) + step.price,
+            shared: self.usage.has_value(self.source, resource, time),
+        })
+    }
+
+    /// The ways on through all resources, which are at that time what the layer says.
+    fn ways(
+        &self,
+        alloc: Global,
+        time: u32,
+        later: &[Option<Step>],
+    ) -> Result<Vec<Option<Way>>, AllocError>
+        requires all { length later.now ≡ spec.size self.now }
+        requires small { spec.IsBelow (2 ^ 127) later.now }
+        ensures ways { IfOk result (λ v. v.items ≡ spec.ways_of self.now time later.now) }
+        ensures cheap { IfOk result (λ v. spec.AreCheap v.items) }
+    {
+        let mut ways = Vec::with_capacity(alloc, self.count)?;
+        for resource in 0..self.count {
+            ways.push(self.way(resource as u32, time, later[resource]))?;
+        }
+        Ok(ways)
+    }
+
+    /// What a way on costs a driver.
+    fn way_price(&self, driver: u32, resource: u32, time: u32, way: Way) -> u128
+        requires known { resource < spec.size self.now }
+        requires cheap { way.through ≤ way.onward + 2 ^ 52 }
+        ensures price { result ≡ spec.way_price self.now time resource driver way }
+        ensures cheap { result ≤ way.onward + 2 ^ 52 }
+    {
+        if way.shared && self.usage.has_claim(self.source, resource, time, driver) {
+            way.onward
+        } else {
+            way.through
+        }
+    }
+
+    /// The best way on through a register, which the value enters at that time.
+    fn best(&self, driver: u32, time: u32, ways: &[Option<Way>]) -> Option<Step>
+        requires known { driver < spec.size self.now }
+        requires all { length ways.now ≡ spec.size self.now }
+        requires cheap { spec.AreCheap ways.now }
+        ensures best { (later : spec.Layer) → ways.now ≡ spec.ways_of self.now time later → spec.IsBest (λ x. Contains (registers_after self.now.table.arch driver) x) (spec.at later) (λ x. spec.link self.now time x driver) result }
+        ensures below { (later : spec.Layer) (high : ℕ) → ways.now ≡ spec.ways_of self.now time later → spec.IsBelow high later → (s : spec.Step) → result ≡ Some s → s.price ≤ high + 2 ^ 52 }
+    {
+        let mut best = None;
+        for register in self.graph.registers_after(driver) {
+            if let Some(way) = ways[*register as usize] {
+                let price = self.way_price(driver, *register, time, way);
+                best = better(best, price, *register);
+            }
+        }
+        best
+    }
+
+    /// The best way on through a register, where a path may meet the resource.
+    fn carried(&self, resource: u32, time: u32, ways: &[Option<Way>]) -> Option<Step>
+        requires known { resource < spec.size self.now }
+        requires all { length ways.now ≡ spec.size self.now }
+        requires cheap { spec.AreCheap ways.now }
+        ensures best { (later : spec.Layer) → ways.now ≡ spec.ways_of self.now time later → spec.IsOpen self.now resource → spec.IsBest (λ x. Contains (registers_after self.now.table.arch resource) x) (spec.at later) (λ x. spec.link self.now time x resource) result }
+        ensures below { (later : spec.Layer) (high : ℕ) → ways.now ≡ spec.ways_of self.now time later → spec.IsBelow high later → (s : spec.Step) → result ≡ Some s → s.price ≤ high + 2 ^ 52 }
+    {
+        if self.met[resource as usize] {
+            self.best(resource, time, ways)
+        } else {
+            None
+        }
+    }
+
+    /// The best ways on of all resources through registers, which the value enters at that time.
+    fn carry(
+        &self,
+        alloc: Global,
+        time: u32,
+        ways: &[Option<Way>],
+    ) -> Result<Vec<Option<Step>>, AllocError>
+        requires some { 0 < time }
+        requires all { length ways.now ≡ spec.size self.now }
+        requires cheap { spec.AreCheap ways.now }
+        ensures begun { IfOk result (λ here. (later : spec.Layer) → ways.now ≡ spec.ways_of self.now time later → spec.IsBegun self.now (time - 1) (spec.size self.now) later here.items) }
+        ensures below { IfOk result (λ here. (later : spec.Layer) (high : ℕ) → ways.now ≡ spec.ways_of self.now time later → spec.IsBelow high later → spec.IsBelow (high + 2 ^ 52) here.items) }
+    {
+        let mut here = Vec::with_capacity(alloc, self.count)?;
+        for resource in 0..self.count {
+            here.push(self.carried(resource as u32, time, ways))?;
+        }
+        Ok(here)
+    }
+
+    /// What is found in a layer before its own links are looked at: nothing at the end, else the ways through registers.
+    fn begun(
+        &self,
+        alloc: Global,
+        k: u32,
+        later: &[Option<Step>],
+    ) -> Result<Vec<Option<Step>>, AllocError>
         requires near { k ≤ 416 }
         requires time { k ≤ self.now.end }
-        requires all { length later.now ≡ spec.size self.now }
+        requires none { k ≡ 0 → later.now ≡ [] }
+        requires all { 0 < k → length later.now ≡ spec.size self.now }
         requires within { spec.IsWithin (k * (spec.size self.now + 1)) later.now }
-        requires empty { here.old ≡ replicate (spec.size self.now) None }
-        ensures begun { spec.IsBegun self.now (self.now.end - k) (spec.size self.now) later.now here.new }
-        ensures within { spec.IsWithin (k * (spec.size self.now + 1) + 1) here.new }
+        ensures begun { IfOk result (λ here. spec.IsBegun self.now (self.now.end - k) (spec.size self.now) later.now here.items) }
+        ensures within { IfOk result (λ here. spec.IsWithin (k * (spec.size self.now + 1) + 1) here.items) }
     {
-        for resource in 0..self.count {
-            let step = later[resource];
-            self.pass(1, resource as u32, self.end - k + 1, step, here);
+        if k == 0 {
+            self.none(alloc)
+        } else {
+            let time = self.end - (k - 1);
+            let ways = self.ways(alloc, time, later)?;
+            self.carry(alloc, time, &ways)
         }
     }
 
@@ -194,23 +314,6 @@ impl<'s, 'a> Search<'s, 'a> {
         }
     }
 
-    /// Enters the ways on from all resources, `k` cycles before the end.
-    fn fill(&self, k: u32, later: &[Option<Step>], here: &mut [Option<Step>])
-        requires near { k ≤ 416 }
-        requires time { k ≤ self.now.end }
-        requires none { k ≡ 0 → later.now ≡ [] }
-        requires all { 0 < k → length later.now ≡ spec.size self.now }
-        requires within { spec.IsWithin (k * (spec.size self.now + 1)) later.now }
-        requires empty { here.old ≡ replicate (spec.size self.now) None }
-        ensures layer { spec.IsLayer self.now k (self.now.end - k) later.now here.new }
-        ensures within { spec.IsWithin ((k + 1) * (spec.size self.now + 1)) here.new }
-    {
-        if k > 0 {
-            self.carry(k, later, here);
-        }
-        self.settle(k, here);
-    }
-
     /// The layer of `k` cycles before the end, from that of the cycle after.
     fn layer(
         &self,
@@ -226,8 +329,8 @@ impl<'s, 'a> Search<'s, 'a> {
         ensures layer { IfOk result (λ here. spec.IsLayer self.now k (self.now.end - k) later.now here) }
         ensures within { IfOk result (λ here. spec.IsWithin ((k + 1) * (spec.size self.now + 1)) here) }
     {
-        let mut here = self.none(alloc)?;
-        self.fill(k, later, &mut here);
+        let mut here = self.begun(alloc, k, later)?;
+        self.settle(k, &mut here);
         Ok(Items::new(here))
     }
 
@@ -260,7 +363,7 @@ impl<'s, 'a> Search<'s, 'a> {
     ) -> Result<Option<Vec<u32>>, AllocError>
         requires leads { spec.Leads self.now layers.now }
         requires last { last < length layers.now }
-        requires from { from < spec.size self.now }
+        requires from { spec.IsOpen self.now from }
         ensures none { IfOk result (λ found. IfNone found (spec.at (spec.layer_at layers.now last) from ≡ None)) }
         ensures path { IfOk result (λ found. IfSome found (λ path. (rest : List ℕ) × (path.items ≡ from ∷ rest) × spec.Follows self.now layers.now last from rest)) }
     {
@@ -306,4 +409,24 @@ fn entry_at(layers: &[Items<Option<Step>>], k: u32, resource: u32) -> Option<Ste
         Some(step) => *step,
         None => None,
     }
+}
+
+/// For each resource whether a path from that one may meet it.
+fn met(alloc: Global, graph: &Mrrg, from: u32) -> Result<Vec<bool>, AllocError>
+    ensures { IfOk result (λ v. spec.AreOpen graph.now.arch from v.items) }
+{
+    let resources = graph.arch().resources();
+    let mut met = Vec::with_capacity(alloc, resources.len())?;
+    for resource in 0..resources.len() {
+        let drivers = resources[resource].drivers.as_slice();
+        met.push(may_meet(drivers, resource as u32, from))?;
+    }
+    Ok(met)
+}
+
+/// Whether a path from one resource may meet another with those drivers.
+fn may_meet(drivers: &[u32], resource: u32, from: u32) -> bool
+    ensures { result ≡ (nat_lt 0 (length drivers.now) || eqb resource from) }
+{
+    !drivers.is_empty() || resource == from
 }

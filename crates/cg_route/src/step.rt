@@ -11,6 +11,17 @@ pub(crate) struct Step {
     pub next: u32,
 }
 
+/// A way on through a resource at a time.
+#[derive(Clone, Copy)]
+pub(crate) struct Way {
+    /// What it costs from the resource on.
+    pub onward: u128,
+    /// And what it costs where the value doesn't come to the resource that way already.
+    pub through: u128,
+    /// Whether the value is on the resource at that time already.
+    pub shared: bool,
+}
+
 /// The better of what was found and of going to a resource for that price: the cheaper, and of equal ones that to the
 /// lower number.
 pub(crate) fn better(found: Option<Step>, price: u128, next: u32) -> Option<Step>

@@ -1,42 +1,48 @@
-use Rattle.std.proofs.Common.{◌≡◌, ◌≢◌, ◌∙◌, ◌+◌, ◌-◌, ◌*◌, ◌^◌, refl, sym, subst, ap, arith, ⊎_elim}
-use Rattle.cg_route.specs.Layers.{Sought, Layer, IsBegun, at, delay_into, size}
-use Rattle.cg_route.proofs.Begins.{begun_none, begun_more, begun_past, none_below, one_or_none}
+use Rattle.std.proofs.Common.{◌≡◌, ◌∙◌, ◌+◌, ◌-◌, ◌^◌, ◌≤◌, ◌<◌, ◌++◌, ◌∷◌, [], Option, length, sym, subst, ap, arith, ⊎_elim}
+use Rattle.std.proofs.lemmas.Bool.{cases_lt}
+use Rattle.std.proofs.lemmas.List.{length_push}
+use Rattle.std.specs.Prelude.{Contains}
+use Rattle.cg_mrrg.specs.Graph.{registers_after}
+use Rattle.cg_route.specs.Layers.{Sought, link, Step, Layer, IsBest, IsBelow, IsOpen, Drives, delay_into, at, cost, size}
+use Rattle.cg_route.proofs.Carries.{through_registers, pushed_below, pushed_at, pushed_before}
 use Rattle.cg_route.proofs.search.Search.carry.Goals as goal
-
-pub loop-resource-init : goal.loop-resource-init
-loop-resource-init c =
-    let S = c.args.self.now in
-    record {
-      begun = begun_none S (S.end - c.args.k) c.args.later.now c.args.here.now c.requires.empty;
-      within = none_below S ((c.args.k * (size S + 1) + 1) * 2 ^ 52) c.args.here.now c.requires.empty;
-    }
 
 pub loop-resource-preserved : goal.loop-resource-preserved
 loop-resource-preserved c =
     let S = c.args.self.now in
-    let k = c.args.k in
-    let n = size S in
+    let s = c.args.time in
+    let t = s - 1 in
     let i = c.loop-resource.resource in
-    let later : Layer = c.args.later.now in
-    let old : Layer = c.loop-resource.here in
-    let new : Layer = c.pass.new.layer in
-    let h = c.loop-resource.invariant.begun in
-    let end : c.self.inside.end ≡ S.end = ap (λ (S : Sought). S.end) c.self.view_is in
+    let old : Layer = c.loop-resource.here.items in
+    let e : Option Step = c.carried.result in
+    let all = c.loop-resource.invariant.all in
+    let some = c.requires.some in
+    let new : c.push.new.self.items ≡ old ++ e ∷ [] = c.in_ok-push.ensures.items in
     record {
-      begun =
+      all = ap (λ (l : Layer). length l) new ∙ length_push old e ∙ ap (λ n. n + 1) all;
+      each = λ later w q o l.
           ⊎_elim
-          (λ (a : delay_into S i ≡ 0).
-          let ne : delay_into S i ≢ 1 = λ z. omega (arith, a, z) in
-          subst (λ l. IsBegun S (S.end - k) (i + 1) later l) (sym (c.pass.ensures.kept ne)) (begun_past S (S.end - k) i later old h ne))
-          (λ (a : delay_into S i ≡ 1). begun_more S (S.end - k) i later old h new (c.self.inside.end - k + 1) (at later i) refl (omega (arith, end)) a (c.pass.ensures.passed a))
-          (one_or_none S i);
-      within = c.pass.ensures.below ((k * (n + 1) + 1) * 2 ^ 52) (λ s e. let z = c.requires.within i s e in omega arith) c.loop-resource.invariant.within;
+          (λ (a : q < i).
+          subst (λ x. IsBest (λ x. Drives S q x × (delay_into S x ≡ 1) × (x < size S)) (at later) (cost S q t) x)
+          (sym (ap (λ l. at l q) new ∙ pushed_before old e q (omega (arith, a, all))))
+          (c.loop-resource.invariant.each later w q o a))
+          (λ (a : i ≤ q).
+          let same : i ≡ q = omega (arith, a, l) in
+          subst (λ x. IsBest (λ x. Drives S q x × (delay_into S x ≡ 1) × (x < size S)) (at later) (cost S q t) x)
+          (sym (ap (λ l. at l q) new ∙ pushed_at old e q (omega (arith, same, all))))
+          (through_registers S t s q later e (omega (arith, some))
+          (subst (λ y. IsBest (λ x. Contains (registers_after S.table.arch y) x) (at later) (λ x. link S s x y) e) same (c.carried.ensures.best later w (subst (λ y. IsOpen S y) (sym same) o)))))
+          (cases_lt q i);
+      below = λ later high w h. subst (λ l. IsBelow (high + 2 ^ 52) l) (sym new) (pushed_below (high + 2 ^ 52) old e (c.loop-resource.invariant.below later high w h) (c.carried.ensures.below later high w h));
     }
 
 pub returns-clause-begun : goal.returns-clause-begun
-returns-clause-begun c =
+returns-clause-begun c = λ later w.
     let S = c.args.self.now in
     let count : c.self.inside.count ≡ size S = c.self.invariant.3 ∙ ap (λ (S : Sought). size S) c.self.view_is in
     let over = c.loop-resource-test.false in
     let most = c.loop-resource.auto.resource-end in
-    subst (λ i. IsBegun S (S.end - c.args.k) i c.args.later.now c.loop-resource.here) (omega (arith, count, over, most)) c.loop-resource.invariant.begun
+    record {
+      all = c.loop-resource.invariant.all ∙ omega (arith, count, over, most);
+      each = λ q o. c.loop-resource.invariant.each later w q o (let l = o.0 in omega (arith, count, over));
+    }

@@ -1,0 +1,140 @@
+-- The ways on through registers.
+use Rattle.std.proofs.Common.{◌≡◌, ℕ, ◌+◌, ◌%◌, ◌^◌, ◌<◌, ◌≤◌, eqb, nat_lt, Bool, true, false, List, [], ◌∷◌, ◌++◌, length, get_or, take, Option, Some, None, refl, sym, ap, ◌∙◌, subst, arith, ⊎_elim}
+use Rattle.std.specs.Prelude.{◌⊎◌, ◌||◌, ◌&&◌, if◌then◌else◌, Contains}
+use Rattle.std.specs.List.{list_any}
+use Rattle.std.proofs.lemmas.Bool.{cases_lt, eq-eqb, lt-ltb, false≢true}
+use Rattle.std.proofs.lemmas.List.{take_more, length_push, get_or_append_left, get_or_past}
+use Rattle.std.proofs.lemmas.List.Elements.{Contains-push, Contains-push_cases, Contains-append_left}
+use Rattle.std.proofs.lemmas.List.FromFn.{get_or-map-range_with_len, length-map-range_with_len}
+use Rattle.std.proofs.Math.Seq.{get_or-append_seam}
+use Rattle.cg_model.specs.Mapping.{Position}
+use Rattle.cg_mrrg.specs.declared.links.MNode.{MNode}
+use Rattle.cg_mrrg.specs.Graph.{registers_after}
+use Rattle.cg_mrrg.proofs.After.{is_after, after_is}
+use Rattle.cg_claims.specs.Claims.{same}
+use Rattle.cg_claims.specs.Table.{toll}
+use Rattle.cg_route.specs.Layers.{Step, Way, Sought, Layer, size, at, Drives, IsOpen, AreOpen, drivers, delay_into, link, cost, better, way_of, ways_of, way_price, AreCheap, IsBest, IsBelow}
+use Rattle.cg_route.proofs.Ranks.{driven}
+use Rattle.cg_route.proofs.Best.{best_same, best_skip, best_more, best_price}
+use Rattle.cg_route.proofs.Begins.{cost_now}
+use Rattle.cg_route.proofs.Offers.{link_is}
+
+-- what a way costs is the link and the rest
+pub way_costs : (S : Sought) (s r q : ℕ) (o : Step) (w : Way) → way_of S s r (Some o) ≡ Some w → way_price S s r q w ≡ link S s r q + o.price
+way_costs S s r q o w is =
+    let T = S.table in
+    let p : Position = record { source = S.source; resource = r; time = s; from = Some q } in
+    let n : MNode = record { resource = r; slot = s % T.interval } in
+    let shared : Bool = list_any (λ (p : Position). eqb p.source S.source && eqb p.resource r && eqb p.time s) T.positions in
+    let claimed : Bool = list_any (same p) T.positions in
+    let v : Way = record { onward = o.price; through = toll T n + o.price; shared = shared } in
+    let e : v ≡ w = cc in
+    let l : (if shared && claimed then 0 else toll T n) ≡ link S s r q = link_is T p n (if shared && claimed then 0 else toll T n) shared claimed refl refl refl refl in
+    subst (λ w. way_price S s r q w ≡ link S s r q + o.price) e (with_rest (shared && claimed) (toll T n) o.price ∙ ap (λ c. c + o.price) l)
+  where
+    with_rest : (b : Bool) (t o : ℕ) → (if b then o else t + o) ≡ (if b then 0 else t) + o
+    with_rest true t o = omega arith
+    with_rest false t o = refl
+
+pub way_on : (S : Sought) (s r : ℕ) (o : Step) (w : Way) → way_of S s r (Some o) ≡ Some w → w.onward ≡ o.price
+way_on S s r o w is =
+    let v : Way = record { onward = o.price; through = toll S.table (record { resource = r; slot = s % S.table.interval }) + o.price; shared = list_any (λ (p : Position). eqb p.source S.source && eqb p.resource r && eqb p.time s) S.table.positions } in
+    let e : v ≡ w = cc in
+    sym (ap (λ (w : Way). w.onward) e)
+
+pub way_at : (S : Sought) (s : ℕ) (later : Layer) (ways : List (Option Way)) (r : ℕ) → r < size S → ways ≡ ways_of S s later → get_or ways r None ≡ way_of S s r (at later r)
+way_at S s later ways r l is = ap (λ (v : List (Option Way)). get_or v r None) is ∙ get_or-map-range_with_len (λ r. way_of S s r (at later r)) 0 (size S) r r None l (omega arith)
+
+-- one register more
+pub best_next : (S : Sought) (s q : ℕ) (later : Layer) (rs : List ℕ) (i : ℕ) (e : Option Step) → i < length rs →
+    IsBest (λ x. Contains (take i rs) x) (at later) (λ x. link S s x q) e →
+    ((at later (get_or rs i 0) ≡ None → IsBest (λ x. Contains (take (i + 1) rs) x) (at later) (λ x. link S s x q) e)
+    × ((o : Step) → at later (get_or rs i 0) ≡ Some o → IsBest (λ x. Contains (take (i + 1) rs) x) (at later) (λ x. link S s x q) (better e (link S s (get_or rs i 0) q + o.price) (get_or rs i 0))))
+best_next S s q later rs i e l h =
+    let r = get_or rs i 0 in
+    let U : ℕ → Type 0 = λ x. Contains (take i rs) x in
+    let V : ℕ → Type 0 = λ x. Contains (take (i + 1) rs) x in
+    let more : take (i + 1) rs ≡ take i rs ++ r ∷ [] = take_more rs i 0 l in
+    let to : (x : ℕ) → U x → V x = λ x u. subst (λ (l : List ℕ). Contains l x) (sym more) (Contains-append_left (take i rs) (r ∷ []) x u) in
+    let from : (x : ℕ) → V x → U x ⊎ (r ≡ x) = λ x v. Contains-push_cases (take i rs) r x (subst (λ (l : List ℕ). Contains l x) more v) in
+    let own : V r = subst (λ (l : List ℕ). Contains l r) (sym more) (Contains-push (take i rs) r) in (
+      λ none. best_skip U V (at later) (λ x. link S s x q) r to from e none h,
+      λ o on. best_more U V (at later) (λ x. link S s x q) r to from o own on e h,
+    )
+
+pub best_of_none : (S : Sought) (s q : ℕ) (later : Layer) (rs : List ℕ) → IsBest (λ x. Contains (take 0 rs) x) (at later) (λ x. link S s x q) None
+best_of_none S s q later rs = λ x u. let l = u.1 in absurd (omega arith)
+
+-- the best way through a register that q drives is that through a link of one cycle
+pub through_registers : (S : Sought) (t s q : ℕ) (later : Layer) (e : Option Step) → t + 1 ≡ s →
+    IsBest (λ x. Contains (registers_after S.table.arch q) x) (at later) (λ x. link S s x q) e →
+    IsBest (λ x. Drives S q x × (delay_into S x ≡ 1) × (x < size S)) (at later) (cost S q t) e
+through_registers S t s q later e time h =
+    best_price (λ x. Drives S q x × (delay_into S x ≡ 1) × (x < size S)) (at later) (λ x. link S s x q) (cost S q t) e
+    (λ x u. sym (cost_now S q t s x (ap (λ d. t + d) u.1 ∙ time)))
+    (best_same (λ x. Contains (registers_after S.table.arch q) x) (λ x. Drives S q x × (delay_into S x ≡ 1) × (x < size S)) (at later) (at later) (λ x. link S s x q) e
+    (λ x m. let a = after_is S.table.arch q x m in (a.0, a.1, driven S q x a.0))
+    (λ x u. is_after S.table.arch q x u.2 u.0 u.1) (λ x u. refl) h)
+
+-- the mark of an open resource
+pub is_met : (S : Sought) (met : List Bool) (q : ℕ) → AreOpen S.table.arch S.from met → IsOpen S q → get_or met q false ≡ true
+is_met S met q h o = h.right q o.0 ∙ ⊎_elim (λ (a : q ≡ S.from). either_right (nat_lt 0 (length (drivers S q))) (eqb q S.from) (eq-eqb q S.from a)) (λ (a : 0 < length (drivers S q)). either_left (nat_lt 0 (length (drivers S q))) (eqb q S.from) (lt-ltb 0 (length (drivers S q)) a)) o.1
+  where
+    either_right : (a b : Bool) → b ≡ true → (a || b) ≡ true
+    either_right true b h = refl
+    either_right false b h = h
+
+    either_left : (a b : Bool) → a ≡ true → (a || b) ≡ true
+    either_left true b h = refl
+    either_left false b h = absurd (false≢true h)
+
+pub pushed_before : (layer : Layer) (e : Option Step) (q : ℕ) → q < length layer → at (layer ++ e ∷ []) q ≡ at layer q
+pushed_before layer e q h = get_or_append_left layer (e ∷ []) None q h
+
+pub pushed_at : (layer : Layer) (e : Option Step) (q : ℕ) → q ≡ length layer → at (layer ++ e ∷ []) q ≡ e
+pushed_at layer e q h = ap (λ n. at (layer ++ e ∷ []) n) h ∙ get_or-append_seam layer e [] None
+
+pub pushed_below : (high : ℕ) (layer : Layer) (e : Option Step) → IsBelow high layer → ((s : Step) → e ≡ Some s → s.price ≤ high) → IsBelow high (layer ++ e ∷ [])
+pushed_below high layer e h k q s is =
+    ⊎_elim (λ (a : q < length layer). h q s (sym (pushed_before layer e q a) ∙ is))
+    (λ (a : length layer ≤ q).
+    ⊎_elim
+    (λ (b : length layer < q).
+    let n = length_push layer e in
+    let z : at (layer ++ e ∷ []) q ≡ None = get_or_past (layer ++ e ∷ []) q None (omega arith) in absurd (cc))
+    (λ (b : q ≤ length layer). k s (sym (pushed_at layer e q (omega arith)) ∙ is))
+    (cases_lt (length layer) q))
+    (cases_lt q (length layer))
+
+-- what a way that was found stands for
+pub seen : (S : Sought) (s q : ℕ) (later : Layer) (ways : List (Option Way)) (r : ℕ) (w : Way) → r < size S → ways ≡ ways_of S s later → get_or ways r None ≡ Some w →
+    (o : Step) × (at later r ≡ Some o) × (way_price S s r q w ≡ link S s r q + o.price) × (w.onward ≡ o.price)
+seen S s q later ways r w known is found = of_entry (at later r) refl (sym (way_at S s later ways r known is) ∙ found)
+  where
+    of_entry : (e : Option Step) → at later r ≡ e → way_of S s r e ≡ Some w → (o : Step) × (at later r ≡ Some o) × (way_price S s r q w ≡ link S s r q + o.price) × (w.onward ≡ o.price)
+    of_entry None h k = absurd (cc)
+    of_entry (Some o) h k = (o, h, way_costs S s r q o w k, way_on S s r o w k)
+
+pub unseen : (S : Sought) (s : ℕ) (later : Layer) (ways : List (Option Way)) (r : ℕ) → r < size S → ways ≡ ways_of S s later → get_or ways r None ≡ None → at later r ≡ None
+unseen S s later ways r known is found = of_entry (at later r) refl (sym (way_at S s later ways r known is) ∙ found)
+  where
+    of_entry : (e : Option Step) → at later r ≡ e → way_of S s r e ≡ None → at later r ≡ None
+    of_entry None h k = h
+    of_entry (Some o) h k = absurd (cc)
+
+pub ways_long : (S : Sought) (s : ℕ) (later : Layer) (ways : List (Option Way)) → ways ≡ ways_of S s later → length ways ≡ size S
+ways_long S s later ways is = ap (λ (l : List (Option Way)). length l) is ∙ length-map-range_with_len (λ r. way_of S s r (at later r)) 0 (size S)
+
+pub cheap_more : (ways : List (Option Way)) (e : Option Way) → AreCheap ways → ((w : Way) → e ≡ Some w → w.through ≤ w.onward + 2 ^ 52) → AreCheap (ways ++ e ∷ [])
+cheap_more ways e h k r w is =
+    ⊎_elim (λ (a : r < length ways). h r w (sym (get_or_append_left ways (e ∷ []) None r a) ∙ is))
+    (λ (a : length ways ≤ r).
+    ⊎_elim
+    (λ (b : length ways < r).
+    let n = length_push ways e in
+    let z : get_or (ways ++ e ∷ []) r None ≡ None = get_or_past (ways ++ e ∷ []) r None (omega arith) in absurd (cc))
+    (λ (b : r ≤ length ways).
+    let same : r ≡ length ways = omega arith in
+    k w (sym (ap (λ n. get_or (ways ++ e ∷ []) n None) same ∙ get_or-append_seam ways e [] None) ∙ is))
+    (cases_lt (length ways) r))
+    (cases_lt r (length ways))
