@@ -13,11 +13,11 @@ use Rattle.cg_mrrg.specs.Graph.{registers_after}
 use Rattle.cg_mrrg.proofs.After.{is_after, after_is}
 use Rattle.cg_claims.specs.Claims.{same}
 use Rattle.cg_claims.specs.Table.{toll}
-use Rattle.cg_route.specs.Layers.{Step, Way, Sought, Layer, size, at, Drives, IsOpen, AreOpen, drivers, delay_into, link, cost, better, way_of, ways_of, way_price, AreCheap, IsBest, IsBelow}
+use Rattle.cg_route.specs.Layers.{Step, Way, Sought, Layer, size, at, Drives, IsOpen, AreOpen, drivers, delay_into, link, cost, better, way_of, ways_of, way_price, IsCheap, AreCheap, IsBest, IsBelow}
 use Rattle.cg_route.proofs.Ranks.{driven}
 use Rattle.cg_route.proofs.Best.{best_same, best_skip, best_more, best_price}
 use Rattle.cg_route.proofs.Begins.{cost_now}
-use Rattle.cg_route.proofs.Offers.{link_is}
+use Rattle.cg_route.proofs.Offers.{link_is, better_below}
 
 -- what a way costs is the link and the rest
 pub way_costs : (S : Sought) (s r q : ℕ) (o : Step) (w : Way) → way_of S s r (Some o) ≡ Some w → way_price S s r q w ≡ link S s r q + o.price
@@ -125,7 +125,7 @@ unseen S s later ways r known is found = of_entry (at later r) refl (sym (way_at
 pub ways_long : (S : Sought) (s : ℕ) (later : Layer) (ways : List (Option Way)) → ways ≡ ways_of S s later → length ways ≡ size S
 ways_long S s later ways is = ap (λ (l : List (Option Way)). length l) is ∙ length-map-range_with_len (λ r. way_of S s r (at later r)) 0 (size S)
 
-pub cheap_more : (ways : List (Option Way)) (e : Option Way) → AreCheap ways → ((w : Way) → e ≡ Some w → w.through ≤ w.onward + 2 ^ 52) → AreCheap (ways ++ e ∷ [])
+pub cheap_more : (ways : List (Option Way)) (e : Option Way) → AreCheap ways → ((w : Way) → e ≡ Some w → IsCheap w) → AreCheap (ways ++ e ∷ [])
 cheap_more ways e h k r w is =
     ⊎_elim (λ (a : r < length ways). h r w (sym (get_or_append_left ways (e ∷ []) None r a) ∙ is))
     (λ (a : length ways ≤ r).
@@ -138,3 +138,29 @@ cheap_more ways e h k r w is =
     k w (sym (ap (λ n. get_or (ways ++ e ∷ []) n None) same ∙ get_or-append_seam ways e [] None) ∙ is))
     (cases_lt (length ways) r))
     (cases_lt r (length ways))
+
+-- the best way through one register more, where there is one
+pub best_seen : (S : Sought) (s q : ℕ) (ways : List (Option Way)) (rs : List ℕ) (i p : ℕ) (old new : Option Step) (way : Way) → i < length rs → get_or rs i 0 < size S →
+    get_or ways (get_or rs i 0) None ≡ Some way → p ≡ way_price S s (get_or rs i 0) q way → new ≡ better old p (get_or rs i 0) → (later : Layer) → ways ≡ ways_of S s later →
+    IsBest (λ x. Contains (take i rs) x) (at later) (λ x. link S s x q) old → IsBest (λ x. Contains (take (i + 1) rs) x) (at later) (λ x. link S s x q) new
+best_seen S s q ways rs i p old new way inside known found price is later v h =
+    let r = get_or rs i 0 in
+    let (o, on, costs, from) = seen S s q later ways r way known v found in
+    subst (λ b. IsBest (λ x. Contains (take (i + 1) rs) x) (at later) (λ x. link S s x q) b) (sym (is ∙ ap (λ p. better old p r) (price ∙ costs)))
+    ((best_next S s q later rs i old inside h).1 o on)
+
+pub below_seen : (S : Sought) (s q : ℕ) (ways : List (Option Way)) (rs : List ℕ) (i p : ℕ) (old new : Option Step) (way : Way) → get_or rs i 0 < size S →
+    get_or ways (get_or rs i 0) None ≡ Some way → p ≤ way.onward + 2 ^ 52 → new ≡ better old p (get_or rs i 0) → (later : Layer) (high : ℕ) → ways ≡ ways_of S s later → IsBelow high later →
+    ((s : Step) → old ≡ Some s → s.price ≤ high + 2 ^ 52) → (s : Step) → new ≡ Some s → s.price ≤ high + 2 ^ 52
+below_seen S s q ways rs i p old new way known found cheap is later high v h below o b =
+    let r = get_or rs i 0 in
+    let (was, on, costs, from) = seen S s q later ways r way known v found in
+    let low = h r was on in
+    better_below (high + 2 ^ 52) old p r (omega (arith, low, cheap, from)) below o (sym is ∙ b)
+
+-- and where there is none
+pub best_unseen : (S : Sought) (s q : ℕ) (ways : List (Option Way)) (rs : List ℕ) (i : ℕ) (old : Option Step) → i < length rs → get_or rs i 0 < size S →
+    get_or ways (get_or rs i 0) None ≡ None → (later : Layer) → ways ≡ ways_of S s later →
+    IsBest (λ x. Contains (take i rs) x) (at later) (λ x. link S s x q) old → IsBest (λ x. Contains (take (i + 1) rs) x) (at later) (λ x. link S s x q) old
+best_unseen S s q ways rs i old inside known found later v h =
+    (best_next S s q later rs i old inside h).0 (unseen S s later ways (get_or rs i 0) known v found)

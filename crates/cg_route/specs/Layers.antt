@@ -95,6 +95,14 @@ better (Some s) price r =
     then Some (record { price = price; next = r })
     else Some s
 
+-- a way that costs more than any
+abbrev pub no_way : ℕ
+no_way = 2 ^ 128 - 1
+
+-- the way of that price, where it is one
+abbrev pub held : ℕ → ℕ → Option Step
+held price r = if eqb price no_way then None else Some (record { price = price; next = r })
+
 -- s goes to one of `IsUser`, for the least price, and to the least of those
 pub record IsChoice (IsUser : ℕ → Type 0) (rest : ℕ → Option Step) (price : ℕ → ℕ) (s : Step) : Type 0 where
   pub next : IsUser s.next
@@ -161,9 +169,12 @@ way_of S s r (Some o) =
 abbrev pub ways_of : Sought → ℕ → Layer → List (Option Way)
 ways_of S s later = map (λ r. way_of S s r (at later r)) (range_with_len 0 (size S))
 
--- no toll of theirs is beyond 2 ^ 52
+-- its toll isn't beyond 2 ^ 52, nor its price from there on beyond 2 ^ 127
+abbrev pub IsCheap : Way → Type 0
+IsCheap w = (w.onward ≤ 2 ^ 127) × (w.through ≤ w.onward + 2 ^ 52)
+
 abbrev pub AreCheap : List (Option Way) → Type 0
-AreCheap ways = (r : ℕ) (w : Way) → slice_index_or ways r None ≡ Some w → w.through ≤ w.onward + 2 ^ 52
+AreCheap ways = (r : ℕ) (w : Way) → slice_index_or ways r None ≡ Some w → IsCheap w
 
 -- its price for a driver: the toll is spared where the value comes the same way
 abbrev pub way_price : Sought → ℕ → ℕ → ℕ → Way → ℕ

@@ -2,7 +2,7 @@
 ghost use Rattle.std.specs.Prelude.{◌||◌, nat_lt, eqb, ◌≡◌, ◌≢◌, ◌<◌, ◌≤◌, ◌^◌, ◌*◌, ◌+◌, ℕ, ◌-◌, [], ◌∷◌, List, IfSome, IfNone, replicate, Option, Some, None, length, IfOk};
 ghost use Rattle.cg_route.specs.Layers as spec;
 
-use crate::step::{Step, Way, better};
+use crate::step::{NO_WAY, Step, Way, better, held, is_better};
 use cg_claims::{MNode, Mrrg, Usage};
 use cg_model::Items;
 use std::alloc::{AllocError, Global};
@@ -149,7 +149,7 @@ impl<'s, 'a> Search<'s, 'a> {
         requires known { resource < spec.size self.now }
         requires small { (s : spec.Step) → step ≡ Some s → s.price ≤ 2 ^ 127 }
         ensures way { result ≡ spec.way_of self.now time resource step }
-        ensures cheap { (w : spec.Way) → result ≡ Some w → w.through ≤ w.onward + 2 ^ 52 }
+        ensures cheap { (w : spec.Way) → result ≡ Some w → spec.IsCheap w }
     {
         let step = step?;
         let node = MNode {
@@ -185,7 +185,7 @@ impl<'s, 'a> Search<'s, 'a> {
     /// What a way on costs a driver.
     fn way_price(&self, driver: u32, resource: u32, time: u32, way: Way) -> u128
         requires known { resource < spec.size self.now }
-        requires cheap { way.through ≤ way.onward + 2 ^ 52 }
+        requires cheap { spec.IsCheap way }
         ensures price { result ≡ spec.way_price self.now time resource driver way }
         ensures cheap { result ≤ way.onward + 2 ^ 52 }
     {
@@ -204,14 +204,18 @@ impl<'s, 'a> Search<'s, 'a> {
         ensures best { (later : spec.Layer) → ways.now ≡ spec.ways_of self.now time later → spec.IsBest (λ x. Contains (registers_after self.now.table.arch driver) x) (spec.at later) (λ x. spec.link self.now time x driver) result }
         ensures below { (later : spec.Layer) (high : ℕ) → ways.now ≡ spec.ways_of self.now time later → spec.IsBelow high later → (s : spec.Step) → result ≡ Some s → s.price ≤ high + 2 ^ 52 }
     {
-        let mut best = None;
+        let mut price = NO_WAY;
+        let mut next = 0;
         for register in self.graph.registers_after(driver) {
             if let Some(way) = ways[*register as usize] {
-                let price = self.way_price(driver, *register, time, way);
-                best = better(best, price, *register);
+                let found = self.way_price(driver, *register, time, way);
+                if is_better(found, *register, price, next) {
+                    price = found;
+                    next = *register;
+                }
             }
         }
-        best
+        held(price, next)
     }
 
     /// The best way on through a register, where a path may meet the resource.

@@ -1,5 +1,5 @@
 //! Steps of a search.
-ghost use Rattle.std.specs.Prelude.{◌≡◌, Option, Some, None, slice_index_or};
+ghost use Rattle.std.specs.Prelude.{◌≡◌, ◌&&◌, ◌||◌, eqb, nat_lt, Option, Some, None};
 ghost use Rattle.cg_route.specs.Layers as spec;
 
 /// A way on from a resource to the end of a search.
@@ -36,5 +36,26 @@ pub(crate) fn better(found: Option<Step>, price: u128, next: u32) -> Option<Step
             }
         }
         None => Some(Step { price, next }),
+    }
+}
+
+/// The price of no way, which is beyond that of any.
+pub(crate) const NO_WAY: u128 = u128::MAX;
+
+/// Whether going to a resource for that price is better than to another for another price.
+pub(crate) fn is_better(price: u128, next: u32, than: u128, other: u32) -> bool
+    ensures { result ≡ (nat_lt price than || (eqb price than && nat_lt next other)) }
+{
+    price < than || (price == than && next < other)
+}
+
+/// The way on to a resource for that price; none where it is that of no way.
+pub(crate) fn held(price: u128, next: u32) -> Option<Step>
+    ensures { result ≡ spec.held price next }
+{
+    if price == NO_WAY {
+        None
+    } else {
+        Some(Step { price, next })
     }
 }

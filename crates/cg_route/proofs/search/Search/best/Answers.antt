@@ -4,12 +4,18 @@ use Rattle.std.proofs.lemmas.List.{take_all}
 use Rattle.std.proofs.lemmas.List.Elements.{Contains-get_or}
 use Rattle.cg_mrrg.specs.Graph.{registers_after}
 use Rattle.cg_mrrg.proofs.After.{after_is}
-use Rattle.cg_route.specs.Layers.{Sought, Step, Way, IsBest, way_price, better, at, link, size}
+use Rattle.cg_route.specs.Layers.{Sought, Step, Way, IsBest, way_price, better, held, no_way, IsCheap, at, link, size}
 use Rattle.cg_route.proofs.Ranks.{driven}
-use Rattle.cg_route.proofs.Carries.{best_next, seen, unseen}
-use Rattle.cg_route.proofs.Offers.{better_below}
+use Rattle.cg_route.proofs.Carries.{best_seen, below_seen, best_unseen}
+use Rattle.cg_route.proofs.Best.{held_better}
 use Rattle.cg_route.proofs.search.Search.best.Goals as goal
-use Rattle.cg_route.proofs.search.Search.best.Goals.{in-Some, in_default}
+use Rattle.cg_route.proofs.search.Search.best.Goals.{in-Some+then-is_better, in-Some+else-is_better, in_default}
+
+p-small : (w : Way) (p : ℕ) → IsCheap w → p ≤ w.onward + 2 ^ 52 → p < no_way
+p-small w p h l = omega (arith, h.0, l)
+
+held_is : {p q r s : ℕ} → p ≡ q → r ≡ s → held p r ≡ held q s
+held_is {q = q} {r = r} e f = ap (λ p. held p r) e ∙ ap (λ r. held q r) f
 
 pub bounds : goal.bounds
 bounds c =
@@ -39,32 +45,43 @@ loop-register-preserved c =
     let known : r < size S = driven S q r (after_is S.table.arch q r (Contains-get_or rs i 0 inside)).0 in
     let e : x ≡ r = ap (λ (l : List ℕ). get_or l i 0) is in
     let ways : List (Option Way) = c.args.ways.now in
-    let old : Option Step = c.loop-register.best in
+    let price = c.loop-register.price in
+    let next = c.loop-register.next in
+    let old : Option Step = held price next in
+    let new : Option Step = held c.match-ways-register.price c.match-ways-register.next in
     elim c.match-ways-register.branch [
-      | in-Some w ↦
+      | in-Some+then-is_better w ↦
           let way = w.in-Some.way in
+          let p = w.way_price-found.result in
           let found : get_or ways r None ≡ Some way = ap (λ n. get_or ways n None) (sym e) ∙ w.in-Some.is in
-          let taken : w.better-best.result ≡ better old w.way_price-price.result r = w.better-best.ensures ∙ ap (λ n. better old w.way_price-price.result n) e in
-          let price : w.way_price-price.result ≡ way_price S time r q way = w.way_price-price.ensures.price ∙ ap (λ n. way_price S time n q way) e in
+          let paid : p ≡ way_price S time r q way = w.way_price-found.ensures.price ∙ ap (λ n. way_price S time n q way) e in
+          let cheap = w.way_price-found.ensures.cheap in
+          let rest = (p-small w.in-Some.way p (c.requires.cheap x way w.in-Some.is) cheap) in
+          let is : new ≡ better old p r = held_is w.price-is w.next-is ∙ (held_better price next p x rest).0 (sym w.is_better.ensures ∙ w.if-is_better.true) ∙ ap (λ n. better old p n) e in
           record {
-            best = λ later v.
-                let (o, on, costs, from) = seen S time q later ways r way known v found in
-                subst (λ b. IsBest (λ x. Contains (take (i + 1) rs) x) (at later) (λ x. link S time x q) b)
-                (sym (w.best-is ∙ taken ∙ ap (λ p. better old p r) (price ∙ costs)))
-                ((best_next S time q later rs i old inside (c.loop-register.invariant.best later v)).1 o on);
-            below = λ later high v h s b.
-                let (o, on, costs, from) = seen S time q later ways r way known v found in
-                let low = h r o on in
-                let cheap = w.way_price-price.ensures.cheap in
-                better_below (high + 2 ^ 52) old w.way_price-price.result r (omega (arith, low, cheap, from)) (c.loop-register.invariant.below later high v h) s (sym (w.best-is ∙ taken) ∙ b);
+            best = λ later v. best_seen S time q ways rs i p old new way inside known found paid is later v (c.loop-register.invariant.best later v);
+            below = λ later high v h. below_seen S time q ways rs i p old new way known found cheap is later high v h (c.loop-register.invariant.below later high v h);
+          }
+      | in-Some+else-is_better w ↦
+          let way = w.in-Some.way in
+          let p = w.way_price-found.result in
+          let found : get_or ways r None ≡ Some way = ap (λ n. get_or ways n None) (sym e) ∙ w.in-Some.is in
+          let paid : p ≡ way_price S time r q way = w.way_price-found.ensures.price ∙ ap (λ n. way_price S time n q way) e in
+          let cheap = w.way_price-found.ensures.cheap in
+          let rest = (p-small w.in-Some.way p (c.requires.cheap x way w.in-Some.is) cheap) in
+          let is : new ≡ better old p r = held_is w.price-is w.next-is ∙ (held_better price next p x rest).1 (sym w.is_better.ensures ∙ w.if-is_better.false) ∙ ap (λ n. better old p n) e in
+          record {
+            best = λ later v. best_seen S time q ways rs i p old new way inside known found paid is later v (c.loop-register.invariant.best later v);
+            below = λ later high v h. below_seen S time q ways rs i p old new way known found cheap is later high v h (c.loop-register.invariant.below later high v h);
           }
       | in_default w ↦
           let found : get_or ways r None ≡ None = ap (λ n. get_or ways n None) (sym e) ∙ w.in_default.is in
+          let is : new ≡ old = held_is w.price-is w.next-is in
           record {
             best = λ later v.
-                subst (λ b. IsBest (λ x. Contains (take (i + 1) rs) x) (at later) (λ x. link S time x q) b) (sym w.best-is)
-                ((best_next S time q later rs i old inside (c.loop-register.invariant.best later v)).0 (unseen S time later ways r known v found));
-            below = λ later high v h s b. c.loop-register.invariant.below later high v h s (sym w.best-is ∙ b);
+                subst (λ b. IsBest (λ x. Contains (take (i + 1) rs) x) (at later) (λ x. link S time x q) b) (sym is)
+                (best_unseen S time q ways rs i old inside known found later v (c.loop-register.invariant.best later v));
+            below = λ later high v h s b. c.loop-register.invariant.below later high v h s (sym is ∙ b);
           }
     ]
 
@@ -75,4 +92,8 @@ returns-clause-best c = λ later v.
     let rs = registers_after S.table.arch c.args.driver in
     let is : c.registers_after-register-items.result.now ≡ rs = c.registers_after-register-items.ensures ∙ ap (λ A. registers_after A c.args.driver) same_arch in
     let over : length rs ≤ c.loop-register.register-index = subst (λ (l : List ℕ). length l ≤ c.loop-register.register-index) is c.loop-register-test.false in
-    subst (λ l. IsBest (λ x. Contains l x) (at later) (λ x. link S c.args.time x c.args.driver) c.loop-register.best) (take_all c.loop-register.register-index rs over) (c.loop-register.invariant.best later v)
+    subst (λ b. IsBest (λ x. Contains rs x) (at later) (λ x. link S c.args.time x c.args.driver) b) (sym c.held.ensures)
+    (subst (λ l. IsBest (λ x. Contains l x) (at later) (λ x. link S c.args.time x c.args.driver) (held c.loop-register.price c.loop-register.next)) (take_all c.loop-register.register-index rs over) (c.loop-register.invariant.best later v))
+
+pub returns-clause-below : goal.returns-clause-below
+returns-clause-below c = λ later high v h s b. c.loop-register.invariant.below later high v h s (sym c.held.ensures ∙ b)
