@@ -3,7 +3,7 @@ use Rattle.std.proofs.Common.{◌≡◌, ℕ, suc, ◌+◌, ◌<◌, ◌≤◌, 
 use Rattle.std.proofs.lemmas.List.{take_more, drop_more, take-append-drop}
 use Rattle.cg_model.specs.Array.{Arch}
 use Rattle.cg_model.specs.Mapping.{Position, positions_on, positions_after}
-use Rattle.cg_claims.specs.Claims.{uses}
+use Rattle.cg_claims.specs.Claims.{same, uses}
 use Rattle.cg_claims.specs.Along.{arrives, positions_from}
 use Rattle.cg_claims.proofs.Uses.{uses_cons, uses_append, same_refl}
 
@@ -76,3 +76,12 @@ held_next A u start path i from time now old l along taken held =
     ap (λ z. uses z p) (on_whole A u start path i from time l along) ∙ uses_append (positions_on A u start (take i path)) (p ∷ rest) p in
     let d = uses_cons p rest p ∙ ap (λ z. cond z 1 0 + uses rest p) (same_refl p) in
     omega (arith, a, b, c, d)
+
+-- the uses so far, with the next
+pub uses_next : (A : Arch) (u start : ℕ) (path : List ℕ) (i : ℕ) (from : Option ℕ) (time : ℕ) → i < length path → IsAlong A u start path i from time → (p : Position) →
+    uses (positions_on A u start (take (i + 1) path)) p ≡ uses (positions_on A u start (take i path)) p + cond (same p (next A u from time (get_or path i 0))) 1 0
+uses_next A u start path i from time l along p =
+    let q = next A u from time (get_or path i 0) in
+    let a = ap (λ z. uses z p) (on_next A u start path i from time l along) ∙ uses_append (positions_on A u start (take i path)) (q ∷ []) p in
+    let b = uses_cons q [] p in
+    omega (arith, a, b)

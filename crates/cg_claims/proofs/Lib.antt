@@ -8,3 +8,5 @@ pub mod Tables
 pub mod Counts
 pub mod Along
 pub mod Found
+pub mod Same
+pub mod Plain

@@ -4,3 +4,4 @@ pub mod Kept
 pub mod Lists
 pub mod Nodes
 pub mod Along
+pub mod Plain

@@ -2,6 +2,7 @@
 #![tactic(auto)]
 
 mod claim;
+pub mod laws;
 mod list;
 mod usage;
 

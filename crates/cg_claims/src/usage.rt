@@ -217,7 +217,7 @@ fn no_claims(alloc: Global, count: usize) -> Result<Vec<ClaimList>, AllocError>
 }
 
 /// The number of the node of a resource in the slot of a time: nodes are ordered by resource, then slot.
-fn place(interval: u32, resource: u32, time: u32) -> usize
+pub(crate) fn place(interval: u32, resource: u32, time: u32) -> usize
     requires some { 0 < interval }
     requires few { interval ≤ 64 }
     ensures { result ≡ resource * interval + time % interval }
@@ -226,7 +226,7 @@ fn place(interval: u32, resource: u32, time: u32) -> usize
 }
 
 /// When a value comes to a resource that was at that time on the resource before it, or enters there.
-fn arrives(arch: &Arch, before: Option<u32>, time: u32, resource: u32) -> u32
+pub(crate) fn arrives(arch: &Arch, before: Option<u32>, time: u32, resource: u32) -> u32
     requires known { resource < length arch.now.resources }
     requires near { time + 1 < 2 ^ 32 }
     ensures time { result ≡ along.arrives arch.now before time resource }
@@ -282,7 +282,7 @@ fn any_claim(claims: &[ClaimUse], source: u32, time: u32, before: u32) -> bool
 }
 
 /// Whether a predecessor is that one.
-fn comes_from(resource: u32, before: Option<u32>) -> bool
+pub(crate) fn comes_from(resource: u32, before: Option<u32>) -> bool
     ensures { result ≡ same_from (Some resource) before }
 {
     match before {
