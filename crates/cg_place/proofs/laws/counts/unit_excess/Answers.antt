@@ -1,0 +1,10 @@
+use Rattle.std.proofs.Common.{arith}
+use Rattle.cg_place.specs.Counts.{excess_on}
+use Rattle.cg_place.proofs.Excess.{sum_more}
+use Rattle.cg_place.proofs.laws.counts.unit_excess.Goals as goal
+
+pub loop-unit-preserved : goal.loop-unit-preserved
+loop-unit-preserved c =
+    let more = sum_more (excess_on c.args.ii c.args.places.now) c.loop-unit.unit in
+    let here = c.excess_on-excess.ensures.value in
+    (omega (arith, more, here), omega arith)

@@ -1,0 +1,22 @@
+//! Placements of a kernel's nodes on an architecture: the start, the proposals and the moves of a walk, with the two
+//! counts that say how far a placement is from a schedule.
+#![tactic(auto)]
+
+mod draws;
+pub mod laws;
+mod moves;
+mod offers;
+mod placement;
+mod places;
+mod reservations;
+#[cfg(test)]
+mod tests;
+mod touching;
+
+pub use cg_arch::Arch;
+pub use cg_kernel::Kernel;
+pub use cg_model::Place;
+pub use moves::Move;
+pub use offers::is_offered;
+pub use placement::Placement;
+pub use places::are_early;

@@ -1,0 +1,62 @@
+//! The units that offer an operation.
+ghost use Rattle.std.specs.Prelude.{◌≡◌, ◌<◌, ◌≤◌, ◌↔◌, IsTrue, true, length, slice_index};
+ghost use Rattle.cg_word.specs.Sets.{among};
+ghost use Rattle.cg_model.specs.Array.{unit};
+ghost use Rattle.cg_model.specs.Limits.{most_units};
+ghost use Rattle.cg_place.specs.Placed.{IsOffered, offering};
+
+use cg_arch::{Arch, Op};
+use cg_kernel::Kernel;
+
+/// Whether a unit offers an operation.
+fn offers(arch: &Arch, x: usize, op: Op) -> bool
+    requires { x < length arch.now.units }
+    ensures { result ≡ among (unit arch.now x).ops op }
+{
+    arch.units()[x].ops.has(op)
+}
+
+/// Whether each operation of a kernel is offered by some unit.
+pub fn is_offered(arch: &Arch, kernel: &Kernel) -> bool
+    ensures { IsTrue result ↔ IsOffered arch.now kernel.now }
+{
+    for node in kernel.nodes() {
+        if count_offering(arch, node.op) == 0 {
+            return false;
+        }
+    }
+    true
+}
+
+/// How many units offer an operation.
+pub(crate) fn count_offering(arch: &Arch, op: Op) -> u32
+    ensures value { result ≡ length (offering arch.now op) }
+    ensures small { result ≤ most_units }
+{
+    let mut count = 0;
+    for x in 0..arch.units().len() {
+        if offers(arch, x, op) {
+            count += 1;
+        }
+    }
+    count
+}
+
+/// The unit in that place of the ascending list of those that offer an operation.
+pub(crate) fn offering_unit(arch: &Arch, op: Op, place: u32) -> u32
+    requires { place < length (offering arch.now op) }
+    ensures value { result ≡ slice_index (offering arch.now op) place }
+    ensures within { result < length arch.now.units }
+    ensures offered { among (unit arch.now result).ops op ≡ true }
+{
+    let mut passed = 0;
+    for x in 0..arch.units().len() {
+        if offers(arch, x, op) {
+            if passed == place {
+                return x as u32;
+            }
+            passed += 1;
+        }
+    }
+    unreachable!()
+}

@@ -1,0 +1,148 @@
+//! Placements with kept counts.
+use crate::moves::Move;
+use crate::places::{drawn, first_places};
+use crate::reservations::{Reservations, entry};
+use crate::touching::{count_broken, touching};
+use cg_arch::Arch;
+use cg_kernel::Kernel;
+use cg_model::{Items, OrderEdge, Place};
+use std::alloc::{AllocError, Global};
+use std::marker::Model;
+
+/// Where and when each node of a kernel begins on an architecture, at an interval. It keeps how many nodes each unit
+/// begins in each slot, and the order edges of each node, so that a move costs no more than the edges that it touches.
+#[derive(Drop)]
+pub struct Placement<'a> {
+    arch: &'a Arch,
+    kernel: &'a Kernel,
+    ii: u32,
+    early: Vec<u32>,
+    places: Vec<Place>,
+    table: Reservations,
+    touching: Vec<Items<OrderEdge>>,
+    violations: u32,
+}
+
+impl<'a> Model for Placement<'a> {
+    ghost use Rattle.cg_place.specs.Placed.{Placed};
+    ghost use Rattle.cg_place.specs.Kept.{IsKept};
+
+    ghost Value = { Placed };
+
+    ghost view = { λ p. record { arch = p.arch.now; kernel = p.kernel.now; ii = p.ii; early = p.early.items; places = p.places.items } };
+
+    ghost invariant = { λ p. IsKept (record { arch = p.arch.now; kernel = p.kernel.now; ii = p.ii; early = p.early.items; places = p.places.items }) p.table p.touching.items p.violations };
+}
+
+impl<'a> Placement<'a> {
+    ghost use Rattle.std.specs.Prelude.{◌≡◌, ◌<◌, ◌≤◌, ◌+◌, ◌*◌, IfOk, length, slice_index};
+    ghost use Rattle.cg_model.specs.Limits.{most_contexts};
+    ghost use Rattle.cg_model.specs.Kernel.{size};
+    ghost use Rattle.cg_place.specs.Placed.{IsOffered, AreEarly, IsPlacement, IsMove, after, back, first_places, place_in};
+    ghost use Rattle.cg_place.specs.Counts as counts;
+    ghost use Rattle.cg_place.specs.Draws.{drawn_move};
+
+    /// Each node at its earliest time on the lowest-numbered unit that offers its operation.
+    pub fn start(
+        alloc: Global,
+        arch: &'a Arch,
+        kernel: &'a Kernel,
+        ii: u32,
+        early: &[u32],
+    ) -> Result<Placement<'a>, AllocError>
+        requires some { 0 < ii }
+        requires few { ii ≤ most_contexts }
+        requires offered { IsOffered arch.now kernel.now }
+        requires early { AreEarly kernel.now early.now }
+        ensures value { IfOk result (λ p. p ≡ record { arch = arch.now; kernel = kernel.now; ii = ii; early = early.now; places = first_places arch.now kernel.now early.now }) }
+        ensures valid { IfOk result IsPlacement }
+    {
+        let places = first_places(alloc, arch, kernel, early)?;
+        let table = Reservations::of(alloc, arch.units().len(), ii, &places)?;
+        let violations = count_broken(kernel.order(), &places, ii);
+        Ok(Placement {
+            arch,
+            kernel,
+            ii,
+            early: Vec::from_slice(alloc, early)?,
+            places,
+            table,
+            touching: touching(alloc, kernel)?,
+            violations,
+        })
+    }
+
+    /// A node, one of the units that offer its operation, and one of the times from its earliest on, each drawn by a word.
+    pub fn propose(&self, w1: u32, w2: u32, w3: u32) -> Move
+        requires { 0 < size self.now.kernel }
+        ensures value { result ≡ drawn_move self.now.arch self.now.kernel self.now.ii self.now.early w1 w2 w3 }
+        ensures moves { IsMove self.now result }
+        ensures soon { result.place.time ≤ slice_index self.now.early result.node + 2 * self.now.ii + 7 }
+    {
+        drawn(
+            self.arch,
+            self.kernel,
+            self.ii,
+            self.early.as_slice(),
+            w1,
+            w2,
+            w3,
+        )
+    }
+
+    /// Places a node, and gives the move that undoes it.
+    pub fn apply(&mut self, change: Move) -> Move
+        requires { IsMove self.old change }
+        ensures new { self.new ≡ after self.old change }
+        ensures back { result ≡ back self.old.places change }
+        ensures undoes { IsMove self.new result }
+        ensures valid { IsPlacement self.new }
+    {
+        let node = change.node as usize;
+        let from = self.places[node];
+        self.table.release(entry(self.ii, from));
+        self.table.reserve(entry(self.ii, change.place));
+        let before = count_broken(self.touching[node].as_slice(), &self.places, self.ii);
+        self.places[node] = change.place;
+        let after = count_broken(self.touching[node].as_slice(), &self.places, self.ii);
+        self.violations = self.violations - before + after;
+        Move {
+            node: change.node,
+            place: from,
+        }
+    }
+
+    /// Places a node.
+    pub fn undo(&mut self, change: Move)
+        requires { IsMove self.old change }
+        ensures new { self.new ≡ after self.old change }
+        ensures valid { IsPlacement self.new }
+    {
+        let _ = self.apply(change);
+    }
+
+    /// Where and when a node begins.
+    pub fn place(&self, node: u32) -> Place
+        requires { node < size self.now.kernel }
+        ensures value { result ≡ place_in self.now.places node }
+        ensures valid { IsPlacement self.now }
+    {
+        self.places[node as usize]
+    }
+
+    /// By how many the nodes are more than one in a slot of a unit, over all.
+    pub fn unit_excess(&self) -> u32
+        ensures value { result ≡ counts.unit_excess self.now.arch self.now.ii self.now.places }
+        ensures valid { IsPlacement self.now }
+    {
+        self.table.excess()
+    }
+
+    /// How many order edges have a target that doesn't begin at least a cycle after its source.
+    pub fn order_violations(&self) -> u32
+        ensures value { result ≡ counts.order_violations self.now.kernel self.now.ii self.now.places }
+        ensures valid { IsPlacement self.now }
+    {
+        self.violations
+    }
+}
