@@ -1,6 +1,6 @@
 -- Order edges, as a node moves.
-use Rattle.std.proofs.Common.{◌≡◌, ◌≢◌, ℕ, ◌+◌, ◌*◌, ◌<◌, ◌≤◌, Bool, true, false, cond, List, [], ◌∷◌, length, set, get_or, refl, sym, ap, ◌∙◌, subst, arith, ⊎_elim, eq-eqb}
-use Rattle.std.specs.Prelude.{◌||◌, not, nat_lt, filter, count_by, sum_by, All}
+use Rattle.std.proofs.Common.{◌≡◌, ◌≢◌, ℕ, ◌+◌, ◌*◌, ◌<◌, ◌≤◌, Bool, false, cond, List, [], ◌∷◌, set, get_or, refl, sym, ap, ◌∙◌, subst, arith, ⊎_elim, eq-eqb}
+use Rattle.std.specs.Prelude.{not, nat_lt, filter, count_by}
 use Rattle.std.proofs.lemmas.Bool.{cases_Bool, or_left, or_right, both_ways}
 use Rattle.std.proofs.lemmas.List.{get_or-set_other}
 use Rattle.std.proofs.lemmas.Option.{slice_get-get_or}

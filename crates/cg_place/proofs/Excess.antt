@@ -1,5 +1,5 @@
 -- The excess of a table of numbers is that of its places.
-use Rattle.std.proofs.Common.{◌≡◌, ℕ, zero, suc, ◌+◌, ◌-◌, ◌*◌, ◌<◌, ◌≤◌, List, [], ◌∷◌, ◌++◌, length, map, get_or, refl, sym, ap, ◌∙◌, subst, arith}
+use Rattle.std.proofs.Common.{◌≡◌, ℕ, zero, suc, ◌+◌, ◌-◌, ◌*◌, ◌<◌, List, [], ◌∷◌, ◌++◌, length, map, refl, sym, ap, ◌∙◌, arith}
 use Rattle.std.specs.Prelude.{sum_by, slice_index}
 use Rattle.std.specs.List.{range_with_len}
 use Rattle.std.proofs.lemmas.List.Sums.{sum_by-cons, sum_by-append, sum_by_push}
@@ -7,7 +7,7 @@ use Rattle.std.proofs.lemmas.List.FromFn.{fill_by_all}
 use Rattle.std.proofs.Math.Nat.{suc-mul}
 use Rattle.cg_model.specs.declared.mapping.Place.{Place}
 use Rattle.cg_model.specs.Array.{Arch}
-use Rattle.cg_place.specs.Counts.{excess_at, excess_on, unit_excess}
+use Rattle.cg_place.specs.Counts.{excess_at, unit_excess}
 use Rattle.cg_place.specs.Reservations.{over, IsTable}
 use Rattle.cg_place.proofs.Offering.{range_append, range_more}
 

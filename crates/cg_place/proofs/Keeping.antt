@@ -1,8 +1,8 @@
 -- A move keeps what is kept of a placement.
-use Rattle.std.proofs.Common.{◌≡◌, ℕ, ◌+◌, ◌-◌, ◌^◌, ◌<◌, ◌≤◌, List, [], length, get_or, set, refl, sym, ap, ◌∙◌, subst, arith, ⊎_elim}
+use Rattle.std.proofs.Common.{◌≡◌, ℕ, ◌+◌, ◌-◌, ◌^◌, ◌<◌, ◌≤◌, List, [], length, get_or, set, sym, ap, ◌∙◌, subst, arith, ⊎_elim}
 use Rattle.std.specs.Prelude.{slice_index, count_by, filter}
 use Rattle.std.proofs.lemmas.Bool.{cases_eq}
-use Rattle.std.proofs.lemmas.List.{get_or-set_same, get_or-set_other, length-set, set-get_or, get_or_read}
+use Rattle.std.proofs.lemmas.List.{get_or-set_same, get_or-set_other, length-set, get_or_read}
 use Rattle.std.proofs.lemmas.List.Sums.{count_by-le-length, length-filter}
 use Rattle.std.proofs.lemmas.List.Elements.{All-filter}
 use Rattle.cg_model.specs.declared.kernel.OrderEdge.{OrderEdge}
@@ -11,7 +11,7 @@ use Rattle.cg_model.specs.Kernel.{size}
 use Rattle.cg_model.specs.Limits.{most_order_edges}
 use Rattle.cg_place.specs.declared.moves.Move.{Move}
 use Rattle.cg_place.specs.Placed.{Placed, IsPlacement, IsMove, MayStand, place_in, after, back}
-use Rattle.cg_place.specs.Counts.{is_broken, order_violations}
+use Rattle.cg_place.specs.Counts.{is_broken}
 use Rattle.cg_place.specs.Reservations.{entry, over, raised, lowered}
 use Rattle.cg_place.specs.Touching.{touches, list_of, AreKnown}
 use Rattle.cg_place.specs.Kept.{IsKept}
@@ -119,7 +119,7 @@ module _ (P : Placed) (m : Move) (counts : List ℕ) (lists : List (List OrderEd
 -- ---- what the code reads and writes
 
 module _ (P : Placed) (m : Move) (counts : List ℕ) (lists : List (List OrderEdge)) (broken : ℕ) (k : IsKept P counts lists broken) (ok : IsMove P m)
-  (from : Place) (first second : ℕ) (released : List ℕ) (is_from : from ≡ get_or P.places m.node from) (is_first : first ≡ entry P.ii from) (is_released : released ≡ lowered counts first) (is_second : second ≡ entry P.ii m.place) where
+    (from : Place) (first second : ℕ) (released : List ℕ) (is_from : from ≡ get_or P.places m.node from) (is_first : first ≡ entry P.ii from) (is_released : released ≡ lowered counts first) (is_second : second ≡ entry P.ii m.place) where
   pub from_is : from ≡ place_in P.places m.node
   from_is = let e = k.placement.each in get_or_read P.places m.node from (omega (arith, ok.known)) is_from _
 
@@ -139,7 +139,7 @@ module _ (P : Placed) (m : Move) (counts : List ℕ) (lists : List (List OrderEd
 
 -- the list of a node's order edges, as it is read
 module _ (P : Placed) (m : Move) (counts : List ℕ) (lists : List (List OrderEdge)) (broken : ℕ) (k : IsKept P counts lists broken) (ok : IsMove P m)
-  (item list : List OrderEdge) (is_item : item ≡ get_or lists m.node item) (is_list : list ≡ item) where
+    (item list : List OrderEdge) (is_item : item ≡ get_or lists m.node item) (is_list : list ≡ item) where
   pub list_is : list ≡ list_of lists m.node
   list_is = let e = k.touching.each in is_list ∙ get_or_read lists m.node item (omega (arith, ok.known)) is_item []
 

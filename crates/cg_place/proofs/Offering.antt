@@ -1,5 +1,5 @@
 -- The units that offer an operation, below a number.
-use Rattle.std.proofs.Common.{◌≡◌, ℕ, zero, suc, ◌+◌, ◌-◌, ◌<◌, ◌≤◌, Bool, true, false, cond, List, [], ◌∷◌, ◌++◌, length, get_or, refl, sym, ap, ◌∙◌, subst, arith, length-append, append_assoc}
+use Rattle.std.proofs.Common.{◌≡◌, ℕ, zero, suc, ◌+◌, ◌-◌, ◌<◌, Bool, true, false, cond, List, [], ◌∷◌, ◌++◌, length, sym, ap, ◌∙◌, arith, length-append}
 use Rattle.std.specs.Prelude.{filter, slice_index}
 use Rattle.std.specs.List.{range_with_len}
 use Rattle.std.proofs.Math.Seq.{get_or-append_seam}
@@ -75,7 +75,8 @@ pub member : (A : Arch) (op : Op) (k : ℕ) → k < length (offering A op) → (
 member A op k l =
     let test : ℕ → Bool = λ x. among (unit A x).ops op in
     let all : List ℕ = range_with_len 0 (length A.units) in
-    let long = length-range_with_len 0 (length A.units) in
-    (All-get_or (λ x. x < length A.units) (offering A op) k 0 l
-    (All-filter test (λ x. x < length A.units) all (All-from_get_or (λ x. x < length A.units) all 0 (λ i h. let e = get_or-range_with_len 0 (length A.units) i 0 (omega arith) in omega arith))),
-    All-get_or (λ x. test x ≡ true) (offering A op) k 0 l (filter_passes test all))
+    let long = length-range_with_len 0 (length A.units) in (
+      All-get_or (λ x. x < length A.units) (offering A op) k 0 l
+          (All-filter test (λ x. x < length A.units) all (All-from_get_or (λ x. x < length A.units) all 0 (λ i h. let e = get_or-range_with_len 0 (length A.units) i 0 (omega arith) in omega arith))),
+      All-get_or (λ x. test x ≡ true) (offering A op) k 0 l (filter_passes test all),
+    )

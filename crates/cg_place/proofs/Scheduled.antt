@@ -1,8 +1,8 @@
 -- Both counts of a placement are 0 exactly where it is a schedule.
-use Rattle.std.proofs.Common.{◌≡◌, ℕ, zero, suc, ◌+◌, ◌-◌, ◌*◌, ◌%◌, ◌<◌, ◌≤◌, ◌↔◌, Bool, true, false, cond, List, length, get_or, Some, refl, sym, ap, ◌∙◌, subst, arith, ⊎_elim, eqb-true, eq-eqb}
-use Rattle.std.specs.Prelude.{◌&&◌, eqb, nat_lt, count_by, sum_by, slice_get}
+use Rattle.std.proofs.Common.{◌≡◌, ℕ, ◌+◌, ◌-◌, ◌*◌, ◌%◌, ◌<◌, ◌≤◌, ◌↔◌, true, false, cond, List, length, get_or, refl, sym, ap, ◌∙◌, subst, arith, ⊎_elim, eqb-true, eq-eqb}
+use Rattle.std.specs.Prelude.{eqb, count_by, sum_by}
 use Rattle.std.specs.List.{range_with_len}
-use Rattle.std.proofs.lemmas.Bool.{and_parts, and_from, cases_Bool, cases_order, cases_lt, lt-ltb, le-ltb}
+use Rattle.std.proofs.lemmas.Bool.{and_parts, and_from, cases_order, cases_lt, lt-ltb, le-ltb}
 use Rattle.std.proofs.lemmas.Option.{slice_get-get_or, get_or_from_slice_get, slice_get_within}
 use Rattle.std.proofs.lemmas.List.Sums.{sum_by-le, get_or-le-sum_by}
 use Rattle.std.proofs.lemmas.List.Elements.{All-from_get_or}
@@ -75,9 +75,10 @@ module _ (A : Arch) (ii : ℕ) (places : List Place) (some : 0 < ii) (known : (v
       (ap (λ (k : Place). k.time % ii) at_p ∙ eqb-true _ _ b ∙ sym (eqb-true _ _ e) ∙ ap (λ (k : Place). k.time % ii) (sym at_q)))
 
   pub excess_none : (unit_excess A ii places ≡ 0) ↔ AreApart ii places
-  excess_none =
-      (apart,
-      λ alone. sum_zero (excess_on ii places) (length A.units) (λ x lx. sum_zero (excess_at ii places x) ii (λ s ls. let h = one alone x s in omega arith)))
+  excess_none = (
+    apart,
+    λ alone. sum_zero (excess_on ii places) (length A.units) (λ x lx. sum_zero (excess_at ii places x) ii (λ s ls. let h = one alone x s in omega arith)),
+  )
 
 -- ---- order edges
 

@@ -1,13 +1,12 @@
 -- What holds of the first places.
-use Rattle.std.proofs.Common.{◌≡◌, ℕ, ◌<◌, ◌≤◌, List, length, get_or, map, refl, sym, ap, ◌∙◌, subst, arith}
-use Rattle.std.specs.Prelude.{All, slice_index}
-use Rattle.std.specs.List.{range_with_len}
+use Rattle.std.proofs.Common.{◌≡◌, ℕ, ◌<◌, ◌≤◌, List, length, sym, subst, arith}
+use Rattle.std.specs.Prelude.{All}
 use Rattle.std.proofs.lemmas.List.Elements.{All-from_get_or}
 use Rattle.std.proofs.lemmas.List.FromFn.{length-map-range_with_len, get_or-map-range_with_len}
 use Rattle.cg_model.specs.declared.mapping.Place.{Place}
 use Rattle.cg_model.specs.Kernel.{Kernel, IsKernel, size, node}
 use Rattle.cg_model.specs.Array.{Arch}
-use Rattle.cg_place.specs.Placed.{Placed, IsPlacement, IsOffered, AreEarly, MayStand, place_in, offering, first_place, first_places}
+use Rattle.cg_place.specs.Placed.{IsPlacement, IsOffered, AreEarly, MayStand, place_in, first_place, first_places}
 use Rattle.cg_place.proofs.Offering.{member}
 
 module _ (A : Arch) (K : Kernel) (early : List ℕ) (offered : IsOffered A K) where

@@ -1,7 +1,6 @@
 -- The numbers of nodes by unit and slot, as nodes come and go.
-use Rattle.std.proofs.Common.{◌≡◌, ◌≢◌, ℕ, zero, suc, ◌+◌, ◌-◌, ◌*◌, ◌/◌, ◌%◌, ◌^◌, ◌<◌, ◌≤◌, Bool, true, false, cond, List, [], ◌∷◌, ◌++◌, length, take, map, get_or, set, refl, sym, ap, ◌∙◌, subst, arith, add-zero, ⊎_elim, eqb-true, eq-eqb}
-use Rattle.std.specs.Prelude.{◌&&◌, eqb, All, count_by, sum_by, slice_index}
-use Rattle.std.specs.List.{range_with_len}
+use Rattle.std.proofs.Common.{◌≡◌, ◌≢◌, ℕ, ◌+◌, ◌-◌, ◌*◌, ◌/◌, ◌%◌, ◌<◌, ◌≤◌, true, false, cond, List, length, take, get_or, set, refl, sym, ap, ◌∙◌, subst, arith, add-zero, ⊎_elim, eqb-true, eq-eqb}
+use Rattle.std.specs.Prelude.{eqb, count_by, slice_index}
 use Rattle.std.proofs.lemmas.Bool.{and_parts, and_from, cases_Bool, both_ways, cases_lt}
 use Rattle.std.proofs.lemmas.List.{get_or-set_same, get_or-set_other, length-set}
 use Rattle.std.proofs.lemmas.List.Sums.{sum_by-set, sum_by-le, sum_by_more, get_or-le-sum_by, count_by-le-length}

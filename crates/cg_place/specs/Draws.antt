@@ -10,11 +10,12 @@ use Rattle.cg_place.specs.Placed.{offering}
 abbrev pub draw : ℕ → ℕ → ℕ
 draw k word = word * k / 2 ^ 32
 
+-- the node that a word draws
 abbrev pub drawn_node : Kernel → ℕ → ℕ
 drawn_node K w = draw (size K) w
 
--- for node v one of the units that offer its operation, and one of the 2 * ii + 8 times from its
--- earliest on
+-- the place that two words draw for node v: one of the units that offer its operation, and one of the
+-- 2 * ii + 8 times from its earliest on
 abbrev pub drawn_place : Arch → Kernel → ℕ → List ℕ → ℕ → ℕ → ℕ → Place
 drawn_place A K ii early v w x =
     record {
@@ -22,7 +23,7 @@ drawn_place A K ii early v w x =
       time = slice_index early v + draw (2 * ii + 8) x;
     }
 
--- the node and its place by three words
+-- the move that three words draw
 abbrev pub drawn_move : Arch → Kernel → ℕ → List ℕ → ℕ → ℕ → ℕ → Move
 drawn_move A K ii early w1 w2 w3 =
     let v = drawn_node K w1 in record { node = v; place = drawn_place A K ii early v w2 w3 }

@@ -35,7 +35,7 @@ impl<'a> Model for Placement<'a> {
 }
 
 impl<'a> Placement<'a> {
-    ghost use Rattle.std.specs.Prelude.{◌≡◌, ◌<◌, ◌≤◌, ◌+◌, ◌*◌, IfOk, length, slice_index};
+    ghost use Rattle.std.specs.Prelude.{◌≡◌, ◌<◌, ◌≤◌, ◌+◌, ◌*◌, IfOk, slice_index};
     ghost use Rattle.cg_model.specs.Limits.{most_contexts};
     ghost use Rattle.cg_model.specs.Kernel.{size};
     ghost use Rattle.cg_place.specs.Placed.{IsOffered, AreEarly, IsPlacement, IsMove, after, back, first_places, place_in};

@@ -1,7 +1,7 @@
 //! The first places, and places by words.
-ghost use Rattle.std.specs.Prelude.{◌≡◌, ◌<◌, ◌≤◌, ◌↔◌, IsTrue, ◌+◌, ◌*◌, IfOk, length, slice_index};
+ghost use Rattle.std.specs.Prelude.{◌≡◌, ◌<◌, ◌≤◌, ◌↔◌, ◌+◌, ◌*◌, IsTrue, IfOk, slice_index};
 ghost use Rattle.cg_model.specs.Kernel.{IsKernel, size};
-ghost use Rattle.cg_model.specs.Limits.{latest_time, most_contexts};
+ghost use Rattle.cg_model.specs.Limits.{most_contexts};
 ghost use Rattle.cg_place.specs.Placed.{IsOffered, AreEarly, MayStand, first_places as first_of};
 ghost use Rattle.cg_place.specs.Draws.{drawn_move};
 

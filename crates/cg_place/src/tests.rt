@@ -1,4 +1,7 @@
-//! A walk of four steps on two units, worked out by hand.
+//! Moves on two units, worked out by hand.
+ghost use Rattle.std.specs.Prelude.{◌≡◌, ◌<◌};
+ghost use Rattle.cg_model.specs.Kernel.{size};
+ghost use Rattle.cg_place.specs.Placed.{IsMove};
 
 use crate::laws::PlainPlacement;
 use crate::{Move, Place, Placement, are_early, is_offered};
@@ -27,7 +30,10 @@ fn unit(alloc: Global, name: &str, ops: OpSet) -> Result<Element, AllocError> {
 
 fn parts(alloc: Global) -> Result<Parts, AllocError> {
     let adds = OpSet::empty().with(Op::Add);
-    let units = vec![in alloc; unit(alloc, "a", adds)?, unit(alloc, "b", adds.with(Op::Mul))?]?;
+    let units = vec![in alloc;
+        unit(alloc, "a", adds)?,
+        unit(alloc, "b", adds.with(Op::Mul))?,
+    ]?;
     Ok(Parts {
         name: Name::copy_of(alloc, "two")?,
         contexts: 4,
@@ -37,10 +43,14 @@ fn parts(alloc: Global) -> Result<Parts, AllocError> {
     })
 }
 
+fn place(unit: u32, time: u32) -> Place {
+    Place { unit, time }
+}
+
 fn at(node: u32, unit: u32, time: u32) -> Move {
     Move {
         node,
-        place: Place { unit, time },
+        place: place(unit, time),
     }
 }
 
@@ -52,39 +62,76 @@ fn count(kept: &Placement, plain: &PlainPlacement, excess: u32, violations: u32)
         && plain.order_violations() == violations
 }
 
+/// Makes the move of these words in both placements, and gives it with the move that undoes it.
+fn step(kept: &mut Placement, plain: &mut PlainPlacement, w1: u32, w2: u32, w3: u32) -> (Move, Move)
+    requires nodes { 0 < size kept.old.kernel }
+    requires same { plain.old ≡ kept.old }
+    ensures kernel { kept.new.kernel ≡ kept.old.kernel }
+    ensures same { plain.new ≡ kept.new }
+    ensures back { IsMove kept.new result.1 }
+{
+    let change = kept.propose(w1, w2, w3);
+    let _ = plain.apply(change);
+    (change, kept.apply(change))
+}
+
+/// Makes a move in both.
+fn undo(kept: &mut Placement, plain: &mut PlainPlacement, change: Move)
+    requires moves { IsMove kept.old change }
+    requires same { plain.old ≡ kept.old }
+    ensures kernel { kept.new.kernel ≡ kept.old.kernel }
+    ensures same { plain.new ≡ kept.new }
+{
+    kept.undo(change);
+    plain.undo(change);
+}
+
+/// Makes two moves, of which the first is undone, and tells how many steps were as they should be.
+fn right_steps(kept: &mut Placement, plain: &mut PlainPlacement) -> u32
+    requires nodes { 0 < size kept.old.kernel }
+    requires same { plain.old ≡ kept.old }
+{
+    // x on unit 1 at 0; y and z on unit 0 at 0 and 2, in slot 0 both. y doesn't follow x.
+    if kept.place(0) != place(1, 0) || !count(kept, plain, 1, 1) {
+        return 1;
+    }
+    // The last node, the last of its units, the last time.
+    if kept.propose(u32::MAX, u32::MAX, u32::MAX) != at(2, 1, 13) {
+        return 2;
+    }
+    // Half of 3 nodes is 1, half of 2 units is 1, a third of 12 times is 4. y is with x in slot 0 of unit 1; it follows x,
+    // but x doesn't follow y, nor does z.
+    let (first, back) = step(kept, plain, 0x8000_0000, 0x8000_0000, 0x5555_5556);
+    if first != at(1, 1, 4) || back != at(1, 0, 0) || !count(kept, plain, 1, 2) {
+        return 3;
+    }
+    undo(kept, plain, back);
+    if !count(kept, plain, 1, 1) {
+        return 4;
+    }
+    // The last node on unit 0, a quarter of 12 times after its earliest: in slot 1, alone, and only y is broken still.
+    let (second, last) = step(kept, plain, u32::MAX, 0, 0x4000_0000);
+    if second != at(2, 0, 5) || last != at(2, 0, 2) || !count(kept, plain, 0, 1) {
+        return 5;
+    }
+    6
+}
+
+/// Starts both placements at an interval of 2, and tells how many steps were as they should be.
+fn walked(alloc: Global, arch: &Arch, kernel: &Kernel, early: &[u32]) -> Result<u32, AllocError> {
+    if !is_offered(arch, kernel) || !are_early(kernel, early) || kernel.nodes().is_empty() {
+        return Ok(0);
+    }
+    let mut kept = Placement::start(alloc, arch, kernel, 2, early)?;
+    let mut plain = PlainPlacement::start(alloc, arch, kernel, 2, early)?;
+    Ok(right_steps(&mut kept, &mut plain))
+}
+
 #[test]
 fn moves_of_three_nodes(rt: HostRuntime) -> Result<(), Fail> {
     let alloc = rt.alloc();
     let arch = validate(alloc, &parts(alloc)?)?;
     let kernel = read_kernel(alloc, KERNEL)?;
-    let early = [0, 0, 2];
-    assert!(rt; is_offered(&arch, &kernel) && are_early(&kernel, &early));
-    assert_eq!(rt; kernel.nodes().len(), 3);
-    let mut kept = Placement::start(alloc, &arch, &kernel, 2, &early)?;
-    let mut plain = PlainPlacement::start(alloc, &arch, &kernel, 2, &early)?;
-    // x on unit 1 at 0; y and z on unit 0 at 0 and 2, in slot 0 both. y doesn't follow x.
-    assert!(rt; kept.place(0) == Place { unit: 1, time: 0 } && kept.place(2) == Place { unit: 0, time: 2 });
-    assert!(rt; count(&kept, &plain, 1, 1));
-    // Half of 3 nodes is 1, half of 2 units is 1, a third of 12 times is 4.
-    let first = kept.propose(0x8000_0000, 0x8000_0000, 0x5555_5556);
-    assert_eq!(rt; first, plain.propose(0x8000_0000, 0x8000_0000, 0x5555_5556));
-    assert_eq!(rt; first, at(1, 1, 4));
-    // y is with x in slot 0 of unit 1; it follows x, but x doesn't follow y, nor does z.
-    let back = kept.apply(first);
-    assert_eq!(rt; back, at(1, 0, 0));
-    assert_eq!(rt; plain.apply(first), back);
-    assert!(rt; count(&kept, &plain, 1, 2));
-    // The last node, the last of its units, the last time.
-    assert_eq!(rt; kept.propose(u32::MAX, u32::MAX, u32::MAX), at(2, 1, 13));
-    kept.undo(back);
-    plain.undo(back);
-    assert_eq!(rt; kept.place(1), Place { unit: 0, time: 0 });
-    assert!(rt; count(&kept, &plain, 1, 1));
-    // z on unit 0 in slot 1, alone: only y is broken still.
-    let second = kept.propose(u32::MAX, 0, 0x4000_0000);
-    assert_eq!(rt; second, at(2, 0, 5));
-    let _ = kept.apply(second);
-    let _ = plain.apply(second);
-    assert!(rt; count(&kept, &plain, 0, 1));
+    assert_eq!(rt; walked(alloc, &arch, &kernel, &[0, 0, 2])?, 6);
     Ok(())
 }

@@ -1,7 +1,7 @@
 //! The order edges of each node, and those that times break.
-ghost use Rattle.std.specs.Prelude.{◌≡◌, ℕ, ◌<◌, ◌≤◌, ◌∷◌, ◌++◌, [], IfOk, OnOk, length, replicate, slice_set, count_by};
+ghost use Rattle.std.specs.Prelude.{◌≡◌, ◌<◌, ◌≤◌, ◌∷◌, ◌++◌, [], IfOk, OnOk, length, replicate, slice_set, count_by};
 ghost use Rattle.cg_model.specs.Kernel.{size};
-ghost use Rattle.cg_model.specs.Limits.{most_contexts, most_order_edges};
+ghost use Rattle.cg_model.specs.Limits.{most_order_edges};
 ghost use Rattle.cg_place.specs.Counts as spec;
 ghost use Rattle.cg_place.specs.Touching.{AreKnown, AreTouching, IsAdded, list_of};
 
@@ -10,10 +10,7 @@ use cg_model::{Items, OrderEdge, Place};
 use std::alloc::{AllocError, Global};
 
 /// For each node the order edges that begin or end there.
-pub(crate) fn touching(
-    alloc: Global,
-    kernel: &Kernel,
-) -> Result<Vec<Items<OrderEdge>>, AllocError>
+pub(crate) fn touching(alloc: Global, kernel: &Kernel) -> Result<Vec<Items<OrderEdge>>, AllocError>
     ensures { IfOk result (λ t. AreTouching (size kernel.now) kernel.now.order t.items) }
 {
     let mut lists = no_edges(alloc, kernel.nodes().len())?;

@@ -1,5 +1,5 @@
 //! The excess of units, counted place by place.
-ghost use Rattle.std.specs.Prelude.{◌≡◌, ◌<◌, ◌≤◌, ◌*◌, length, count_by};
+ghost use Rattle.std.specs.Prelude.{◌≡◌, ◌<◌, ◌≤◌, length, count_by};
 ghost use Rattle.cg_model.specs.Limits.{most_contexts, most_nodes};
 ghost use Rattle.cg_place.specs.Counts as spec;
 

@@ -1,7 +1,7 @@
-use Rattle.std.proofs.Common.{set, List, ap, ◌∙◌}
+use Rattle.std.proofs.Common.{List, ap, ◌∙◌}
 use Rattle.std.proofs.lemmas.List.{set-set, set-get_or}
 use Rattle.cg_model.specs.declared.mapping.Place.{Place}
-use Rattle.cg_place.specs.Placed.{Placed, place_in}
+use Rattle.cg_place.specs.Placed.{place_in}
 use Rattle.cg_place.proofs.laws.undone.Goals as goal
 
 pub returns : goal.returns

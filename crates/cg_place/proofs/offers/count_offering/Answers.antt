@@ -1,4 +1,4 @@
-use Rattle.std.proofs.Common.{◌∙◌, sym, ap, arith}
+use Rattle.std.proofs.Common.{◌∙◌, sym, arith}
 use Rattle.cg_place.proofs.Offering.{counted, passed}
 use Rattle.cg_place.proofs.offers.count_offering.Goals as goal
 use Rattle.cg_place.proofs.offers.count_offering.Goals.{then-offers, else-offers}

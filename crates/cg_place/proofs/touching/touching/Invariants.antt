@@ -1,4 +1,4 @@
-use Rattle.std.proofs.Common.{length, take}
+use Rattle.std.proofs.Common.{take}
 use Rattle.cg_model.specs.Kernel.{size}
 use Rattle.cg_place.specs.Touching.{AreTouching}
 use Rattle.cg_place.proofs.touching.touching.Given as goal

@@ -1,4 +1,4 @@
-use Rattle.std.proofs.Common.{◌≡◌, ◌+◌, ◌-◌, arith, ap, ◌∙◌}
+use Rattle.std.proofs.Common.{◌≡◌, ◌-◌, arith, ap, ◌∙◌}
 use Rattle.cg_place.specs.Counts.{excess_at}
 use Rattle.cg_place.proofs.Excess.{sum_more}
 use Rattle.cg_place.proofs.laws.counts.excess_on.Goals as goal

@@ -1,8 +1,6 @@
-use Rattle.std.proofs.Common.{◌≡◌, ◌+◌, ◌≤◌, length, take, subst, sym, ap, ◌∙◌, arith}
+use Rattle.std.proofs.Common.{◌+◌, ◌≤◌, length, take, subst, sym, ap, ◌∙◌, arith}
 use Rattle.std.proofs.lemmas.List.{length-take}
-use Rattle.cg_model.specs.declared.mapping.Place.{Place}
-use Rattle.cg_place.specs.Placed.{place_in}
-use Rattle.cg_place.specs.Reservations.{IsTable, entry, raised}
+use Rattle.cg_place.specs.Reservations.{IsTable, raised}
 use Rattle.cg_place.proofs.Tables.{over_few, one_more}
 use Rattle.cg_place.proofs.reservations.Reservations.of.Goals as goal
 
