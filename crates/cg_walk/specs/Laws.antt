@@ -1,0 +1,74 @@
+-- The laws of the walk.
+use Rattle.std.specs.Prelude.{◌≡◌, ◌≢◌, ℕ, ◌<◌, true, List, length, Option, Some, None, slice_get}
+use Rattle.rand_pcg.specs.Lcg.{Lcg}
+use Rattle.cg_model.specs.Kernel.{Kernel, IsKernel}
+use Rattle.cg_model.specs.Array.{Arch, IsArch}
+use Rattle.cg_model.specs.Mapping.{IsLegal, positions_on}
+use Rattle.cg_claims.specs.Table.{Table, IsMore, excess, aged}
+use Rattle.cg_route.specs.Least.{Ends, IsFound}
+use Rattle.cg_place.specs.declared.moves.Move.{Move}
+use Rattle.cg_place.specs.Placed.{moved}
+use Rattle.cg_walk.specs.State.{State, edges, ends_of, table_of_state, state_positions, cost, mapping_of}
+use Rattle.cg_walk.specs.Walk.{edge, with_route, touches, Walked, IsEnd}
+use Rattle.cg_walk.specs.Good.{IsReady, IsGood}
+use Rattle.cg_walk.specs.Alike.{AreAlike}
+
+-- a good state of cost 0 stands for a legal mapping
+abbrev pub IsLegalAtZero : Type 0
+IsLegalAtZero =
+    (A : Arch) (K : Kernel) (ii : ℕ) (S : State) → IsArch A → IsKernel K → IsGood A K ii S →
+    cost A K ii S ≡ 0 → IsLegal A K (mapping_of K ii S)
+
+-- the number of moves determines the generator and the state
+abbrev pub IsOneWalk : Type 0
+IsOneWalk =
+    (A : Arch) (K : Kernel) (ii : ℕ) (early : List ℕ) (moves seed k : ℕ) (g h : Lcg) (S T : State) →
+    Walked A K ii early moves seed k g S → Walked A K ii early moves seed k h T → (g ≡ h) × (S ≡ T)
+
+-- a walk has one end
+abbrev pub IsOneEnd : Type 0
+IsOneEnd =
+    (A : Arch) (K : Kernel) (ii : ℕ) (early : List ℕ) (moves seed k l : ℕ) (g h : Lcg) (S T : State) →
+    IsEnd A K ii early moves seed k g S → IsEnd A K ii early moves seed l h T → (k ≡ l) × (g ≡ h) × (S ≡ T)
+
+-- every state of a walk that can begin is good
+abbrev pub IsGoodAllAlong : Type 0
+IsGoodAllAlong =
+    (A : Arch) (K : Kernel) (ii : ℕ) (early : List ℕ) (moves seed k : ℕ) (g : Lcg) (S : State) →
+    IsReady A K ii early → Walked A K ii early moves seed k g S → IsGood A K ii S
+
+-- a route more: where an edge operand has none, the positions of the path that it gets are added
+abbrev pub IsRouteMore : Type 0
+IsRouteMore =
+    (A : Arch) (K : Kernel) (ii : ℕ) (S : State) (i : ℕ) (path : List ℕ) →
+    i < length (edges K) → slice_get S.routes i ≡ Some None →
+    IsMore (table_of_state A K ii S) (table_of_state A K ii (with_route S i (Some path)))
+    (positions_on A (edge K i).source (ends_of A ii S.places (edge K i)).start path)
+
+-- a route less: the positions of the path that an edge operand had are taken away
+abbrev pub IsRouteLess : Type 0
+IsRouteLess =
+    (A : Arch) (K : Kernel) (ii : ℕ) (S : State) (i : ℕ) (path : List ℕ) →
+    i < length (edges K) → slice_get S.routes i ≡ Some (Some path) →
+    IsMore (table_of_state A K ii (with_route S i None)) (table_of_state A K ii S)
+    (positions_on A (edge K i).source (ends_of A ii S.places (edge K i)).start path)
+
+-- a node is placed: where none of the edge operands that touch it has a route, no position changes
+abbrev pub IsPlacedAlone : Type 0
+IsPlacedAlone =
+    (A : Arch) (K : Kernel) (ii : ℕ) (S : State) (m : Move) →
+    ((i : ℕ) (path : List ℕ) → i < length (edges K) → touches K m.node i ≡ true →
+    slice_get S.routes i ≢ Some (Some path)) →
+    state_positions A K ii (record S { places = moved S.places m }) ≡ state_positions A K ii S
+
+-- excess, aged histories and what is found depend on the numbers of uses alone
+abbrev pub IsExcessByUses : Type 0
+IsExcessByUses = (T R : Table) → AreAlike T R → excess T ≡ excess R
+
+abbrev pub IsAgedByUses : Type 0
+IsAgedByUses = (T R : Table) → AreAlike T R → aged T ≡ aged R
+
+abbrev pub IsFoundByUses : Type 0
+IsFoundByUses =
+    (T R : Table) (u : ℕ) (ends : Ends) (found : Option (List ℕ)) → AreAlike T R →
+    IsFound T u ends found → IsFound R u ends found

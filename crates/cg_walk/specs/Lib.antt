@@ -1,0 +1,6 @@
+pub mod State
+pub mod Words
+pub mod Walk
+pub mod Good
+pub mod Alike
+pub mod Laws
