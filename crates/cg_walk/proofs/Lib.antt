@@ -1,0 +1,9 @@
+pub mod Once
+pub mod Edges
+pub mod Sets
+pub mod Uses
+pub mod Alike
+pub mod Zero
+pub mod Rules
+pub mod Drawn
+pub mod Keeps

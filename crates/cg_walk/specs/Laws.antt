@@ -1,5 +1,5 @@
 -- The laws of the walk.
-use Rattle.std.specs.Prelude.{◌≡◌, ◌≢◌, ℕ, ◌<◌, true, List, length, Option, Some, None, slice_get}
+use Rattle.std.specs.Prelude.{◌≡◌, ◌≢◌, ℕ, ◌+◌, ◌*◌, ◌<◌, true, List, length, Option, Some, None, slice_get}
 use Rattle.rand_pcg.specs.Lcg.{Lcg}
 use Rattle.cg_model.specs.Kernel.{Kernel, IsKernel}
 use Rattle.cg_model.specs.Array.{Arch, IsArch}
@@ -8,7 +8,8 @@ use Rattle.cg_claims.specs.Table.{Table, IsMore, excess, aged}
 use Rattle.cg_route.specs.Least.{Ends, IsFound}
 use Rattle.cg_place.specs.declared.moves.Move.{Move}
 use Rattle.cg_place.specs.Placed.{moved}
-use Rattle.cg_walk.specs.State.{State, edges, ends_of, table_of_state, state_positions, cost, mapping_of}
+use Rattle.cg_place.specs.Counts.{order_violations, unit_excess}
+use Rattle.cg_walk.specs.State.{State, edges, ends_of, table_of_state, state_positions, missing, cost, mapping_of}
 use Rattle.cg_walk.specs.Walk.{edge, with_route, touches, Walked, IsEnd}
 use Rattle.cg_walk.specs.Good.{IsReady, IsGood}
 use Rattle.cg_walk.specs.Alike.{AreAlike}
@@ -36,6 +37,13 @@ abbrev pub IsGoodAllAlong : Type 0
 IsGoodAllAlong =
     (A : Arch) (K : Kernel) (ii : ℕ) (early : List ℕ) (moves seed k : ℕ) (g : Lcg) (S : State) →
     IsReady A K ii early → Walked A K ii early moves seed k g S → IsGood A K ii S
+
+-- so a walk that can begin, and comes to a state of cost 0, has found a legal mapping
+abbrev pub IsLegalWhereFound : Type 0
+IsLegalWhereFound =
+    (A : Arch) (K : Kernel) (ii : ℕ) (early : List ℕ) (moves seed k : ℕ) (g : Lcg) (S : State) →
+    IsArch A → IsKernel K → IsReady A K ii early → Walked A K ii early moves seed k g S →
+    cost A K ii S ≡ 0 → IsLegal A K (mapping_of K ii S)
 
 -- a route more: where an edge operand has none, the positions of the path that it gets are added
 abbrev pub IsRouteMore : Type 0
@@ -72,3 +80,10 @@ abbrev pub IsFoundByUses : Type 0
 IsFoundByUses =
     (T R : Table) (u : ℕ) (ends : Ends) (found : Option (List ℕ)) → AreAlike T R →
     IsFound T u ends found → IsFound R u ends found
+
+-- so does the cost, beside the places and the number of routes
+abbrev pub IsCostByUses : Type 0
+IsCostByUses =
+    (A : Arch) (K : Kernel) (ii : ℕ) (S : State) (T : Table) → AreAlike T (table_of_state A K ii S) →
+    cost A K ii S
+    ≡ 1000 * (missing S + order_violations K ii S.places + unit_excess A ii S.places) + excess T
