@@ -23,12 +23,13 @@ use Rattle.cg_walk.proofs.Uses.{edge_is, away, same_ends, touching_known, all_kn
 use Rattle.cg_walk.proofs.Drawn.{MayTake, drawn_may, proposal_may}
 
 -- a route that is a path between the ends of its edge operand, or none
-abbrev Fits : Arch → ℕ → List Place → EdgeOperand → Option (List ℕ) → Type 0
+abbrev pub Fits : Arch → ℕ → List Place → EdgeOperand → Option (List ℕ) → Type 0
 Fits A ii places e None = Unit {0}
 Fits A ii places e (Some path) = IsTimedPath A (ends_of A ii places e) path
 
 module _ (A : Arch) (K : Kernel) (ii : ℕ) where
-  with_route_good : (S : State) (i : ℕ) (route : Option (List ℕ)) → i < length (edges K) → Fits A ii S.places (edge K i) route → IsGood A K ii S → IsGood A K ii (with_route S i route)
+  -- a route that fits keeps a state good
+  pub with_route_good : (S : State) (i : ℕ) (route : Option (List ℕ)) → i < length (edges K) → Fits A ii S.places (edge K i) route → IsGood A K ii S → IsGood A K ii (with_route S i route)
   with_route_good S i route l fits good =
       let routes = good.routes in
       record {
@@ -51,7 +52,8 @@ module _ (A : Arch) (K : Kernel) (ii : ℕ) where
             (cases_eq j i);
       }
 
-  found_fits : (S : State) (i : ℕ) (found : Option (List ℕ)) → IsFoundFor A K ii S i found → Fits A ii S.places (edge K i) found
+  -- what is found fits
+  pub found_fits : (S : State) (i : ℕ) (found : Option (List ℕ)) → IsFoundFor A K ii S i found → Fits A ii S.places (edge K i) found
   found_fits S i None h = tt
   found_fits S i (Some path) h = h.0.is_path
 

@@ -7,3 +7,7 @@ pub mod Zero
 pub mod Rules
 pub mod Drawn
 pub mod Keeps
+pub mod Small
+pub mod Histories
+mod Rows
+mod States

@@ -79,7 +79,7 @@ positions_are A K ii S M same (e ∷ es) (Some path ∷ rs) all =
     let here = All-head (IsEdge K) e es all in
     rw (here.1, same, rest) refl
 
-in_range : (A : Arch) (x q : ℕ) → Contains (resource A x).drivers q → x < length A.resources
+pub in_range : (A : Arch) (x q : ℕ) → Contains (resource A x).drivers q → x < length A.resources
 in_range A x q m =
     ⊎_elim (λ a. a)
     (λ a. let z = get_or_past A.resources x (record { name = []; kind = Wire; drivers = [] }) a in
@@ -87,7 +87,7 @@ in_range A x q m =
     absurd (omega (arith, m.1, y)))
     (cases_lt x (length A.resources))
 
-out_known : (A : Arch) → IsArch A → (x : ℕ) → x < length A.units → (unit A x).out < length A.resources
+pub out_known : (A : Arch) → IsArch A → (x : ℕ) → x < length A.units → (unit A x).out < length A.resources
 out_known A arch x l =
     ⊎_elim (λ a. a)
     (λ a.

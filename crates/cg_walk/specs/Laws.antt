@@ -1,11 +1,11 @@
 -- The laws of the walk.
-use Rattle.std.specs.Prelude.{◌≡◌, ◌≢◌, ℕ, ◌+◌, ◌*◌, ◌<◌, true, List, length, Option, Some, None, slice_get}
+use Rattle.std.specs.Prelude.{◌≡◌, ◌≢◌, ℕ, ◌+◌, ◌*◌, ◌^◌, ◌<◌, ◌≤◌, true, List, All, length, Option, Some, None, slice_get}
 use Rattle.rand_pcg.specs.Lcg.{Lcg}
 use Rattle.cg_model.specs.Kernel.{Kernel, IsKernel}
 use Rattle.cg_model.specs.Array.{Arch, IsArch}
 use Rattle.cg_model.specs.Mapping.{IsLegal, positions_on}
 use Rattle.cg_claims.specs.Table.{Table, IsMore, excess, aged}
-use Rattle.cg_route.specs.Least.{Ends, IsFound}
+use Rattle.cg_route.specs.Least.{Ends, IsTimedPath, IsFound}
 use Rattle.cg_place.specs.declared.moves.Move.{Move}
 use Rattle.cg_place.specs.Placed.{moved}
 use Rattle.cg_place.specs.Counts.{order_violations, unit_excess}
@@ -13,6 +13,7 @@ use Rattle.cg_walk.specs.State.{State, edges, ends_of, table_of_state, state_pos
 use Rattle.cg_walk.specs.Walk.{edge, with_route, touches, Walked, IsEnd}
 use Rattle.cg_walk.specs.Good.{IsReady, IsGood}
 use Rattle.cg_walk.specs.Alike.{AreAlike}
+use Rattle.cg_walk.specs.Ranges.{AreInRange, most_steps}
 
 -- a good state of cost 0 stands for a legal mapping
 abbrev pub IsLegalAtZero : Type 0
@@ -87,3 +88,27 @@ IsCostByUses =
     (A : Arch) (K : Kernel) (ii : ℕ) (S : State) (T : Table) → AreAlike T (table_of_state A K ii S) →
     cost A K ii S
     ≡ 1000 * (missing S + order_violations K ii S.places + unit_excess A ii S.places) + excess T
+
+-- the route of each edge operand of a good state begins and ends in range
+abbrev pub AreEndsInRange : Type 0
+AreEndsInRange =
+    (A : Arch) (K : Kernel) (ii : ℕ) (S : State) (i : ℕ) → IsArch A → IsKernel K → IsGood A K ii S →
+    i < length (edges K) → AreInRange A (ends_of A ii S.places (edge K i))
+
+-- a path between such ends has few resources, all of the architecture
+abbrev pub IsPathInRange : Type 0
+IsPathInRange =
+    (A : Arch) (ends : Ends) (path : List ℕ) → IsArch A → AreInRange A ends → IsTimedPath A ends path →
+    All (λ r. r < length A.resources) path × (length path ≤ most_steps)
+
+-- there is room in a table for the positions of a good state and of one path more
+abbrev pub IsRoomEnough : Type 0
+IsRoomEnough =
+    (A : Arch) (K : Kernel) (ii : ℕ) (S : State) → IsArch A → IsKernel K → IsGood A K ii S →
+    length (state_positions A K ii S) + most_steps ≤ 2 ^ 48
+
+-- no history has grown more often than moves were made
+abbrev pub AreHistoriesSmall : Type 0
+AreHistoriesSmall =
+    (A : Arch) (K : Kernel) (ii : ℕ) (early : List ℕ) (moves seed k : ℕ) (g : Lcg) (S : State) →
+    Walked A K ii early moves seed k g S → All (λ h. h ≤ k) S.history

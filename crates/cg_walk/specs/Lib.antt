@@ -3,4 +3,5 @@ pub mod Words
 pub mod Walk
 pub mod Good
 pub mod Alike
+pub mod Ranges
 pub mod Laws

@@ -5,7 +5,7 @@
 //! calls it has them at hand for its own proofs.
 #![tactic(auto)]
 
-ghost use Rattle.cg_walk.specs.Laws.{IsLegalAtZero, IsLegalWhereFound, IsOneWalk, IsOneEnd, IsGoodAllAlong, IsRouteMore, IsRouteLess, IsPlacedAlone, IsExcessByUses, IsAgedByUses, IsFoundByUses, IsCostByUses};
+ghost use Rattle.cg_walk.specs.Laws.{IsLegalAtZero, IsLegalWhereFound, IsOneWalk, IsOneEnd, IsGoodAllAlong, IsRouteMore, IsRouteLess, IsPlacedAlone, IsExcessByUses, IsAgedByUses, IsFoundByUses, IsCostByUses, AreEndsInRange, IsPathInRange, IsRoomEnough, AreHistoriesSmall};
 
 mod edge;
 
@@ -41,4 +41,13 @@ pub fn by_uses()
     ensures aged { IsAgedByUses }
     ensures found { IsFoundByUses }
     ensures cost { IsCostByUses }
+{}
+
+/// The numbers of the walk's states are small: the ends of routes, the routes, all positions together, and
+/// the histories.
+pub fn ranges()
+    ensures ends { AreEndsInRange }
+    ensures path { IsPathInRange }
+    ensures room { IsRoomEnough }
+    ensures histories { AreHistoriesSmall }
 {}
