@@ -11,3 +11,5 @@ pub mod Small
 pub mod Histories
 mod Rows
 mod States
+pub mod Undone
+pub mod Pending
