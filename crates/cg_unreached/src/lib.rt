@@ -8,6 +8,8 @@ mod bits;
 #[cfg(test)]
 mod graphs;
 #[cfg(test)]
+mod routes;
+#[cfg(test)]
 mod texts;
 #[cfg(test)]
 mod words;
