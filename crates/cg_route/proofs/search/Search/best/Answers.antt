@@ -4,7 +4,7 @@ use Rattle.std.proofs.lemmas.List.{take_all}
 use Rattle.std.proofs.lemmas.List.Elements.{Contains-get_or}
 use Rattle.cg_mrrg.specs.Graph.{registers_after}
 use Rattle.cg_mrrg.proofs.After.{after_is}
-use Rattle.cg_route.specs.Layers.{Sought, Step, Way, IsBest, way_price, better, held, no_way, IsCheap, at, link, size}
+use Rattle.cg_route.specs.Layers.{Sought, Step, Way, IsBest, way_price, better, held, no_way, IsCheap, at, link, delay_into, size}
 use Rattle.cg_route.proofs.Ranks.{driven}
 use Rattle.cg_route.proofs.Carries.{best_seen, below_seen, best_unseen}
 use Rattle.cg_route.proofs.Best.{held_better}
@@ -43,6 +43,7 @@ loop-register-preserved c =
     let r = get_or rs i 0 in
     let x : ℕ = get_or c.registers_after-register-items.result.now i 0 in
     let known : r < size S = driven S q r (after_is S.table.arch q r (Contains-get_or rs i 0 inside)).0 in
+    let one : delay_into S r ≡ 1 = (after_is S.table.arch q r (Contains-get_or rs i 0 inside)).1 in
     let e : x ≡ r = ap (λ (l : List ℕ). get_or l i 0) is in
     let ways : List (Option Way) = c.args.ways.now in
     let price = c.loop-register.price in
@@ -59,8 +60,8 @@ loop-register-preserved c =
           let rest = (p-small w.in-Some.way p (c.requires.cheap x way w.in-Some.is) cheap) in
           let is : new ≡ better old p r = held_is w.price-is w.next-is ∙ (held_better price next p x rest).0 (sym w.is_better.ensures ∙ w.if-is_better.true) ∙ ap (λ n. better old p n) e in
           record {
-            best = λ later v. best_seen S time q ways rs i p old new way inside known found paid is later v (c.loop-register.invariant.best later v);
-            below = λ later high v h. below_seen S time q ways rs i p old new way known found cheap is later high v h (c.loop-register.invariant.below later high v h);
+            best = λ later v. best_seen S time q ways rs i p old new way inside known one found paid is later v (c.loop-register.invariant.best later v);
+            below = λ later high v h. below_seen S time q ways rs i p old new way known one found cheap is later high v h (c.loop-register.invariant.below later high v h);
           }
       | in-Some+else-is_better w ↦
           let way = w.in-Some.way in
@@ -71,8 +72,8 @@ loop-register-preserved c =
           let rest = (p-small w.in-Some.way p (c.requires.cheap x way w.in-Some.is) cheap) in
           let is : new ≡ better old p r = held_is w.price-is w.next-is ∙ (held_better price next p x rest).1 (sym w.is_better.ensures ∙ w.if-is_better.false) ∙ ap (λ n. better old p n) e in
           record {
-            best = λ later v. best_seen S time q ways rs i p old new way inside known found paid is later v (c.loop-register.invariant.best later v);
-            below = λ later high v h. below_seen S time q ways rs i p old new way known found cheap is later high v h (c.loop-register.invariant.below later high v h);
+            best = λ later v. best_seen S time q ways rs i p old new way inside known one found paid is later v (c.loop-register.invariant.best later v);
+            below = λ later high v h. below_seen S time q ways rs i p old new way known one found cheap is later high v h (c.loop-register.invariant.below later high v h);
           }
       | in_default w ↦
           let found : get_or ways r None ≡ None = ap (λ n. get_or ways n None) (sym e) ∙ w.in_default.is in
@@ -80,7 +81,7 @@ loop-register-preserved c =
           record {
             best = λ later v.
                 subst (λ b. IsBest (λ x. Contains (take (i + 1) rs) x) (at later) (λ x. link S time x q) b) (sym is)
-                (best_unseen S time q ways rs i old inside known found later v (c.loop-register.invariant.best later v));
+                (best_unseen S time q ways rs i old inside known one found later v (c.loop-register.invariant.best later v));
             below = λ later high v h s b. c.loop-register.invariant.below later high v h s (sym is ∙ b);
           }
     ]
