@@ -1,9 +1,9 @@
 -- The ways on through registers.
 use Rattle.std.proofs.Common.{◌≡◌, ℕ, ◌+◌, ◌%◌, ◌^◌, ◌<◌, ◌≤◌, ◌≢◌, eqb, nat_lt, Bool, true, false, List, [], ◌∷◌, ◌++◌, length, get_or, set, take, replicate, Option, Some, None, refl, sym, ap, ◌∙◌, subst, arith, ⊎_elim}
-use Rattle.std.specs.Prelude.{◌⊎◌, ◌||◌, ◌&&◌, if◌then◌else◌, Contains}
+use Rattle.std.specs.Prelude.{◌⊎◌, ◌||◌, ◌&&◌, if◌then◌else◌, AllPairs, Contains}
 use Rattle.std.specs.List.{list_any}
 use Rattle.std.proofs.lemmas.Bool.{cases_lt, cases_eq, eq-eqb, ne_eqb, lt-ltb, false≢true}
-use Rattle.std.proofs.lemmas.List.{take_more, get_or_past, get_or_default, get_or-set_same, get_or-set_other, get_or-replicate, length-replicate, same_lists}
+use Rattle.std.proofs.lemmas.List.{take_more, get_or_past, get_or_default, get_or-take, length-take-le, get_or-set_same, get_or-set_other, get_or-replicate, length-replicate, same_lists}
 use Rattle.std.proofs.lemmas.List.Elements.{Contains-push, Contains-push_cases, Contains-append_left}
 use Rattle.std.proofs.lemmas.List.FromFn.{get_or-map-range_with_len, length-map-range_with_len}
 use Rattle.cg_model.specs.Mapping.{Position}
@@ -12,9 +12,9 @@ use Rattle.cg_mrrg.specs.Graph.{registers_after}
 use Rattle.cg_mrrg.proofs.After.{is_after, after_is}
 use Rattle.cg_claims.specs.Claims.{same}
 use Rattle.cg_claims.specs.Table.{toll}
-use Rattle.cg_route.specs.Layers.{Step, Way, Sought, Layer, size, at, Drives, IsOpen, AreOpen, drivers, delay_into, link, cost, better, way_of, way_into, ways_of, way_price, IsCheap, AreCheap, IsBest, IsBelow}
+use Rattle.cg_route.specs.Layers.{Step, Way, Sought, Layer, size, at, Drives, IsOpen, AreOpen, drivers, delay_into, link, cost, better, way_of, way_into, ways_of, way_price, IsCheap, AreCheap, IsChoice, IsBest, IsBelow, held, no_way}
 use Rattle.cg_route.proofs.Ranks.{driven}
-use Rattle.cg_route.proofs.Best.{best_same, best_skip, best_more, best_price}
+use Rattle.cg_route.proofs.Best.{best_same, best_skip, best_more, best_price, held_some}
 use Rattle.cg_route.proofs.Begins.{cost_now}
 use Rattle.cg_route.proofs.Offers.{link_is, better_below}
 
@@ -146,6 +146,20 @@ none_cheap n r w is =
     let long : length ways ≡ n = length-replicate n None in
     let z : get_or ways r None ≡ None = get_or_past ways r None (omega (arith, a, long)) in absurd (cc))
     (cases_lt r n)
+
+-- what is held goes to an earlier register than the next one
+pub held_before : (S : Sought) (s q : ℕ) (later : Layer) (rs : List ℕ) (i price next : ℕ) → AllPairs (λ x y. x < y) rs → i < length rs → price < no_way →
+    IsBest (λ x. Contains (take i rs) x) (at later) (λ x. link S s x q) (held price next) → next ≤ get_or rs i 0
+held_before S s q later rs i price next ascend inside small h =
+    let choice : IsChoice (λ x. Contains (take i rs) x) (at later) (λ x. link S s x q) (record { price = price; next = next }) =
+    subst (λ e. IsBest (λ x. Contains (take i rs) x) (at later) (λ x. link S s x q) e) (held_some price next small) h in
+    let (j, l, is) = choice.next in
+    let long : length (take i rs) ≡ i = length-take-le i rs (omega arith) in
+    let early : j < i = omega (arith, l, long) in
+    let less : get_or rs j next < get_or rs i next = ascend j i next early inside in
+    let same : get_or rs j next ≡ next = sym (get_or-take i rs j next early) ∙ is in
+    let other : get_or rs i next ≡ get_or rs i 0 = get_or_default rs i next 0 inside in
+    omega (arith, less, same, other)
 
 -- the best way through one register more, where there is one
 pub best_seen : (S : Sought) (s q : ℕ) (ways : List (Option Way)) (rs : List ℕ) (i p : ℕ) (old new : Option Step) (way : Way) → i < length rs → get_or rs i 0 < size S → delay_into S (get_or rs i 0) ≡ 1 →

@@ -2,7 +2,7 @@
 ghost use Rattle.std.specs.Prelude.{◌||◌, nat_lt, eqb, ◌≡◌, ◌≢◌, ◌<◌, ◌≤◌, ◌^◌, ◌*◌, ◌+◌, ℕ, ◌-◌, [], ◌∷◌, List, IfSome, IfNone, replicate, Option, Some, None, length, IfOk};
 ghost use Rattle.cg_route.specs.Layers as spec;
 
-use crate::step::{NO_WAY, Step, Way, better, held, is_better};
+use crate::step::{NO_WAY, Step, Way, better, held};
 use cg_claims::{MNode, Mrrg, Usage};
 use cg_model::Items;
 use std::alloc::{AllocError, Global};
@@ -200,6 +200,8 @@ impl<'s, 'a> Search<'s, 'a> {
     }
 
     /// The best way on through a register, which the value enters at that time.
+    ///
+    /// The registers ascend: of ways of one price the first is that to the lowest number.
     fn best(&self, driver: u32, time: u32, ways: &[Option<Way>]) -> Option<Step>
         requires known { driver < spec.size self.now }
         requires all { length ways.now ≡ spec.size self.now }
@@ -212,7 +214,7 @@ impl<'s, 'a> Search<'s, 'a> {
         for register in self.graph.registers_after(driver) {
             if let Some(way) = ways[*register as usize] {
                 let found = self.way_price(driver, *register, time, way);
-                if is_better(found, *register, price, next) {
+                if found < price {
                     price = found;
                     next = *register;
                 }
