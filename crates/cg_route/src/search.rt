@@ -145,16 +145,14 @@ impl<'s, 'a> Search<'s, 'a> {
     }
 
     /// The way on through a resource, where it is at that time, and goes on so from there.
-    fn way(&self, resource: u32, time: u32, step: Step) -> Way
+    fn way(&self, resource: u32, time: u32, slot: u32, step: Step) -> Way
         requires known { resource < spec.size self.now }
+        requires slot { slot ≡ time % self.now.table.interval }
         requires small { step.price ≤ 2 ^ 127 }
         ensures way { Some result ≡ spec.way_of self.now time resource (Some step) }
         ensures cheap { spec.IsCheap result }
     {
-        let node = MNode {
-            resource,
-            slot: time % self.interval,
-        };
+        let node = MNode { resource, slot };
         Way {
             onward: step.price,
             through: u128::from(self.usage.toll(node)) + step.price,
@@ -175,10 +173,11 @@ impl<'s, 'a> Search<'s, 'a> {
         ensures cheap { IfOk result (λ v. spec.AreCheap v.items) }
     {
         let mut ways = vec![in alloc; None; self.count]?;
+        let slot = time % self.interval;
         for resource in 0..self.count {
             if self.graph.delay_into(resource as u32) == 1 {
                 if let Some(step) = later[resource] {
-                    ways[resource] = Some(self.way(resource as u32, time, step));
+                    ways[resource] = Some(self.way(resource as u32, time, slot, step));
                 }
             }
         }
