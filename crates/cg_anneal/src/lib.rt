@@ -1,0 +1,8 @@
+//! The annealing walk that looks for a mapping: the code that makes it.
+#![tactic(auto)]
+
+mod chance;
+mod edges;
+mod ends;
+mod routing;
+mod walk;
