@@ -1,5 +1,7 @@
 //! The walk as it stands.
+ghost use Rattle.std.specs.Prelude.{◌≡◌, IfOk, replicate, None};
 
+use crate::edges::{all, edges_of_kernel, touching};
 use crate::ends::{RouteEnds, ends_between};
 use cg_arch::Arch;
 use cg_claims::Usage;
@@ -37,11 +39,15 @@ impl<'g, 'a> Model for Walk<'g, 'a> {
 }
 
 impl<'g, 'a> Walk<'g, 'a> {
-    ghost use Rattle.std.specs.Prelude.{◌≡◌, ◌<◌, ◌≤◌, ◌+◌, ◌*◌, ◌^◌, IfOk, OnOk, length, Option, Some, None, slice_get, slice_index_or};
+    ghost use Rattle.std.specs.Prelude.{◌≡◌, ◌<◌, ◌≤◌, ◌+◌, ◌*◌, ◌^◌, All, IfOk, OnOk, length, Option, Some, None, slice_get, slice_index_or};
     ghost use Rattle.cg_place.specs.Placed.{moved, back};
     ghost use Rattle.cg_route.specs.Least.{IsTimedPath};
     ghost use Rattle.cg_walk.specs.State.{edges, cost};
-    ghost use Rattle.cg_walk.specs.Walk.{edge, with_route, IsFoundFor};
+    ghost use Rattle.cg_model.specs.Kernel.{size};
+    ghost use Rattle.cg_place.specs.Draws.{drawn_move};
+    ghost use Rattle.cg_walk.specs.Good.{IsReady};
+    ghost use Rattle.cg_walk.specs.Walk.{edge, with_route, all_edges, aged_state, unrouted_start, IsFoundFor};
+    ghost use Rattle.cg_walk.specs.Walk.{touching as touching_of_kernel};
     ghost use Rattle.cg_walk.specs.Ranges.{AreInRange};
     ghost use Rattle.cg_anneal.specs.Walking as spec;
 
@@ -133,4 +139,84 @@ impl<'g, 'a> Walk<'g, 'a> {
     {
         self.placement.apply(change)
     }
+
+    /// A walk at its start, before edge operands are routed.
+    pub(crate) fn start(
+        alloc: Global,
+        graph: &'g Mrrg<'a>,
+        arch: &'a Arch,
+        kernel: &'a Kernel,
+        ii: u32,
+        early: &[u32],
+    ) -> Result<Walk<'g, 'a>, AllocError>
+        requires ready { IsReady arch.now kernel.now ii early.now }
+        requires graph { graph.now ≡ record { arch = arch.now; interval = ii } }
+        ensures { IfOk result (λ w. w ≡ record { arch = arch.now; kernel = kernel.now; ii = ii; early = early.now; state = unrouted_start arch.now kernel.now ii early.now }) }
+    {
+        arch.contexts();
+        kernel.nodes();
+        let edges = edges_of_kernel(alloc, kernel)?;
+        let routes = no_routes(alloc, edges.len())?;
+        let missing = edges.len() as u32;
+        Ok(Walk {
+            graph,
+            arch,
+            kernel,
+            ii,
+            edges,
+            placement: Placement::start(alloc, arch, kernel, ii, early)?,
+            usage: Usage::new(alloc, graph)?,
+            routes,
+            missing,
+        })
+    }
+
+    /// What holds of it; the call does nothing.
+    pub(crate) fn holds(&self)
+        ensures { spec.IsWalking self.now }
+    {
+        let _ = &self.graph;
+    }
+
+    /// The edge operands that touch a node, by number.
+    pub(crate) fn touching(&self, alloc: Global, node: u32) -> Result<Vec<u32>, AllocError>
+        ensures { IfOk result (λ v. v.items ≡ touching_of_kernel self.now.kernel node) }
+    {
+        touching(alloc, &self.edges, node)
+    }
+
+    /// All edge operands, by number.
+    pub(crate) fn all(&self, alloc: Global) -> Result<Vec<u32>, AllocError>
+        ensures { IfOk result (λ v. v.items ≡ all_edges self.now.kernel) }
+    {
+        all(alloc, &self.edges)
+    }
+
+    /// A move that three words draw.
+    pub(crate) fn propose(&self, w1: u32, w2: u32, w3: u32) -> Move
+        requires { 0 < size self.now.kernel }
+        ensures value { result ≡ drawn_move self.now.arch self.now.kernel self.now.ii self.now.early w1 w2 w3 }
+        ensures may { spec.MayPlace self.now result }
+    {
+        self.placement.propose(w1, w2, w3)
+    }
+
+    /// Adds 1 to the history of each resource and slot with more than one claim.
+    pub(crate) fn age(&mut self)
+        requires { All (λ h. h < 4294967295) self.old.state.history }
+        ensures { self.new ≡ spec.at_state self.old (aged_state self.old.arch self.old.kernel self.old.ii self.old.state) }
+    {
+        self.usage.age()
+    }
+}
+
+/// That many routes that are not there.
+fn no_routes(alloc: Global, count: usize) -> Result<Vec<Option<Words>>, AllocError>
+    ensures { IfOk result (λ v. v.items ≡ replicate count None) }
+{
+    let mut routes = Vec::new(alloc);
+    for _ in 0..count {
+        routes.push(None)?;
+    }
+    Ok(routes)
 }

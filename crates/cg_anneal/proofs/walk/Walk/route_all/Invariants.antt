@@ -1,7 +1,7 @@
 use Rattle.std.proofs.Common.{take, drop}
 use Rattle.cg_walk.proofs.Pending.{Pending}
 use Rattle.cg_anneal.specs.Walking.{IsRoutedBy}
-use Rattle.cg_anneal.proofs.routing.Walk.route_all.Given as goal
+use Rattle.cg_anneal.proofs.walk.Walk.route_all.Given as goal
 
 abbrev pub invariant-loop-i : goal.invariant-loop-i
 invariant-loop-i l = record {

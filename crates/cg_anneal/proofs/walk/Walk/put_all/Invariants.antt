@@ -2,7 +2,7 @@ use Rattle.std.proofs.Common.{◌≡◌, ℕ, ◌≤◌, length, take, drop, get
 use Rattle.cg_walk.proofs.Pending.{Pending}
 use Rattle.cg_anneal.specs.Walking.{at_state}
 use Rattle.cg_anneal.specs.Steps.{put_back}
-use Rattle.cg_anneal.proofs.routing.Walk.put_all.Given as goal
+use Rattle.cg_anneal.proofs.walk.Walk.put_all.Given as goal
 
 abbrev pub invariant-loop-k : goal.invariant-loop-k
 invariant-loop-k l = record {

@@ -1,7 +1,7 @@
 use Rattle.std.proofs.Common.{◌≡◌, take, map, get_or, None}
 use Rattle.cg_walk.specs.Walk.{unrouted}
 use Rattle.cg_anneal.specs.Walking.{at_state}
-use Rattle.cg_anneal.proofs.routing.Walk.take_all.Given as goal
+use Rattle.cg_anneal.proofs.walk.Walk.take_all.Given as goal
 
 abbrev pub invariant-loop-i : goal.invariant-loop-i
 invariant-loop-i l = record {
