@@ -1,6 +1,6 @@
 -- What is kept of the walk, as its state changes.
-use Rattle.std.proofs.Common.{◌≡◌, ◌≢◌, ℕ, zero, suc, ◌+◌, ◌-◌, ◌*◌, ◌<◌, ◌≤◌, ◌^◌, Bool, true, false, cond, List, [], ◌∷◌, length, get_or, set, Option, Some, None, refl, sym, ap, ◌∙◌, subst, arith}
-use Rattle.std.specs.Prelude.{All, count_by, slice_get}
+use Rattle.std.proofs.Common.{◌≡◌, ◌≢◌, ℕ, zero, suc, ◌+◌, ◌-◌, ◌*◌, ◌<◌, ◌≤◌, ◌^◌, Bool, true, false, cond, List, [], ◌∷◌, length, map, replicate, get_or, set, Option, Some, None, refl, sym, ap, ◌∙◌, subst, arith}
+use Rattle.std.specs.Prelude.{All, count_by, slice_get, slice_index}
 use Rattle.std.proofs.lemmas.Option.{same_Some, none-some, slice_get_within, slice_get-get_or}
 use Rattle.std.proofs.lemmas.List.{get_or_read}
 use Rattle.std.proofs.lemmas.List.Sums.{sum_by-cons, count_by-le-length}
@@ -16,21 +16,21 @@ use Rattle.cg_mrrg.specs.Graph.{Graph}
 use Rattle.cg_claims.specs.Table.{Table, IsMore, aged, excess}
 use Rattle.cg_route.specs.Least.{Ends, IsTimedPath, IsFound}
 use Rattle.cg_place.specs.declared.moves.Move.{Move}
-use Rattle.cg_place.specs.Placed.{Placed, IsMove, moved, after, back, place_in}
+use Rattle.cg_place.specs.Placed.{Placed, IsMove, moved, after, back, place_in, first_places}
 use Rattle.cg_place.specs.Counts.{order_violations, unit_excess}
 use Rattle.cg_claims.proofs.Plain.{excess_le}
-use Rattle.cg_word.proofs.Marks.{among_it}
-use Rattle.cg_walk.specs.State.{State, edges, ends_of, is_missing, missing, cost, state_positions, table_of_state}
+use Rattle.cg_word.proofs.Marks.{among_it, among_from}
+use Rattle.cg_walk.specs.State.{State, edges, ends_of, positions_of_all, is_missing, missing, cost, state_positions, table_of_state}
 use Rattle.cg_walk.specs.declared.edge.EdgeOperand.{EdgeOperand}
-use Rattle.cg_walk.specs.Walk.{edge, all_edges, touches, touching, with_route, unrouted, moved_by, aged_state, IsFoundFor}
+use Rattle.cg_walk.specs.Walk.{edge, all_edges, touches, touching, with_route, unrouted, moved_by, aged_state, unrouted_start, IsFoundFor}
 use Rattle.cg_walk.specs.Ranges.{AreInRange}
 use Rattle.cg_walk.proofs.Edges.{IsEdge, edges_are}
 use Rattle.cg_walk.proofs.Small.{ends_in_range, path_within, path_short, room, edges_few}
-use Rattle.cg_walk.specs.Good.{IsGood}
+use Rattle.cg_walk.specs.Good.{IsReady, IsGood}
 use Rattle.cg_walk.specs.Alike.{AreAlike}
 use Rattle.cg_walk.proofs.Alike.{alike_more, alike_less, aged_same, found_same, cost_by}
 use Rattle.cg_walk.proofs.Drawn.{MayTake}
-use Rattle.cg_walk.proofs.Keeps.{with_route_good, moved_good, aged_good}
+use Rattle.cg_walk.proofs.Keeps.{with_route_good, moved_good, aged_good, start_good}
 use Rattle.cg_walk.proofs.Pending.{Pending, with_same_route}
 use Rattle.cg_walk.proofs.Uses.{route_more, route_less, placed_alone, touching_known}
 use Rattle.cg_anneal.specs.Walking.{Walking, IsWalking, IsKept, IsAlone, MayPlace, at_state, ends_at, ends_are}
@@ -342,3 +342,85 @@ module _ (W : Walking) (graph : Graph) (es : List EdgeOperand) (P : Placed) (T :
       let most = count_by-le-length is_missing W.state.routes in
       let m = kept.missing in
       omega (arith, few, long, most, m)
+
+  -- edge operands are few
+  pub few_edges : (xs : List EdgeOperand) → xs ≡ es → length xs < 2 ^ 32
+  few_edges xs h =
+      let few = edges_few W.kernel kept.walking.kernel in
+      let a = ap (λ (ys : List EdgeOperand). length ys) (h ∙ kept.edges) in
+      omega (arith, few, a)
+
+  pub may_proposed : (m : Move) → IsMove P m → m.place.time ≤ slice_index P.early m.node + 2 * P.ii + 7 → MayPlace W m
+  may_proposed m move soon =
+      let s = subst (λ (Q : Placed). IsMove Q m) kept.placed move in
+      let t = subst (λ (Q : Placed). m.place.time ≤ slice_index Q.early m.node + 2 * Q.ii + 7) kept.placed soon in
+      let last = kept.walking.ready.soon m.node s.known in
+      record { known = s.known; within = s.within; offers = among_from (unit W.arch m.place.unit).ops (node W.kernel m.node).op s.offered; soon = omega (arith, t, last) }
+
+-- ---- the start
+
+none_of_all : (es : List EdgeOperand) → let none : EdgeOperand → Option (List ℕ) = λ e. None in map none es ≡ replicate (length es) None
+none_of_all [] = refl
+none_of_all (e ∷ es) = ap (λ xs. None ∷ xs) (none_of_all es)
+
+no_positions : (A : Arch) (ii : ℕ) (places : List Place) (es : List EdgeOperand) → positions_of_all A ii places es (map (λ e. None) es) ≡ []
+no_positions A ii places [] = refl
+no_positions A ii places (e ∷ es) = no_positions A ii places es
+
+all_missing : (es : List EdgeOperand) → let none : EdgeOperand → Option (List ℕ) = λ e. None in count_by is_missing (map none es) ≡ length es
+all_missing [] = refl
+all_missing (e ∷ es) =
+    let rest = all_missing es in
+    let a = count_cons None (map (λ (x : EdgeOperand). None) es) in
+    let b : ◌≡◌ {A = ℕ} (cond (is_missing None) 1 0) 1 = refl in
+    omega (arith, rest, a, b)
+
+module _ (A : Arch) (K : Kernel) (ii : ℕ) (early : List ℕ) (arch : IsArch A) (kernel : IsKernel K) (ready : IsReady A K ii early) where
+  abbrev begun : Walking
+  begun = record { arch = A; kernel = K; ii = ii; early = early; state = unrouted_start A K ii early }
+
+  abbrev first : Placed
+  first = record { arch = A; kernel = K; ii = ii; early = early; places = first_places A K early }
+
+  abbrev unused : Table
+  unused = record { arch = A; interval = ii; positions = []; history = replicate (length A.resources * ii) 0 }
+
+  kept_begun : IsKept begun (record { arch = A; interval = ii }) (edges K) first unused (length (edges K))
+  unfolding state_positions
+  kept_begun =
+      let none = no_positions A ii (first_places A K early) (edges K) in
+      record {
+        walking = record { arch = arch; kernel = kernel; ready = ready; good = start_good A K ii early ready };
+        by_graph = refl;
+        edges = refl;
+        placed = refl;
+        alike = record { arch = refl; interval = refl; history = refl; uses = λ p. ap (λ ps. uses ps p) (sym none) };
+        count = ap (λ ps. length ps) (sym none);
+        missing = sym (all_missing (edges K));
+      }
+
+  module _ (graph : Graph) (es : List EdgeOperand) (P : Placed) (T : Table) (n lost : ℕ) (routes : List (Option (List ℕ))) (hg : graph ≡ record { arch = A; interval = ii }) (he : es ≡ edges K) (hp : P ≡ first)
+    (ht : T ≡ record { arch = graph.arch; interval = graph.interval; positions = []; history = replicate (length graph.arch.resources * graph.interval) 0 }) (hn : n ≡ length es) (hl : lost ≡ length es) (hr : routes ≡ replicate n None) where
+    abbrev shown : Walking
+    shown = record { arch = A; kernel = K; ii = ii; early = P.early; state = record { places = P.places; routes = routes; history = T.history } }
+
+    table_is : T ≡ unused
+    table_is = ht ∙ ap (λ (G : Graph). record { arch = G.arch; interval = G.interval; positions = []; history = replicate (length G.arch.resources * G.interval) 0 }) hg
+
+    routes_are : routes ≡ map (λ e. None) (edges K)
+    routes_are = hr ∙ ap (λ k. replicate k None) (hn ∙ ap (λ (xs : List EdgeOperand). length xs) he) ∙ sym (none_of_all (edges K))
+
+    pub start_is : shown ≡ begun
+    start_is =
+        ap (λ (Q : Placed). record { arch = A; kernel = K; ii = ii; early = Q.early; state = record { places = Q.places; routes = routes; history = T.history } }) hp
+        ∙ ap (λ rs. record { arch = A; kernel = K; ii = ii; early = early; state = record { places = first_places A K early; routes = rs; history = T.history } }) routes_are
+        ∙ ap (λ (R : Table). record { arch = A; kernel = K; ii = ii; early = early; state = record { places = first_places A K early; routes = map (λ (e : EdgeOperand). None) (edges K); history = R.history } }) table_is
+
+    pub kept_start : IsKept shown graph es P T lost
+    kept_start =
+        subst (λ (V : Walking). IsKept V graph es P T lost) (sym start_is)
+        (subst (λ (G : Graph). IsKept begun G es P T lost) (sym hg)
+        (subst (λ xs. IsKept begun (record { arch = A; interval = ii }) xs P T lost) (sym he)
+        (subst (λ (Q : Placed). IsKept begun (record { arch = A; interval = ii }) (edges K) Q T lost) (sym hp)
+        (subst (λ (R : Table). IsKept begun (record { arch = A; interval = ii }) (edges K) first R lost) (sym table_is)
+        (subst (λ k. IsKept begun (record { arch = A; interval = ii }) (edges K) first unused k) (sym (hl ∙ ap (λ (xs : List EdgeOperand). length xs) he)) kept_begun)))))

@@ -1,3 +1,4 @@
 pub mod Keeping
 pub mod Operands
 pub mod Loops
+pub mod Attempts

@@ -4,5 +4,6 @@
 mod chance;
 mod edges;
 mod ends;
+mod moves;
 mod routing;
 mod walk;
