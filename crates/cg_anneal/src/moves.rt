@@ -12,7 +12,7 @@ use std::alloc::{AllocError, Global};
 
 /// Four words of a generator, one after another.
 #[derive(Clone, Copy, Drop)]
-struct Draw {
+struct Drawn {
     node: u32,
     unit: u32,
     time: u32,
@@ -28,7 +28,7 @@ fn next(generator: &mut Lcg64Xsh32) -> u32
 }
 
 /// The next four words of a generator.
-fn draw(generator: &mut Lcg64Xsh32) -> Draw
+fn draw(generator: &mut Lcg64Xsh32) -> Drawn
     ensures node { result.node ≡ words.word 0 generator.old }
     ensures unit { result.unit ≡ words.word 1 generator.old }
     ensures time { result.time ≡ words.word 2 generator.old }
@@ -39,7 +39,7 @@ fn draw(generator: &mut Lcg64Xsh32) -> Draw
     let unit = next(generator);
     let time = next(generator);
     let stands = next(generator);
-    Draw {
+    Drawn {
         node,
         unit,
         time,
