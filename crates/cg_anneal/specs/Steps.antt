@@ -1,5 +1,7 @@
 -- What a step of the walk is made of.
-use Rattle.std.specs.Prelude.{◌≡◌, ℕ, if◌then◌else◌, List, [], ◌∷◌, Option}
+use Rattle.std.specs.Prelude.{◌≡◌, ℕ, if◌then◌else◌, List, [], ◌∷◌, Option, Some, None}
+use Rattle.cg_model.specs.declared.mapping.Route.{Route}
+use Rattle.cg_walk.specs.declared.edge.EdgeOperand.{EdgeOperand}
 use Rattle.rand_pcg.specs.Lcg.{Lcg}
 use Rattle.cg_place.specs.declared.moves.Move.{Move}
 use Rattle.cg_walk.specs.State.{State, cost}
@@ -22,3 +24,8 @@ pub record IsAttempt (W : Walking) (m : Move) (moves k word : ℕ) (V : Walking)
 pub record IsStep (W : Walking) (moves k : ℕ) (g : Lcg) (V : Walking) : Type 0 where
   pub same : V ≡ at_state W V.state
   pub move : IsMove W.arch W.kernel W.ii W.early moves k g W.state V.state
+
+-- the route of an edge operand, where there is one
+abbrev pub route_of : EdgeOperand → Option (List ℕ) → List Route
+route_of e None = []
+route_of e (Some path) = record { node = e.node; arg = e.arg; path = path } ∷ []

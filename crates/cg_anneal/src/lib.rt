@@ -4,6 +4,10 @@
 mod chance;
 mod edges;
 mod ends;
+mod finding;
+mod mapping;
 mod moves;
 mod routing;
 mod walk;
+
+pub use finding::{Found, search};

@@ -6,7 +6,7 @@ use crate::ends::{RouteEnds, ends_between};
 use cg_arch::Arch;
 use cg_claims::Usage;
 use cg_kernel::Kernel;
-use cg_model::{Items, Words};
+use cg_model::{Items, Place, Words};
 use cg_mrrg::Mrrg;
 use cg_place::{Move, Placement};
 use cg_route::least_path;
@@ -40,7 +40,7 @@ impl<'g, 'a> Model for Walk<'g, 'a> {
 
 impl<'g, 'a> Walk<'g, 'a> {
     ghost use Rattle.std.specs.Prelude.{◌≡◌, ◌<◌, ◌≤◌, ◌+◌, ◌*◌, ◌^◌, All, IfOk, OnOk, length, Option, Some, None, slice_get, slice_index_or};
-    ghost use Rattle.cg_place.specs.Placed.{moved, back};
+    ghost use Rattle.cg_place.specs.Placed.{moved, back, place_in};
     ghost use Rattle.cg_route.specs.Least.{IsTimedPath};
     ghost use Rattle.cg_walk.specs.State.{edges, cost};
     ghost use Rattle.cg_model.specs.Kernel.{size};
@@ -169,6 +169,47 @@ impl<'g, 'a> Walk<'g, 'a> {
             routes,
             missing,
         })
+    }
+
+    /// The interval, in cycles.
+    pub(crate) fn interval(&self) -> u32
+        ensures { result ≡ self.now.ii }
+    {
+        self.ii
+    }
+
+    /// The number of edge operands.
+    pub(crate) fn count(&self) -> u32
+        ensures { result ≡ length (edges self.now.kernel) }
+    {
+        self.edges.len() as u32
+    }
+
+    /// An edge operand.
+    pub(crate) fn operand(&self, i: u32) -> EdgeOperand
+        requires { i < length (edges self.now.kernel) }
+        ensures { result ≡ edge self.now.kernel i }
+    {
+        self.edges[i as usize]
+    }
+
+    /// The place of a node.
+    fn place_of(&self, node: u32) -> Place
+        requires { node < size self.now.kernel }
+        ensures { result ≡ place_in self.now.state.places node }
+    {
+        self.placement.place(node)
+    }
+
+    /// The places of all nodes.
+    pub(crate) fn places(&self, alloc: Global) -> Result<Vec<Place>, AllocError>
+        ensures { IfOk result (λ v. v.items ≡ self.now.state.places) }
+    {
+        let mut places = Vec::new(alloc);
+        for node in 0..self.kernel.nodes().len() {
+            places.push(self.place_of(node as u32))?;
+        }
+        Ok(places)
     }
 
     /// What holds of it; the call does nothing.
