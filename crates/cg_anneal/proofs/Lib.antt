@@ -2,3 +2,6 @@ pub mod Keeping
 pub mod Operands
 pub mod Loops
 pub mod Attempts
+pub mod Takes
+pub mod Reached
+pub mod Early

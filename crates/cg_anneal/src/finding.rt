@@ -45,7 +45,10 @@ pub fn search<'a>(
     kernel.nodes();
     match recurrence(alloc, arch, kernel, ii)? {
         Recur::Cycle(_) => unreachable!(),
-        Recur::Times(early) => run(alloc, arch, kernel, ii, early.as_slice(), seed, moves),
+        Recur::Times(early) => {
+            let found = run(alloc, arch, kernel, ii, early.as_slice(), seed, moves)?;
+            Ok(found)
+        }
     }
 }
 
@@ -72,15 +75,17 @@ fn run<'a>(
     for k in 0..moves {
         walk.holds();
         if walk.cost() == 0 {
-            return legal_end(alloc, arch, kernel, &mut walk, k);
+            let end = legal_end(alloc, arch, kernel, &mut walk, k)?;
+            return Ok(end);
         }
         walk.step(alloc, moves, k, &mut generator)?;
     }
-    let cost = walk.cost();
-    if cost == 0 {
-        return legal_end(alloc, arch, kernel, &mut walk, moves);
+    let left = walk.cost();
+    if left == 0 {
+        let last = legal_end(alloc, arch, kernel, &mut walk, moves)?;
+        return Ok(last);
     }
-    Ok(Found::Spent(cost))
+    Ok(Found::Spent(left))
 }
 
 /// The mapping that a state of cost 0 stands for.
