@@ -3,5 +3,6 @@ pub mod Operands
 pub mod Loops
 pub mod Attempts
 pub mod Takes
+pub mod Nodeless
 pub mod Reached
 pub mod Early

@@ -1,21 +1,16 @@
 -- How the walk goes on, and ends.
 use Rattle.std.proofs.Common.{◌≡◌, ℕ, suc, ◌+◌, ◌<◌, ◌≤◌, List, inl, refl, sym, ap, ◌∙◌, subst, arith}
 use Rattle.rand_pcg.specs.Lcg.{Lcg}
-use Rattle.cg_model.specs.Kernel.{Kernel, IsKernel, size}
+use Rattle.cg_model.specs.Kernel.{Kernel}
 use Rattle.cg_model.specs.Array.{Arch}
 use Rattle.cg_walk.specs.State.{State, cost}
 use Rattle.cg_walk.specs.Words.{generator, after_words}
 use Rattle.cg_walk.specs.Walk.{all_edges, unrouted_start, IsRouted, IsStart, IsMove, Walked, start, more, IsEnd}
-use Rattle.cg_walk.specs.Good.{IsGood}
 use Rattle.cg_anneal.specs.declared.finding.Found.{Found}
 use Rattle.cg_anneal.specs.declared.finding.Found.TheVariants.{Mapped, Spent}
 use Rattle.cg_anneal.specs.Walking.{Walking, IsRoutedBy, at_state}
 use Rattle.cg_anneal.specs.Steps.{IsStep}
 use Rattle.cg_anneal.specs.Ended.{IsFoundAt, IsWalkedFrom}
-
--- a kernel without nodes costs nothing
-pub some_nodes : (A : Arch) (K : Kernel) (ii : ℕ) (S : State) → IsKernel K → IsGood A K ii S → 0 < cost A K ii S → 0 < size K
-some_nodes A K ii S kernel good some = ?
 
 module _ (A : Arch) (K : Kernel) (ii : ℕ) (early : List ℕ) (moves seed : ℕ) where
   abbrev pub walking : State → Walking

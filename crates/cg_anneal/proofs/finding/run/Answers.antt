@@ -10,7 +10,8 @@ use Rattle.cg_walk.proofs.Keeps.{walked_good}
 use Rattle.cg_walk.proofs.Pending.{Rising, Pending, all_rising, pending_start}
 use Rattle.cg_anneal.specs.Walking.{Walking}
 use Rattle.cg_anneal.specs.Ended.{IsFoundAt}
-use Rattle.cg_anneal.proofs.Reached.{some_nodes, begins, goes_on, ends_found}
+use Rattle.cg_anneal.proofs.Reached.{begins, goes_on, ends_found}
+use Rattle.cg_anneal.proofs.Nodeless.{some_nodes}
 use Rattle.cg_anneal.proofs.finding.run.Goals as goal
 
 pub route_all-requires-clause-known : goal.route_all-requires-clause-known
