@@ -400,7 +400,7 @@ module _ (A : Arch) (K : Kernel) (ii : ℕ) (early : List ℕ) (arch : IsArch A)
       }
 
   module _ (graph : Graph) (es : List EdgeOperand) (P : Placed) (T : Table) (n lost : ℕ) (routes : List (Option (List ℕ))) (hg : graph ≡ record { arch = A; interval = ii }) (he : es ≡ edges K) (hp : P ≡ first)
-    (ht : T ≡ record { arch = graph.arch; interval = graph.interval; positions = []; history = replicate (length graph.arch.resources * graph.interval) 0 }) (hn : n ≡ length es) (hl : lost ≡ length es) (hr : routes ≡ replicate n None) where
+      (ht : T ≡ record { arch = graph.arch; interval = graph.interval; positions = []; history = replicate (length graph.arch.resources * graph.interval) 0 }) (hn : n ≡ length es) (hl : lost ≡ length es) (hr : routes ≡ replicate n None) where
     abbrev shown : Walking
     shown = record { arch = A; kernel = K; ii = ii; early = P.early; state = record { places = P.places; routes = routes; history = T.history } }
 

@@ -27,9 +27,10 @@ module _ (A : Arch) (K : Kernel) (ii : ℕ) (early : List ℕ) (moves seed : ℕ
       (U ≡ walking U.state) × Walked A K ii early moves seed (k + 1) h U.state
   goes_on k g h V U same walked l some step hg =
       let move = subst (λ (X : Walking). IsMove X.arch X.kernel X.ii X.early moves k g V.state U.state) same step.move in
-      let z : suc k ≡ k + 1 = omega arith in
-      (step.same ∙ ap (λ (X : Walking). at_state X U.state) same,
-       subst (λ x. Walked A K ii early moves seed (k + 1) x U.state) (sym hg) (subst (λ n. Walked A K ii early moves seed n (after_words 4 g) U.state) z (more walked l some move)))
+      let z : suc k ≡ k + 1 = omega arith in (
+        step.same ∙ ap (λ (X : Walking). at_state X U.state) same,
+        subst (λ x. Walked A K ii early moves seed (k + 1) x U.state) (sym hg) (subst (λ n. Walked A K ii early moves seed n (after_words 4 g) U.state) z (more walked l some move)),
+      )
 
   pub ends_found : (k : ℕ) (g : Lcg) (S : State) (found : Found) → Walked A K ii early moves seed k g S → cost A K ii S ≡ 0 → IsFoundAt A K ii S k found → IsWalkedFrom A K ii early seed moves found
   ends_found k g S (Mapped m j) walked zero h = (g, S, subst (λ n. IsEnd A K ii early moves seed n g S) (sym h.1) (walked, inl zero), zero, h.0)

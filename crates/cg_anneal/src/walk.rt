@@ -111,8 +111,7 @@ impl<'g, 'a> Walk<'g, 'a> {
         match self.routes[i as usize].take() {
             None => None,
             Some(path) => {
-                self.usage
-                    .remove(ends.source, ends.start, path.as_slice());
+                self.usage.remove(ends.source, ends.start, path.as_slice());
                 self.missing += 1;
                 Some(path)
             }

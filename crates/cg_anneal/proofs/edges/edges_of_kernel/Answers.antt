@@ -1,4 +1,4 @@
-use Rattle.std.proofs.Common.{◌∙◌, ◌++◌, get_or, take, sym, ap}
+use Rattle.std.proofs.Common.{◌∙◌, ◌++◌, get_or, sym, ap}
 use Rattle.std.proofs.lemmas.List.{take_all}
 use Rattle.cg_model.specs.declared.kernel.Node.{Node}
 use Rattle.cg_walk.specs.State.{edges, edges_among, edges_from}

@@ -1,4 +1,4 @@
-use Rattle.std.proofs.Common.{◌≡◌, ◌∙◌, ◌<◌, ◌≤◌, length, inr, refl, sym, ap, subst, arith}
+use Rattle.std.proofs.Common.{◌≡◌, ◌∙◌, ◌<◌, length, inr, refl, sym, ap, subst, arith}
 use Rattle.std.specs.Prelude.{All}
 use Rattle.cg_model.specs.Kernel.{IsKernel}
 use Rattle.cg_walk.specs.State.{edges, cost}
@@ -132,4 +132,3 @@ returns c =
     let no = c.if-left-eq0.false in
     let e = c.cost-left.ensures ∙ ap (λ (X : Walking). cost X.arch X.kernel X.ii V.state) same in
     (c.loop-k.generator, V.state, (whole, inr refl), sym e, omega (arith, no))
-

@@ -1,4 +1,4 @@
-use Rattle.std.proofs.Common.{◌≡◌, ◌∙◌, sym, ap, subst}
+use Rattle.std.proofs.Common.{◌∙◌, sym, ap, subst}
 use Rattle.cg_claims.specs.Table.{Table}
 use Rattle.cg_walk.specs.State.{State}
 use Rattle.cg_walk.specs.Walk.{aged_state}

@@ -1,4 +1,4 @@
-use Rattle.std.proofs.Common.{◌≡◌, ◌+◌, ◌*◌, ap, sym, subst, ◌∙◌, arith}
+use Rattle.std.proofs.Common.{◌≡◌, ◌+◌, ◌*◌, subst, ◌∙◌, arith}
 use Rattle.cg_walk.specs.State.{cost}
 use Rattle.cg_anneal.specs.Walking.{Walking}
 use Rattle.cg_anneal.proofs.Keeping as keeping

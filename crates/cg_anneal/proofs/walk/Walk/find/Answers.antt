@@ -1,4 +1,4 @@
-use Rattle.std.proofs.Common.{◌≡◌, ℕ, ◌<◌, List, length, Some, ap, subst, sym}
+use Rattle.std.proofs.Common.{◌≡◌, ℕ, ◌<◌, List, length, Some, subst, sym}
 use Rattle.cg_route.specs.Least.{IsLeastPath, AreNear}
 use Rattle.cg_walk.specs.State.{edges}
 use Rattle.cg_walk.specs.Walk.{edge, IsFoundFor}

@@ -1,9 +1,9 @@
 use Rattle.cg_anneal.proofs.walk.Walk.place.Goals as goal
 use Rattle.cg_anneal.proofs.Keeping as keeping
-use Rattle.std.proofs.Common.{◌≡◌, subst, sym}
+use Rattle.std.proofs.Common.{subst, sym}
 use Rattle.cg_place.specs.declared.moves.Move.{Move}
-use Rattle.cg_place.specs.Placed.{Placed, moved, after}
-use Rattle.cg_anneal.specs.Walking.{Walking, IsKept, MayPlace, IsAlone, at_state}
+use Rattle.cg_place.specs.Placed.{Placed, moved}
+use Rattle.cg_anneal.specs.Walking.{Walking, IsKept, MayPlace, IsAlone}
 
 pub apply-requires : goal.apply-requires
 apply-requires c =

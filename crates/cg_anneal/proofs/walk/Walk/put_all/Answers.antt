@@ -1,4 +1,4 @@
-use Rattle.std.proofs.Common.{◌≡◌, ◌∙◌, ℕ, ◌<◌, List, Option, length, get_or, set, take, None, sym, ap, subst, arith}
+use Rattle.std.proofs.Common.{◌≡◌, ◌∙◌, ℕ, ◌<◌, List, Option, length, get_or, take, None, sym, ap, subst, arith}
 use Rattle.std.proofs.lemmas.List.{take_all, get_or_read, length-set, get_or-set_other}
 use Rattle.cg_walk.specs.State.{edges}
 use Rattle.cg_walk.specs.Walk.{edge}

@@ -1,4 +1,4 @@
-use Rattle.std.proofs.Common.{◌≡◌, ◌∙◌, List, length, ap, subst, sym, arith}
+use Rattle.std.proofs.Common.{◌≡◌, List, length, ap, arith}
 use Rattle.cg_walk.specs.declared.edge.EdgeOperand.{EdgeOperand}
 use Rattle.cg_walk.proofs.Small.{edges_few}
 use Rattle.cg_anneal.proofs.Keeping as keeping
