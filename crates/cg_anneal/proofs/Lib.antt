@@ -5,4 +5,3 @@ pub mod Attempts
 pub mod Takes
 pub mod Nodeless
 pub mod Reached
-pub mod Early

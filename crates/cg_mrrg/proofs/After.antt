@@ -1,12 +1,14 @@
 -- Which registers a resource drives.
-use Rattle.std.proofs.Common.{◌≡◌, ℕ, zero, suc, ◌<◌, ◌≤◌, eqb, Bool, true, false, if◌then◌else◌, List, [], ◌∷◌, ◌++◌, length, get_or, refl, sym, subst, arith, ⊎_elim, eqb-true}
-use Rattle.std.specs.Prelude.{◌||◌, Contains, filter}
+use Rattle.std.proofs.Common.{◌≡◌, ℕ, zero, suc, ◌<◌, ◌≤◌, eqb, Bool, true, false, if◌then◌else◌, List, [], ◌∷◌, ◌++◌, length, get_or, append-nil, refl, sym, subst, arith, ⊎_elim, eqb-true}
+use Rattle.std.specs.Prelude.{◌||◌, AllPairs, Contains, filter}
 use Rattle.std.specs.List.{list_any}
 use Rattle.std.proofs.lemmas.Bool.{cases_lt, cases_Bool, eq-eqb}
-use Rattle.std.proofs.lemmas.List.Elements.{filter-append, Contains-append_left, Contains-append_right, Contains-append_cases}
+use Rattle.std.proofs.lemmas.List.Elements.{filter-append, Contains-get_or, Contains-append_left, Contains-append_right, Contains-append_cases}
+use Rattle.std.proofs.lemmas.List.Kept.{AllPairs-filter}
+use Rattle.std.proofs.lemmas.List.Quantifiers.{all_pairs_push}
 use Rattle.std.proofs.lemmas.Map.Views.{Contains-from_any}
 use Rattle.cg_model.specs.Array.{Arch, resource, delay}
-use Rattle.cg_mrrg.specs.Graph.{users_below, registers_after}
+use Rattle.cg_mrrg.specs.Graph.{users_below, users, registers_after}
 
 or_right : (a b : Bool) → b ≡ true → (a || b) ≡ true
 or_right true b h = refl
@@ -30,6 +32,14 @@ none_in x m = let l = m.1 in omega arith
 one_in : (r x : ℕ) → Contains (r ∷ []) x → r ≡ x
 one_in r x (zero, l, e) = e
 one_in r x (suc i, l, e) = absurd (omega arith)
+
+one_if : (b : Bool) (r x : ℕ) → Contains (if b then r ∷ [] else []) x → r ≡ x
+one_if true r x m = one_in r x m
+one_if false r x m = absurd (none_in x m)
+
+push_if : (b : Bool) (r : ℕ) (xs : List ℕ) → AllPairs (λ x y. x < y) xs → ((x : ℕ) → Contains xs x → x < r) → AllPairs (λ x y. x < y) (xs ++ (if b then r ∷ [] else []))
+push_if true r xs h less = all_pairs_push (λ x y. x < y) xs r h (λ i d l. less (get_or xs i d) (Contains-get_or xs i d l))
+push_if false r xs h less = subst (λ l. AllPairs (λ x y. x < y) l) (sym (append-nil xs)) h
 
 module _ (A : Arch) (q : ℕ) where
   abbrev registers_below : ℕ → List ℕ
@@ -81,3 +91,19 @@ module _ (A : Arch) (q : ℕ) where
 
   pub after_is : (x : ℕ) → Contains (registers_after A q) x → Contains (resource A x).drivers q × (delay A x ≡ 1)
   after_is x m = of_below (length A.resources) x m
+
+  users_less : (n x : ℕ) → Contains (users_below A q n) x → x < n
+  unfolding users_below
+  users_less zero x m = absurd (none_in x m)
+  users_less (suc n) x m =
+      ⊎_elim (λ a. let l = users_less n x a in omega (arith, l)) (λ a. let e = one_if (list_any (eqb q) (resource A n).drivers) n x a in omega (arith, e))
+      (Contains-append_cases (users_below A q n) (if list_any (eqb q) (resource A n).drivers then n ∷ [] else []) x m)
+
+  users_ascend : (n : ℕ) → AllPairs (λ x y. x < y) (users_below A q n)
+  unfolding users_below
+  users_ascend zero = λ i j d a b. absurd (omega (arith, b))
+  users_ascend (suc n) = push_if (list_any (eqb q) (resource A n).drivers) n (users_below A q n) (users_ascend n) (users_less n)
+
+  -- they are listed in ascending order
+  pub after_ascends : AllPairs (λ x y. x < y) (registers_after A q)
+  after_ascends = AllPairs-filter (λ x y. x < y) (λ r. eqb (delay A r) 1) (users A q) (users_ascend (length A.resources))

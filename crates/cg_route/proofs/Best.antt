@@ -1,7 +1,7 @@
 -- The best way on, over one user more.
-use Rattle.std.proofs.Common.{◌≡◌, ℕ, ◌+◌, ◌<◌, ◌≤◌, eqb, nat_lt, Bool, true, false, Option, Some, None, refl, sym, ap, ◌∙◌, subst, arith, ⊎_elim, inl, inr}
-use Rattle.std.specs.Prelude.{◌⊎◌, ◌&&◌, ◌||◌, if◌then◌else◌}
-use Rattle.std.proofs.lemmas.Bool.{cases_lt, cases_eq, lt-ltb, le-ltb, eq-eqb, ne_eqb, false≢true}
+use Rattle.std.proofs.Common.{◌≡◌, ℕ, ◌+◌, ◌<◌, ◌≤◌, Option, Some, None, refl, sym, ap, ◌∙◌, subst, arith, ⊎_elim, inl, inr}
+use Rattle.std.specs.Prelude.{◌⊎◌}
+use Rattle.std.proofs.lemmas.Bool.{cases_lt, cases_eq, lt-ltb, le-ltb, eq-eqb, ne_eqb}
 use Rattle.cg_route.specs.Layers.{Step, better, held, no_way, IsChoice, IsBest}
 
 -- the same users go on for the same prices
@@ -29,33 +29,6 @@ best_price U rest price other (Some s) same h =
       least = λ x o u e. let z = same x u in ⊎_elim (λ a. inl (omega (arith, a, z))) (λ a. inr (omega (arith, a.0, z), a.1)) (h.least x o u e);
     }
 
--- what is held in numbers after one way more
-pub held_better : (price next p r : ℕ) → p < no_way →
-    (nat_lt p price || (eqb p price && nat_lt r next) ≡ true → held p r ≡ better (held price next) p r)
-    × (nat_lt p price || (eqb p price && nat_lt r next) ≡ false → held price next ≡ better (held price next) p r)
-held_better price next p r small =
-    let new : held p r ≡ Some (record { price = p; next = r }) = rw (ne_eqb p no_way (λ e. omega (arith, e, small))) refl in
-    ⊎_elim
-    (λ (a : price ≡ no_way).
-    let old : held price next ≡ None = rw (eq-eqb price no_way a) refl in (
-      λ t. new ∙ ap (λ e. better e p r) (sym old),
-      λ f. let c : (nat_lt p price || (eqb p price && nat_lt r next)) ≡ true = rw (lt-ltb p price (omega (arith, a, small))) refl in absurd (false≢true (sym f ∙ c)),
-    ))
-    (λ (a : price ≡ no_way → ⊥).
-    let old : held price next ≡ Some (record { price = price; next = next }) = rw (ne_eqb price no_way a) refl in (
-      λ t. new ∙ sym (ap (λ e. better e p r) old ∙ taken (nat_lt p price || (eqb p price && nat_lt r next)) (record { price = p; next = r }) (record { price = price; next = next }) t),
-      λ f. old ∙ sym (ap (λ e. better e p r) old ∙ left (nat_lt p price || (eqb p price && nat_lt r next)) (record { price = p; next = r }) (record { price = price; next = next }) f),
-    ))
-    (cases_eq price no_way)
-  where
-    taken : (b : Bool) (n o : Step) → b ≡ true → (if b then Some n else Some o) ≡ Some n
-    taken true n o h = refl
-    taken false n o h = absurd (false≢true h)
-
-    left : (b : Bool) (n o : Step) → b ≡ false → (if b then Some n else Some o) ≡ Some o
-    left true n o h = absurd (false≢true (sym h))
-    left false n o h = refl
-
 -- whichever is taken of what was found and of a new way
 better_new : (s : Step) (p r : ℕ) → (p < s.price) ⊎ ((p ≡ s.price) × (r < s.next)) → better (Some s) p r ≡ Some (record { price = p; next = r })
 better_new s p r (inl a) = rw (lt-ltb p s.price a) refl
@@ -75,6 +48,26 @@ better_cases s p r =
     ⊎_elim (λ c. inl (inr (e, c))) (λ c. inr (inr (sym e, c))) (cases_lt r s.next))
     (cases_lt s.price p))
     (cases_lt p s.price)
+
+-- what is held in numbers
+pub held_some : (price next : ℕ) → price < no_way → held price next ≡ Some (record { price = price; next = next })
+held_some price next small = rw (ne_eqb price no_way (λ e. omega (arith, e, small))) refl
+
+-- after one way more that costs less
+pub held_less : (price next p r : ℕ) → p < no_way → p < price → held p r ≡ better (held price next) p r
+held_less price next p r small less =
+    ⊎_elim
+    (λ (a : price ≡ no_way). let old : held price next ≡ None = rw (eq-eqb price no_way a) refl in held_some p r small ∙ ap (λ e. better e p r) (sym old))
+    (λ (a : price ≡ no_way → ⊥).
+    let old : held price next ≡ Some (record { price = price; next = next }) = rw (ne_eqb price no_way a) refl in
+    held_some p r small ∙ sym (ap (λ e. better e p r) old ∙ better_new (record { price = price; next = next }) p r (inl less)))
+    (cases_eq price no_way)
+
+-- and after one more that doesn't, to a higher number
+pub held_more : (price next p r : ℕ) → p < no_way → price ≤ p → next ≤ r → held price next ≡ better (held price next) p r
+held_more price next p r small most before =
+    let old : held price next ≡ Some (record { price = price; next = next }) = held_some price next (omega arith) in
+    old ∙ sym (ap (λ e. better e p r) old ∙ better_old (record { price = price; next = next }) p r (⊎_elim (λ (a : price < p). inl a) (λ (a : p ≤ price). inr (omega arith, before)) (cases_lt price p)))
 
 module _ (U V : ℕ → Type 0) (rest : ℕ → Option Step) (price : ℕ → ℕ) (r : ℕ) (to : (x : ℕ) → U x → V x) (from : (x : ℕ) → V x → U x ⊎ (r ≡ x)) where
   -- from one user more there is no way on

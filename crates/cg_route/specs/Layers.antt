@@ -165,9 +165,13 @@ way_of S s r (Some o) =
       shared = list_any (λ (p : Position). eqb p.source S.source && eqb p.resource r && eqb p.time s) S.table.positions;
     })
 
--- the ways on through all resources
+-- the way on into r at time s, where r is a register
+abbrev pub way_into : Sought → ℕ → Layer → ℕ → Option Way
+way_into S s later r = if eqb (delay_into S r) 1 then way_of S s r (at later r) else None
+
+-- the ways on through all registers
 abbrev pub ways_of : Sought → ℕ → Layer → List (Option Way)
-ways_of S s later = map (λ r. way_of S s r (at later r)) (range_with_len 0 (size S))
+ways_of S s later = map (way_into S s later) (range_with_len 0 (size S))
 
 -- its toll isn't beyond 2 ^ 52, nor its price from there on beyond 2 ^ 127
 abbrev pub IsCheap : Way → Type 0

@@ -2,7 +2,7 @@
 ghost use Rattle.std.specs.Prelude.{◌||◌, nat_lt, eqb, ◌≡◌, ◌≢◌, ◌<◌, ◌≤◌, ◌^◌, ◌*◌, ◌+◌, ℕ, ◌-◌, [], ◌∷◌, List, IfSome, IfNone, replicate, Option, Some, None, length, IfOk};
 ghost use Rattle.cg_route.specs.Layers as spec;
 
-use crate::step::{NO_WAY, Step, Way, better, held, is_better};
+use crate::step::{NO_WAY, Step, Way, better, held};
 use cg_claims::{MNode, Mrrg, Usage};
 use cg_model::Items;
 use std::alloc::{AllocError, Global};
@@ -144,26 +144,23 @@ impl<'s, 'a> Search<'s, 'a> {
         vec![in alloc; None; self.count]
     }
 
-    /// The way on through a resource, where it is at that time.
-    fn way(&self, resource: u32, time: u32, step: Option<Step>) -> Option<Way>
+    /// The way on through a resource, where it is at that time, and goes on so from there.
+    fn way(&self, resource: u32, time: u32, slot: u32, step: Step) -> Way
         requires known { resource < spec.size self.now }
-        requires small { (s : spec.Step) → step ≡ Some s → s.price ≤ 2 ^ 127 }
-        ensures way { result ≡ spec.way_of self.now time resource step }
-        ensures cheap { (w : spec.Way) → result ≡ Some w → spec.IsCheap w }
+        requires slot { slot ≡ time % self.now.table.interval }
+        requires small { step.price ≤ 2 ^ 127 }
+        ensures way { Some result ≡ spec.way_of self.now time resource (Some step) }
+        ensures cheap { spec.IsCheap result }
     {
-        let step = step?;
-        let node = MNode {
-            resource,
-            slot: time % self.interval,
-        };
-        Some(Way {
+        let node = MNode { resource, slot };
+        Way {
             onward: step.price,
             through: u128::from(self.usage.toll(node)) + step.price,
             shared: self.usage.has_value(self.source, resource, time),
-        })
+        }
     }
 
-    /// The ways on through all resources, which are at that time what the layer says.
+    /// The ways on through all registers, which are at that time what the layer says.
     fn ways(
         &self,
         alloc: Global,
@@ -175,9 +172,14 @@ impl<'s, 'a> Search<'s, 'a> {
         ensures ways { IfOk result (λ v. v.items ≡ spec.ways_of self.now time later.now) }
         ensures cheap { IfOk result (λ v. spec.AreCheap v.items) }
     {
-        let mut ways = Vec::with_capacity(alloc, self.count)?;
+        let mut ways = vec![in alloc; None; self.count]?;
+        let slot = time % self.interval;
         for resource in 0..self.count {
-            ways.push(self.way(resource as u32, time, later[resource]))?;
+            if self.graph.delay_into(resource as u32) == 1 {
+                if let Some(step) = later[resource] {
+                    ways[resource] = Some(self.way(resource as u32, time, slot, step));
+                }
+            }
         }
         Ok(ways)
     }
@@ -197,6 +199,8 @@ impl<'s, 'a> Search<'s, 'a> {
     }
 
     /// The best way on through a register, which the value enters at that time.
+    ///
+    /// The registers ascend: of ways of one price the first is that to the lowest number.
     fn best(&self, driver: u32, time: u32, ways: &[Option<Way>]) -> Option<Step>
         requires known { driver < spec.size self.now }
         requires all { length ways.now ≡ spec.size self.now }
@@ -209,28 +213,13 @@ impl<'s, 'a> Search<'s, 'a> {
         for register in self.graph.registers_after(driver) {
             if let Some(way) = ways[*register as usize] {
                 let found = self.way_price(driver, *register, time, way);
-                if is_better(found, *register, price, next) {
+                if found < price {
                     price = found;
                     next = *register;
                 }
             }
         }
         held(price, next)
-    }
-
-    /// The best way on through a register, where a path may meet the resource.
-    fn carried(&self, resource: u32, time: u32, ways: &[Option<Way>]) -> Option<Step>
-        requires known { resource < spec.size self.now }
-        requires all { length ways.now ≡ spec.size self.now }
-        requires cheap { spec.AreCheap ways.now }
-        ensures best { (later : spec.Layer) → ways.now ≡ spec.ways_of self.now time later → spec.IsOpen self.now resource → spec.IsBest (λ x. Contains (registers_after self.now.table.arch resource) x) (spec.at later) (λ x. spec.link self.now time x resource) result }
-        ensures below { (later : spec.Layer) (high : ℕ) → ways.now ≡ spec.ways_of self.now time later → spec.IsBelow high later → (s : spec.Step) → result ≡ Some s → s.price ≤ high + 2 ^ 52 }
-    {
-        if self.met[resource as usize] {
-            self.best(resource, time, ways)
-        } else {
-            None
-        }
     }
 
     /// The best ways on of all resources through registers, which the value enters at that time.
@@ -246,9 +235,11 @@ impl<'s, 'a> Search<'s, 'a> {
         ensures begun { IfOk result (λ here. (later : spec.Layer) → ways.now ≡ spec.ways_of self.now time later → spec.IsBegun self.now (time - 1) (spec.size self.now) later here.items) }
         ensures below { IfOk result (λ here. (later : spec.Layer) (high : ℕ) → ways.now ≡ spec.ways_of self.now time later → spec.IsBelow high later → spec.IsBelow (high + 2 ^ 52) here.items) }
     {
-        let mut here = Vec::with_capacity(alloc, self.count)?;
+        let mut here = self.none(alloc)?;
         for resource in 0..self.count {
-            here.push(self.carried(resource as u32, time, ways))?;
+            if self.met[resource] {
+                here[resource] = self.best(resource as u32, time, ways);
+            }
         }
         Ok(here)
     }

@@ -1,5 +1,5 @@
 //! Steps of a search.
-ghost use Rattle.std.specs.Prelude.{◌≡◌, ◌&&◌, ◌||◌, eqb, nat_lt, Option, Some, None};
+ghost use Rattle.std.specs.Prelude.{◌≡◌, Option, Some, None};
 ghost use Rattle.cg_route.specs.Layers as spec;
 
 /// A way on from a resource to the end of a search.
@@ -41,13 +41,6 @@ pub(crate) fn better(found: Option<Step>, price: u128, next: u32) -> Option<Step
 
 /// The price of no way, which is beyond that of any.
 pub(crate) const NO_WAY: u128 = u128::MAX;
-
-/// Whether going to a resource for that price is better than to another for another price.
-pub(crate) fn is_better(price: u128, next: u32, than: u128, other: u32) -> bool
-    ensures { result ≡ (nat_lt price than || (eqb price than && nat_lt next other)) }
-{
-    price < than || (price == than && next < other)
-}
 
 /// The way on to a resource for that price; none where it is that of no way.
 pub(crate) fn held(price: u128, next: u32) -> Option<Step>

@@ -13,3 +13,4 @@ mod Rows
 mod States
 pub mod Undone
 pub mod Pending
+pub mod Early

@@ -1,9 +1,14 @@
 -- The laws of the walk.
-use Rattle.std.specs.Prelude.{◌≡◌, ◌≢◌, ℕ, ◌+◌, ◌*◌, ◌^◌, ◌<◌, ◌≤◌, true, List, All, length, Option, Some, None, slice_get}
+use Rattle.std.specs.Prelude.{◌≡◌, ◌≢◌, ℕ, ◌+◌, ◌-◌, ◌*◌, ◌^◌, ◌<◌, ◌≤◌, true, List, All, length, Option, Some, None, slice_get, slice_index}
 use Rattle.rand_pcg.specs.Lcg.{Lcg}
-use Rattle.cg_model.specs.Kernel.{Kernel, IsKernel}
+use Rattle.cg_model.specs.Limits.{most_nodes}
+use Rattle.cg_model.specs.Kernel.{Kernel, IsKernel, size}
 use Rattle.cg_model.specs.Array.{Arch, IsArch}
 use Rattle.cg_model.specs.Mapping.{IsLegal, positions_on}
+use Rattle.cg_edges.specs.declared.edge.EdgeId.{EdgeId}
+use Rattle.cg_edges.specs.Edges.{edge_of}
+use Rattle.cg_edges.specs.Chain.{IsEarly}
+use Rattle.cg_recur.specs.Recurrences.{IsRecurrence}
 use Rattle.cg_claims.specs.Table.{Table, IsMore, excess, aged}
 use Rattle.cg_route.specs.Least.{Ends, IsTimedPath, IsFound}
 use Rattle.cg_place.specs.declared.moves.Move.{Move}
@@ -112,3 +117,12 @@ abbrev pub AreHistoriesSmall : Type 0
 AreHistoriesSmall =
     (A : Arch) (K : Kernel) (ii : ℕ) (early : List ℕ) (moves seed k : ℕ) (g : Lcg) (S : State) →
     Walked A K ii early moves seed k g S → All (λ h. h ≤ k) S.history
+
+-- where no recurrence forbids the interval, no earliest time is later than 4,092: each of fewer than 1,024
+-- edges takes at most 4 cycles
+abbrev pub AreTimesSoon : Type 0
+AreTimesSoon =
+    (A : Arch) (K : Kernel) (ii : ℕ) (early : List ℕ) → IsArch A → IsKernel K →
+    ((v : ℕ) → v < size K → IsEarly (edge_of A K) ii v (slice_index early v)) →
+    ((ids : List EdgeId) → IsRecurrence A K ii ids → ⊥) →
+    (v : ℕ) → v < size K → slice_index early v ≤ 4 * (most_nodes - 1)

@@ -5,7 +5,7 @@
 //! calls it has them at hand for its own proofs.
 #![tactic(auto)]
 
-ghost use Rattle.cg_walk.specs.Laws.{IsLegalAtZero, IsLegalWhereFound, IsOneWalk, IsOneEnd, IsGoodAllAlong, IsRouteMore, IsRouteLess, IsPlacedAlone, IsExcessByUses, IsAgedByUses, IsFoundByUses, IsCostByUses, AreEndsInRange, IsPathInRange, IsRoomEnough, AreHistoriesSmall};
+ghost use Rattle.cg_walk.specs.Laws.{IsLegalAtZero, IsLegalWhereFound, IsOneWalk, IsOneEnd, IsGoodAllAlong, IsRouteMore, IsRouteLess, IsPlacedAlone, IsExcessByUses, IsAgedByUses, IsFoundByUses, IsCostByUses, AreEndsInRange, IsPathInRange, IsRoomEnough, AreHistoriesSmall, AreTimesSoon};
 
 mod edge;
 
@@ -43,11 +43,12 @@ pub fn by_uses()
     ensures cost { IsCostByUses }
 {}
 
-/// The numbers of the walk's states are small: the ends of routes, the routes, all positions together, and
-/// the histories.
+/// The numbers of the walk's states are small: the ends of routes, the routes, all positions together, the
+/// histories, and the earliest times.
 pub fn ranges()
     ensures ends { AreEndsInRange }
     ensures path { IsPathInRange }
     ensures room { IsRoomEnough }
     ensures histories { AreHistoriesSmall }
+    ensures early { AreTimesSoon }
 {}

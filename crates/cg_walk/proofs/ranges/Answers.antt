@@ -1,5 +1,6 @@
 use Rattle.cg_walk.proofs.Small.{ends_in_range, path_within, path_short, room}
 use Rattle.cg_walk.proofs.Histories.{histories_small}
+use Rattle.cg_walk.proofs.Early.{early_soon}
 use Rattle.cg_walk.proofs.ranges.Goals as goal
 
 pub returns : goal.returns
@@ -8,4 +9,5 @@ returns c = record {
   path = λ A ends path arch fits h. (path_within A arch ends path fits.from h, path_short A arch ends path fits h);
   room = room;
   histories = λ A K ii early moves seed k g S w. histories_small A K ii early moves seed w;
+  early = early_soon;
 }

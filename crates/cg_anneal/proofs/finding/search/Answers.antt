@@ -4,7 +4,7 @@ use Rattle.cg_model.specs.Kernel.{size}
 use Rattle.cg_recur.specs.declared.recur.Recur.TheVariants.{Times}
 use Rattle.cg_recur.specs.Recurrences.{IsAnswer}
 use Rattle.cg_walk.specs.Good.{IsReady}
-use Rattle.cg_anneal.proofs.Early.{early_soon}
+use Rattle.cg_walk.proofs.Early.{early_soon}
 use Rattle.cg_anneal.proofs.finding.search.Goals as goal
 
 pub run-requires-clause-ready : goal.run-requires-clause-ready
@@ -18,7 +18,7 @@ run-requires-clause-ready c =
       offered = c.requires.offered;
       each = answer.0;
       soon = λ v l.
-          let s = early_soon A K c.args.ii c.in-Times.early c.contexts.ensures.valid c.nodes.ensures.valid answer v l in
+          let s = early_soon A K c.args.ii c.in-Times.early.items c.contexts.ensures.valid c.nodes.ensures.valid answer.1 answer.2 v l in
           let few = c.requires.contexts in
           let small = c.contexts.ensures.valid.small.contexts.1 in
           omega (arith, s, few, small);

@@ -3,13 +3,13 @@ use Rattle.std.specs.Prelude.{Contains}
 use Rattle.std.proofs.lemmas.List.{take_all}
 use Rattle.std.proofs.lemmas.List.Elements.{Contains-get_or}
 use Rattle.cg_mrrg.specs.Graph.{registers_after}
-use Rattle.cg_mrrg.proofs.After.{after_is}
-use Rattle.cg_route.specs.Layers.{Sought, Step, Way, IsBest, way_price, better, held, no_way, IsCheap, at, link, size}
+use Rattle.cg_mrrg.proofs.After.{after_is, after_ascends}
+use Rattle.cg_route.specs.Layers.{Sought, Layer, ways_of, Step, Way, IsBest, way_price, better, held, no_way, IsCheap, at, link, delay_into, size}
 use Rattle.cg_route.proofs.Ranks.{driven}
-use Rattle.cg_route.proofs.Carries.{best_seen, below_seen, best_unseen}
-use Rattle.cg_route.proofs.Best.{held_better}
+use Rattle.cg_route.proofs.Carries.{best_seen, below_seen, best_unseen, held_before}
+use Rattle.cg_route.proofs.Best.{held_less, held_more}
 use Rattle.cg_route.proofs.search.Search.best.Goals as goal
-use Rattle.cg_route.proofs.search.Search.best.Goals.{in-Some+then-is_better, in-Some+else-is_better, in_default}
+use Rattle.cg_route.proofs.search.Search.best.Goals.{in-Some+then-found-price, in-Some+else-found-price, in_default}
 
 p-small : (w : Way) (p : ℕ) → IsCheap w → p ≤ w.onward + 2 ^ 52 → p < no_way
 p-small w p h l = omega (arith, h.0, l)
@@ -43,6 +43,7 @@ loop-register-preserved c =
     let r = get_or rs i 0 in
     let x : ℕ = get_or c.registers_after-register-items.result.now i 0 in
     let known : r < size S = driven S q r (after_is S.table.arch q r (Contains-get_or rs i 0 inside)).0 in
+    let one : delay_into S r ≡ 1 = (after_is S.table.arch q r (Contains-get_or rs i 0 inside)).1 in
     let e : x ≡ r = ap (λ (l : List ℕ). get_or l i 0) is in
     let ways : List (Option Way) = c.args.ways.now in
     let price = c.loop-register.price in
@@ -50,29 +51,32 @@ loop-register-preserved c =
     let old : Option Step = held price next in
     let new : Option Step = held c.match-ways-register.price c.match-ways-register.next in
     elim c.match-ways-register.branch [
-      | in-Some+then-is_better w ↦
+      | in-Some+then-found-price w ↦
           let way = w.in-Some.way in
           let p = w.way_price-found.result in
           let found : get_or ways r None ≡ Some way = ap (λ n. get_or ways n None) (sym e) ∙ w.in-Some.is in
           let paid : p ≡ way_price S time r q way = w.way_price-found.ensures.price ∙ ap (λ n. way_price S time n q way) e in
           let cheap = w.way_price-found.ensures.cheap in
           let rest = (p-small w.in-Some.way p (c.requires.cheap x way w.in-Some.is) cheap) in
-          let is : new ≡ better old p r = held_is w.price-is w.next-is ∙ (held_better price next p x rest).0 (sym w.is_better.ensures ∙ w.if-is_better.true) ∙ ap (λ n. better old p n) e in
+          let is : new ≡ better old p r = held_is w.price-is w.next-is ∙ held_less price next p x rest w.if-found-price.true ∙ ap (λ n. better old p n) e in
           record {
-            best = λ later v. best_seen S time q ways rs i p old new way inside known found paid is later v (c.loop-register.invariant.best later v);
-            below = λ later high v h. below_seen S time q ways rs i p old new way known found cheap is later high v h (c.loop-register.invariant.below later high v h);
+            best = λ later v. best_seen S time q ways rs i p old new way inside known one found paid is later v (c.loop-register.invariant.best later v);
+            below = λ later high v h. below_seen S time q ways rs i p old new way known one found cheap is later high v h (c.loop-register.invariant.below later high v h);
           }
-      | in-Some+else-is_better w ↦
+      | in-Some+else-found-price w ↦
           let way = w.in-Some.way in
           let p = w.way_price-found.result in
           let found : get_or ways r None ≡ Some way = ap (λ n. get_or ways n None) (sym e) ∙ w.in-Some.is in
           let paid : p ≡ way_price S time r q way = w.way_price-found.ensures.price ∙ ap (λ n. way_price S time n q way) e in
           let cheap = w.way_price-found.ensures.cheap in
           let rest = (p-small w.in-Some.way p (c.requires.cheap x way w.in-Some.is) cheap) in
-          let is : new ≡ better old p r = held_is w.price-is w.next-is ∙ (held_better price next p x rest).1 (sym w.is_better.ensures ∙ w.if-is_better.false) ∙ ap (λ n. better old p n) e in
+          let stays : new ≡ old = held_is w.price-is w.next-is in
+          let most : price ≤ p = w.if-found-price.false in
+          let is : (later : Layer) → ways ≡ ways_of S time later → new ≡ better old p r = λ later v.
+          stays ∙ held_more price next p r rest most (held_before S time q later rs i price next (after_ascends S.table.arch q) inside (omega (arith, rest, most)) (c.loop-register.invariant.best later v)) in
           record {
-            best = λ later v. best_seen S time q ways rs i p old new way inside known found paid is later v (c.loop-register.invariant.best later v);
-            below = λ later high v h. below_seen S time q ways rs i p old new way known found cheap is later high v h (c.loop-register.invariant.below later high v h);
+            best = λ later v. best_seen S time q ways rs i p old new way inside known one found paid (is later v) later v (c.loop-register.invariant.best later v);
+            below = λ later high v h s b. c.loop-register.invariant.below later high v h s (sym stays ∙ b);
           }
       | in_default w ↦
           let found : get_or ways r None ≡ None = ap (λ n. get_or ways n None) (sym e) ∙ w.in_default.is in
@@ -80,7 +84,7 @@ loop-register-preserved c =
           record {
             best = λ later v.
                 subst (λ b. IsBest (λ x. Contains (take (i + 1) rs) x) (at later) (λ x. link S time x q) b) (sym is)
-                (best_unseen S time q ways rs i old inside known found later v (c.loop-register.invariant.best later v));
+                (best_unseen S time q ways rs i old inside known one found later v (c.loop-register.invariant.best later v));
             below = λ later high v h s b. c.loop-register.invariant.below later high v h s (sym is ∙ b);
           }
     ]
