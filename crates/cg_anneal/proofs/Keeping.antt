@@ -1,5 +1,5 @@
 -- What is kept of the walk, as its state changes.
-use Rattle.std.proofs.Common.{◌≡◌, ◌≢◌, ℕ, zero, suc, ◌+◌, ◌-◌, ◌*◌, ◌<◌, ◌≤◌, ◌^◌, Bool, true, false, cond, List, [], ◌∷◌, length, map, replicate, get_or, set, Option, Some, None, refl, sym, ap, ◌∙◌, subst, arith}
+use Rattle.std.proofs.Common.{◌≡◌, ◌≢◌, ℕ, zero, suc, ◌+◌, ◌-◌, ◌*◌, ◌<◌, ◌≤◌, ◌^◌, cond, List, [], ◌∷◌, length, map, replicate, get_or, set, Option, Some, None, refl, sym, ap, ◌∙◌, subst, arith}
 use Rattle.std.specs.Prelude.{All, count_by, slice_get, slice_index}
 use Rattle.std.proofs.lemmas.Option.{same_Some, none-some, slice_get_within, slice_get-get_or}
 use Rattle.std.proofs.lemmas.List.{get_or_read}
@@ -33,7 +33,7 @@ use Rattle.cg_walk.proofs.Drawn.{MayTake}
 use Rattle.cg_walk.proofs.Keeps.{with_route_good, moved_good, aged_good, start_good}
 use Rattle.cg_walk.proofs.Pending.{Pending, with_same_route}
 use Rattle.cg_walk.proofs.Uses.{route_more, route_less, placed_alone, touching_known}
-use Rattle.cg_anneal.specs.Walking.{Walking, IsWalking, IsKept, IsAlone, MayPlace, at_state, ends_at, ends_are}
+use Rattle.cg_anneal.specs.Walking.{Walking, IsKept, IsAlone, MayPlace, at_state, ends_at, ends_are}
 use Rattle.cg_anneal.specs.declared.ends.RouteEnds.{RouteEnds}
 
 -- ---- how many have no route

@@ -1,11 +1,10 @@
 -- Edge operands routed, taken and put back, step by step.
-use Rattle.std.proofs.Common.{◌≡◌, ◌≢◌, ℕ, zero, suc, ◌+◌, ◌≤◌, ◌<◌, List, [], ◌∷◌, ◌++◌, length, map, get_or, set, take, drop, Option, Some, None, refl, sym, ap, ◌∙◌, subst, arith}
-use Rattle.std.specs.Prelude.{All, Contains, slice_get}
-use Rattle.std.proofs.lemmas.List.{take_more, drop_more, map-append, length-take-le, get_or-set_other, take_all}
+use Rattle.std.proofs.Common.{◌≡◌, ℕ, zero, suc, ◌+◌, ◌<◌, List, [], ◌∷◌, ◌++◌, length, map, get_or, take, drop, Option, Some, None, refl, sym, ap, ◌∙◌, subst, arith}
+use Rattle.std.specs.Prelude.{Contains, slice_get}
+use Rattle.std.proofs.lemmas.List.{take_more, drop_more, map-append, length-take-le}
 use Rattle.std.proofs.lemmas.List.Elements.{All-head}
-use Rattle.cg_walk.specs.State.{State, edges}
-use Rattle.cg_walk.specs.Walk.{edge, with_route, unrouted, IsFoundFor, IsRouted}
-use Rattle.cg_walk.proofs.Keeps.{Fits}
+use Rattle.cg_walk.specs.State.{State}
+use Rattle.cg_walk.specs.Walk.{with_route, unrouted, IsFoundFor, IsRouted}
 use Rattle.cg_walk.proofs.Pending.{Rising, Pending, pending_next, routed_then, with_same_route}
 use Rattle.cg_walk.proofs.Undone.{unrouted_others, restored}
 use Rattle.cg_anneal.specs.Walking.{Walking, at_state, IsRoutedBy}

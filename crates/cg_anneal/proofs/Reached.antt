@@ -1,5 +1,5 @@
 -- How the walk goes on, and ends.
-use Rattle.std.proofs.Common.{◌≡◌, ℕ, suc, ◌+◌, ◌<◌, ◌≤◌, List, inl, refl, sym, ap, ◌∙◌, subst, arith}
+use Rattle.std.proofs.Common.{◌≡◌, ℕ, suc, ◌+◌, ◌<◌, List, inl, sym, ap, ◌∙◌, subst, arith}
 use Rattle.rand_pcg.specs.Lcg.{Lcg}
 use Rattle.cg_model.specs.Kernel.{Kernel}
 use Rattle.cg_model.specs.Array.{Arch}

@@ -1,12 +1,10 @@
 -- How the walk ends.
-use Rattle.std.specs.Prelude.{◌≡◌, ℕ, ◌<◌, List, [], ◌∷◌, Option, Some, None, length, slice_index}
+use Rattle.std.specs.Prelude.{◌≡◌, ℕ, ◌<◌, List, length, slice_index}
 use Rattle.rand_pcg.specs.Lcg.{Lcg}
-use Rattle.cg_model.specs.declared.mapping.Route.{Route}
 use Rattle.cg_model.specs.Kernel.{Kernel, size}
 use Rattle.cg_model.specs.Array.{Arch}
 use Rattle.cg_edges.specs.Chain.{IsEarly}
 use Rattle.cg_edges.specs.Edges.{edge_of}
-use Rattle.cg_walk.specs.declared.edge.EdgeOperand.{EdgeOperand}
 use Rattle.cg_walk.specs.State.{State, cost, mapping_of}
 use Rattle.cg_walk.specs.Walk.{IsEnd}
 use Rattle.cg_anneal.specs.declared.finding.Found.{Found}

@@ -1,16 +1,16 @@
 -- The walk as it stands, and what is kept of it.
-use Rattle.std.specs.Prelude.{◌≡◌, ◌≢◌, ℕ, ◌+◌, ◌<◌, ◌≤◌, true, List, All, Contains, length, Option, Some, None, slice_get}
+use Rattle.std.specs.Prelude.{◌≡◌, ◌≢◌, ℕ, ◌<◌, ◌≤◌, true, List, Contains, length, Some, slice_get}
 use Rattle.cg_model.specs.Kernel.{Kernel, IsKernel, size, node}
 use Rattle.cg_model.specs.Array.{Arch, IsArch, unit}
 use Rattle.cg_model.specs.Limits.{latest_time}
 use Rattle.cg_mrrg.specs.Graph.{Graph}
 use Rattle.cg_claims.specs.Table.{Table}
-use Rattle.cg_route.specs.Least.{Ends, IsTimedPath}
+use Rattle.cg_route.specs.Least.{Ends}
 use Rattle.cg_place.specs.declared.moves.Move.{Move}
-use Rattle.cg_place.specs.Placed.{Placed, moved}
+use Rattle.cg_place.specs.Placed.{Placed}
 use Rattle.cg_walk.specs.State.{State, edges, ends_of, state_positions, table_of_state, missing}
 use Rattle.cg_walk.specs.declared.edge.EdgeOperand.{EdgeOperand}
-use Rattle.cg_walk.specs.Walk.{edge, touches, touching, with_route, IsFoundFor, IsRouted}
+use Rattle.cg_walk.specs.Walk.{edge, touches, IsRouted}
 use Rattle.cg_walk.specs.Good.{IsReady, IsGood}
 use Rattle.cg_walk.specs.Alike.{AreAlike}
 use Rattle.cg_anneal.specs.declared.ends.RouteEnds.{RouteEnds}

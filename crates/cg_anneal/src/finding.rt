@@ -1,6 +1,7 @@
 //! The search for a mapping at an interval.
 ghost use Rattle.std.specs.Prelude.{◌≡◌, ◌<◌, ◌≤◌, List, IfOk};
 ghost use Rattle.cg_edges.specs.declared.edge.EdgeId.{EdgeId};
+ghost use Rattle.cg_model.specs.Limits.{most_moves};
 ghost use Rattle.cg_place.specs.Placed.{IsOffered};
 ghost use Rattle.cg_recur.specs.Recurrences.{IsRecurrence};
 ghost use Rattle.cg_walk.specs.Good.{IsReady};
@@ -36,7 +37,7 @@ pub fn search<'a>(
 ) -> Result<Found<'a>, AllocError>
     requires some { 0 < ii }
     requires contexts { ii ≤ arch.now.contexts }
-    requires few { moves ≤ 1000000 }
+    requires few { moves ≤ most_moves }
     requires offered { IsOffered arch.now kernel.now }
     requires free { (ids : List EdgeId) → IsRecurrence arch.now kernel.now ii ids → ⊥ }
     ensures { IfOk result (IsWalked arch.now kernel.now ii seed moves) }
@@ -63,7 +64,7 @@ fn run<'a>(
     moves: u32,
 ) -> Result<Found<'a>, AllocError>
     requires ready { IsReady arch.now kernel.now ii early.now }
-    requires few { moves ≤ 1000000 }
+    requires few { moves ≤ most_moves }
     ensures { IfOk result (IsWalkedFrom arch.now kernel.now ii early.now seed moves) }
 {
     arch.contexts();

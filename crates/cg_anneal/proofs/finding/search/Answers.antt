@@ -1,6 +1,4 @@
-use Rattle.std.proofs.Common.{◌≡◌, ◌∙◌, ◌+◌, ◌*◌, ◌<◌, ◌≤◌, List, ℕ, length, sym, ap, subst, arith}
-use Rattle.std.specs.Prelude.{slice_index}
-use Rattle.cg_model.specs.Kernel.{size}
+use Rattle.std.proofs.Common.{sym, subst, arith}
 use Rattle.cg_recur.specs.declared.recur.Recur.TheVariants.{Times}
 use Rattle.cg_recur.specs.Recurrences.{IsAnswer}
 use Rattle.cg_walk.specs.Good.{IsReady}
