@@ -1,0 +1,10 @@
+use Rattle.std.proofs.Common.{◌≡◌, take, map, get_or, None}
+use Rattle.cg_walk.specs.Walk.{unrouted}
+use Rattle.cg_anneal.specs.Walking.{at_state}
+use Rattle.cg_anneal.proofs.walk.Walk.take_all.Given as goal
+
+abbrev pub invariant-loop-i : goal.invariant-loop-i
+invariant-loop-i l = record {
+  now : l.self ≡ at_state l.fn.self (unrouted (take l.i-index l.list) l.fn.self.state);
+  routes : l.routes.items ≡ map (λ i. get_or l.fn.self.state.routes i None) (take l.i-index l.list);
+}

@@ -1,0 +1,4 @@
+pub mod Edges
+pub mod Walking
+pub mod Steps
+pub mod Ended

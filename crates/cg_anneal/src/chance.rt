@@ -1,0 +1,24 @@
+//! Whether a move stands.
+ghost use Rattle.std.specs.Prelude.{◌≡◌, ◌<◌, ◌≤◌};
+ghost use Rattle.cg_walk.specs.Walk as spec;
+
+/// How hot the walk is at a move.
+fn heat(moves: u32, k: u32) -> u64
+    requires { k < moves }
+    ensures value { result ≡ spec.heat moves k }
+    ensures some { 0 < result }
+{
+    1 + 64 * u64::from(moves - k) / u64::from(moves)
+}
+
+/// Whether a move stands that takes the cost from `before` to `after`, by a word.
+pub(crate) fn is_taken(moves: u32, k: u32, before: u64, after: u64, word: u32) -> bool
+    requires { k < moves }
+    ensures { result ≡ spec.is_taken moves k before after word }
+{
+    if after <= before {
+        return true;
+    }
+    let halves = ((after - before) / heat(moves, k)).min(31);
+    u64::from(word) < (1 << 32) / (1 << halves)
+}

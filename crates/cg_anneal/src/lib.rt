@@ -1,0 +1,13 @@
+//! The annealing walk that looks for a mapping: the code that makes it.
+#![tactic(auto)]
+
+mod chance;
+mod edges;
+mod ends;
+mod finding;
+mod mapping;
+mod moves;
+mod routing;
+mod walk;
+
+pub use finding::{Found, search};

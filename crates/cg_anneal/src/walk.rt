@@ -1,0 +1,262 @@
+//! The walk as it stands.
+ghost use Rattle.std.specs.Prelude.{◌≡◌, IfOk, replicate, None};
+
+use crate::edges::{all, edges_of_kernel, touching};
+use crate::ends::{RouteEnds, ends_between};
+use cg_arch::Arch;
+use cg_claims::Usage;
+use cg_kernel::Kernel;
+use cg_model::{Items, Place, Words};
+use cg_mrrg::Mrrg;
+use cg_place::{Move, Placement};
+use cg_route::least_path;
+use cg_walk::EdgeOperand;
+use std::alloc::{AllocError, Global};
+use std::marker::Model;
+
+/// The state of a walk: places, routes and histories, with a use table that has the uses of the routes.
+#[derive(Drop)]
+pub(crate) struct Walk<'g, 'a> {
+    graph: &'g Mrrg<'a>,
+    arch: &'a Arch,
+    kernel: &'a Kernel,
+    ii: u32,
+    edges: Vec<EdgeOperand>,
+    placement: Placement<'a>,
+    usage: Usage<'a>,
+    routes: Vec<Option<Words>>,
+    missing: u32,
+}
+
+impl<'g, 'a> Model for Walk<'g, 'a> {
+    ghost use Rattle.cg_anneal.specs.Walking.{Walking, IsKept};
+
+    ghost Value = { Walking };
+
+    ghost view = { λ w. record { arch = w.arch.now; kernel = w.kernel.now; ii = w.ii; early = w.placement.early; state = record { places = w.placement.places; routes = w.routes.items; history = w.usage.history } } };
+
+    ghost invariant = { λ w. IsKept (record { arch = w.arch.now; kernel = w.kernel.now; ii = w.ii; early = w.placement.early; state = record { places = w.placement.places; routes = w.routes.items; history = w.usage.history } }) w.graph.now w.edges.items w.placement w.usage w.missing };
+}
+
+impl<'g, 'a> Walk<'g, 'a> {
+    ghost use Rattle.std.specs.Prelude.{◌≡◌, ◌<◌, ◌≤◌, ◌+◌, ◌*◌, ◌^◌, All, IfOk, OnOk, length, Option, Some, None, slice_get, slice_index_or};
+    ghost use Rattle.cg_place.specs.Placed.{moved, back, place_in};
+    ghost use Rattle.cg_route.specs.Least.{IsTimedPath};
+    ghost use Rattle.cg_walk.specs.State.{edges, cost};
+    ghost use Rattle.cg_model.specs.Kernel.{size};
+    ghost use Rattle.cg_place.specs.Draws.{drawn_move};
+    ghost use Rattle.cg_walk.specs.Good.{IsReady};
+    ghost use Rattle.cg_walk.specs.Walk.{edge, with_route, all_edges, aged_state, unrouted_start, IsFoundFor};
+    ghost use Rattle.cg_walk.specs.Walk.{touching as touching_of_kernel};
+    ghost use Rattle.cg_walk.specs.Ranges.{AreInRange};
+    ghost use Rattle.cg_anneal.specs.Walking as spec;
+
+    /// The source of an edge operand, and the ends of its route.
+    fn ends(&self, i: u32) -> RouteEnds
+        requires { i < length (edges self.now.kernel) }
+        ensures source { result.source ≡ (edge self.now.kernel i).source }
+        ensures ends { spec.ends_are result ≡ spec.ends_at self.now i }
+        ensures range { AreInRange self.now.arch (spec.ends_are result) }
+        ensures valid { spec.IsWalking self.now }
+    {
+        let edge = self.edges[i as usize];
+        let from = self.placement.place(edge.source);
+        let to = self.placement.place(edge.node);
+        ends_between(self.arch, self.ii, edge, from, to)
+    }
+
+    /// The least path for an edge operand.
+    pub(crate) fn find(&self, alloc: Global, i: u32) -> Result<Option<Words>, AllocError>
+        requires { i < length (edges self.now.kernel) }
+        ensures found { IfOk result (λ found. IsFoundFor self.now.arch self.now.kernel self.now.ii self.now.state i found) }
+    {
+        let ends = self.ends(i);
+        let found = least_path(
+            alloc,
+            self.graph,
+            &self.usage,
+            ends.source,
+            ends.start,
+            ends.from,
+            ends.to,
+            ends.end,
+        )?;
+        match found {
+            None => Ok(None),
+            Some(path) => Ok(Some(Items::new(path))),
+        }
+    }
+
+    /// Gives a route to an edge operand without one.
+    pub(crate) fn set(&mut self, i: u32, path: Words) -> Result<(), AllocError>
+        requires known { i < length (edges self.old.kernel) }
+        requires none { slice_get self.old.state.routes i ≡ Some None }
+        requires fits { IsTimedPath self.old.arch (spec.ends_at self.old i) path }
+        ensures { OnOk result (self.new ≡ spec.at_state self.old (with_route self.old.state i (Some path))) }
+    {
+        let ends = self.ends(i);
+        self.usage.add(ends.source, ends.start, path.as_slice())?;
+        self.routes[i as usize] = Some(path);
+        self.missing -= 1;
+        Ok(())
+    }
+
+    /// Takes the route of an edge operand away.
+    pub(crate) fn take(&mut self, i: u32) -> Option<Words>
+        requires known { i < length (edges self.old.kernel) }
+        ensures new { self.new ≡ spec.at_state self.old (with_route self.old.state i None) }
+        ensures route { result ≡ slice_index_or self.old.state.routes i None }
+    {
+        let ends = self.ends(i);
+        match self.routes[i as usize].take() {
+            None => None,
+            Some(path) => {
+                self.usage.remove(ends.source, ends.start, path.as_slice());
+                self.missing += 1;
+                Some(path)
+            }
+        }
+    }
+
+    /// What the state costs.
+    pub(crate) fn cost(&self) -> u64
+        ensures { result ≡ cost self.now.arch self.now.kernel self.now.ii self.now.state }
+    {
+        let heavy = u64::from(self.missing)
+            + u64::from(self.placement.order_violations())
+            + u64::from(self.placement.unit_excess());
+        1000 * heavy + self.usage.excess()
+    }
+
+    /// Places a node of which no edge operand has a route, and gives the move that undoes it.
+    pub(crate) fn place(&mut self, change: Move) -> Move
+        requires may { spec.MayPlace self.old change }
+        requires alone { spec.IsAlone self.old change.node }
+        ensures new { self.new ≡ spec.at_state self.old (record self.old.state { places = moved self.old.state.places change }) }
+        ensures back { result ≡ back self.old.state.places change }
+        ensures may { spec.MayPlace self.new result }
+    {
+        self.placement.apply(change)
+    }
+
+    /// A walk at its start, before edge operands are routed.
+    pub(crate) fn start(
+        alloc: Global,
+        graph: &'g Mrrg<'a>,
+        arch: &'a Arch,
+        kernel: &'a Kernel,
+        ii: u32,
+        early: &[u32],
+    ) -> Result<Walk<'g, 'a>, AllocError>
+        requires ready { IsReady arch.now kernel.now ii early.now }
+        requires graph { graph.now ≡ record { arch = arch.now; interval = ii } }
+        ensures { IfOk result (λ w. w ≡ record { arch = arch.now; kernel = kernel.now; ii = ii; early = early.now; state = unrouted_start arch.now kernel.now ii early.now }) }
+    {
+        arch.contexts();
+        kernel.nodes();
+        let edges = edges_of_kernel(alloc, kernel)?;
+        let routes = no_routes(alloc, edges.len())?;
+        let missing = edges.len() as u32;
+        Ok(Walk {
+            graph,
+            arch,
+            kernel,
+            ii,
+            edges,
+            placement: Placement::start(alloc, arch, kernel, ii, early)?,
+            usage: Usage::new(alloc, graph)?,
+            routes,
+            missing,
+        })
+    }
+
+    /// The interval, in cycles.
+    pub(crate) fn interval(&self) -> u32
+        ensures { result ≡ self.now.ii }
+    {
+        self.ii
+    }
+
+    /// The number of edge operands.
+    pub(crate) fn count(&self) -> u32
+        ensures { result ≡ length (edges self.now.kernel) }
+    {
+        self.edges.len() as u32
+    }
+
+    /// An edge operand.
+    pub(crate) fn operand(&self, i: u32) -> EdgeOperand
+        requires { i < length (edges self.now.kernel) }
+        ensures { result ≡ edge self.now.kernel i }
+    {
+        self.edges[i as usize]
+    }
+
+    /// The place of a node.
+    fn place_of(&self, node: u32) -> Place
+        requires { node < size self.now.kernel }
+        ensures { result ≡ place_in self.now.state.places node }
+    {
+        self.placement.place(node)
+    }
+
+    /// The places of all nodes.
+    pub(crate) fn places(&self, alloc: Global) -> Result<Vec<Place>, AllocError>
+        ensures { IfOk result (λ v. v.items ≡ self.now.state.places) }
+    {
+        let mut places = Vec::new(alloc);
+        for node in 0..self.kernel.nodes().len() {
+            places.push(self.place_of(node as u32))?;
+        }
+        Ok(places)
+    }
+
+    /// What holds of it; the call does nothing.
+    pub(crate) fn holds(&self)
+        ensures { spec.IsWalking self.now }
+    {
+        let _ = &self.graph;
+    }
+
+    /// The edge operands that touch a node, by number.
+    pub(crate) fn touching(&self, alloc: Global, node: u32) -> Result<Vec<u32>, AllocError>
+        ensures { IfOk result (λ v. v.items ≡ touching_of_kernel self.now.kernel node) }
+    {
+        touching(alloc, &self.edges, node)
+    }
+
+    /// All edge operands, by number.
+    pub(crate) fn all(&self, alloc: Global) -> Result<Vec<u32>, AllocError>
+        ensures { IfOk result (λ v. v.items ≡ all_edges self.now.kernel) }
+    {
+        all(alloc, &self.edges)
+    }
+
+    /// A move that three words draw.
+    pub(crate) fn propose(&self, w1: u32, w2: u32, w3: u32) -> Move
+        requires { 0 < size self.now.kernel }
+        ensures value { result ≡ drawn_move self.now.arch self.now.kernel self.now.ii self.now.early w1 w2 w3 }
+        ensures may { spec.MayPlace self.now result }
+    {
+        self.placement.propose(w1, w2, w3)
+    }
+
+    /// Adds 1 to the history of each resource and slot with more than one claim.
+    pub(crate) fn age(&mut self)
+        requires { All (λ h. h < 4294967295) self.old.state.history }
+        ensures { self.new ≡ spec.at_state self.old (aged_state self.old.arch self.old.kernel self.old.ii self.old.state) }
+    {
+        self.usage.age()
+    }
+}
+
+/// That many routes that are not there.
+fn no_routes(alloc: Global, count: usize) -> Result<Vec<Option<Words>>, AllocError>
+    ensures { IfOk result (λ v. v.items ≡ replicate count None) }
+{
+    let mut routes = Vec::new(alloc);
+    for _ in 0..count {
+        routes.push(None)?;
+    }
+    Ok(routes)
+}
