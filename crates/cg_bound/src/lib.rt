@@ -6,8 +6,6 @@ mod halves;
 mod interval;
 mod laws;
 mod overfull;
-#[cfg(test)]
-mod tests;
 mod text;
 mod unoffered;
 
