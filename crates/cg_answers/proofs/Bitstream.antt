@@ -7,7 +7,7 @@ use Rattle.cg_model.specs.Kernel.{Kernel, IsKernel}
 use Rattle.cg_model.specs.Config.{Config}
 use Rattle.cg_model.specs.Configured.{configuration_of}
 use Rattle.cg_model.specs.Machine.{machine_left}
-use Rattle.cg_model.specs.Mapping.{Mapping, IsLegal}
+use Rattle.cg_model.specs.Mapping.{Mapping, IsShaped, IsLegal}
 use Rattle.cg_overlap.proofs.Single.{carries_one}
 use Rattle.cg_overlap.proofs.Canonical.{canonical}
 use Rattle.cg_overlap.proofs.Overlap.{follows, leaves_the_same, begins_only, follows_alone, leaves_alone, unaliased_without}
@@ -30,7 +30,7 @@ use Rattle.cg_emit.specs.Emitted.{RunLikeTurns, RunLikeTurnsAlone}
 use Rattle.cg_emit.proofs.Overlapped.{one_config, does_turns}
 use Rattle.cg_answers.specs.Sources.{pair_of, mapped_of, AreMapped}
 use Rattle.cg_answers.specs.Check.{illegal_report, AreGiven, IsLegalInput, IsIllegalCheck}
-use Rattle.cg_answers.specs.Emit.{IsEmit, IsEmittedBy, IsEmission, IsEmittedRun, config_of, emit_report}
+use Rattle.cg_answers.specs.Emit.{IsEmit, IsEmittedBy, IsEmission, RunsMapping, IsEmittedRun, config_of, emit_report}
 use Rattle.cg_answers.specs.Run.{LeavesTurns}
 use Rattle.cg_answers.proofs.Sound.{IsSound}
 use Rattle.cg_answers.proofs.Wholes.{whole, one_write}
@@ -52,6 +52,20 @@ run_like_turns_alone : (A : Arch) (K : Kernel) (M : Mapping) (bytes : List ℕ) 
 run_like_turns_alone A K M bytes valid good legal spelled never C other n image =
     does_turns A K M C n image (one_config A (configuration_of A K M) C bytes valid (sized A) spelled other)
     (follows_alone A K M n image valid good legal never) (begins_only A K M n image legal) (leaves_alone A K M n image valid good legal never)
+
+-- the bits of a legal mapping run it
+pub runs : (m : Mapped) (bytes : List ℕ) → IsArch m.arch → IsKernel m.kernel → IsLegal m.arch m.kernel m.mapping → AreBits m.arch (config_of m) bytes → RunsMapping m bytes
+runs m bytes valid good legal spelled = record {
+  legal = legal;
+  spelled = spelled;
+  once = carries_one m.arch m.kernel m.mapping legal;
+  overlaps = run_like_turns m.arch m.kernel m.mapping bytes valid good legal spelled;
+  overlaps_alone = run_like_turns_alone m.arch m.kernel m.mapping bytes valid good legal spelled;
+}
+
+-- there are such bits
+pub some_run : (m : Mapped) → IsKernel m.kernel → IsShaped m.kernel m.mapping → IsLegal m.arch m.kernel m.mapping → (bytes : List ℕ) × AreBits m.arch (config_of m) bytes
+some_run m good shape legal = some_bits m.arch (config_of m) (canonical m.arch m.kernel m.mapping good legal shape.places)
 
 -- so does the configuration that is read of them
 pub leaves_turns : (A : Arch) (n : ℕ) (image : Image) (C : Config) (bytes : List ℕ) → IsArch A → bits.answer_of A bytes ≡ Ok C → LeavesTurns A n image C bytes
@@ -127,7 +141,7 @@ accepted_emit arch kernel mapping out o a p =
 some_by : (out : Name) (m : Mapped) (v : Option Violation) → violation m.arch m.kernel m.mapping ≡ v → IsValid m → (o : Outcome) × IsEmittedBy out m v o
 some_by out m None e valid =
     let legal = legal_without m valid e in
-    let spelled = some_bits m.arch (config_of m) (canonical m.arch m.kernel m.mapping valid.kernel legal valid.shape.places) in
+    let spelled = some_run m valid.kernel valid.shape legal in
     (record { status = Done; report = emit_report m; writes = record { name = out; bytes = spelled.0 } ∷ [] }, record { bytes = spelled.0; spelled = spelled.1; outcome = refl })
 some_by out m (Some v) e valid = (reports No (illegal_report m.arch m.kernel v), refl)
 
@@ -153,13 +167,9 @@ module _ (arch kernel mapping out : Name) (f g h : File) (before after : Moment)
       record {
         mapped = m;
         read = hold_mapped arch kernel mapping f g h before after arch_held kernel_held mapping_held m given;
-        legal = legal;
         bytes = is.bytes;
         written = one_write before.held after.held out is.bytes (subst (λ fs. Wrote before.held fs after.held) (ap (λ x. x.writes) is.outcome) c.held);
-        spelled = is.spelled;
-        once = carries_one m.arch m.kernel m.mapping legal;
-        overlaps = run_like_turns m.arch m.kernel m.mapping is.bytes valid.arch valid.kernel legal is.spelled;
-        overlaps_alone = run_like_turns_alone m.arch m.kernel m.mapping is.bytes valid.arch valid.kernel legal is.spelled;
+        runs = runs m is.bytes valid.arch valid.kernel legal is.spelled;
         put = subst (λ report. Appends before.taken report after.taken) (ap (λ x. x.report) is.outcome) (whole o.status o.report before after done c.put);
       }
   emitted_by m (Some v) o e given is done c = absurd (let z : No ≡ Done = sym (ap (λ x. x.status) is) ∙ done in cc)

@@ -6,7 +6,7 @@ use Rattle.cg_ending.specs.Outcome.{Name, File, Outcome, names_of}
 use Rattle.cg_kernel.specs.declared.fault.KernelFault.{KernelFault}
 use Rattle.cg_kernel.specs.Answer.{answer_of}
 use Rattle.cg_command.specs.declared.plans.Command.{Command}
-use Rattle.cg_command.specs.declared.plans.Command.TheVariants.{Turns, TurnsOnImage, Flat, Run, Bound, Check, Emit}
+use Rattle.cg_command.specs.declared.plans.Command.TheVariants.{Turns, TurnsOnImage, Flat, Run, Bound, Check, Emit, Map}
 use Rattle.cg_model.specs.Work.{Image}
 use Rattle.cg_model.specs.Order.{IsUnaliased}
 use Rattle.cg_pad.specs.declared.fault.ImageFault.{ImageFault}
@@ -28,6 +28,7 @@ use Rattle.cg_answers.proofs.Run.{same_array, sound_run, accepted_run, named_run
 use Rattle.cg_answers.proofs.Bounded.{same_bound, sound_bound, accepted_bound, quiet_bound}
 use Rattle.cg_answers.proofs.Checked.{same_check, sound_check, accepted_check, quiet_check}
 use Rattle.cg_answers.proofs.Bitstream.{same_emit, sound_emit, accepted_emit, named_emit}
+use Rattle.cg_answers.proofs.Searched.{same_map, sound_map, accepted_map, quiet_map, named_map}
 use Rattle.cg_answers.specs.Commands.{IsAnswer, Accepts}
 
 -- an unaliased run has no first pair
@@ -80,6 +81,7 @@ same_status (Run n) (f ∷ g ∷ h ∷ []) (out ∷ []) a b p q = same_run n f g
 same_status Bound (f ∷ g ∷ []) [] a b p q = same_bound f g a b p q
 same_status Check (f ∷ g ∷ h ∷ []) [] a b p q = same_check f g h a b p q
 same_status Emit (f ∷ g ∷ h ∷ []) (out ∷ []) a b p q = same_emit f g h out a b p q
+same_status (Map s) (f ∷ g ∷ []) outs a b p q = same_map s f g outs a b p q
 same_status _ _ _ a b p q = absurd p
 
 sound_turns : (n : ℕ) (file : File) (r : Result Kernel KernelFault) → IsSound (turns_by n file r)
@@ -115,6 +117,7 @@ sound (Run n) (f ∷ g ∷ h ∷ []) (out ∷ []) o p = rw p.outcome (sound_run 
 sound Bound (f ∷ g ∷ []) [] o p = sound_bound f g o p
 sound Check (f ∷ g ∷ h ∷ []) [] o p = sound_check f g h o p
 sound Emit (f ∷ g ∷ h ∷ []) (out ∷ []) o p = sound_emit f g h out o p
+sound (Map s) (f ∷ g ∷ []) outs o p = sound_map s outs f g o p
 sound _ _ _ o p = absurd p
 
 accepted_pair : (n : ℕ) (K : Kernel) (image : Image) (p : Option UnorderedPair) → IsUnaliased K n image → IsPairOf K n image p → pair_status p ≡ Done
@@ -147,6 +150,7 @@ accepted (Run n) (f ∷ g ∷ h ∷ []) (out ∷ []) o a p = accepted_run n f g 
 accepted Bound (f ∷ g ∷ []) [] o a p = accepted_bound f g o a p
 accepted Check (f ∷ g ∷ h ∷ []) [] o a p = accepted_check f g h o a p
 accepted Emit (f ∷ g ∷ h ∷ []) (out ∷ []) o a p = accepted_emit f g h out o a p
+accepted (Map s) (f ∷ g ∷ []) outs o a p = accepted_map s f g outs o a p
 accepted _ _ _ o a p = absurd p
 
 quiet_turns : (n : ℕ) (file : File) (r : Result Kernel KernelFault) → (turns_by n file r).writes ≡ []
@@ -179,6 +183,10 @@ quiet Check [] o p = absurd p
 quiet Check (f ∷ []) o p = absurd p
 quiet Check (f ∷ g ∷ []) o p = absurd p
 quiet Check (f ∷ g ∷ h ∷ k ∷ fs) o p = absurd p
+quiet (Map s) (f ∷ g ∷ []) o p = quiet_map s f g o p
+quiet (Map s) [] o p = absurd p
+quiet (Map s) (f ∷ []) o p = absurd p
+quiet (Map s) (f ∷ g ∷ h ∷ fs) o p = absurd p
 quiet Emit [] o p = absurd p
 quiet Emit (f ∷ []) o p = absurd p
 quiet Emit (f ∷ g ∷ []) o p = absurd p
@@ -210,4 +218,5 @@ named (Run n) (f ∷ g ∷ h ∷ []) (out ∷ []) o p = named_run n f g h out p.
 named Bound (f ∷ g ∷ []) [] o p = inr (quiet_bound f g o p)
 named Check (f ∷ g ∷ h ∷ []) [] o p = inr (quiet_check f g h o p)
 named Emit (f ∷ g ∷ h ∷ []) (out ∷ []) o p = named_emit f g h out o p
+named (Map s) (f ∷ g ∷ []) outs o p = named_map s outs f g o p
 named _ _ _ o p = absurd p

@@ -11,7 +11,7 @@ use Rattle.cg_pad.specs.Bytes as images
 use Rattle.cg_turns.proofs.Decided.{some_pair}
 use Rattle.cg_tiles.proofs.Solved.{some_answer}
 use Rattle.cg_command.specs.declared.plans.Command.{Command}
-use Rattle.cg_command.specs.declared.plans.Command.TheVariants.{Turns, TurnsOnImage, Flat, Run, Bound, Check, Emit}
+use Rattle.cg_command.specs.declared.plans.Command.TheVariants.{Turns, TurnsOnImage, Flat, Run, Bound, Check, Emit, Map}
 use Rattle.cg_command.specs.Words.{HasShape}
 use Rattle.cg_ending.specs.Refusals.{malformed_of}
 use Rattle.cg_kernel.specs.Texts.{kernel_fault_text}
@@ -23,6 +23,7 @@ use Rattle.cg_answers.specs.Run.{IsRun, run_by}
 use Rattle.cg_answers.proofs.Bounded.{some_bounding}
 use Rattle.cg_answers.proofs.Checked.{some_check}
 use Rattle.cg_answers.proofs.Bitstream.{some_emit}
+use Rattle.cg_answers.proofs.Searched.{some_map}
 use Rattle.cg_answers.specs.Commands.{IsAnswer}
 
 -- after a valid kernel, whatever comes of the image
@@ -93,3 +94,7 @@ some_outcome Emit (f ∷ g ∷ []) outputs shape = absurd (omega (arith, shape.0
 some_outcome Emit (f ∷ g ∷ h ∷ k ∷ fs) outputs shape = absurd (omega (arith, shape.0))
 some_outcome Emit (f ∷ g ∷ h ∷ []) [] shape = absurd (omega (arith, shape.1))
 some_outcome Emit (f ∷ g ∷ h ∷ []) (out ∷ other ∷ outs) shape = absurd (omega (arith, shape.1))
+some_outcome (Map s) (f ∷ g ∷ []) outputs shape = some_map s f g outputs shape.2
+some_outcome (Map s) [] outputs shape = absurd (omega (arith, shape.0))
+some_outcome (Map s) (f ∷ []) outputs shape = absurd (omega (arith, shape.0))
+some_outcome (Map s) (f ∷ g ∷ h ∷ fs) outputs shape = absurd (omega (arith, shape.0))

@@ -26,18 +26,19 @@ use Rattle.cg_bits.specs.Answers as bits
 use Rattle.cg_model.specs.Config.{Config}
 use Rattle.cg_model.specs.Machine.{machine_left}
 use Rattle.cg_command.specs.declared.plans.Command.{Command}
-use Rattle.cg_command.specs.declared.plans.Command.TheVariants.{Turns, TurnsOnImage, Flat, Run, Bound, Check, Emit}
+use Rattle.cg_command.specs.declared.plans.Command.TheVariants.{Turns, TurnsOnImage, Flat, Run, Bound, Check, Emit, Map}
 use Rattle.cg_answers.specs.Turns.{turns_by, IsTurned}
 use Rattle.cg_answers.specs.TurnsOnImage.{IsOnKernel, IsOnImage, imaged, IsRunOnImage, IsOrderedRun, IsUnorderedRun}
 use Rattle.cg_answers.specs.Flat.{flat_by, IsFlattened}
 use Rattle.cg_answers.specs.Run.{run_by, run_by_bits, run_by_image, ran, too_large, IsArrayRun}
-use Rattle.cg_answers.specs.Commands.{IsAnswer, Leaves, LeavesDone, LeavesNo}
+use Rattle.cg_answers.specs.Commands.{IsAnswer, Leaves, LeavesDone, LeavesNo, LeavesImpossible, LeavesSpent}
 use Rattle.cg_answers.proofs.Commands.{turns_is, on_image_is}
 use Rattle.cg_answers.proofs.Run.{valid_array, spelled_answer}
 use Rattle.cg_answers.proofs.Wholes.{whole, one_write, one_read, first_read, second_read, three_read, differ}
 use Rattle.cg_answers.proofs.Bounded.{bound_left}
 use Rattle.cg_answers.proofs.Checked.{legal_left, illegal_left}
 use Rattle.cg_answers.proofs.Bitstream.{leaves_turns, emitted_left, unemitted_left}
+use Rattle.cg_answers.proofs.Searched.{map_left, impossible_left, spent_left}
 
 -- ---- `turns KERNEL TURNS`
 
@@ -180,22 +181,20 @@ abbrev pub is_silent : Status → Bool
 is_silent Memory = true
 is_silent Usage = true
 is_silent Malformed = true
-is_silent Impossible = true
 is_silent ReadFault = true
 is_silent WriteFault = true
-is_silent BudgetSpent = true
 is_silent _ = false
 
 pub silent : (command : Command) (inputs outputs : List Name) (status : Status) (before after : Moment) → is_silent status ≡ true → Leaves command inputs outputs status before after
 silent command inputs outputs Done before after h = absurd (cc)
 silent command inputs outputs No before after h = absurd (cc)
+silent command inputs outputs Impossible before after h = absurd (cc)
+silent command inputs outputs BudgetSpent before after h = absurd (cc)
 silent command inputs outputs Memory before after h = tt
 silent command inputs outputs Usage before after h = tt
 silent command inputs outputs Malformed before after h = tt
-silent command inputs outputs Impossible before after h = tt
 silent command inputs outputs ReadFault before after h = tt
 silent command inputs outputs WriteFault before after h = tt
-silent command inputs outputs BudgetSpent before after h = tt
 
 left_done : (command : Command) (inputs outputs : List Name) (files : List File) (o : Outcome) (before after : Moment)
     → AreRead before.held inputs files → IsAnswer command files outputs o → o.status ≡ Done → Completed o before after Done → LeavesDone command inputs outputs before after
@@ -238,6 +237,11 @@ left_done Emit (arch ∷ kernel ∷ mapping ∷ []) (out ∷ []) [] o before aft
 left_done Emit (arch ∷ kernel ∷ mapping ∷ []) (out ∷ []) (f ∷ []) o before after read answer is c = absurd answer
 left_done Emit (arch ∷ kernel ∷ mapping ∷ []) (out ∷ []) (f ∷ g ∷ []) o before after read answer is c = absurd answer
 left_done Emit (arch ∷ kernel ∷ mapping ∷ []) (out ∷ []) (f ∷ g ∷ h ∷ k ∷ fs) o before after read answer is c = absurd answer
+left_done (Map s) (arch ∷ kernel ∷ []) outs (f ∷ g ∷ []) o before after read answer is c =
+    map_left s arch kernel outs f g before after (first_read before.held arch kernel f g read) (second_read before.held arch kernel f g read) o answer is c
+left_done (Map s) (arch ∷ kernel ∷ []) outs [] o before after read answer is c = absurd answer
+left_done (Map s) (arch ∷ kernel ∷ []) outs (f ∷ []) o before after read answer is c = absurd answer
+left_done (Map s) (arch ∷ kernel ∷ []) outs (f ∷ g ∷ h ∷ fs) o before after read answer is c = absurd answer
 left_done _ _ _ _ o before after read answer is c = tt
 
 left_no : (command : Command) (inputs outputs : List Name) (files : List File) (o : Outcome) (before after : Moment)
@@ -263,6 +267,24 @@ left_no Emit (arch ∷ kernel ∷ mapping ∷ []) (out ∷ []) (f ∷ g ∷ []) 
 left_no Emit (arch ∷ kernel ∷ mapping ∷ []) (out ∷ []) (f ∷ g ∷ h ∷ k ∷ fs) o before after read answer is c = absurd answer
 left_no _ _ _ _ o before after read answer is c = tt
 
+left_impossible : (command : Command) (inputs outputs : List Name) (files : List File) (o : Outcome) (before after : Moment)
+    → AreRead before.held inputs files → IsAnswer command files outputs o → o.status ≡ Impossible → Completed o before after Impossible → LeavesImpossible command inputs before after
+left_impossible (Map s) (arch ∷ kernel ∷ []) outs (f ∷ g ∷ []) o before after read answer is c =
+    impossible_left s arch kernel outs f g before after (first_read before.held arch kernel f g read) (second_read before.held arch kernel f g read) o answer is c
+left_impossible (Map s) (arch ∷ kernel ∷ []) outs [] o before after read answer is c = absurd answer
+left_impossible (Map s) (arch ∷ kernel ∷ []) outs (f ∷ []) o before after read answer is c = absurd answer
+left_impossible (Map s) (arch ∷ kernel ∷ []) outs (f ∷ g ∷ h ∷ fs) o before after read answer is c = absurd answer
+left_impossible _ _ _ _ o before after read answer is c = tt
+
+left_spent : (command : Command) (inputs outputs : List Name) (files : List File) (o : Outcome) (before after : Moment)
+    → AreRead before.held inputs files → IsAnswer command files outputs o → o.status ≡ BudgetSpent → Completed o before after BudgetSpent → LeavesSpent command inputs before after
+left_spent (Map s) (arch ∷ kernel ∷ []) outs (f ∷ g ∷ []) o before after read answer is c =
+    spent_left s arch kernel outs f g before after (first_read before.held arch kernel f g read) (second_read before.held arch kernel f g read) o answer is c
+left_spent (Map s) (arch ∷ kernel ∷ []) outs [] o before after read answer is c = absurd answer
+left_spent (Map s) (arch ∷ kernel ∷ []) outs (f ∷ []) o before after read answer is c = absurd answer
+left_spent (Map s) (arch ∷ kernel ∷ []) outs (f ∷ g ∷ h ∷ fs) o before after read answer is c = absurd answer
+left_spent _ _ _ _ o before after read answer is c = tt
+
 pub left : (command : Command) (inputs outputs : List Name) (files : List File) (o : Outcome) (status : Status) (before after : Moment)
     → AreRead before.held inputs files → IsAnswer command files outputs o → o.status ≡ status → Completed o before after status → Leaves command inputs outputs status before after
 left command inputs outputs files o Done before after read answer is c = left_done command inputs outputs files o before after read answer is c
@@ -270,7 +292,7 @@ left command inputs outputs files o No before after read answer is c = left_no c
 left command inputs outputs files o Memory before after read answer is c = tt
 left command inputs outputs files o Usage before after read answer is c = tt
 left command inputs outputs files o Malformed before after read answer is c = tt
-left command inputs outputs files o Impossible before after read answer is c = tt
+left command inputs outputs files o Impossible before after read answer is c = left_impossible command inputs outputs files o before after read answer is c
 left command inputs outputs files o ReadFault before after read answer is c = tt
 left command inputs outputs files o WriteFault before after read answer is c = tt
-left command inputs outputs files o BudgetSpent before after read answer is c = tt
+left command inputs outputs files o BudgetSpent before after read answer is c = left_spent command inputs outputs files o before after read answer is c

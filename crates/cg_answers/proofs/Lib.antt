@@ -7,7 +7,9 @@ pub mod Wholes
 pub mod Mapped
 pub mod Checked
 pub mod Bitstream
+pub mod Paired
 pub mod Bounded
+pub mod Searched
 pub mod Commands
 pub mod Imaged
 pub mod Left

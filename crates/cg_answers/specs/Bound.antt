@@ -1,22 +1,16 @@
 -- `bound ARCH KERNEL`.
-use Rattle.std.specs.Prelude.{◌≡◌, ◌≢◌, ℕ, ◌-◌, ◌<◌, ◌≤◌, ⊤, [], ◌∷◌, ◌++◌, Option, Some, None, Result, Ok, Err, codes, decimal, option_map}
-use Rattle.cg_model.specs.Array.{Arch}
+use Rattle.std.specs.Prelude.{◌≡◌, ℕ, ◌-◌, ◌<◌, ◌≤◌, ⊤, [], ◌∷◌, ◌++◌, Option, Some, None, Result, Ok, Err, codes, decimal, option_map}
 use Rattle.cg_model.specs.Mapping.{Mapping, IsLegal}
 use Rattle.cg_ending.specs.declared.outcome.Status.TheVariants.{Done}
-use Rattle.cg_files.specs.Held.{Holds, Appends}
+use Rattle.cg_files.specs.Held.{Appends}
 use Rattle.cg_ending.specs.Outcome.{Name, Bytes, File, Outcome, line_of}
 use Rattle.cg_ending.specs.Ends.{Moment}
 use Rattle.cg_ending.specs.Refusals.{reports}
-use Rattle.cg_kernel.specs.Answer as kernels
-use Rattle.cg_grid.specs.declared.fault.TilesFault.{TilesFault}
-use Rattle.cg_grid.specs.declared.fault.TilesFault.TheVariants as fault
-use Rattle.cg_tiles.specs.Answer as tiles
-use Rattle.cg_tiles.specs.Answer.{AreValidBytes}
 use Rattle.cg_bound.specs.declared.interval.Certificate.{Certificate}
 use Rattle.cg_bound.specs.declared.interval.LeastInterval.{LeastInterval}
 use Rattle.cg_bound.specs.Bound.{IsBound}
 use Rattle.cg_bound.specs.Text.{certificate_text}
-use Rattle.cg_answers.specs.Sources.{Pair, pair_of}
+use Rattle.cg_answers.specs.Sources.{Pair, ArePaired, GivesPair, HoldPair}
 
 -- the least interval, if there is one
 abbrev pub first_line : Option ℕ → Bytes
@@ -46,18 +40,15 @@ abbrev pub IsBounding : Result Pair Outcome → Outcome → Type 0
 IsBounding (Ok p) o = IsBounded p o
 IsBounding (Err refused) o = o ≡ refused
 
--- by what the first file gives: an architecture, or a fault, of which only the loop may be chosen
 pub record IsBoundOf (arch kernel : File) (o : Outcome) : Type 0 where
-  pub given : Result Arch TilesFault
-  pub is_given : tiles.IsAnswer arch.bytes given
-  pub no_memory : given ≢ Err fault.Memory
-  pub bounding : IsBounding (pair_of arch.name kernel given) o
+  pub pair : Result Pair Outcome
+  pub given : ArePaired arch kernel pair
+  pub bounding : IsBounding pair o
 
 -- the files give an architecture and a kernel
 pub record IsPairInput (arch kernel : File) : Type 0 where
   pub pair : Pair
-  pub arch_is : AreValidBytes arch.bytes pair.arch
-  pub kernel_is : kernels.answer_of kernel.bytes ≡ Ok pair.kernel
+  pub given : GivesPair arch.bytes kernel.bytes pair
 
 -- the interval is below the least one; each is, where there is none
 abbrev pub IsBelow : Option ℕ → ℕ → Type 0
@@ -67,13 +58,8 @@ IsBelow (Some m) ii = ii < m
 -- Done: an architecture and a kernel were read; their least interval was put, and what forbids the one below it. No mapping
 -- of a lower interval is legal
 pub record IsBoundRun (arch kernel : Name) (before after : Moment) : Type 0 where
-  pub arch_bytes : Bytes
-  pub arch_held : Holds before.held arch arch_bytes
-  pub kernel_bytes : Bytes
-  pub kernel_held : Holds before.held kernel kernel_bytes
   pub pair : Pair
-  pub arch_is : AreValidBytes arch_bytes pair.arch
-  pub kernel_is : kernels.answer_of kernel_bytes ≡ Ok pair.kernel
+  pub read : HoldPair arch kernel before pair
   pub least : LeastInterval
   pub is_least : IsBound pair.arch pair.kernel least
   pub excludes : (ii : ℕ) → 1 ≤ ii → IsBelow least.mii ii → (M : Mapping) → M.ii ≡ ii → IsLegal pair.arch pair.kernel M → ⊥

@@ -2,12 +2,12 @@
 use Rattle.std.specs.Prelude.{◌≡◌, ℕ, List, [], ◌∷◌, Ok}
 use Rattle.cg_model.specs.Kernel.{Kernel}
 use Rattle.cg_ending.specs.declared.outcome.Status.{Status}
-use Rattle.cg_ending.specs.declared.outcome.Status.TheVariants.{Done, No}
+use Rattle.cg_ending.specs.declared.outcome.Status.TheVariants.{Done, Impossible, BudgetSpent, No}
 use Rattle.cg_ending.specs.Outcome.{Name, File, Outcome}
 use Rattle.cg_ending.specs.Ends.{Moment}
 use Rattle.cg_kernel.specs.Answer.{answer_of}
 use Rattle.cg_command.specs.declared.plans.Command.{Command}
-use Rattle.cg_command.specs.declared.plans.Command.TheVariants.{Turns, TurnsOnImage, Flat, Run, Bound, Check, Emit}
+use Rattle.cg_command.specs.declared.plans.Command.TheVariants.{Turns, TurnsOnImage, Flat, Run, Bound, Check, Emit, Map}
 use Rattle.cg_pad.specs.Bytes as images
 use Rattle.cg_model.specs.Work.{Image}
 use Rattle.cg_model.specs.Array.{Arch}
@@ -20,6 +20,7 @@ use Rattle.cg_answers.specs.Run.{IsRun, IsRunnable, IsArrayRun}
 use Rattle.cg_answers.specs.Bound.{IsBoundOf, IsPairInput, IsBoundRun}
 use Rattle.cg_answers.specs.Check.{IsCheck, IsLegalInput, IsLegalCheck, IsIllegalCheck}
 use Rattle.cg_answers.specs.Emit.{IsEmit, IsEmittedRun}
+use Rattle.cg_answers.specs.Map.{IsMap, IsMappable, IsMapRun, IsImpossibleRun, IsSpentRun}
 
 -- the outcomes that the command allows
 abbrev pub IsAnswer : Command → List File → List Name → Outcome → Type 0
@@ -30,6 +31,7 @@ IsAnswer (Run n) (arch ∷ file ∷ input ∷ []) (out ∷ []) o = IsRun n arch 
 IsAnswer Bound (arch ∷ kernel ∷ []) [] o = IsBoundOf arch kernel o
 IsAnswer Check (arch ∷ kernel ∷ mapping ∷ []) [] o = IsCheck arch kernel mapping o
 IsAnswer Emit (arch ∷ kernel ∷ mapping ∷ []) (out ∷ []) o = IsEmit arch kernel mapping out o
+IsAnswer (Map s) (arch ∷ kernel ∷ []) outs o = IsMap s arch kernel outs o
 IsAnswer _ _ _ o = ⊥
 
 -- the bytes spell a kernel
@@ -57,6 +59,7 @@ Accepts (Run n) (arch ∷ file ∷ input ∷ []) = IsRunnable arch file input
 Accepts Bound (arch ∷ kernel ∷ []) = IsPairInput arch kernel
 Accepts Check (arch ∷ kernel ∷ mapping ∷ []) = IsLegalInput arch kernel mapping
 Accepts Emit (arch ∷ kernel ∷ mapping ∷ []) = IsLegalInput arch kernel mapping
+Accepts (Map s) (arch ∷ kernel ∷ []) = IsMappable s arch kernel
 Accepts _ _ = ⊥
 
 -- what a command whose input and output files have these names leaves where it ends with Done: what is held, and what was put
@@ -68,6 +71,7 @@ LeavesDone (Run n) (arch ∷ file ∷ input ∷ []) (out ∷ []) before after = 
 LeavesDone Bound (arch ∷ kernel ∷ []) [] before after = IsBoundRun arch kernel before after
 LeavesDone Check (arch ∷ kernel ∷ mapping ∷ []) [] before after = IsLegalCheck arch kernel mapping before after
 LeavesDone Emit (arch ∷ kernel ∷ mapping ∷ []) (out ∷ []) before after = IsEmittedRun arch kernel mapping out before after
+LeavesDone (Map s) (arch ∷ kernel ∷ []) outs before after = IsMapRun s arch kernel outs before after
 LeavesDone _ _ _ before after = Unit {0}
 
 -- what it leaves where it ends with No
@@ -77,8 +81,20 @@ LeavesNo Check (arch ∷ kernel ∷ mapping ∷ []) [] before after = IsIllegalC
 LeavesNo Emit (arch ∷ kernel ∷ mapping ∷ []) (out ∷ []) before after = IsIllegalCheck arch kernel mapping before after
 LeavesNo _ _ _ before after = Unit {0}
 
+-- what it leaves where it ends with Impossible
+abbrev pub LeavesImpossible : Command → List Name → Moment → Moment → Type 0
+LeavesImpossible (Map s) (arch ∷ kernel ∷ []) before after = IsImpossibleRun s arch kernel before after
+LeavesImpossible _ _ before after = Unit {0}
+
+-- what it leaves where it ends with BudgetSpent
+abbrev pub LeavesSpent : Command → List Name → Moment → Moment → Type 0
+LeavesSpent (Map s) (arch ∷ kernel ∷ []) before after = IsSpentRun s arch kernel before after
+LeavesSpent _ _ before after = Unit {0}
+
 -- what it leaves by its status: of the statuses that aren't its own the table of statuses speaks
 abbrev pub Leaves : Command → List Name → List Name → Status → Moment → Moment → Type 0
 Leaves command inputs outputs Done before after = LeavesDone command inputs outputs before after
 Leaves command inputs outputs No before after = LeavesNo command inputs outputs before after
+Leaves command inputs outputs Impossible before after = LeavesImpossible command inputs before after
+Leaves command inputs outputs BudgetSpent before after = LeavesSpent command inputs before after
 Leaves command inputs outputs _ before after = Unit {0}

@@ -48,18 +48,22 @@ pub record IsEmit (arch kernel mapping : File) (out : Name) (o : Outcome) : Type
   pub given : AreMapped arch kernel mapping mapped
   pub emission : IsEmission out mapped o
 
--- Done: the mapping that was read is legal, and what is held under the last name are the bits of its configuration. No
--- resource carries two of the turns' values in a cycle; and an array that runs these bytes does what the turns of the kernel
--- do one after the other: for every number of turns and every image on which the kernel's edges order the accesses that
--- matter, and where no node reaches the memory for every image
+-- the bytes run a mapping: it is legal, and they are the bits of its configuration. In no cycle a resource carries two of the
+-- turns' values, or a unit begins two operations; and an array that runs these bytes does what the turns of the kernel do one
+-- after the other: for every number of turns and every image on which the kernel's edges order the accesses that matter, and
+-- where no node reaches the memory for every image
+pub record RunsMapping (m : Mapped) (bytes : Bytes) : Type 0 where
+  pub legal : IsLegal m.arch m.kernel m.mapping
+  pub spelled : AreBits m.arch (config_of m) bytes
+  pub once : CarriesOne m.arch m.kernel m.mapping
+  pub overlaps : RunLikeTurns m.arch m.kernel m.mapping bytes
+  pub overlaps_alone : RunLikeTurnsAlone m.arch m.kernel m.mapping bytes
+
+-- Done: what is held under the last name runs the mapping that was read
 pub record IsEmittedRun (arch kernel mapping out : Name) (before after : Moment) : Type 0 where
   pub mapped : Mapped
   pub read : HoldMapped arch kernel mapping before mapped
-  pub legal : IsLegal mapped.arch mapped.kernel mapped.mapping
   pub bytes : Bytes
   pub written : Holds after.held out bytes
-  pub spelled : AreBits mapped.arch (config_of mapped) bytes
-  pub once : CarriesOne mapped.arch mapped.kernel mapped.mapping
-  pub overlaps : RunLikeTurns mapped.arch mapped.kernel mapped.mapping bytes
-  pub overlaps_alone : RunLikeTurnsAlone mapped.arch mapped.kernel mapped.mapping bytes
+  pub runs : RunsMapping mapped bytes
   pub put : Appends before.taken (emit_report mapped) after.taken

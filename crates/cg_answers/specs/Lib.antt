@@ -8,4 +8,5 @@ pub mod Given
 pub mod Bound
 pub mod Check
 pub mod Emit
+pub mod Map
 pub mod Commands

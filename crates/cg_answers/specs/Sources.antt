@@ -3,12 +3,15 @@ use Rattle.std.specs.Prelude.{◌≢◌, ◌≡◌, Result, Ok, Err}
 use Rattle.cg_model.specs.Array.{Arch}
 use Rattle.cg_model.specs.Kernel.{Kernel}
 use Rattle.cg_model.specs.Mapping.{Mapping}
-use Rattle.cg_ending.specs.Outcome.{Name, File, Outcome}
+use Rattle.cg_ending.specs.Outcome.{Name, Bytes, File, Outcome}
+use Rattle.cg_ending.specs.Ends.{Moment}
 use Rattle.cg_ending.specs.Refusals.{malformed_of}
+use Rattle.cg_files.specs.Held.{Holds}
 use Rattle.cg_grid.specs.declared.fault.TilesFault.{TilesFault}
 use Rattle.cg_grid.specs.declared.fault.TilesFault.TheVariants as fault
 use Rattle.cg_grid.specs.Texts.{tiles_fault_text}
 use Rattle.cg_tiles.specs.Answer as tiles
+use Rattle.cg_tiles.specs.Answer.{AreValidBytes}
 use Rattle.cg_kernel.specs.declared.fault.KernelFault.{KernelFault}
 use Rattle.cg_kernel.specs.Answer as kernels
 use Rattle.cg_kernel.specs.Texts.{kernel_fault_text}
@@ -31,6 +34,26 @@ pair_by A file (Err f) = Err (malformed_of file (kernel_fault_text f))
 abbrev pub pair_of : Name → File → Result Arch TilesFault → Result Pair Outcome
 pair_of arch kernel (Ok A) = pair_by A kernel.name (kernels.answer_of kernel.bytes)
 pair_of arch kernel (Err f) = Err (malformed_of arch (tiles_fault_text f))
+
+-- what two files give. Of the architecture's faults only the loop may be chosen
+pub record ArePaired (arch kernel : File) (pair : Result Pair Outcome) : Type 0 where
+  pub given : Result Arch TilesFault
+  pub is_given : tiles.IsAnswer arch.bytes given
+  pub no_memory : given ≢ Err fault.Memory
+  pub pair_is : pair ≡ pair_of arch.name kernel given
+
+-- bytes that give an architecture and a kernel
+pub record GivesPair (arch kernel : Bytes) (p : Pair) : Type 0 where
+  pub arch_is : AreValidBytes arch p.arch
+  pub kernel_is : kernels.answer_of kernel ≡ Ok p.kernel
+
+-- files of these names are held and give an architecture and a kernel
+pub record HoldPair (arch kernel : Name) (before : Moment) (p : Pair) : Type 0 where
+  pub arch_bytes : Bytes
+  pub arch_held : Holds before.held arch arch_bytes
+  pub kernel_bytes : Bytes
+  pub kernel_held : Holds before.held kernel kernel_bytes
+  pub given : GivesPair arch_bytes kernel_bytes p
 
 -- by what the mapping's file gives: the mapping with what it maps, or the refusal
 abbrev pub mapped_by : Pair → Name → Result Mapping MappingFault → Result Mapped Outcome

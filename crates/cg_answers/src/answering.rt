@@ -9,6 +9,7 @@ use crate::checking::check;
 use crate::emitting::emit;
 use crate::flattening::flat;
 use crate::imaging::turns_on_image;
+use crate::mapping::map;
 use crate::simulating::run;
 use crate::turning::turns;
 use cg_command::{Command, Plan};
@@ -46,6 +47,13 @@ pub fn answer(alloc: Global, plan: &Plan, files: &[File]) -> Result<Outcome, All
             &files[1],
             &files[2],
             plan.outputs[0].as_str(),
+        ),
+        Command::Map(search) => map(
+            alloc,
+            search,
+            &files[0],
+            &files[1],
+            plan.outputs.as_slice(),
         ),
     }
 }

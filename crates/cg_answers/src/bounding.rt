@@ -1,43 +1,23 @@
 //! `bound ARCH KERNEL`.
 ghost use Rattle.std.specs.Prelude.{◌≡◌, ◌∷◌, ◌++◌, [], IfOk};
 ghost use Rattle.cg_ending.specs.Outcome.{file_of, line_of, outcome_of};
-ghost use Rattle.cg_kernel.specs.Answer as kernels;
-ghost use Rattle.cg_answers.specs.Sources.{pair_by};
 ghost use Rattle.cg_answers.specs.Bound as spec;
-ghost use Rattle.cg_answers.specs.Bound.{IsBoundOf, IsBounding, IsBounded, bound_report, first_line};
+ghost use Rattle.cg_answers.specs.Bound.{IsBoundOf, IsBounded, bound_report, first_line};
 
+use crate::sources::{GivenPair, read_pair};
 use cg_arch::Arch;
 use cg_bound::{LeastInterval, bound as least_interval, certificate_text};
-use cg_ending::{File, Outcome, Status, malformed};
-use cg_kernel::{Kernel, KernelFault, kernel_fault_text, read_kernel};
-use cg_tiles::{TilesFault, read_arch, tiles_fault_text};
+use cg_ending::{File, Outcome, Status};
+use cg_kernel::Kernel;
 use std::alloc::{AllocError, Global};
 
 /// The least interval of the kernel that the second file gives on the architecture of the first.
 pub(crate) fn bound(alloc: Global, arch: &File, kernel: &File) -> Result<Outcome, AllocError>
     ensures { IfOk result (λ o. IsBoundOf (file_of arch.now) (file_of kernel.now) (outcome_of o)) }
 {
-    match read_arch(alloc, arch.bytes.as_slice()) {
-        Ok(array) => bound_on_array(alloc, &array, kernel),
-        Err(TilesFault::Memory) => Err(AllocError),
-        Err(fault) => {
-            let text = tiles_fault_text(alloc, &fault)?;
-            malformed(alloc, arch.name.as_str(), text.as_str())
-        }
-    }
-}
-
-/// The architecture was read.
-fn bound_on_array(alloc: Global, array: &Arch, file: &File) -> Result<Outcome, AllocError>
-    ensures { IfOk result (λ o. IsBounding (pair_by array.now (file_of file.now).name (kernels.answer_of (file_of file.now).bytes)) (outcome_of o)) }
-{
-    match read_kernel(alloc, file.bytes.as_slice()) {
-        Ok(kernel) => bounded(alloc, array, &kernel),
-        Err(KernelFault::Memory) => Err(AllocError),
-        Err(fault) => {
-            let text = kernel_fault_text(alloc, &fault)?;
-            malformed(alloc, file.name.as_str(), text.as_str())
-        }
+    match read_pair(alloc, arch, kernel)? {
+        GivenPair::Pair(array, kernel) => bounded(alloc, &array, &kernel),
+        GivenPair::Refused(outcome) => Ok(outcome),
     }
 }
 

@@ -7,6 +7,7 @@ mod checking;
 mod emitting;
 mod flattening;
 mod imaging;
+mod mapping;
 mod running;
 mod simulating;
 mod sources;

@@ -4,8 +4,8 @@ ghost use Rattle.cg_ending.specs.Outcome.{file_of};
 ghost use Rattle.cg_ending.specs.Refusals.{malformed_of};
 ghost use Rattle.cg_kernel.specs.Answer as kernels;
 ghost use Rattle.cg_mapping.specs.Answer as mappings;
-ghost use Rattle.cg_answers.specs.Sources.{AreMapped, mapped_by, mapped_of, pair_by};
-ghost use Rattle.cg_answers.specs.Given.{mapped_in};
+ghost use Rattle.cg_answers.specs.Sources.{AreMapped, ArePaired, mapped_by, mapped_of, pair_by};
+ghost use Rattle.cg_answers.specs.Given.{mapped_in, pair_in};
 
 use cg_ending::{File, Outcome, malformed};
 use cg_kernel::{Kernel, KernelFault, kernel_fault_text, read_kernel};
@@ -38,6 +38,43 @@ impl Model for Sources {
 pub(crate) enum Given {
     Sources(Sources),
     Refused(Outcome),
+}
+
+/// An architecture and a kernel, or the outcome of a refusal.
+#[derive(Drop)]
+pub(crate) enum GivenPair {
+    Pair(Arch, Kernel),
+    Refused(Outcome),
+}
+
+/// Reads the architecture and the kernel, in this order.
+pub(crate) fn read_pair(alloc: Global, arch: &File, kernel: &File) -> Result<GivenPair, AllocError>
+    ensures { IfOk result (λ g. ArePaired (file_of arch.now) (file_of kernel.now) (pair_in g)) }
+{
+    match read_arch(alloc, arch.bytes.as_slice()) {
+        Ok(array) => read_kernel_on(alloc, array, kernel),
+        Err(TilesFault::Memory) => Err(AllocError),
+        Err(fault) => {
+            let text = tiles_fault_text(alloc, &fault)?;
+            let outcome = malformed(alloc, arch.name.as_str(), text.as_str())?;
+            Ok(GivenPair::Refused(outcome))
+        }
+    }
+}
+
+/// The architecture was read.
+fn read_kernel_on(alloc: Global, array: Arch, file: &File) -> Result<GivenPair, AllocError>
+    ensures { IfOk result (λ g. pair_in g ≡ pair_by array (file_of file.now).name (kernels.answer_of (file_of file.now).bytes)) }
+{
+    match read_kernel(alloc, file.bytes.as_slice()) {
+        Ok(kernel) => Ok(GivenPair::Pair(array, kernel)),
+        Err(KernelFault::Memory) => Err(AllocError),
+        Err(fault) => {
+            let text = kernel_fault_text(alloc, &fault)?;
+            let outcome = malformed(alloc, file.name.as_str(), text.as_str())?;
+            Ok(GivenPair::Refused(outcome))
+        }
+    }
 }
 
 /// Reads the architecture, the kernel and the mapping, in this order.

@@ -61,6 +61,10 @@ impl Transcript {
         if line.is_empty() || line.starts_with('#') {
             return Ok(());
         }
+        if line == "any" {
+            self.purpose = Purpose::None;
+            return Ok(());
+        }
         if self.has_content() && add_line(alloc, &mut self.bytes, line)? {
             return Ok(());
         }

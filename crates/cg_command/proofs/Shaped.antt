@@ -1,11 +1,13 @@
 -- A plan has as many files as its command takes.
-use Rattle.std.proofs.Common.{◌≡◌, ℕ, ◌≤◌, ◌&&◌, Bool, true, false, cond, List, [], ◌∷◌, length, Option, Some, None, refl, subst, nat_le, option_map, option_and_then, codes}
+use Rattle.std.proofs.Common.{rules, ◌≡◌, ◌⊎◌, ℕ, ◌≤◌, ◌&&◌, Bool, true, false, cond, List, [], ◌∷◌, length, Option, Some, None, refl, subst, nat_le, nat_lt, arith, inl, inr, option_map, option_and_then, codes}
+use Rattle.std.specs.Prelude.{IfSome}
 use Rattle.std.specs.Str.{bytes_eq}
 use Rattle.std.specs.Str.Parse.{digits_value}
 use Rattle.std.proofs.lemmas.Bool.{leb-true}
-use Rattle.cg_model.specs.Limits.{most_turns}
-use Rattle.cg_command.specs.declared.plans.Command.TheVariants.{Turns, TurnsOnImage, Flat, Run, Bound, Check, Emit}
-use Rattle.cg_command.specs.Words.{Text, Arguments, Plan, HasShape, is_number, number_up_to, turns_of, turns_plan, flat_plan, run_plan, bound_plan, check_plan, emit_plan, is_empty, without_options, command_plan, arguments_of, plan_of}
+use Rattle.cg_model.specs.Limits.{most_turns, most_contexts, most_moves}
+use Rattle.cg_command.specs.declared.plans.Command.TheVariants.{Turns, TurnsOnImage, Flat, Run, Bound, Check, Emit, Map}
+use Rattle.cg_command.specs.declared.searches.Search.{Search}
+use Rattle.cg_command.specs.Words.{Text, Given, Arguments, Plan, HasShape, IsInRange, values_said, said_once, asked_interval, named_file, search_of, search_plan, map_plan, usual_seed, usual_moves, positive, interval_of, seed_of, moves_of, is_number, number_up_to, turns_of, turns_plan, flat_plan, run_plan, bound_plan, check_plan, emit_plan, is_empty, without_options, command_plan, arguments_of, plan_of}
 
 -- the plan has the shape of its command
 abbrev pub IsShaped : Plan → Type 0
@@ -87,6 +89,73 @@ emit_shaped (a ∷ b ∷ c ∷ d ∷ e ∷ more) = none_shaped
 without_shaped : (plan : List Text → Option Plan) (said : Arguments) → AreShaped (plan said.words) → AreShaped (without_options plan said)
 without_shaped plan said is = either_shaped (is_empty said.options) (plan said.words) None is none_shaped
 
+-- ---- `map`
+
+-- each value that an option may have
+abbrev Each : {T : Type 0} → (T → Type 0) → Option T → Type 0
+Each P o = (x : _) → o ≡ Some x → P x
+
+once-each : {T : Type 0} (P : T → Type 0) (usual : T) (read : Text → Option T) (values : List Text) → P usual → ((value : Text) → Each P (read value)) → Each P (said_once usual read values)
+once-each P usual read [] p each x e = let same : usual ≡ x = cc in subst P same p
+once-each P usual read (value ∷ []) p each x e = each value x e
+once-each P usual read (value ∷ other ∷ values) p each x e = absurd (cc)
+
+-- an interval that was read is at least 1
+asked-some : (o : Option ℕ) (ii : Option ℕ) → option_map Some (option_and_then positive o) ≡ Some ii → IfSome ii (λ n. 1 ≤ n)
+asked-some None ii e = absurd (cc)
+asked-some (Some n) ii e = by (nat_lt 0 n) refl e
+  where
+    by : (b : Bool) → nat_lt 0 n ≡ b → option_map Some (cond b (Some n) None) ≡ Some ii → IfSome ii (λ n. 1 ≤ n)
+    by true less is = let same : Some n ≡ ii = cc in subst (λ z. IfSome z (λ n. 1 ≤ n)) same (search (rules, less))
+    by false less is = absurd (cc)
+
+interval-some : (value : Text) → Each (λ ii. IfSome ii (λ n. 1 ≤ n)) (asked_interval value)
+interval-some value ii e = asked-some (number_up_to most_contexts value) ii e
+
+-- the numbers of a search
+search-range : (I : Option (Option ℕ)) (S M : Option ℕ) → Each (λ ii. IfSome ii (λ n. 1 ≤ n)) I → Each (λ moves. moves ≤ most_moves) M
+    → Each IsInRange (option_and_then (λ ii. option_and_then (λ seed. option_map (λ moves. record { ii = ii; seed = seed; moves = moves }) M) S) I)
+search-range None S M some few search e = absurd (cc)
+search-range (Some ii) None M some few search e = absurd (cc)
+search-range (Some ii) (Some seed) None some few search e = absurd (cc)
+search-range (Some ii) (Some seed) (Some moves) some few search e =
+    let made : Search = record { ii = ii; seed = seed; moves = moves } in
+    let same : made ≡ search = cc in
+    subst IsInRange same (record { some = some ii refl; few = few moves refl })
+
+searched : (given : List Given) → Each IsInRange (search_of given)
+searched given =
+    search-range _ _ _
+    (once-each (λ ii. IfSome ii (λ n. 1 ≤ n)) None asked_interval (values_said (codes "ii") given) tt interval-some)
+    (once-each (λ moves. moves ≤ most_moves) usual_moves moves_of (values_said (codes "moves") given) (omega arith) (λ value moves e. number_few most_moves value moves e))
+
+-- at most one file is named for the mapping
+few-files : (values : List Text) → Each (λ files. (length files ≡ 0) ⊎ (length files ≡ 1)) (said_once [] named_file values)
+few-files values = once-each (λ files. (length files ≡ 0) ⊎ (length files ≡ 1)) [] named_file values (inl refl) (λ value files e. let same : value ∷ [] ≡ files = cc in subst (λ fs. (length fs ≡ 0) ⊎ (length fs ≡ 1)) same (inr refl))
+
+outputs-few : (out : Text) (files : List Text) → (length files ≡ 0) ⊎ (length files ≡ 1) → (length (out ∷ files) ≡ 1) ⊎ (length (out ∷ files) ≡ 2)
+outputs-few out files (inl e) = inl (omega (arith, e))
+outputs-few out files (inr e) = inr (omega (arith, e))
+
+search_shaped : (words : List Text) (search : Search) (files : List Text) → IsInRange search → (length files ≡ 0) ⊎ (length files ≡ 1) → AreShaped (search_plan words search files)
+search_shaped [] search files range few = none_shaped
+search_shaped (a ∷ []) search files range few = none_shaped
+search_shaped (a ∷ b ∷ []) search files range few = none_shaped
+search_shaped (arch ∷ kernel ∷ out ∷ []) search files range few =
+    one_shaped (record { command = Map search; inputs = arch ∷ kernel ∷ []; outputs = out ∷ files }) (refl, outputs-few out files few, range)
+search_shaped (a ∷ b ∷ c ∷ d ∷ more) search files range few = none_shaped
+
+map_shaped : (said : Arguments) → AreShaped (map_plan said)
+map_shaped said = by (search_of said.options) (said_once [] named_file (values_said (codes "mapping") said.options)) (searched said.options) (few-files (values_said (codes "mapping") said.options))
+  where
+    by : (o : Option Search) (files : Option (List Text)) → Each IsInRange o → Each (λ fs. (length fs ≡ 0) ⊎ (length fs ≡ 1)) files
+        → AreShaped (option_and_then (λ search. option_and_then (search_plan said.words search) files) o)
+    by None files range few = none_shaped
+    by (Some search) None range few = none_shaped
+    by (Some search) (Some files) range few = search_shaped said.words search files (range search refl) (few files refl)
+
+-- ---- all commands
+
 command_shaped : (name : Text) (said : Arguments) → AreShaped (command_plan name said)
 command_shaped name said =
     either_shaped (bytes_eq name (codes "turns")) (without_options turns_plan said) _ (without_shaped turns_plan said (turns_shaped said.words))
@@ -94,7 +163,8 @@ command_shaped name said =
     (either_shaped (bytes_eq name (codes "run")) (without_options run_plan said) _ (without_shaped run_plan said (run_shaped said.words))
     (either_shaped (bytes_eq name (codes "bound")) (without_options bound_plan said) _ (without_shaped bound_plan said (bound_shaped said.words))
     (either_shaped (bytes_eq name (codes "check")) (without_options check_plan said) _ (without_shaped check_plan said (check_shaped said.words))
-    (either_shaped (bytes_eq name (codes "emit")) (without_options emit_plan said) None (without_shaped emit_plan said (emit_shaped said.words)) none_shaped)))))
+    (either_shaped (bytes_eq name (codes "emit")) (without_options emit_plan said) _ (without_shaped emit_plan said (emit_shaped said.words))
+    (either_shaped (bytes_eq name (codes "map")) (map_plan said) None (map_shaped said) none_shaped))))))
 
 said_shaped : (name : Text) (o : Option Arguments) → AreShaped (option_and_then (command_plan name) o)
 said_shaped name None = none_shaped

@@ -36,3 +36,11 @@ seed_of word = number_up_to 18446744073709551615 word
 -- `--moves`: 0 to 1,000,000
 abbrev pub moves_of : Text → Option ℕ
 moves_of word = number_up_to most_moves word
+
+-- the seed where none is given
+abbrev pub usual_seed : ℕ
+usual_seed = 1
+
+-- the number of moves where none is given
+abbrev pub usual_moves : ℕ
+usual_moves = 10000

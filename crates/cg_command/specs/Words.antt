@@ -1,11 +1,12 @@
 -- What the words of a command line ask.
-use Rattle.std.specs.Prelude.{◌≡◌, ◌≤◌, ◌==◌, ℕ, Bool, true, false, not, List, [], ◌∷◌, ◌++◌, take, drop, find, map, Option, Some, None, option_map, option_and_then, if◌then◌else◌, codes, string_bytes}
+use Rattle.std.specs.Prelude.{◌≡◌, ◌≤◌, ◌==◌, ◌⊎◌, ℕ, Bool, true, false, not, List, [], ◌∷◌, ◌++◌, take, drop, find, map, Option, Some, None, option_map, option_and_then, if◌then◌else◌, codes, string_bytes, IfSome}
 use Rattle.std.specs.List.{list_any, before_first, after_first}
 use Rattle.std.specs.Str.{bytes_eq}
-use Rattle.cg_model.specs.Limits.{most_turns}
-pub use Rattle.cg_command.specs.Numbers.{Text, is_number, number_up_to, positive, turns_of, interval_of, seed_of, moves_of}
+use Rattle.cg_model.specs.Limits.{most_turns, most_moves}
+pub use Rattle.cg_command.specs.Numbers.{Text, is_number, number_up_to, positive, turns_of, interval_of, seed_of, moves_of, usual_seed, usual_moves}
 use Rattle.cg_command.specs.declared.plans.Command.{Command}
-use Rattle.cg_command.specs.declared.plans.Command.TheVariants.{Turns, TurnsOnImage, Flat, Run, Bound, Check, Emit}
+use Rattle.cg_command.specs.declared.plans.Command.TheVariants.{Turns, TurnsOnImage, Flat, Run, Bound, Check, Emit, Map}
+use Rattle.cg_command.specs.declared.searches.Search.{Search}
 use Rattle.cg_command.specs.declared.plans.Plan.{Plan as PlanValue}
 use Rattle.cg_command.specs.declared.arguments.Arguments.{Arguments as ArgumentsValue}
 use Rattle.cg_command.specs.declared.arguments.Given.{Given as GivenValue}
@@ -171,6 +172,46 @@ abbrev pub emit_plan : List Text → Option Plan
 emit_plan (arch ∷ kernel ∷ mapping ∷ out ∷ []) = Some (record { command = Emit; inputs = arch ∷ kernel ∷ mapping ∷ []; outputs = out ∷ [] })
 emit_plan _ = None
 
+-- the values of an option among those given, in order
+abbrev pub values_said : Text → List Given → List Text
+values_said name [] = []
+values_said name (g ∷ gs) = if bytes_eq g.name name then g.value ∷ values_said name gs else values_said name gs
+
+-- what an option says that may be given once: where it isn't given what is usual, else what its value is read as
+abbrev pub said_once : {T : Type 0} → T → (Text → Option T) → List Text → Option T
+said_once usual read [] = Some usual
+said_once usual read (value ∷ []) = read value
+said_once usual read (value ∷ other ∷ values) = None
+
+-- the interval that a value of `--ii` asks
+abbrev pub asked_interval : Text → Option (Option ℕ)
+asked_interval value = option_map Some (interval_of value)
+
+-- the file that a value of `--mapping` names
+abbrev pub named_file : Text → Option (List Text)
+named_file value = Some (value ∷ [])
+
+-- what the options of a search say: without `--ii` no interval is asked
+abbrev pub search_of : List Given → Option Search
+search_of given =
+    option_and_then (λ ii. option_and_then (λ seed. option_map (λ moves. record { ii = ii; seed = seed; moves = moves })
+    (said_once usual_moves moves_of (values_said (codes "moves") given)))
+    (said_once usual_seed seed_of (values_said (codes "seed") given)))
+    (said_once None asked_interval (values_said (codes "ii") given))
+
+-- the plan of a search that writes the bits, and maybe the mapping
+abbrev pub search_plan : List Text → Search → List Text → Option Plan
+search_plan (arch ∷ kernel ∷ out ∷ []) search mapping =
+    Some (record { command = Map search; inputs = arch ∷ kernel ∷ []; outputs = out ∷ mapping })
+search_plan _ search mapping = None
+
+-- map ARCH KERNEL OUT [--ii N] [--seed N] [--moves N] [--mapping FILE]
+abbrev pub map_plan : Arguments → Option Plan
+map_plan said =
+    option_and_then (λ search. option_and_then (search_plan said.words search)
+    (said_once [] named_file (values_said (codes "mapping") said.options)))
+    (search_of said.options)
+
 -- no option was given
 abbrev pub is_empty : List Given → Bool
 is_empty [] = true
@@ -189,14 +230,20 @@ command_plan name said =
     else (if bytes_eq name (codes "bound") then without_options bound_plan said
     else (if bytes_eq name (codes "check") then without_options check_plan said
     else (if bytes_eq name (codes "emit") then without_options emit_plan said
-    else None)))))
+    else (if bytes_eq name (codes "map") then map_plan said
+    else None))))))
 
 -- what the words ask, None where they fit no command
 unfoldable pub plan_of : List Text → Option Plan
 plan_of [] = None
 plan_of (name ∷ words) = option_and_then (command_plan name) (arguments_of words)
 
--- how many files a command reads and writes, and the range of its number
+-- the numbers of a search are in their ranges
+pub record IsInRange (search : Search) : Type 0 where
+  pub some : IfSome search.ii (λ ii. 1 ≤ ii)
+  pub few : search.moves ≤ most_moves
+
+-- how many files a command reads and writes, and the ranges of its numbers
 abbrev pub HasShape : Command → ℕ → ℕ → Type 0
 HasShape (Turns turns) inputs outputs = (inputs ≡ 1) × (outputs ≡ 0) × (turns ≤ most_turns)
 HasShape (TurnsOnImage turns) inputs outputs = (inputs ≡ 2) × (outputs ≡ 1) × (turns ≤ most_turns)
@@ -205,3 +252,4 @@ HasShape (Run turns) inputs outputs = (inputs ≡ 3) × (outputs ≡ 1) × (turn
 HasShape Bound inputs outputs = (inputs ≡ 2) × (outputs ≡ 0)
 HasShape Check inputs outputs = (inputs ≡ 3) × (outputs ≡ 0)
 HasShape Emit inputs outputs = (inputs ≡ 3) × (outputs ≡ 1)
+HasShape (Map search) inputs outputs = (inputs ≡ 2) × ((outputs ≡ 1) ⊎ (outputs ≡ 2)) × IsInRange search

@@ -4,7 +4,9 @@
 mod arguments;
 mod numbers;
 mod plans;
+mod searches;
 
 pub use arguments::{Arguments, Given, arguments_of};
 pub use numbers::{interval_of, moves_of, seed_of};
 pub use plans::{Command, Plan, plan_words};
+pub use searches::Search;

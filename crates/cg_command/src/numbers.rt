@@ -2,14 +2,21 @@
 ghost use Rattle.std.specs.Prelude.{◌≡◌, ◌≤◌, IfSome};
 ghost use Rattle.std.specs.Char.{is_ascii_digit};
 ghost use Rattle.std.specs.List.{list_all};
-ghost use Rattle.cg_model.specs.Limits.{most_turns};
+ghost use Rattle.cg_model.specs.Limits.{most_turns, most_moves};
 ghost use Rattle.cg_command.specs.Words as spec;
 
 use cg_model::{MOST_CONTEXTS, MOST_MOVES, MOST_TURNS};
 
+/// The seed where none is given.
+pub(crate) const USUAL_SEED: u64 = 1;
+
+/// The number of moves where none is given.
+pub(crate) const USUAL_MOVES: u32 = 10_000;
+
 /// The interval that a word writes.
 pub fn interval_of(word: &str) -> Option<u32>
-    ensures { result ≡ spec.interval_of word.now }
+    ensures value { result ≡ spec.interval_of word.now }
+    ensures some { IfSome result (λ ii. 1 ≤ ii) }
 {
     match number_up_to(word, u64::from(MOST_CONTEXTS)) {
         Some(interval) if interval > 0 => Some(interval as u32),
@@ -26,7 +33,8 @@ pub fn seed_of(word: &str) -> Option<u64>
 
 /// The number of moves that a word writes.
 pub fn moves_of(word: &str) -> Option<u32>
-    ensures { result ≡ spec.moves_of word.now }
+    ensures value { result ≡ spec.moves_of word.now }
+    ensures within { IfSome result (λ moves. moves ≤ most_moves) }
 {
     match number_up_to(word, u64::from(MOST_MOVES)) {
         Some(moves) => Some(moves as u32),

@@ -5,6 +5,7 @@ ghost use Rattle.cg_command.specs.Words.{HasShape};
 
 use crate::arguments::{Arguments, arguments_of};
 use crate::numbers::turns_of;
+use crate::searches::{Search, map_plan};
 use std::alloc::{AllocError, Global};
 
 /// A command, with its numbers.
@@ -24,6 +25,8 @@ pub enum Command {
     Check,
     /// `emit ARCH KERNEL MAPPING OUT`: the bits of a legal mapping.
     Emit,
+    /// `map ARCH KERNEL OUT [--ii N] [--seed N] [--moves N] [--mapping FILE]`: the bits of a mapping that is searched.
+    Map(Search),
 }
 
 /// A command with the names of its files: the inputs in the order of reading, the outputs in
@@ -65,6 +68,7 @@ fn command_plan(alloc: Global, name: &str, said: &Arguments) -> Result<Option<Pl
         "bound" if has_no_options(said) => bound_plan(alloc, said.words.as_slice()),
         "check" if has_no_options(said) => check_plan(alloc, said.words.as_slice()),
         "emit" if has_no_options(said) => emit_plan(alloc, said.words.as_slice()),
+        "map" => map_plan(alloc, said),
         _ => Ok(None),
     }
 }

@@ -5,7 +5,7 @@ use Rattle.std.proofs.Math.Seq.{get_or-append_seam}
 use Rattle.cg_files.specs.Causes.{Rose}
 use Rattle.cg_files.specs.Held.{Held, IsMissing, IsLonger}
 use Rattle.cg_ending.specs.declared.outcome.Status.{Status}
-use Rattle.cg_ending.specs.declared.outcome.Status.TheVariants.{Done, Memory, Usage, Malformed, ReadFault, WriteFault, No}
+use Rattle.cg_ending.specs.declared.outcome.Status.TheVariants.{Done, Memory, Usage, Malformed, Impossible, ReadFault, WriteFault, BudgetSpent, No}
 use Rattle.cg_ending.specs.Outcome.{Name, Outcome}
 use Rattle.cg_ending.specs.Reads.{StopsAt, read_fault_of, too_long_of}
 use Rattle.cg_ending.specs.Ends.{Moment, Finished}
@@ -34,6 +34,8 @@ stop_status held rose names o s = elim s.cause [ inl p ↦ inl (ap (λ x. x.stat
 -- the statuses that only a command's answer has
 abbrev answer_alone : Status → Bool
 answer_alone Done = true
+answer_alone Impossible = true
+answer_alone BudgetSpent = true
 answer_alone No = true
 answer_alone _ = false
 
@@ -165,6 +167,8 @@ faulty : (words : List Name) (before after : Moment) (status : Status) → statu
 faulty words before after status e cause fits ends = record {
   done = λ u. absurd (let z : WriteFault ≡ Done = sym e ∙ u in cc);
   malformed = λ u. absurd (let z : WriteFault ≡ Malformed = sym e ∙ u in cc);
+  impossible = λ u. absurd (let z : WriteFault ≡ Impossible = sym e ∙ u in cc);
+  spent = λ u. absurd (let z : WriteFault ≡ BudgetSpent = sym e ∙ u in cc);
   refused = λ u. absurd (let z : WriteFault ≡ No = sym e ∙ u in cc);
   silent = λ u. absurd (let z : WriteFault ≡ Memory = sym e ∙ u in cc);
   usage = λ u. absurd (let z : WriteFault ≡ Usage = sym e ∙ u in cc);
@@ -180,6 +184,8 @@ wanting : (words : List Name) (before after : Moment) (status : Status) → stat
 wanting words before after status e put ends = record {
   done = λ u. absurd (let z : Memory ≡ Done = sym e ∙ u in cc);
   malformed = λ u. absurd (let z : Memory ≡ Malformed = sym e ∙ u in cc);
+  impossible = λ u. absurd (let z : Memory ≡ Impossible = sym e ∙ u in cc);
+  spent = λ u. absurd (let z : Memory ≡ BudgetSpent = sym e ∙ u in cc);
   refused = λ u. absurd (let z : Memory ≡ No = sym e ∙ u in cc);
   silent = λ _. put;
   usage = λ u. absurd (let z : Memory ≡ Usage = sym e ∙ u in cc);
@@ -211,6 +217,8 @@ table words before after status (inl e) = by_way e.finished
     by_way (inl d) = record {
       done = λ u. subst (λ z. IsAnswered words before.held z) u (answered words before.held rose o status (ap answer_alone u) d.status_is from);
       malformed = λ u. refused words before.held rose o status u d.status_is from;
+      impossible = λ u. subst (λ z. IsAnswered words before.held z) u (answered words before.held rose o status (ap answer_alone u) d.status_is from);
+      spent = λ u. subst (λ z. IsAnswered words before.held z) u (answered words before.held rose o status (ap answer_alone u) d.status_is from);
       refused = λ u. subst (λ z. IsAnswered words before.held z) u (answered words before.held rose o status (ap answer_alone u) d.status_is from);
       silent = λ m. absurd (k.no_memory (sym d.status_is ∙ m));
       usage = λ u. k.usage (sym d.status_is ∙ u);

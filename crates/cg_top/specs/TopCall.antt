@@ -4,7 +4,7 @@ use Rattle.cg_files.specs.Asked.{Names, NotesPart}
 use Rattle.cg_files.specs.Causes.{Rose}
 use Rattle.cg_files.specs.Held.{Held, IsMissing}
 use Rattle.cg_ending.specs.declared.outcome.Status.{Status}
-use Rattle.cg_ending.specs.declared.outcome.Status.TheVariants.{Done, Memory, Usage, Malformed, ReadFault, WriteFault, No}
+use Rattle.cg_ending.specs.declared.outcome.Status.TheVariants.{Done, Memory, Usage, Malformed, Impossible, ReadFault, WriteFault, BudgetSpent, No}
 use Rattle.cg_ending.specs.Status.{leaves_all}
 use Rattle.cg_ending.specs.Outcome.{Name, Bytes, File, Outcome}
 use Rattle.cg_ending.specs.Reads.{AreRead, StopsAt}
@@ -82,9 +82,11 @@ WritesNothing (Some plan) = plan.outputs ≡ []
 
 -- the table of statuses, by row
 pub record IsByTable (words : List Name) (before after : Moment) (status : Status) : Type 0 where
-  -- 0, 3 and 8: by the command's answer, or for 3 at a file that is too long
+  -- 0, 3, 4, 7 and 8: by the command's answer, or for 3 at a file that is too long
   pub done : status ≡ Done → IsAnswered words before.held Done
   pub malformed : status ≡ Malformed → IsAnswered words before.held Malformed ⊎ IsStopped words before.held (Rose before.read_faults after.read_faults) Malformed
+  pub impossible : status ≡ Impossible → IsAnswered words before.held Impossible
+  pub spent : status ≡ BudgetSpent → IsAnswered words before.held BudgetSpent
   pub refused : status ≡ No → IsAnswered words before.held No
   -- 1
   pub silent : status ≡ Memory → after.taken ≡ before.taken

@@ -1,0 +1,184 @@
+//! The words of `map`: its files, and the options of its search.
+ghost use Rattle.std.specs.Prelude.{◌≡◌, ◌≤◌, [], ◌∷◌, None, IfOk, IfSome, map, option_and_then, option_map, vec_len};
+ghost use Rattle.cg_model.specs.Limits.{most_moves};
+ghost use Rattle.cg_command.specs.Words as spec;
+ghost use Rattle.cg_command.specs.Words.{HasShape, IsInRange, heard_option, said_once};
+
+use crate::arguments::{Arguments, Given};
+use crate::numbers::{USUAL_MOVES, USUAL_SEED, interval_of, moves_of, seed_of};
+use crate::plans::{Command, Plan};
+use std::alloc::{AllocError, Global};
+
+/// What a search is asked.
+#[derive(Clone, Copy, Debug, PartialEq, Eq)]
+pub struct Search {
+    /// The only interval to try, in cycles; None for each from the least one on.
+    pub ii: Option<u32>,
+    /// The seed of the words that the walk draws.
+    pub seed: u64,
+    /// The most moves of the walk at an interval.
+    pub moves: u32,
+}
+
+/// `map ARCH KERNEL OUT [--ii N] [--seed N] [--moves N] [--mapping FILE]`.
+pub(crate) fn map_plan(alloc: Global, said: &Arguments) -> Result<Option<Plan>, AllocError>
+    ensures plan { IfOk result
+        (λ p. option_map spec.planned p ≡ spec.map_plan (spec.heard said.now)) }
+    ensures shape { IfOk result (λ p. IfSome p
+        (λ plan. HasShape plan.command (vec_len plan.inputs) (vec_len plan.outputs))) }
+{
+    let options = said.options.as_slice();
+    let Some(search) = search_of(alloc, options)? else {
+        return Ok(None);
+    };
+    let files = values_said(alloc, options, "mapping")?;
+    plan_of_search(alloc, said.words.as_slice(), search, files.as_slice())
+}
+
+/// The plan of a search, with what is said of the mapping's file.
+fn plan_of_search(
+    alloc: Global,
+    words: &[&str],
+    search: Search,
+    files: &[&str],
+) -> Result<Option<Plan>, AllocError>
+    requires { IsInRange search }
+    ensures plan { IfOk result
+        (λ p. option_map spec.planned p ≡ option_and_then (spec.search_plan (map (λ word. word.now) words.now) search)
+        (said_once [] spec.named_file (map (λ file. file.now) files.now))) }
+    ensures shape { IfOk result (λ p. IfSome p
+        (λ plan. HasShape plan.command (vec_len plan.inputs) (vec_len plan.outputs))) }
+{
+    match files {
+        [] => search_plan(alloc, words, search),
+        [file] => plan_with_mapping(alloc, words, search, file),
+        _ => Ok(None),
+    }
+}
+
+/// The plan of a search that writes the bits.
+fn search_plan(
+    alloc: Global,
+    words: &[&str],
+    search: Search,
+) -> Result<Option<Plan>, AllocError>
+    requires { IsInRange search }
+    ensures plan { IfOk result
+        (λ p. option_map spec.planned p ≡ spec.search_plan (map (λ word. word.now) words.now) search []) }
+    ensures shape { IfOk result (λ p. IfSome p
+        (λ plan. HasShape plan.command (vec_len plan.inputs) (vec_len plan.outputs))) }
+{
+    match words {
+        [arch, kernel, out] => Ok(Some(Plan {
+            command: Command::Map(search),
+            inputs: vec![in alloc;
+                String::from_str(alloc, arch)?,
+                String::from_str(alloc, kernel)?,
+            ]?,
+            outputs: vec![in alloc; String::from_str(alloc, out)?]?,
+        })),
+        _ => Ok(None),
+    }
+}
+
+/// The plan of a search that writes the bits and the mapping.
+fn plan_with_mapping(
+    alloc: Global,
+    words: &[&str],
+    search: Search,
+    mapping: &str,
+) -> Result<Option<Plan>, AllocError>
+    requires { IsInRange search }
+    ensures plan { IfOk result
+        (λ p. option_map spec.planned p ≡ spec.search_plan (map (λ word. word.now) words.now) search (mapping.now ∷ [])) }
+    ensures shape { IfOk result (λ p. IfSome p
+        (λ plan. HasShape plan.command (vec_len plan.inputs) (vec_len plan.outputs))) }
+{
+    match words {
+        [arch, kernel, out] => Ok(Some(Plan {
+            command: Command::Map(search),
+            inputs: vec![in alloc;
+                String::from_str(alloc, arch)?,
+                String::from_str(alloc, kernel)?,
+            ]?,
+            outputs: vec![in alloc;
+                String::from_str(alloc, out)?,
+                String::from_str(alloc, mapping)?,
+            ]?,
+        })),
+        _ => Ok(None),
+    }
+}
+
+/// What the options of a search say.
+fn search_of(alloc: Global, options: &[Given]) -> Result<Option<Search>, AllocError>
+    ensures value { IfOk result (λ s. s ≡ spec.search_of (map heard_option options.now)) }
+    ensures range { IfOk result (λ s. IfSome s IsInRange) }
+{
+    let Some(ii) = interval_said(values_said(alloc, options, "ii")?.as_slice()) else {
+        return Ok(None);
+    };
+    let Some(seed) = seed_said(values_said(alloc, options, "seed")?.as_slice()) else {
+        return Ok(None);
+    };
+    let Some(moves) = moves_said(values_said(alloc, options, "moves")?.as_slice()) else {
+        return Ok(None);
+    };
+    Ok(Some(Search { ii, seed, moves }))
+}
+
+/// The values of an option, in order.
+fn values_said<'a>(
+    alloc: Global,
+    options: &[Given<'a>],
+    name: &str,
+) -> Result<Vec<&'a str>, AllocError>
+    ensures { IfOk result (λ v. map (λ value. value.now) v.items
+        ≡ spec.values_said name.now (map heard_option options.now)) }
+{
+    let mut values = Vec::new(alloc);
+    for option in options {
+        if option.name == name {
+            values.push(option.value)?;
+        }
+    }
+    Ok(values)
+}
+
+/// The interval that is asked, if one is; None where the values can't be read.
+fn interval_said(values: &[&str]) -> Option<Option<u32>>
+    ensures value { result ≡ said_once None spec.asked_interval (map (λ value. value.now) values.now) }
+    ensures some { IfSome result (λ ii. IfSome ii (λ n. 1 ≤ n)) }
+{
+    match values {
+        [] => Some(None),
+        [value] => match interval_of(value) {
+            Some(ii) => Some(Some(ii)),
+            None => None,
+        },
+        _ => None,
+    }
+}
+
+/// The seed; None where the values can't be read.
+fn seed_said(values: &[&str]) -> Option<u64>
+    ensures { result ≡ said_once spec.usual_seed spec.seed_of (map (λ value. value.now) values.now) }
+{
+    match values {
+        [] => Some(USUAL_SEED),
+        [value] => seed_of(value),
+        _ => None,
+    }
+}
+
+/// The most moves at an interval; None where the values can't be read.
+fn moves_said(values: &[&str]) -> Option<u32>
+    ensures value { result ≡ said_once spec.usual_moves spec.moves_of (map (λ value. value.now) values.now) }
+    ensures few { IfSome result (λ moves. moves ≤ most_moves) }
+{
+    match values {
+        [] => Some(USUAL_MOVES),
+        [value] => moves_of(value),
+        _ => None,
+    }
+}

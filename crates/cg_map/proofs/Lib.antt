@@ -1,0 +1,6 @@
+pub mod Walks
+pub mod Intervals
+pub mod Hubs
+pub mod Attempts
+pub mod Alike
+pub mod Always

@@ -1,0 +1,10 @@
+//! What a search for a mapping answers: the intervals that are tried, what comes of each, and the first mapping.
+#![tactic(auto)]
+
+mod answering;
+mod laws;
+mod trying;
+
+pub use answering::{MapAnswer, last_tried, map_answer};
+pub use laws::{always_answered, complete_by_hub, one_answer};
+pub use trying::{Attempt, Way, try_interval};
