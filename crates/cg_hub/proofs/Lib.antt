@@ -1,0 +1,9 @@
+pub mod Numbers
+pub mod Schedule
+pub mod Registers
+pub mod Ways
+pub mod Shape
+pub mod Legal
+pub mod Serial
+pub mod Made
+pub mod Rows
