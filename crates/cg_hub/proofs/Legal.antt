@@ -6,15 +6,20 @@ use Rattle.std.proofs.lemmas.List.FromFn.{get_or-map-range_with_len, get_or-rang
 use Rattle.std.proofs.lemmas.List.Elements.{Contains-append_left, Contains-append_right, Contains-append_cases}
 use Rattle.std.proofs.lemmas.Option.{slice_get-get_or}
 use Rattle.std.proofs.Math.Nat.{mod-eq_of_lt}
-use Rattle.cg_model.specs.Kernel.{Kernel, Operand, Constant, Edge, IsKernel, HasOperand, HasOrder, size, node}
-use Rattle.cg_model.specs.Array.{Arch, IsArch, Kind, Out, Register, Port, resource, unit, port, owner, delay, delay_by}
-use Rattle.cg_model.specs.Mapping.{Position, Route, IsLegal, Goes, Brings, place, positions, positions_on, positions_after, of_operand, of_route, leaves}
+use Rattle.cg_model.specs.declared.kernel.Operand.{Operand}
+use Rattle.cg_model.specs.declared.kernel.Operand.TheVariants.{Const as Constant, Edge}
+use Rattle.cg_model.specs.Kernel.{Kernel, IsKernel, HasOperand, HasOrder, size, node}
+use Rattle.cg_model.specs.declared.array.Kind.{Kind}
+use Rattle.cg_model.specs.declared.array.Kind.TheVariants.{Out, Register, Port}
+use Rattle.cg_model.specs.Array.{Arch, IsArch, resource, unit, port, owner, delay, delay_by}
+use Rattle.cg_model.specs.declared.mapping.Route.{Route}
+use Rattle.cg_model.specs.Mapping.{Position, IsLegal, Goes, Brings, place, positions, positions_on, positions_after, of_operand, of_route, leaves}
 use Rattle.cg_overlap.proofs.Facts.{slot_of, Contains-nil, Contains-cases, Contains-first, Contains-flat_map, Contains-flat_map_from}
 use Rattle.cg_overlap.proofs.Sequence.{operand_within}
 use Rattle.cg_hub.specs.Hub.{HubEnough, registers, registers_before, host, start, hub_leaves, hub_at, hub_path, hub_route, hub_routes_to, hub_routes, hub_place, hub_map}
 use Rattle.cg_hub.proofs.Numbers.{one_slot, one_run}
-use Rattle.cg_hub.proofs.Registers.{registers_once}
-use Rattle.cg_hub.proofs.Schedule.{start_rises, start_once, host_within, host_offers, soon, register_within, source_within, in_time, held, has_port}
+use Rattle.cg_hub.proofs.Owned.{registers_once}
+use Rattle.cg_hub.proofs.Times.{start_rises, start_once, host_within, host_offers, soon, register_within, source_within, in_time, held, has_port}
 use Rattle.cg_hub.proofs.Shape.{shaped}
 use Rattle.cg_hub.proofs.Ways.{goes, stays, staying, ending}
 

@@ -1,6 +1,6 @@
 pub mod Numbers
-pub mod Schedule
-pub mod Registers
+pub mod Times
+pub mod Owned
 pub mod Ways
 pub mod Shape
 pub mod Legal

@@ -4,12 +4,15 @@ use Rattle.std.specs.Prelude.{flat_map, slice_get, slice_index}
 use Rattle.std.specs.List.{range_with_len}
 use Rattle.std.proofs.lemmas.List.{append-nil, get_or_read}
 use Rattle.std.proofs.lemmas.List.FromFn.{get_or-map-range_with_len, length-map-range_with_len, map-range_with_len_more}
-use Rattle.cg_model.specs.Kernel.{Kernel, Operand, Edge, HasOperand, size, node}
+use Rattle.cg_model.specs.declared.kernel.Operand.{Operand}
+use Rattle.cg_model.specs.declared.kernel.Operand.TheVariants.{Edge}
+use Rattle.cg_model.specs.Kernel.{Kernel, HasOperand, size, node}
 use Rattle.cg_model.specs.Array.{Arch, unit, port, hub_register}
-use Rattle.cg_model.specs.Mapping.{Place, Route}
+use Rattle.cg_model.specs.declared.mapping.Place.{Place}
+use Rattle.cg_model.specs.declared.mapping.Route.{Route}
 use Rattle.cg_hub.specs.Hub.{registers_before, host, start, hub_leaves, hub_at, hub_path, hub_routes_to, hub_place}
 use Rattle.cg_hub.specs.Scheduled.{Scheduled, IsScheduled, IsKept, hub_places}
-use Rattle.cg_hub.proofs.Schedule.{host_within, register_within, source_within, held}
+use Rattle.cg_hub.proofs.Times.{host_within, register_within, source_within, held}
 
 -- ---- one step on
 

@@ -1,8 +1,10 @@
 -- The definitions on two small examples.
 use Rattle.std.proofs.Common.{◌≡◌, ℕ, List, [], ◌∷◌, Some, refl}
-use Rattle.cg_word.specs.Word.{Iter, Add, Mul, Output}
-use Rattle.cg_model.specs.Kernel.{Kernel, Constant, Edge}
-use Rattle.cg_model.specs.Array.{Arch, Register, Port, Out}
+use Rattle.cg_word.specs.declared.op.Op.TheVariants.{Iter, Add, Mul, Output}
+use Rattle.cg_model.specs.declared.kernel.Operand.TheVariants.{Const as Constant, Edge}
+use Rattle.cg_model.specs.Kernel.{Kernel}
+use Rattle.cg_model.specs.declared.array.Kind.TheVariants.{Register, Port, Out}
+use Rattle.cg_model.specs.Array.{Arch}
 use Rattle.cg_hub.specs.Hub.{need, serial, host, hub_map}
 
 -- ---- a running sum on one unit, with a hub of three registers

@@ -7,7 +7,8 @@ use Rattle.std.proofs.lemmas.List.{get_or_read}
 use Rattle.std.proofs.lemmas.List.Folds.{list_all_at}
 use Rattle.std.proofs.lemmas.Option.{slice_get_within, get_or_from_slice_get}
 use Rattle.cg_model.specs.declared.array.Unit.{Unit as UnitOf}
-use Rattle.cg_model.specs.Kernel.{Kernel, Node, no_node, size, node}
+use Rattle.cg_model.specs.declared.kernel.Node.{Node}
+use Rattle.cg_model.specs.Kernel.{Kernel, no_node, size, node}
 use Rattle.cg_model.specs.Array.{Arch, IsArch, unit}
 use Rattle.cg_model.proofs.Elements.{list_all-each}
 use Rattle.cg_place.specs.Placed.{offering, IsOffered}

@@ -4,7 +4,10 @@ use Rattle.std.specs.Prelude.{flat_map}
 use Rattle.std.specs.List.{range_with_len}
 use Rattle.std.proofs.lemmas.List.{map-append}
 use Rattle.std.proofs.lemmas.List.FromFn.{length-map-range_with_len}
-use Rattle.cg_model.specs.Kernel.{Kernel, Node, Operand, Constant, Edge, no_node, node, size}
+use Rattle.cg_model.specs.declared.kernel.Node.{Node}
+use Rattle.cg_model.specs.declared.kernel.Operand.{Operand}
+use Rattle.cg_model.specs.declared.kernel.Operand.TheVariants.{Const as Constant, Edge}
+use Rattle.cg_model.specs.Kernel.{Kernel, no_node, node, size}
 use Rattle.cg_model.specs.Array.{Arch}
 use Rattle.cg_model.specs.Mapping.{End, IsShaped, end_of, ends_of, ends_from}
 use Rattle.cg_hub.specs.Hub.{hub_place, hub_route, hub_routes_to, hub_routes, hub_map}

@@ -2,9 +2,14 @@
 -- takes nothing else: its nodes begin one after another, and each value waits in registers of its own.
 use Rattle.std.specs.Prelude.{◌≡◌, ℕ, zero, suc, ◌+◌, ◌-◌, ◌*◌, ◌/◌, ◌<◌, ◌≤◌, eqb, nat_lt, max, if◌then◌else◌, Bool, List, [], ◌∷◌, ◌++◌, length, map, flat_map, Option, Some, None, slice_index}
 use Rattle.std.specs.List.{range_with_len, list_all}
-use Rattle.cg_model.specs.Kernel.{Kernel, Node, Operand, Constant, Edge, size, node}
+use Rattle.cg_model.specs.declared.kernel.Node.{Node}
+use Rattle.cg_model.specs.declared.kernel.Operand.{Operand}
+use Rattle.cg_model.specs.declared.kernel.Operand.TheVariants.{Const as Constant, Edge}
+use Rattle.cg_model.specs.Kernel.{Kernel, size, node}
 use Rattle.cg_model.specs.Array.{Arch, unit, port, hub_register}
-use Rattle.cg_model.specs.Mapping.{Mapping, Place, Route}
+use Rattle.cg_model.specs.declared.mapping.Place.{Place}
+use Rattle.cg_model.specs.declared.mapping.Route.{Route}
+use Rattle.cg_model.specs.Mapping.{Mapping}
 use Rattle.cg_place.specs.Placed.{offering}
 
 -- ---- registers

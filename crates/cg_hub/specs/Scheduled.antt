@@ -3,7 +3,7 @@ use Rattle.std.specs.Prelude.{◌≡◌, ℕ, List, map}
 use Rattle.std.specs.List.{range_with_len}
 use Rattle.cg_model.specs.Kernel.{Kernel, IsKernel, size}
 use Rattle.cg_model.specs.Array.{Arch, IsArch}
-use Rattle.cg_model.specs.Mapping.{Place}
+use Rattle.cg_model.specs.declared.mapping.Place.{Place}
 use Rattle.cg_hub.specs.Hub.{HubEnough, hub_place}
 
 -- a kernel on an architecture, at an interval

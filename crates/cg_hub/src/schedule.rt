@@ -1,4 +1,10 @@
 //! The mapping while it is made.
+ghost use Rattle.std.specs.Prelude.{◌≡◌, IfOk};
+ghost use Rattle.cg_model.specs.Kernel.{IsKernel};
+ghost use Rattle.cg_model.specs.Array.{IsArch};
+ghost use Rattle.cg_hub.specs.Hub.{HubEnough};
+ghost use Rattle.cg_hub.specs.Scheduled.{hub_places};
+
 use crate::hosts::host;
 use crate::registers::registers_before;
 use crate::way::way;
@@ -30,7 +36,8 @@ impl<'a> Model for Schedule<'a> {
 
 impl<'a> Schedule<'a> {
     ghost use Rattle.std.specs.Prelude.{◌≡◌, ℕ, ◌<◌, ◌++◌, List, IfOk, OnOk};
-    ghost use Rattle.cg_model.specs.Kernel.{size, HasOperand, Edge};
+    ghost use Rattle.cg_model.specs.Kernel.{size, HasOperand};
+    ghost use Rattle.cg_model.specs.declared.kernel.Operand.TheVariants.{Edge};
     ghost use Rattle.cg_model.specs.Array.{unit};
     ghost use Rattle.cg_hub.specs.Scheduled.{IsScheduled};
     ghost use Rattle.cg_hub.specs.Hub as spec;
@@ -137,10 +144,6 @@ impl<'a> Schedule<'a> {
     }
 }
 
-ghost use Rattle.std.specs.Prelude.{◌≡◌, IfOk};
-ghost use Rattle.cg_hub.specs.Hub.{HubEnough};
-ghost use Rattle.cg_hub.specs.Scheduled.{hub_places};
-
 /// Where and when each node begins.
 fn places(
     alloc: Global,
@@ -149,7 +152,9 @@ fn places(
     ii: u32,
 ) -> Result<Vec<Place>, AllocError>
     requires { HubEnough arch.now kernel.now ii }
-    ensures { IfOk result (λ v. v.items ≡ hub_places arch.now kernel.now) }
+    ensures arch { IsArch arch.now }
+    ensures kernel { IsKernel kernel.now }
+    ensures value { IfOk result (λ v. v.items ≡ hub_places arch.now kernel.now) }
 {
     let nodes = kernel.nodes();
     let mut places = Vec::new(alloc);

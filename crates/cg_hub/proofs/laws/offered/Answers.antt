@@ -1,4 +1,4 @@
-use Rattle.cg_hub.proofs.Schedule.{offered}
+use Rattle.cg_hub.proofs.Times.{offered}
 use Rattle.cg_hub.proofs.laws.offered.Goals as goal
 
 pub returns : goal.returns

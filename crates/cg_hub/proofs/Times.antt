@@ -8,14 +8,17 @@ use Rattle.std.proofs.lemmas.Option.{slice_get_within, slice_get-get_or}
 use Rattle.std.proofs.lemmas.Bool.{and_parts}
 use Rattle.cg_word.specs.Sets.{among}
 use Rattle.cg_word.proofs.Marks.{among_from}
-use Rattle.cg_model.specs.Kernel.{Kernel, Node, Operand, Edge, IsKernel, HasOperand, no_node, size, node}
+use Rattle.cg_model.specs.declared.kernel.Node.{Node}
+use Rattle.cg_model.specs.declared.kernel.Operand.{Operand}
+use Rattle.cg_model.specs.declared.kernel.Operand.TheVariants.{Edge}
+use Rattle.cg_model.specs.Kernel.{Kernel, IsKernel, HasOperand, no_node, size, node}
 use Rattle.cg_model.specs.Array.{Arch, IsArch, unit}
 use Rattle.cg_model.proofs.Elements.{all_true}
 use Rattle.cg_overlap.proofs.Sequence.{operand_within}
 use Rattle.cg_place.specs.Placed.{offering, IsOffered}
 use Rattle.cg_place.proofs.Offering.{member}
 use Rattle.cg_hub.specs.Hub.{HubEnough, registers, registers_before, host, start, is_served, serial, hub_leaves}
-use Rattle.cg_hub.proofs.Registers.{registers_rise, far_enough}
+use Rattle.cg_hub.proofs.Owned.{registers_rise, far_enough}
 
 -- ---- units
 
