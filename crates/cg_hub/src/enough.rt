@@ -16,10 +16,11 @@ pub fn serial(arch: &Arch, kernel: &Kernel) -> Option<u32>
     ensures offered { IsSome result ↔ IsOffered arch.now kernel.now }
 {
     let nodes = kernel.nodes();
+    let units = arch.units();
     let mut sum = 0;
     for v in 0..nodes.len() {
         let unit = host(arch, nodes[v].op)?;
-        sum += arch.units()[unit as usize].latency + 1;
+        sum += units[unit as usize].latency + 1;
     }
     Some(sum)
 }

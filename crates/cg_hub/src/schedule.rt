@@ -90,8 +90,8 @@ impl<'a> Schedule<'a> {
         requires { (init : List ℕ) × HasOperand self.now.kernel node arg (Edge source distance init) }
         ensures { IfOk result (λ w. w.items ≡ spec.hub_path self.now.arch self.now.kernel self.now.ii node arg source distance) }
     {
-        let from = self.unit(source);
         let to = self.unit(node);
+        let from = self.unit(source);
         let leaves = self.start(source) as usize + from.latency as usize;
         let end = self.start(node) as usize + self.ii as usize * distance as usize;
         way(
@@ -157,6 +157,7 @@ fn places(
     ensures value { IfOk result (λ v. v.items ≡ hub_places arch.now kernel.now) }
 {
     let nodes = kernel.nodes();
+    let units = arch.units();
     let mut places = Vec::new(alloc);
     let mut time = 0;
     for v in 0..nodes.len() {
@@ -164,7 +165,7 @@ fn places(
             None => unreachable!(),
             Some(unit) => {
                 places.push(Place { unit, time })?;
-                time += arch.units()[unit as usize].latency + 1;
+                time += units[unit as usize].latency + 1;
             }
         }
     }
