@@ -4,6 +4,6 @@ pub mod Owned
 pub mod Ways
 pub mod Shape
 pub mod Legal
-pub mod Serial
+pub mod Found
 pub mod Made
 pub mod Rows

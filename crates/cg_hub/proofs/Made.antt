@@ -11,7 +11,7 @@ use Rattle.cg_model.specs.Kernel.{Kernel, HasOperand, size, node}
 use Rattle.cg_model.specs.Array.{Arch, unit, port, hub_register}
 use Rattle.cg_model.specs.declared.mapping.Place.{Place}
 use Rattle.cg_model.specs.declared.mapping.Route.{Route}
-use Rattle.cg_hub.specs.Hub.{registers_before, host, start, hub_leaves, hub_at, hub_path, hub_routes_to, hub_place}
+use Rattle.cg_hub.specs.Hub.{registers_before, host, start, hub_leaves, hub_at, hub_path, hub_routes, hub_place, hub_map}
 use Rattle.cg_hub.specs.Scheduled.{Scheduled, IsScheduled, IsKept, hub_places}
 use Rattle.cg_hub.proofs.Times.{host_within, register_within, source_within, in_time, held, has_port}
 
@@ -86,3 +86,12 @@ module _ (S : Scheduled) (is : IsScheduled S) (v p u d : ℕ) (init : List ℕ) 
           ap (λ (z : List ℕ). length z) hub_is,
           register_within S.arch S.kernel S.ii is.enough u (k / S.ii) source_there (held S.arch S.kernel S.ii is.arch is.kernel is.enough v p u d init k o h),
         )
+
+-- ---- the whole mapping
+
+pub map_is : (S : Scheduled) (places : List Place) (routes : List Route) (ii n : ℕ) → IsKept S places → ii ≡ S.ii → n ≡ size S.kernel →
+    routes ≡ flat_map (hub_routes S.arch S.kernel S.ii) (range_with_len 0 n) → record { ii = ii; places = places; routes = routes } ≡ hub_map S.arch S.kernel S.ii
+unfolding hub_map
+map_is S places routes ii n kept i e r =
+    ap (λ z. record { ii = z; places = places; routes = routes }) i
+    ∙ ap₂ (λ (x : List Place) (y : List Route). record { ii = S.ii; places = x; routes = y }) kept.places_are (r ∙ ap (λ z. flat_map (hub_routes S.arch S.kernel S.ii) (range_with_len 0 z)) e)

@@ -134,7 +134,7 @@ impl<'a> Schedule<'a> {
 
     /// The mapping.
     pub(crate) fn into_mapping(self, alloc: Global) -> Result<Mapping, AllocError>
-        ensures { IfOk result (λ m. m ≡ spec.hub_map self.arch self.kernel self.ii) }
+        ensures { IfOk result (λ m. m ≡ spec.hub_map self.entry.arch self.entry.kernel self.entry.ii) }
     {
         let mut routes = Vec::new(alloc);
         for node in 0..self.kernel.nodes().len() {

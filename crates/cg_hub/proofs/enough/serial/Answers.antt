@@ -4,7 +4,7 @@ use Rattle.std.proofs.lemmas.Bool.{cases_lt}
 use Rattle.cg_model.specs.Kernel.{node, size}
 use Rattle.cg_place.specs.Placed.{offering}
 use Rattle.cg_hub.specs.Hub.{start}
-use Rattle.cg_hub.proofs.Serial as serial
+use Rattle.cg_hub.proofs.Found as found
 use Rattle.cg_hub.proofs.enough.serial.Goals as goal
 
 pub returns-in_err-unit-clause-value : goal.returns-in_err-unit-clause-value
@@ -14,9 +14,9 @@ returns-in_err-unit-clause-value c =
     let nodes = c.nodes-nodes.result.now in
     let v = c.loop-v.v in
     let n = c.index-nodes-v.result in
-    let within = serial.node_within A K nodes v n c.nodes-nodes.ensures.nodes c.loop-v-test.true c.index-nodes-v.is in
-    let none = serial.none_here A K nodes v n c.nodes-nodes.ensures.nodes c.loop-v-test.true c.index-nodes-v.is c.in_err-unit.ensures in
-    c.from_residual.ensures ∙ sym (serial.serial_none A K v within none)
+    let within = found.node_within A K nodes v n c.nodes-nodes.ensures.nodes c.loop-v-test.true c.index-nodes-v.is in
+    let none = found.none_here A K nodes v n c.nodes-nodes.ensures.nodes c.loop-v-test.true c.index-nodes-v.is c.in_err-unit.ensures in
+    c.from_residual.ensures ∙ sym (found.serial_none A K v within none)
 
 pub returns-in_err-unit-clause-offered : goal.returns-in_err-unit-clause-offered
 returns-in_err-unit-clause-offered c =
@@ -25,23 +25,23 @@ returns-in_err-unit-clause-offered c =
     let nodes = c.nodes-nodes.result.now in
     let v = c.loop-v.v in
     let n = c.index-nodes-v.result in
-    let within = serial.node_within A K nodes v n c.nodes-nodes.ensures.nodes c.loop-v-test.true c.index-nodes-v.is in
-    let none = serial.none_here A K nodes v n c.nodes-nodes.ensures.nodes c.loop-v-test.true c.index-nodes-v.is c.in_err-unit.ensures in
-    serial.none_iff A K v c.from_residual.result c.from_residual.ensures within none
+    let within = found.node_within A K nodes v n c.nodes-nodes.ensures.nodes c.loop-v-test.true c.index-nodes-v.is in
+    let none = found.none_here A K nodes v n c.nodes-nodes.ensures.nodes c.loop-v-test.true c.index-nodes-v.is c.in_err-unit.ensures in
+    found.none_iff A K v c.from_residual.result c.from_residual.ensures within none
 
 pub bounds-units-unit : goal.bounds-units-unit
 bounds-units-unit c =
-    serial.unit_within c.args.arch.now c.args.kernel.now c.nodes-nodes.result.now c.loop-v.v c.index-nodes-v.result c.nodes-nodes.ensures.nodes c.loop-v-test.true c.index-nodes-v.is
+    found.unit_within c.args.arch.now c.args.kernel.now c.nodes-nodes.result.now c.loop-v.v c.index-nodes-v.result c.nodes-nodes.ensures.nodes c.loop-v-test.true c.index-nodes-v.is
     c.units-units.result.now c.in_ok-unit.unit (record { name = []; ops = []; latency = 1; ports = []; out = 0 }) c.units-units.ensures.units c.in_ok-unit.ensures
 
 pub bounds-units-unit-in_ok-unit : goal.bounds-units-unit-in_ok-unit
 bounds-units-unit-in_ok-unit c =
-    serial.unit_within c.args.arch.now c.args.kernel.now c.nodes-nodes.result.now c.loop-v.v c.index-nodes-v.result c.nodes-nodes.ensures.nodes c.loop-v-test.true c.index-nodes-v.is
+    found.unit_within c.args.arch.now c.args.kernel.now c.nodes-nodes.result.now c.loop-v.v c.index-nodes-v.result c.nodes-nodes.ensures.nodes c.loop-v-test.true c.index-nodes-v.is
     c.units-units.result.now c.in_ok-unit.unit (record { name = []; ops = []; latency = 1; ports = []; out = 0 }) c.units-units.ensures.units c.in_ok-unit.ensures
 
 few : (c : goal.After-index-units-unit) → (slice_index_or c.units-units.result.now c.in_ok-unit.unit c.index-units-unit.result).latency ≤ 4
 few c =
-    serial.latency_few c.args.arch.now c.args.kernel.now c.nodes-nodes.result.now c.loop-v.v c.index-nodes-v.result c.nodes-nodes.ensures.nodes c.loop-v-test.true c.index-nodes-v.is
+    found.latency_few c.args.arch.now c.args.kernel.now c.nodes-nodes.result.now c.loop-v.v c.index-nodes-v.result c.nodes-nodes.ensures.nodes c.loop-v-test.true c.index-nodes-v.is
     c.units-units.result.now c.in_ok-unit.unit c.index-units-unit.result c.units-units.ensures.units c.in_ok-unit.ensures c.units-units.ensures.valid c.index-units-unit.is
 
 pub overflow_add-sum : goal.overflow_add-sum
@@ -59,10 +59,10 @@ loop-v-preserved c =
     let nodes = c.nodes-nodes.result.now in
     let v = c.loop-v.v in
     let n = c.index-nodes-v.result in
-    let some = serial.some_here A K nodes v n c.nodes-nodes.ensures.nodes c.loop-v-test.true c.index-nodes-v.is c.in_ok-unit.unit c.in_ok-unit.ensures in
+    let some = found.some_here A K nodes v n c.nodes-nodes.ensures.nodes c.loop-v-test.true c.index-nodes-v.is c.in_ok-unit.unit c.in_ok-unit.ensures in
     record {
       sum =
-          serial.start_more A K nodes v n c.nodes-nodes.ensures.nodes c.loop-v-test.true c.index-nodes-v.is
+          found.start_more A K nodes v n c.nodes-nodes.ensures.nodes c.loop-v-test.true c.index-nodes-v.is
           c.units-units.result.now c.in_ok-unit.unit c.index-units-unit.result c.units-units.ensures.units c.in_ok-unit.ensures c.loop-v.sum c.loop-v.invariant.sum c.index-units-unit.is;
       small = omega (arith, few c, c.loop-v.invariant.small);
       offered = λ w l.
@@ -76,4 +76,4 @@ returns-clause-value c =
     let A = c.args.arch.now in
     let K = c.args.kernel.now in
     let e : c.loop-v.v ≡ size K = omega (arith, ap length c.nodes-nodes.ensures.nodes) in
-    ap Some (c.loop-v.invariant.sum ∙ ap (start A K) e) ∙ sym (serial.serial_some A K (λ w l. c.loop-v.invariant.offered w (omega arith)))
+    ap Some (c.loop-v.invariant.sum ∙ ap (start A K) e) ∙ sym (found.serial_some A K (λ w l. c.loop-v.invariant.offered w (omega arith)))

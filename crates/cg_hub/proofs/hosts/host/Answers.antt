@@ -5,7 +5,7 @@ use Rattle.cg_model.specs.Array.{unit}
 use Rattle.cg_word.specs.Sets.{among}
 use Rattle.cg_place.specs.Placed.{offering}
 use Rattle.cg_place.proofs.Offering.{passed, found, offered_some}
-use Rattle.cg_hub.proofs.Serial.{ops_here}
+use Rattle.cg_hub.proofs.Found.{ops_here}
 use Rattle.cg_hub.proofs.hosts.host.Goals as goal
 
 pub returns-then-has : goal.returns-then-has

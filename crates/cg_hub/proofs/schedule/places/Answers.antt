@@ -3,7 +3,7 @@ use Rattle.std.specs.Prelude.{slice_index_or}
 use Rattle.cg_model.specs.declared.mapping.Place.{Place}
 use Rattle.cg_hub.specs.Hub.{hub_place}
 use Rattle.cg_hub.proofs.Made.{grown}
-use Rattle.cg_hub.proofs.Serial as serial
+use Rattle.cg_hub.proofs.Found as found
 use Rattle.cg_hub.proofs.Times as times
 use Rattle.cg_hub.proofs.schedule.places.Goals as goal
 
@@ -14,19 +14,19 @@ unreachable-requires c =
     let nodes = c.nodes-nodes.result.now in
     let v = c.loop-v.v in
     let n = c.index-nodes-v.result in
-    let within = serial.node_within A K nodes v n c.nodes-nodes.ensures.nodes c.loop-v-test.true c.index-nodes-v.is in
-    let none = serial.none_here A K nodes v n c.nodes-nodes.ensures.nodes c.loop-v-test.true c.index-nodes-v.is c.in-None.ensures in
+    let within = found.node_within A K nodes v n c.nodes-nodes.ensures.nodes c.loop-v-test.true c.index-nodes-v.is in
+    let none = found.none_here A K nodes v n c.nodes-nodes.ensures.nodes c.loop-v-test.true c.index-nodes-v.is c.in-None.ensures in
     let some = times.offered A K c.args.ii c.requires v within in
     omega (arith, none, some)
 
 pub bounds-units-unit : goal.bounds-units-unit
 bounds-units-unit c =
-    serial.unit_within c.args.arch.now c.args.kernel.now c.nodes-nodes.result.now c.loop-v.v c.index-nodes-v.result c.nodes-nodes.ensures.nodes c.loop-v-test.true c.index-nodes-v.is
+    found.unit_within c.args.arch.now c.args.kernel.now c.nodes-nodes.result.now c.loop-v.v c.index-nodes-v.result c.nodes-nodes.ensures.nodes c.loop-v-test.true c.index-nodes-v.is
     c.units-units.result.now c.in-Some.unit (record { name = []; ops = []; latency = 1; ports = []; out = 0 }) c.units-units.ensures.units c.in-Some.ensures
 
 pub bounds-units-unit-in_ok-push-in-Some : goal.bounds-units-unit-in_ok-push-in-Some
 bounds-units-unit-in_ok-push-in-Some c =
-    serial.unit_within c.args.arch.now c.args.kernel.now c.nodes-nodes.result.now c.loop-v.v c.index-nodes-v.result c.nodes-nodes.ensures.nodes c.loop-v-test.true c.index-nodes-v.is
+    found.unit_within c.args.arch.now c.args.kernel.now c.nodes-nodes.result.now c.loop-v.v c.index-nodes-v.result c.nodes-nodes.ensures.nodes c.loop-v-test.true c.index-nodes-v.is
     c.units-units.result.now c.in-Some.unit (record { name = []; ops = []; latency = 1; ports = []; out = 0 }) c.units-units.ensures.units c.in-Some.ensures
 
 -- the node is through before the interval is
@@ -37,9 +37,9 @@ below c =
     let nodes = c.nodes-nodes.result.now in
     let v = c.loop-v.v in
     let n = c.index-nodes-v.result in
-    let within = serial.node_within A K nodes v n c.nodes-nodes.ensures.nodes c.loop-v-test.true c.index-nodes-v.is in
+    let within = found.node_within A K nodes v n c.nodes-nodes.ensures.nodes c.loop-v-test.true c.index-nodes-v.is in
     let latency =
-    serial.latency_here A K nodes v n c.nodes-nodes.ensures.nodes c.loop-v-test.true c.index-nodes-v.is
+    found.latency_here A K nodes v n c.nodes-nodes.ensures.nodes c.loop-v-test.true c.index-nodes-v.is
     c.units-units.result.now c.in-Some.unit c.index-units-unit.result c.units-units.ensures.units c.in-Some.ensures c.index-units-unit.is in
     omega (arith, latency, times.soon A K c.args.ii c.requires v within, c.loop-v.invariant.time)
 
@@ -56,12 +56,12 @@ loop-v-preserved c =
     let nodes = c.nodes-nodes.result.now in
     let v = c.loop-v.v in
     let n = c.index-nodes-v.result in
-    let host = serial.host_here A K nodes v n c.nodes-nodes.ensures.nodes c.loop-v-test.true c.index-nodes-v.is c.in-Some.unit c.in-Some.ensures in
+    let host = found.host_here A K nodes v n c.nodes-nodes.ensures.nodes c.loop-v-test.true c.index-nodes-v.is c.in-Some.unit c.in-Some.ensures in
     let place : Place = record { unit = c.in-Some.unit; time = c.loop-v.time } in
     let is : place ≡ hub_place A K v = ap₂ (λ x t. record { unit = x; time = t }) host c.loop-v.invariant.time in
     record {
       places = grown (hub_place A K) c.loop-v.places.items c.push.new.self.items place v c.loop-v.invariant.places c.in_ok-push-in-Some.ensures.items is;
       time =
-          serial.start_more A K nodes v n c.nodes-nodes.ensures.nodes c.loop-v-test.true c.index-nodes-v.is
+          found.start_more A K nodes v n c.nodes-nodes.ensures.nodes c.loop-v-test.true c.index-nodes-v.is
           c.units-units.result.now c.in-Some.unit c.index-units-unit.result c.units-units.ensures.units c.in-Some.ensures c.loop-v.time c.loop-v.invariant.time c.index-units-unit.is;
     }
