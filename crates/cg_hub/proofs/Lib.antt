@@ -1,0 +1,9 @@
+pub mod Numbers
+pub mod Times
+pub mod Owned
+pub mod Ways
+pub mod Shape
+pub mod Legal
+pub mod Found
+pub mod Made
+pub mod Rows

@@ -1,0 +1,3 @@
+pub mod Hub
+pub mod Scheduled
+pub mod Laws

@@ -1,0 +1,17 @@
+//! The mapping that goes over a hub alone: when an architecture's hub suffices for a kernel at an interval, and the legal
+//! mapping that it then has, without any search.
+#![tactic(auto)]
+
+mod enough;
+mod hosts;
+pub mod laws;
+mod mapping;
+mod registers;
+mod schedule;
+mod way;
+
+pub use cg_arch::Arch;
+pub use cg_check::LegalMapping;
+pub use cg_kernel::Kernel;
+pub use enough::{hub_enough, serial};
+pub use mapping::hub_mapping;
