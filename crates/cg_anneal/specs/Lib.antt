@@ -2,3 +2,4 @@ pub mod Edges
 pub mod Walking
 pub mod Steps
 pub mod Ended
+pub mod Laws

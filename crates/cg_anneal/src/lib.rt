@@ -5,6 +5,7 @@ mod chance;
 mod edges;
 mod ends;
 mod finding;
+pub mod laws;
 mod mapping;
 mod moves;
 mod routing;

@@ -1,0 +1,87 @@
+-- How the walk ends is determined.
+use Rattle.std.proofs.Common.{◌≡◌, ◌≢◌, ℕ, suc, ◌+◌, ◌*◌, ◌<◌, ◌≤◌, List, length, get_or, refl, sym, ap, ◌∙◌, subst, arith}
+use Rattle.std.proofs.lemmas.List.{ext_get_or}
+use Rattle.rand_pcg.specs.Lcg.{Lcg}
+use Rattle.cg_model.specs.Limits.{latest_time}
+use Rattle.cg_model.specs.Kernel.{Kernel, IsKernel, size}
+use Rattle.cg_model.specs.Array.{Arch, IsArch}
+use Rattle.cg_model.specs.Mapping.{Mapping, IsLegal}
+use Rattle.cg_edges.specs.declared.edge.EdgeId.{EdgeId}
+use Rattle.cg_edges.specs.Edges.{edge_of}
+use Rattle.cg_recur.specs.Recurrences.{IsRecurrence}
+use Rattle.cg_recur.proofs.Chains.{one_early}
+use Rattle.cg_place.specs.Placed.{IsOffered}
+use Rattle.cg_check.specs.Legal as checks
+use Rattle.cg_walk.specs.State.{State, cost, mapping_of}
+use Rattle.cg_walk.specs.Walk.{Walked, start, more}
+use Rattle.cg_walk.specs.Good.{IsReady}
+use Rattle.cg_walk.proofs.Once.{end_once}
+use Rattle.cg_walk.proofs.Early.{early_soon}
+use Rattle.cg_walk.proofs.Keeps.{walked_good}
+use Rattle.cg_walk.proofs.Rules.{legal_at_zero}
+use Rattle.cg_anneal.specs.declared.finding.Found.{Found}
+use Rattle.cg_anneal.specs.declared.finding.Found.TheVariants.{Mapped, Spent}
+use Rattle.cg_anneal.specs.Ended.{AreEarliest, IsWalkedFrom, IsWalked}
+
+pub one_time : (A : Arch) (K : Kernel) (ii : ℕ) (early other : List ℕ) → AreEarliest A K ii early → AreEarliest A K ii other → early ≡ other
+one_time A K ii early other a b =
+    let each = a.each in
+    ext_get_or 0 early other (a.each ∙ sym b.each) (λ v l.
+    let known : v < size K = omega (arith, l, each) in
+    let p = one_early (edge_of A K) ii v (get_or early v 0) (get_or other v 0) (a.right v known) (b.right v known) in
+    let q = one_early (edge_of A K) ii v (get_or other v 0) (get_or early v 0) (b.right v known) (a.right v known) in
+    omega (arith, p, q))
+
+module _ (A : Arch) (K : Kernel) (ii : ℕ) (early : List ℕ) (seed moves : ℕ) where
+  one_from : (f g : Found) → IsWalkedFrom A K ii early seed moves f → IsWalkedFrom A K ii early seed moves g → f ≡ g
+  one_from (Mapped m k) (Mapped n l) (g, S, a, z, e) (h, T, b, y, d) =
+      let (p, q, r) = end_once A K ii early moves seed k l g h S T a b in
+      let same : m ≡ n = e ∙ ap (λ (X : State). record { arch = A; kernel = K; mapping = mapping_of K ii X }) r ∙ sym d in
+      ap (λ x. Mapped x k) same ∙ ap (λ j. Mapped n j) p
+  one_from (Mapped m k) (Spent c) (g, S, a, z, e) (h, T, b, y, d) =
+      let (p, q, r) = end_once A K ii early moves seed k moves g h S T a b in
+      let s = ap (λ (X : State). cost A K ii X) r in
+      absurd (omega (arith, z, y, d, s))
+  one_from (Spent c) (Mapped n l) (g, S, a, z, e) (h, T, b, y, d) =
+      let (p, q, r) = end_once A K ii early moves seed moves l g h S T a b in
+      let s = ap (λ (X : State). cost A K ii X) r in
+      absurd (omega (arith, z, y, e, s))
+  one_from (Spent c) (Spent o) (g, S, a, z, e) (h, T, b, y, d) =
+      let (p, q, r) = end_once A K ii early moves seed moves moves g h S T a b in
+      ap (λ x. Spent x) (sym z ∙ ap (λ (X : State). cost A K ii X) r ∙ y)
+
+  pub walked_few : {k : ℕ} {g : Lcg} {S : State} → Walked A K ii early moves seed k g S → k ≤ moves
+  walked_few (start a) = omega arith
+  walked_few (more {k = k} w l c m) = omega (arith, l)
+
+pub one_answer : (A : Arch) (K : Kernel) (ii seed moves : ℕ) (f g : Found) → IsWalked A K ii seed moves f → IsWalked A K ii seed moves g → f ≡ g
+one_answer A K ii seed moves f g (early, a, w) (other, b, v) =
+    one_from A K ii early seed moves f g w (subst (λ es. IsWalkedFrom A K ii es seed moves g) (sym (one_time A K ii early other a b)) v)
+
+interval_of : (K : Kernel) (ii : ℕ) (S : State) → (mapping_of K ii S).ii ≡ ii
+unfolding mapping_of
+interval_of K ii S = refl
+
+pub ready : (A : Arch) (K : Kernel) (ii : ℕ) (early : List ℕ) → IsArch A → IsKernel K → 0 < ii → ii ≤ A.contexts → IsOffered A K → ((ids : List EdgeId) → IsRecurrence A K ii ids → ⊥) → AreEarliest A K ii early → IsReady A K ii early
+ready A K ii early arch kernel some few offered free times = record {
+  interval = some;
+  contexts = few;
+  offered = offered;
+  each = times.each;
+  soon = λ v l.
+      let s = early_soon A K ii early arch kernel times.right free v l in
+      let small = arch.small.contexts.1 in
+      omega (arith, s, few, small);
+}
+
+pub legal_end : (A : Arch) (K : Kernel) (ii seed moves k : ℕ) (m : checks.Mapped) → IsArch A → IsKernel K → 0 < ii → ii ≤ A.contexts → IsOffered A K → ((ids : List EdgeId) → IsRecurrence A K ii ids → ⊥) →
+    IsWalked A K ii seed moves (Mapped m k) → (m.arch ≡ A) × (m.kernel ≡ K) × (m.mapping.ii ≡ ii) × IsLegal A K m.mapping × (k ≤ moves)
+legal_end A K ii seed moves k m arch kernel some few offered free (early, times, (g, S, end, zero, e)) =
+    let good = walked_good A K ii early (ready A K ii early arch kernel some few offered free times) moves seed end.0 in
+    let legal = legal_at_zero A K ii S arch kernel good zero in (
+      ap (λ (x : checks.Mapped). x.arch) e,
+      ap (λ (x : checks.Mapped). x.kernel) e,
+      ap (λ (x : checks.Mapped). x.mapping.ii) e ∙ interval_of K ii S,
+      subst (λ (x : checks.Mapped). IsLegal A K x.mapping) (sym e) legal,
+      walked_few A K ii early seed moves end.0,
+    )
