@@ -1,16 +1,16 @@
 -- Where no recurrence forbids an interval, all nodes have earliest times: by definitions alone.
 use Rattle.std.proofs.Common.{◌≡◌, ℕ, ◌<◌, ◌≤◌, List, length, map, ⊎_elim, refl}
-use Rattle.std.specs.Prelude.{slice_get, slice_index}
+use Rattle.std.specs.Prelude.{slice_index}
 use Rattle.std.proofs.Math.ListN.{length-map}
 use Rattle.std.proofs.lemmas.List.{get_or-map}
 use Rattle.cg_word.specs.declared.op.Op.{Op}
 use Rattle.cg_model.specs.Kernel.{Kernel, IsKernel, size}
 use Rattle.cg_model.specs.Array.{Arch}
-use Rattle.cg_edges.specs.Chain.{IsEarly, IsTight}
+use Rattle.cg_edges.specs.Chain.{IsEarly}
 use Rattle.cg_edges.specs.declared.edge.EdgeId.{EdgeId}
 use Rattle.cg_edges.specs.Edges.{edge_of, latency}
 use Rattle.cg_recur.specs.declared.moments.Step.{Step}
-use Rattle.cg_recur.specs.Log.{step, time_of, AreTimes}
+use Rattle.cg_recur.specs.Log.{step, AreTimes}
 use Rattle.cg_recur.specs.Recurrences.{IsRecurrence, name_at}
 use Rattle.cg_recur.proofs.Ends.{answers}
 use Rattle.cg_recur.proofs.Named.{within, cycle_named, times_named}

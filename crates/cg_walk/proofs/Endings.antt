@@ -1,5 +1,5 @@
 -- A walk that can begin goes on to an end.
-use Rattle.std.proofs.Common.{◌≡◌, ℕ, zero, suc, ◌<◌, ◌≤◌, List, [], ◌∷◌, length, Option, inl, inr, refl, arith, ⊎_elim}
+use Rattle.std.proofs.Common.{ℕ, zero, suc, ◌<◌, ◌≤◌, List, [], ◌∷◌, length, Option, inl, inr, refl, arith, ⊎_elim}
 use Rattle.std.specs.Prelude.{◌⊎◌, All, if◌then◌else◌}
 use Rattle.std.proofs.lemmas.Bool.{cases_lt}
 use Rattle.std.proofs.lemmas.List.Elements.{All-head, All-tail}
