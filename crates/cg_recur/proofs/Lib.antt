@@ -8,3 +8,4 @@ pub mod Named
 pub mod Visits
 pub mod Closing
 pub mod Decided
+pub mod Earliest

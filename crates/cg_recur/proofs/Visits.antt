@@ -103,9 +103,16 @@ module _ (es : List Edge) (ii n : ℕ) (within : IsWithin es n) where
       (λ d. inr d)
       (rounds r s)
 
-  pub tight_or_deep : ((time : ℕ → ℕ) × IsTight (slice_get es) ii time) ⊎ HasDeep
-  tight_or_deep =
+  -- a log whose times no edge asks more than
+  abbrev pub HasTight : Type 0
+  HasTight = (log : List Step) × (last : List ℕ) × IsLog es ii n log last × IsTight (slice_get es) ii (time_of log last)
+
+  pub log_or_deep : HasTight ⊎ HasDeep
+  log_or_deep =
       let (log, b) = begin n in
       let (last, c) = count n in
       let (g, s, h) = begun es ii n log last b c in
-      ⊎_elim (λ (log, last, good, shallow, settled). inl (time_of log last, tight es ii n log last within good shallow settled)) (λ d. inr d) (rounds n (log, last, g, s, h))
+      ⊎_elim (λ (log, last, good, shallow, settled). inl (log, last, good, tight es ii n log last within good shallow settled)) (λ d. inr d) (rounds n (log, last, g, s, h))
+
+  pub tight_or_deep : ((time : ℕ → ℕ) × IsTight (slice_get es) ii time) ⊎ HasDeep
+  tight_or_deep = ⊎_elim (λ (log, last, good, t). inl (time_of log last, t)) (λ d. inr d) log_or_deep

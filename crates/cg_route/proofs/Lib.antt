@@ -7,3 +7,4 @@ pub mod Chains
 pub mod Grows
 pub mod Cases
 pub mod Carries
+pub mod Exists

@@ -14,3 +14,4 @@ mod States
 pub mod Undone
 pub mod Pending
 pub mod Early
+pub mod Endings

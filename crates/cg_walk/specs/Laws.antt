@@ -38,6 +38,13 @@ IsOneEnd =
     (A : Arch) (K : Kernel) (ii : ℕ) (early : List ℕ) (moves seed k l : ℕ) (g h : Lcg) (S T : State) →
     IsEnd A K ii early moves seed k g S → IsEnd A K ii early moves seed l h T → (k ≡ l) × (g ≡ h) × (S ≡ T)
 
+-- and a walk that can begin has one
+abbrev pub IsAlwaysEnded : Type 0
+IsAlwaysEnded =
+    (A : Arch) (K : Kernel) (ii : ℕ) (early : List ℕ) (moves seed : ℕ) →
+    IsArch A → IsKernel K → IsReady A K ii early →
+    (k : ℕ) × (g : Lcg) × (S : State) × IsEnd A K ii early moves seed k g S
+
 -- every state of a walk that can begin is good
 abbrev pub IsGoodAllAlong : Type 0
 IsGoodAllAlong =

@@ -5,7 +5,7 @@
 //! calls it has them at hand for its own proofs.
 #![tactic(auto)]
 
-ghost use Rattle.cg_walk.specs.Laws.{IsLegalAtZero, IsLegalWhereFound, IsOneWalk, IsOneEnd, IsGoodAllAlong, IsRouteMore, IsRouteLess, IsPlacedAlone, IsExcessByUses, IsAgedByUses, IsFoundByUses, IsCostByUses, AreEndsInRange, IsPathInRange, IsRoomEnough, AreHistoriesSmall, AreTimesSoon};
+ghost use Rattle.cg_walk.specs.Laws.{IsLegalAtZero, IsLegalWhereFound, IsOneWalk, IsOneEnd, IsAlwaysEnded, IsGoodAllAlong, IsRouteMore, IsRouteLess, IsPlacedAlone, IsExcessByUses, IsAgedByUses, IsFoundByUses, IsCostByUses, AreEndsInRange, IsPathInRange, IsRoomEnough, AreHistoriesSmall, AreTimesSoon};
 
 mod edge;
 
@@ -24,6 +24,11 @@ pub fn legal()
 pub fn one_walk()
     ensures walk { IsOneWalk }
     ensures end { IsOneEnd }
+{}
+
+/// A walk that can begin, on a valid architecture and for a valid kernel, comes to that end.
+pub fn always_ends()
+    ensures { IsAlwaysEnded }
 {}
 
 /// A route more adds the positions of its path to those of a state, a route less takes them away, and a
