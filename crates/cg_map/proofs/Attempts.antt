@@ -17,7 +17,8 @@ use Rattle.cg_map.specs.declared.trying.Way.TheVariants.{Hub, Walk}
 use Rattle.cg_map.specs.declared.trying.Attempt.{Attempt}
 use Rattle.cg_map.specs.declared.trying.Attempt.TheVariants.{Mapped, Left}
 use Rattle.cg_map.specs.Tried.{IsAttempt, AreLeft}
-use Rattle.cg_map.proofs.Walks.{one_walked, legal_walked, some_walked}
+use Rattle.cg_anneal.proofs.Always.{some_found}
+use Rattle.cg_anneal.proofs.One.{one_answer, legal_end}
 use Rattle.cg_map.proofs.Intervals.{offered}
 
 module _ (A : Arch) (K : Kernel) (arch : IsArch A) (kernel : IsKernel K) (seed moves : ℕ) where
@@ -27,10 +28,10 @@ module _ (A : Arch) (K : Kernel) (arch : IsArch A) (kernel : IsKernel K) (seed m
   one_attempt ii (Mapped m Hub) (Left d) p q = absurd (q.0 p.0)
   one_attempt ii (Mapped m (Walk k)) (Mapped n Hub) p q = absurd (p.0 q.0)
   one_attempt ii (Left c) (Mapped n Hub) p q = absurd (p.0 q.0)
-  one_attempt ii (Mapped m (Walk k)) (Mapped n (Walk l)) p q = let e = one_walked A K ii seed moves (found.Mapped m k) (found.Mapped n l) arch kernel p.1 q.1 in cc
-  one_attempt ii (Mapped m (Walk k)) (Left d) p q = absurd (let e = one_walked A K ii seed moves (found.Mapped m k) (found.Spent d) arch kernel p.1 q.1 in cc)
-  one_attempt ii (Left c) (Mapped n (Walk l)) p q = absurd (let e = one_walked A K ii seed moves (found.Spent c) (found.Mapped n l) arch kernel p.1 q.1 in cc)
-  one_attempt ii (Left c) (Left d) p q = let e = one_walked A K ii seed moves (found.Spent c) (found.Spent d) arch kernel p.1 q.1 in cc
+  one_attempt ii (Mapped m (Walk k)) (Mapped n (Walk l)) p q = let e = one_answer A K ii seed moves (found.Mapped m k) (found.Mapped n l) p.1 q.1 in cc
+  one_attempt ii (Mapped m (Walk k)) (Left d) p q = absurd (let e = one_answer A K ii seed moves (found.Mapped m k) (found.Spent d) p.1 q.1 in cc)
+  one_attempt ii (Left c) (Mapped n (Walk l)) p q = absurd (let e = one_answer A K ii seed moves (found.Spent c) (found.Mapped n l) p.1 q.1 in cc)
+  one_attempt ii (Left c) (Left d) p q = let e = one_answer A K ii seed moves (found.Spent c) (found.Spent d) p.1 q.1 in cc
 
   -- a mapping and a cost aren't both what comes of an interval
   pub not_left : (ii : ℕ) (m : MappedValue) (way : Way) (cost : ℕ) → IsAttempt A K seed moves ii (Mapped m way) → IsAttempt A K seed moves ii (Left cost) → ⊥
@@ -48,7 +49,9 @@ module _ (A : Arch) (K : Kernel) (arch : IsArch A) (kernel : IsKernel K) (seed m
   legal_attempt ii m Hub some few free p =
       let e = p.1 in
       (ap (λ z. z.arch) e, ap (λ z. z.kernel) e, subst (IsLegal A K) (sym (ap (λ z. z.mapping) e)) (hub_legal A K ii arch kernel p.0))
-  legal_attempt ii m (Walk k) some few free p = legal_walked A K ii seed moves m k arch kernel some few (offered A K ii free) free.no_recurrence p.1
+  legal_attempt ii m (Walk k) some few free p =
+      let (a, b, c, ok, d) = legal_end A K ii seed moves k m arch kernel some few (offered A K ii free) free.no_recurrence p.1 in
+      (a, b, ok)
 
   attempt_of : (ii : ℕ) (f : Found) → (HubEnough A K ii → ⊥) → IsWalked A K ii seed moves f → (a : Attempt) × IsAttempt A K seed moves ii a
   attempt_of ii (found.Mapped m k) none w = (Mapped m (Walk k), (none, w))
@@ -59,7 +62,7 @@ module _ (A : Arch) (K : Kernel) (arch : IsArch A) (kernel : IsKernel K) (seed m
   some_attempt ii some few free =
       ⊎_elim
       (λ enough. (Mapped (record { arch = A; kernel = K; mapping = hub_map A K ii }) Hub, (enough, refl)))
-      (λ none. let (f, w) = some_walked A K ii seed moves arch kernel some few (offered A K ii free) free.no_recurrence in attempt_of ii f none w)
+      (λ none. let (f, w) = some_found A K ii seed moves arch kernel some few (offered A K ii free) free.no_recurrence in attempt_of ii f none w)
       (enough_or_not A K ii)
 
   -- ---- what is left at intervals

@@ -1,4 +1,3 @@
-pub mod Walks
 pub mod Intervals
 pub mod Hubs
 pub mod Attempts
