@@ -19,7 +19,7 @@ use Rattle.cg_map.specs.declared.answering.MapAnswer.{MapAnswer}
 use Rattle.cg_map.specs.declared.answering.MapAnswer.TheVariants.{Impossible, Mapped, Spent}
 use Rattle.cg_map.specs.Tried.{last_tried, IsFirst, IsAttempt, AreLeft, IsTried, IsAnswer}
 use Rattle.cg_map.specs.Laws.{IsAsked}
-use Rattle.cg_map.proofs.Intervals.{not_both, shown_forbids, first_within, last_positive, open_from}
+use Rattle.cg_map.proofs.Intervals.{never_unbounded, first_within, last_positive, open_from}
 use Rattle.cg_map.proofs.Attempts.{some_attempt, left_more}
 
 -- a list as a value of the program: where it would stand in memory is no matter of what is said of it
@@ -29,8 +29,7 @@ held costs l = record { ptr = null_ptr; len = length costs; cap = length costs; 
 module _ (A : Arch) (K : Kernel) (arch : IsArch A) (kernel : IsKernel K) (asked : Option ℕ) (seed moves : ℕ) (is : IsAsked A asked) where
   first_of : (o : Option ℕ) (below : Option Certificate) → IsBoundBy A K o below → IsOpen A K A.contexts → (m : ℕ) × IsFirst A K None m
   first_of (Some m) below (all, mii, shown) free = (m, mii)
-  first_of None (Some c) b free = absurd (not_both A K A.contexts free (shown_forbids A K A.contexts c (inl b)))
-  first_of None None b free = absurd b
+  first_of None below b free = absurd (never_unbounded A K below A.contexts b free)
 
   some_first : (o : Option ℕ) → IsOpen A K (last_tried A o) → (m : ℕ) × IsFirst A K o m
   some_first None free = let (b, is_bound) = some_bound A K arch kernel in first_of b.mii b.below is_bound free

@@ -9,7 +9,7 @@ use Rattle.cg_model.specs.Kernel.{Kernel, size, node}
 use Rattle.cg_model.specs.Array.{Arch, IsArch, unit}
 use Rattle.cg_bound.specs.declared.interval.Certificate.{Certificate}
 use Rattle.cg_bound.specs.declared.interval.Certificate.TheVariants.{Cycle, Class}
-use Rattle.cg_bound.specs.Bound.{IsForbidden, IsOpen, IsMii, AllOffered, IsUnoffered, Certifies, Shows}
+use Rattle.cg_bound.specs.Bound.{IsForbidden, IsOpen, IsMii, AllOffered, IsUnoffered, IsBoundBy, Certifies, Shows}
 use Rattle.cg_bound.proofs.Intervals.{one_mii, exactly_below, certifies}
 use Rattle.cg_bound.proofs.Offers.{unit_for, never_open}
 use Rattle.cg_class.specs.Search.{ops_at}
@@ -57,6 +57,11 @@ module _ (A : Arch) (K : Kernel) where
       )
   first_within (Some n) first arch is free same = (subst (λ z. 0 < z) (sym same) is.0, omega (arith, same))
 
+  -- where an interval is open, each operation is offered, so there is a least one
+  pub never_unbounded : (below : Option Certificate) (ii : ℕ) → IsBoundBy A K None below → IsOpen A K ii → ⊥
+  never_unbounded (Some c) ii b free = not_both A K ii free (shown_forbids A K ii c (inl b))
+  never_unbounded None ii b free = b
+
   -- each operation is offered where some interval is open
   pub all_offered : (ii : ℕ) → IsOpen A K ii → AllOffered A K
   all_offered ii free op u = free.no_overfull (op ∷ []) (never_open A K op u ii)
@@ -67,10 +72,10 @@ module _ (A : Arch) (K : Kernel) where
     where
       by : (b : Bool) → p first ≡ b → 0 < length (cond b (first ∷ filter p (range_with_len (first + 1) n)) (filter p (range_with_len (first + 1) n)))
       by true e = omega arith
-      by false e = filter_some p (first + 1) n x (later (cases_lt first x)) (omega (arith, h)) t
-        where
-          later : _ → first + 1 ≤ x
-          later c = ?
+      by false e =
+          filter_some p (first + 1) n x
+          (⊎_elim (λ more. omega (arith, more)) (λ same. absurd (let z : first ≡ x = omega (arith, same, l) in let bad : false ≡ true = sym e ∙ ap p z ∙ t in cc)) (cases_lt first x))
+          (omega (arith, h)) t
 
   pub offered : (ii : ℕ) → IsOpen A K ii → IsOffered A K
   offered ii free v l =
