@@ -5,3 +5,4 @@ pub mod Attempts
 pub mod Takes
 pub mod Nodeless
 pub mod Reached
+pub mod Always
