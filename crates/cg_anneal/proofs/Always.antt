@@ -1,10 +1,9 @@
 -- Some end of the walk is there, with the earliest times, wherever no recurrence forbids the interval: by
 -- definitions alone.
-use Rattle.std.proofs.Common.{◌≡◌, ℕ, ◌<◌, ◌≤◌, ◌+◌, ◌*◌, List, refl, sym, subst, arith, ⊎_elim}
-use Rattle.std.specs.Prelude.{◌⊎◌, slice_index}
+use Rattle.std.proofs.Common.{◌≡◌, ℕ, ◌<◌, ◌≤◌, List, refl, subst, arith, ⊎_elim}
 use Rattle.std.proofs.lemmas.Bool.{cases_lt}
 use Rattle.rand_pcg.specs.Lcg.{Lcg}
-use Rattle.cg_model.specs.Kernel.{Kernel, IsKernel, size}
+use Rattle.cg_model.specs.Kernel.{Kernel, IsKernel}
 use Rattle.cg_model.specs.Array.{Arch, IsArch}
 use Rattle.cg_edges.specs.declared.edge.EdgeId.{EdgeId}
 use Rattle.cg_edges.proofs.Latencies.{latency_small}
