@@ -36,36 +36,42 @@ module _ (A : Arch) (K : Kernel) (arch : IsArch A) (kernel : IsKernel K) (asked 
   some_first (Some n) free = (n, refl)
 
   module _ (free : IsOpen A K (last_tried A asked)) (first : ℕ) (is_first : IsFirst A K asked first) where
+    abbrev Comes : Type 0
+    Comes = (a : MapAnswer) × IsAnswer A K asked seed moves a
+
+    -- a mapping comes, or one cost more is left
+    on_from : (costs : List ℕ) → AreLeft A K seed moves first costs → first + length costs ≤ last_tried A asked
+        → ((c : ℕ) → AreLeft A K seed moves first (costs ++ c ∷ []) → Comes) → (a : Attempt) → IsAttempt A K seed moves (first + length costs) a → Comes
+    on_from costs left within more (at.Mapped m way) p =
+        (Mapped m way, record { free = free; first = first; is_first = is_first; tried = record { costs = costs; left = left; within = within; attempt = p } })
+    on_from costs left within more (at.Left c) p = more c (left_more A K seed moves first costs c left p)
+
     -- on from the intervals whose costs are left
-    upwards : (fuel : ℕ) (costs : List ℕ) → AreLeft A K seed moves first costs → first + length costs + fuel ≡ last_tried A asked + 1 → (a : MapAnswer) × IsTried A K asked seed moves first a × IsAnswer A K asked seed moves a
+    upwards : (fuel : ℕ) (costs : List ℕ) → AreLeft A K seed moves first costs → first + length costs + fuel ≡ last_tried A asked + 1 → Comes
     upwards zero costs left e =
         let (some, most) = last_positive A K asked arch is in
         let few = arch.small.contexts.1 in
         let all : first + length costs ≡ last_tried A asked + 1 = omega (arith, e) in
         let v = held costs (omega (arith, all, most, few)) in
-        (Spent first v, (refl, record { left = left; all = all }), record { free = free; first = first; is_first = is_first; tried = (refl, record { left = left; all = all }) })
+        (Spent first v, record { free = free; first = first; is_first = is_first; tried = (refl, record { left = left; all = all }) })
     upwards (suc fuel) costs left e =
         let (some, most) = last_positive A K asked arch is in
         let (positive, l) = first_within A K asked first arch is free is_first in
         let ii = first + length costs in
-        let (a, p) = some_attempt A K arch kernel seed moves ii (omega (arith, positive)) (omega (arith, e, most)) (open_from A K asked first ii free is_first (omega arith) (omega (arith, e))) in
-        by a p
-      where
-        by : (a : Attempt) → IsAttempt A K seed moves (first + length costs) a → (b : MapAnswer) × IsTried A K asked seed moves first b × IsAnswer A K asked seed moves b
-        by (at.Mapped m way) p =
-            (Mapped m way, record { costs = costs; left = left; within = omega (arith, e); attempt = p },
-            record { free = free; first = first; is_first = is_first; tried = record { costs = costs; left = left; within = omega (arith, e); attempt = p } })
-        by (at.Left c) p =
-            let more : length (costs ++ c ∷ []) ≡ length costs + 1 = length-append costs (c ∷ []) in
-            upwards fuel (costs ++ c ∷ []) (left_more A K arch kernel seed moves first costs c left p) (omega (arith, e, more))
+        let within : ii ≤ last_tried A asked = omega (arith, e) in
+        let (a, p) = some_attempt A K arch kernel seed moves ii (omega (arith, positive)) (omega (arith, within, most)) (open_from A K asked first ii free is_first (omega arith) within) in
+        on_from costs left within
+        (λ c left'.
+        let longer : length (costs ++ c ∷ []) ≡ length costs + 1 = length-append costs (c ∷ []) in
+        upwards fuel (costs ++ c ∷ []) left' (omega (arith, e, longer)))
+        a p
 
   by_verdict : (v : IntervalVerdict) → IsVerdict A K (last_tried A asked) v → (a : MapAnswer) × IsAnswer A K asked seed moves a
   by_verdict (verdict.Impossible c) shown = (Impossible c, shown)
   by_verdict verdict.Allowed free =
       let (first, is_first) = some_first asked free in
       let (positive, l) = first_within A K asked first arch is free is_first in
-      let (a, t, p) = upwards free first is_first (last_tried A asked + 1 - first) [] tt (omega (arith, l)) in
-      (a, p)
+      upwards free first is_first (last_tried A asked + 1 - first) [] tt (omega (arith, l))
 
   pub some_answer : (a : MapAnswer) × IsAnswer A K asked seed moves a
   some_answer = let (v, is_verdict) = some_verdict A K (last_tried A asked) arch kernel in by_verdict v is_verdict

@@ -1,5 +1,5 @@
 -- What is tried at an interval comes to one end, and what is left at intervals.
-use Rattle.std.proofs.Common.{rules, ◌≡◌, ℕ, suc, ◌+◌, ◌<◌, ◌≤◌, List, [], ◌∷◌, ◌++◌, length, Option, Some, None, refl, sym, ap, ◌∙◌, subst, arith, inl, inr, ⊎_elim}
+use Rattle.std.proofs.Common.{rules, ◌≡◌, ℕ, zero, suc, ◌+◌, ◌<◌, ◌≤◌, List, [], ◌∷◌, ◌++◌, length, Option, Some, None, refl, sym, ap, ◌∙◌, subst, arith, inl, inr, ⊎_elim}
 use Rattle.std.specs.Prelude.{slice_index}
 use Rattle.cg_model.specs.Kernel.{Kernel, IsKernel}
 use Rattle.cg_model.specs.Array.{Arch, IsArch}
@@ -20,6 +20,14 @@ use Rattle.cg_map.specs.Tried.{IsAttempt, AreLeft}
 use Rattle.cg_anneal.proofs.Always.{some_found}
 use Rattle.cg_anneal.proofs.One.{one_answer, legal_end}
 use Rattle.cg_map.proofs.Intervals.{offered}
+
+module _ (A : Arch) (K : Kernel) (seed moves : ℕ) where
+  -- a cost more
+  pub left_more : (ii : ℕ) (costs : List ℕ) (c : ℕ) → AreLeft A K seed moves ii costs → IsAttempt A K seed moves (ii + length costs) (Left c) → AreLeft A K seed moves ii (costs ++ c ∷ [])
+  left_more ii [] c p q = let e : ii + 0 ≡ ii = omega arith in (subst (λ z. IsAttempt A K seed moves z (Left c)) e q, tt)
+  left_more ii (d ∷ ds) c p q =
+      let e : ii + suc (length ds) ≡ ii + 1 + length ds = omega arith in
+      (p.0, left_more (ii + 1) ds c p.1 (subst (λ z. IsAttempt A K seed moves z (Left c)) e q))
 
 module _ (A : Arch) (K : Kernel) (arch : IsArch A) (kernel : IsKernel K) (seed moves : ℕ) where
   pub one_attempt : (ii : ℕ) (a b : Attempt) → IsAttempt A K seed moves ii a → IsAttempt A K seed moves ii b → a ≡ b
@@ -69,7 +77,7 @@ module _ (A : Arch) (K : Kernel) (arch : IsArch A) (kernel : IsKernel K) (seed m
 
   pub left_at : (ii : ℕ) (costs : List ℕ) (n : ℕ) → AreLeft A K seed moves ii costs → n < length costs → IsAttempt A K seed moves (ii + n) (Left (slice_index costs n))
   left_at ii [] n p l = absurd (omega arith)
-  left_at ii (c ∷ cs) 0 p l = let e : ii ≡ ii + 0 = omega arith in subst (λ z. IsAttempt A K seed moves z (Left c)) e p.0
+  left_at ii (c ∷ cs) zero p l = let e : ii ≡ ii + 0 = omega arith in subst (λ z. IsAttempt A K seed moves z (Left c)) e p.0
   left_at ii (c ∷ cs) (suc n) p l =
       let e : ii + 1 + n ≡ ii + suc n = omega arith in
       subst (λ z. IsAttempt A K seed moves z (Left (slice_index cs n))) e (left_at (ii + 1) cs n p.1 (omega (arith, l)))
@@ -83,10 +91,3 @@ module _ (A : Arch) (K : Kernel) (arch : IsArch A) (kernel : IsKernel K) (seed m
       let first : c ≡ d = one_left ii c d p.0 q.0 in
       let rest : cs ≡ ds = one_costs (ii + 1) cs ds (omega (arith, e)) p.1 q.1 in
       cc
-
-  -- a cost more
-  pub left_more : (ii : ℕ) (costs : List ℕ) (c : ℕ) → AreLeft A K seed moves ii costs → IsAttempt A K seed moves (ii + length costs) (Left c) → AreLeft A K seed moves ii (costs ++ c ∷ [])
-  left_more ii [] c p q = let e : ii + 0 ≡ ii = omega arith in (subst (λ z. IsAttempt A K seed moves z (Left c)) e q, tt)
-  left_more ii (d ∷ ds) c p q =
-      let e : ii + suc (length ds) ≡ ii + 1 + length ds = omega arith in
-      (p.0, left_more (ii + 1) ds c p.1 (subst (λ z. IsAttempt A K seed moves z (Left c)) e q))

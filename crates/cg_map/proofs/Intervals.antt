@@ -1,5 +1,5 @@
 -- The intervals that are tried are open, and an open interval has a unit for each operation.
-use Rattle.std.proofs.Common.{rules, ◌≡◌, ℕ, suc, ◌+◌, ◌<◌, ◌≤◌, List, [], ◌∷◌, length, Bool, true, false, cond, Option, Some, None, refl, sym, ap, ◌∙◌, subst, arith, inl, inr, ⊎_elim}
+use Rattle.std.proofs.Common.{rules, ◌≡◌, ℕ, zero, suc, ◌+◌, ◌<◌, ◌≤◌, List, [], ◌∷◌, length, Bool, true, false, cond, Option, Some, None, refl, sym, ap, ◌∙◌, subst, arith, inl, inr, ⊎_elim}
 use Rattle.std.specs.Prelude.{filter, slice_index_or, IfSome}
 use Rattle.std.specs.List.{range_with_len}
 use Rattle.std.proofs.lemmas.Bool.{cases_lt}
@@ -66,16 +66,18 @@ module _ (A : Arch) (K : Kernel) where
   pub all_offered : (ii : ℕ) → IsOpen A K ii → AllOffered A K
   all_offered ii free op u = free.no_overfull (op ∷ []) (never_open A K op u ii)
 
+  some_of : (b : Bool) (x : ℕ) (xs : List ℕ) → (b ≡ false → 0 < length xs) → 0 < length (cond b (x ∷ xs) xs)
+  some_of true x xs h = omega arith
+  some_of false x xs h = h refl
+
   filter_some : (p : ℕ → Bool) (first n x : ℕ) → first ≤ x → x < first + n → p x ≡ true → 0 < length (filter p (range_with_len first n))
-  filter_some p first 0 x l h t = absurd (omega (arith, l, h))
-  filter_some p first (suc n) x l h t = by (p first) refl
-    where
-      by : (b : Bool) → p first ≡ b → 0 < length (cond b (first ∷ filter p (range_with_len (first + 1) n)) (filter p (range_with_len (first + 1) n)))
-      by true e = omega arith
-      by false e =
-          filter_some p (first + 1) n x
-          (⊎_elim (λ more. omega (arith, more)) (λ same. absurd (let z : first ≡ x = omega (arith, same, l) in let bad : false ≡ true = sym e ∙ ap p z ∙ t in cc)) (cases_lt first x))
-          (omega (arith, h)) t
+  filter_some p first zero x l h t = absurd (omega (arith, l, h))
+  filter_some p first (suc n) x l h t =
+      some_of (p first) first (filter p (range_with_len (first + 1) n))
+      (λ e.
+      filter_some p (first + 1) n x
+      (⊎_elim (λ more. omega (arith, more)) (λ same. absurd (let z : first ≡ x = omega (arith, same, l) in let bad : false ≡ true = sym e ∙ ap p z ∙ t in cc)) (cases_lt first x))
+      (omega (arith, h)) t)
 
   pub offered : (ii : ℕ) → IsOpen A K ii → IsOffered A K
   offered ii free v l =
