@@ -11,5 +11,3 @@ mod graphs;
 mod routes;
 #[cfg(test)]
 mod texts;
-#[cfg(test)]
-mod words;
