@@ -31,7 +31,8 @@ use Rattle.cg_walk.specs.Alike.{AreAlike}
 use Rattle.cg_walk.proofs.Alike.{alike_more, alike_less, aged_same, found_same, cost_by}
 use Rattle.cg_walk.proofs.Drawn.{MayTake}
 use Rattle.cg_walk.proofs.Keeps.{with_route_good, moved_good, aged_good, start_good}
-use Rattle.cg_walk.proofs.Pending.{Pending, with_same_route}
+use Rattle.cg_walk.specs.Pending.{Pending}
+use Rattle.cg_walk.proofs.Pending.{with_same_route}
 use Rattle.cg_walk.proofs.Uses.{route_more, route_less, placed_alone, touching_known}
 use Rattle.cg_anneal.specs.Walking.{Walking, IsKept, IsAlone, MayPlace, at_state, ends_at, ends_are}
 use Rattle.cg_anneal.specs.declared.ends.RouteEnds.{RouteEnds}

@@ -7,7 +7,8 @@ use Rattle.cg_walk.specs.Walk.{all_edges, unrouted_start, Walked}
 use Rattle.cg_walk.proofs.Uses.{all_known}
 use Rattle.cg_walk.proofs.Histories.{histories_small}
 use Rattle.cg_walk.proofs.Keeps.{walked_good}
-use Rattle.cg_walk.proofs.Pending.{Rising, Pending, all_rising, pending_start}
+use Rattle.cg_walk.specs.Pending.{Rising, Pending}
+use Rattle.cg_walk.proofs.Pending.{all_rising, pending_start}
 use Rattle.cg_anneal.specs.Walking.{Walking}
 use Rattle.cg_anneal.specs.Ended.{IsFoundAt}
 use Rattle.cg_anneal.proofs.Reached.{begins, goes_on, ends_found}
