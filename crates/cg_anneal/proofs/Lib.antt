@@ -6,3 +6,4 @@ pub mod Takes
 pub mod Nodeless
 pub mod Reached
 pub mod One
+pub mod Anew
