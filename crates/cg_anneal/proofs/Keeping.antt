@@ -31,7 +31,8 @@ use Rattle.cg_walk.specs.Alike.{AreAlike}
 use Rattle.cg_walk.proofs.Alike.{alike_more, alike_less, aged_same, found_same, cost_by}
 use Rattle.cg_walk.proofs.Drawn.{MayTake}
 use Rattle.cg_walk.proofs.Keeps.{with_route_good, moved_good, aged_good, start_good}
-use Rattle.cg_walk.proofs.Pending.{Pending, with_same_route}
+use Rattle.cg_walk.specs.Pending.{Pending}
+use Rattle.cg_walk.proofs.Pending.{with_same_route}
 use Rattle.cg_walk.proofs.Uses.{route_more, route_less, placed_alone, touching_known}
 use Rattle.cg_anneal.specs.Walking.{Walking, IsKept, IsAlone, MayPlace, at_state, ends_at, ends_are}
 use Rattle.cg_anneal.specs.declared.ends.RouteEnds.{RouteEnds}
@@ -263,8 +264,11 @@ module _ (W : Walking) (graph : Graph) (es : List EdgeOperand) (P : Placed) (T :
 
   -- what a path of it asks of the use table
   module _ (path : List ℕ) (fits : IsTimedPath W.arch (ends_at W i) path) where
+    pub path_within_arch : All (λ r. r < length W.arch.resources) path
+    path_within_arch = path_within W.arch kept.walking.arch (ends_at W i) path in_range.from fits
+
     pub path_known : All (λ r. r < length T.arch.resources) path
-    path_known = subst (λ (A : Arch). All (λ r. r < length A.resources) path) (sym kept.alike.arch) (path_within W.arch kept.walking.arch (ends_at W i) path in_range.from fits)
+    path_known = subst (λ (A : Arch). All (λ r. r < length A.resources) path) (sym kept.alike.arch) path_within_arch
 
     pub path_near : (start : ℕ) → start ≡ (ends_at W i).start → start + length path < 2 ^ 32
     path_near start h =
@@ -272,12 +276,17 @@ module _ (W : Walking) (graph : Graph) (es : List EdgeOperand) (P : Placed) (T :
         let begins = in_range.start in
         omega (arith, short, begins, h)
 
-    pub path_room : length T.positions + length path ≤ 2 ^ 48
-    path_room =
+    pub path_fits_beside : length (state_positions W.arch W.kernel W.ii W.state) + length path ≤ 2 ^ 48
+    path_fits_beside =
         let short = path_short W.arch kept.walking.arch (ends_at W i) path in_range fits in
         let some = room W.arch W.kernel W.ii W.state kept.walking.arch kept.walking.kernel kept.walking.good in
+        omega (arith, short, some)
+
+    pub path_room : length T.positions + length path ≤ 2 ^ 48
+    path_room =
+        let some = path_fits_beside in
         let c = kept.count in
-        omega (arith, short, some, c)
+        omega (arith, some, c)
 
   -- a route that is there is held by the use table
   module _ (path : List ℕ) (some : slice_get W.state.routes i ≡ Some (Some path)) where

@@ -7,3 +7,4 @@ pub mod Nodeless
 pub mod Reached
 pub mod One
 pub mod Always
+pub mod Anew

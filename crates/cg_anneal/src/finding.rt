@@ -8,6 +8,7 @@ ghost use Rattle.cg_walk.specs.Good.{IsReady};
 ghost use Rattle.cg_walk.specs.State.{cost};
 ghost use Rattle.cg_anneal.specs.Ended.{IsFoundAt, IsWalkedFrom, IsWalked};
 
+use crate::counting::Counting;
 use crate::walk::Walk;
 use cg_arch::Arch;
 use cg_check::LegalMapping;
@@ -42,12 +43,41 @@ pub fn search<'a>(
     requires free { (ids : List EdgeId) → IsRecurrence arch.now kernel.now ii ids → ⊥ }
     ensures { IfOk result (IsWalked arch.now kernel.now ii seed moves) }
 {
+    search_by(alloc, Counting::Kept, arch, kernel, ii, seed, moves)
+}
+
+/// Makes it, and counts the costs of states so.
+pub(crate) fn search_by<'a>(
+    alloc: Global,
+    counting: Counting,
+    arch: &'a Arch,
+    kernel: &'a Kernel,
+    ii: u32,
+    seed: u64,
+    moves: u32,
+) -> Result<Found<'a>, AllocError>
+    requires some { 0 < ii }
+    requires contexts { ii ≤ arch.now.contexts }
+    requires few { moves ≤ most_moves }
+    requires offered { IsOffered arch.now kernel.now }
+    requires free { (ids : List EdgeId) → IsRecurrence arch.now kernel.now ii ids → ⊥ }
+    ensures { IfOk result (IsWalked arch.now kernel.now ii seed moves) }
+{
     arch.contexts();
     kernel.nodes();
     match recurrence(alloc, arch, kernel, ii)? {
         Recur::Cycle(_) => unreachable!(),
         Recur::Times(early) => {
-            let found = run(alloc, arch, kernel, ii, early.as_slice(), seed, moves)?;
+            let found = run(
+                alloc,
+                counting,
+                arch,
+                kernel,
+                ii,
+                early.as_slice(),
+                seed,
+                moves,
+            )?;
             Ok(found)
         }
     }
@@ -56,6 +86,7 @@ pub fn search<'a>(
 /// Makes the walk that begins with these earliest times.
 fn run<'a>(
     alloc: Global,
+    counting: Counting,
     arch: &'a Arch,
     kernel: &'a Kernel,
     ii: u32,
@@ -75,13 +106,14 @@ fn run<'a>(
     let mut generator = Lcg64Xsh32::new(seed, u64::from(ii));
     for k in 0..moves {
         walk.holds();
-        if walk.cost() == 0 {
+        let cost = walk.cost_by(alloc, counting)?;
+        if cost == 0 {
             let end = legal_end(alloc, arch, kernel, &mut walk, k)?;
             return Ok(end);
         }
-        walk.step(alloc, moves, k, &mut generator)?;
+        walk.step(alloc, counting, moves, k, &mut generator)?;
     }
-    let left = walk.cost();
+    let left = walk.cost_by(alloc, counting)?;
     if left == 0 {
         let last = legal_end(alloc, arch, kernel, &mut walk, moves)?;
         return Ok(last);

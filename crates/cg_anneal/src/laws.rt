@@ -1,5 +1,9 @@
-//! Laws of how the walk ends.
+//! Laws of how the walk ends, and the plain walk, with the clause of `search`.
 ghost use Rattle.cg_anneal.specs.Laws.{IsOneTime, IsOneAnswer, IsLegalEnd};
+
+mod plain;
+
+pub use plain::plain_search;
 
 /// The walk has one end: a kernel has one list of earliest times at an interval, and with these the walk ends
 /// in one way. So `search` gives one answer.

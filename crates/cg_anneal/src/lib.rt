@@ -2,6 +2,7 @@
 #![tactic(auto)]
 
 mod chance;
+mod counting;
 mod edges;
 mod ends;
 mod finding;

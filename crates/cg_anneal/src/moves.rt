@@ -4,6 +4,7 @@ ghost use Rattle.rand_pcg.specs.Pcg.{pcg32};
 ghost use Rattle.cg_walk.specs.Words as words;
 
 use crate::chance::is_taken;
+use crate::counting::Counting;
 use crate::walk::Walk;
 use cg_place::Move;
 use rand_core::utils::NextWord;
@@ -60,6 +61,7 @@ impl<'g, 'a> Walk<'g, 'a> {
     fn attempt(
         &mut self,
         alloc: Global,
+        counting: Counting,
         moves: u32,
         k: u32,
         change: Move,
@@ -72,11 +74,11 @@ impl<'g, 'a> Walk<'g, 'a> {
         ensures { OnOk result (IsAttempt self.old change moves k word self.new) }
     {
         self.holds();
-        let before = self.cost();
+        let before = self.cost_by(alloc, counting)?;
         let routes = self.take_all(alloc, list)?;
         let back = self.place(change);
         self.route_all(alloc, list)?;
-        let after = self.cost();
+        let after = self.cost_by(alloc, counting)?;
         if is_taken(moves, k, before, after, word) {
             return Ok(());
         }
@@ -101,6 +103,7 @@ impl<'g, 'a> Walk<'g, 'a> {
     pub(crate) fn step(
         &mut self,
         alloc: Global,
+        counting: Counting,
         moves: u32,
         k: u32,
         generator: &mut Lcg64Xsh32,
@@ -115,7 +118,7 @@ impl<'g, 'a> Walk<'g, 'a> {
         let words = draw(generator);
         let change = self.propose(words.node, words.unit, words.time);
         let list = self.touching(alloc, change.node)?;
-        self.attempt(alloc, moves, k, change, &list, words.stands)?;
+        self.attempt(alloc, counting, moves, k, change, &list, words.stands)?;
         self.rest(k);
         Ok(())
     }

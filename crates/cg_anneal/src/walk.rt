@@ -5,6 +5,7 @@ use crate::edges::{all, edges_of_kernel, touching};
 use crate::ends::{RouteEnds, ends_between};
 use cg_arch::Arch;
 use cg_claims::Usage;
+use cg_claims::laws::PlainUsage;
 use cg_kernel::Kernel;
 use cg_model::{Items, Place, Words};
 use cg_mrrg::Mrrg;
@@ -42,7 +43,8 @@ impl<'g, 'a> Walk<'g, 'a> {
     ghost use Rattle.std.specs.Prelude.{◌≡◌, ◌<◌, ◌≤◌, ◌+◌, ◌*◌, ◌^◌, All, IfOk, OnOk, length, Option, Some, None, slice_get, slice_index_or};
     ghost use Rattle.cg_place.specs.Placed.{moved, back, place_in};
     ghost use Rattle.cg_route.specs.Least.{IsTimedPath};
-    ghost use Rattle.cg_walk.specs.State.{edges, cost};
+    ghost use Rattle.cg_claims.specs.Table.{IsMore};
+    ghost use Rattle.cg_walk.specs.State.{edges, cost, missing, positions_by, state_positions};
     ghost use Rattle.cg_model.specs.Kernel.{size};
     ghost use Rattle.cg_place.specs.Draws.{drawn_move};
     ghost use Rattle.cg_walk.specs.Good.{IsReady};
@@ -128,6 +130,28 @@ impl<'g, 'a> Walk<'g, 'a> {
         1000 * heavy + self.usage.excess()
     }
 
+    /// The number of edge operands without a route, counted anew.
+    pub(crate) fn missing_anew(&self) -> u64
+        ensures value { result ≡ missing self.now.state }
+        ensures few { result < 2 ^ 31 }
+    {
+        self.routes.iter().filter(|route| route.is_none()).count() as u64
+    }
+
+    /// Adds the claims of the route of an edge operand to a use table, where there is one.
+    pub(crate) fn add_to(&self, usage: &mut PlainUsage, i: u32) -> Result<(), AllocError>
+        requires known { i < length (edges self.now.kernel) }
+        requires arch { usage.old.arch ≡ self.now.arch }
+        requires room { length usage.old.positions ≤ length (state_positions self.now.arch self.now.kernel self.now.ii self.now.state) }
+        ensures { OnOk result (IsMore usage.old usage.new (positions_by self.now.arch self.now.ii self.now.state.places (edge self.now.kernel i) (slice_index_or self.now.state.routes i None))) }
+    {
+        let ends = self.ends(i);
+        match &self.routes[i as usize] {
+            None => Ok(()),
+            Some(path) => usage.add(ends.source, ends.start, path.as_slice()),
+        }
+    }
+
     /// Places a node of which no edge operand has a route, and gives the move that undoes it.
     pub(crate) fn place(&mut self, change: Move) -> Move
         requires may { spec.MayPlace self.old change }
@@ -170,6 +194,27 @@ impl<'g, 'a> Walk<'g, 'a> {
         })
     }
 
+    /// The architecture.
+    pub(crate) fn arch(&self) -> &'a Arch
+        ensures { result.now ≡ self.now.arch }
+    {
+        self.arch
+    }
+
+    /// The kernel.
+    pub(crate) fn kernel(&self) -> &'a Kernel
+        ensures { result.now ≡ self.now.kernel }
+    {
+        self.kernel
+    }
+
+    /// The architecture's modulo routing resource graph at the interval.
+    pub(crate) fn graph(&self) -> &'g Mrrg<'a>
+        ensures { result.now ≡ record { arch = self.now.arch; interval = self.now.ii } }
+    {
+        self.graph
+    }
+
     /// The interval, in cycles.
     pub(crate) fn interval(&self) -> u32
         ensures { result ≡ self.now.ii }
@@ -193,7 +238,7 @@ impl<'g, 'a> Walk<'g, 'a> {
     }
 
     /// The place of a node.
-    fn place_of(&self, node: u32) -> Place
+    pub(crate) fn place_of(&self, node: u32) -> Place
         requires { node < size self.now.kernel }
         ensures { result ≡ place_in self.now.state.places node }
     {

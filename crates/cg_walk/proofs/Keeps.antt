@@ -17,15 +17,11 @@ use Rattle.cg_place.specs.Placed.{place_in, first_places, first_place}
 use Rattle.cg_place.proofs.Starting.{each, first_is}
 use Rattle.cg_walk.specs.State.{State, EdgeOperand, edges, ends_of}
 use Rattle.cg_walk.specs.Walk.{edge, all_edges, with_route, IsFoundFor, IsRouted, touches, touching, unrouted, moved_by, unrouted_start, proposal, aged_state, rested, Walked, start, more}
+use Rattle.cg_walk.specs.Pending.{Fits}
 use Rattle.cg_walk.specs.Good.{IsReady, IsGood}
 use Rattle.cg_walk.proofs.Sets.{get_set_same, get_set_other}
 use Rattle.cg_walk.proofs.Uses.{edge_is, away, same_ends, touching_known, all_known, touching_none}
 use Rattle.cg_walk.proofs.Drawn.{MayTake, drawn_may, proposal_may}
-
--- a route that is a path between the ends of its edge operand, or none
-abbrev pub Fits : Arch → ℕ → List Place → EdgeOperand → Option (List ℕ) → Type 0
-Fits A ii places e None = Unit {0}
-Fits A ii places e (Some path) = IsTimedPath A (ends_of A ii places e) path
 
 module _ (A : Arch) (K : Kernel) (ii : ℕ) where
   -- a route that fits keeps a state good

@@ -1,6 +1,6 @@
 -- The edge operands that a move routes anew: their numbers rise, and none has a route until its turn.
 use Rattle.std.proofs.Common.{◌≡◌, ℕ, zero, suc, ◌+◌, ◌<◌, Bool, true, false, List, [], ◌∷◌, ◌++◌, length, map, take, get_or, set, Option, Some, None, refl, sym, ap, ◌∙◌, subst, arith, ⊎_elim}
-use Rattle.std.specs.Prelude.{All, slice_get, filter}
+use Rattle.std.specs.Prelude.{slice_get, filter}
 use Rattle.std.specs.List.{range_with_len}
 use Rattle.std.proofs.lemmas.Bool.{cases_Bool}
 use Rattle.std.proofs.lemmas.Option.{get_or_from_slice_get}
@@ -12,13 +12,9 @@ use Rattle.cg_model.specs.Array.{Arch}
 use Rattle.cg_place.specs.declared.moves.Move.{Move}
 use Rattle.cg_walk.specs.State.{State, edges}
 use Rattle.cg_walk.specs.Walk.{all_edges, with_route, IsFoundFor, IsRouted, touches, touching, moved_by, unrouted_start}
+use Rattle.cg_walk.specs.Pending.{Rising, Pending}
 use Rattle.cg_walk.proofs.Sets.{get_set_other, range_below}
 use Rattle.cg_walk.proofs.Uses.{touching_known, touching_none}
-
--- each is less than all after it
-abbrev pub Rising : List ℕ → Type 0
-Rising [] = Unit {0}
-Rising (i ∷ is) = All (λ j. i < j) is × Rising is
 
 range_rising : (a n : ℕ) → Rising (range_with_len a n)
 range_rising a zero = tt
@@ -43,11 +39,7 @@ all_rising K = range_rising 0 (length (edges K))
 pub touching_rising : (K : Kernel) (v : ℕ) → Rising (touching K v)
 touching_rising K v = filter_rising (touches K v) (all_edges K) (all_rising K)
 
--- none of these edge operands has a route
-abbrev pub Pending : List ℕ → State → Type 0
-Pending is S = All (λ i. slice_get S.routes i ≡ Some None) is
-
--- so at the start
+-- none has a route at the start
 none_of : {X : Type 0} (xs : List X) (i : ℕ) → i < length xs → let none : Option (List ℕ) = None in slice_get (map (λ (x : X). none) xs) i ≡ Some none
 none_of [] i l = absurd (omega arith)
 none_of (x ∷ xs) zero l = refl

@@ -5,3 +5,4 @@ pub mod Good
 pub mod Alike
 pub mod Ranges
 pub mod Laws
+pub mod Pending

@@ -7,7 +7,8 @@ use Rattle.cg_walk.specs.Walk.{all_edges, unrouted_start, Walked}
 use Rattle.cg_walk.proofs.Uses.{all_known}
 use Rattle.cg_walk.proofs.Histories.{histories_small}
 use Rattle.cg_walk.proofs.Keeps.{walked_good}
-use Rattle.cg_walk.proofs.Pending.{Rising, Pending, all_rising, pending_start}
+use Rattle.cg_walk.specs.Pending.{Rising, Pending}
+use Rattle.cg_walk.proofs.Pending.{all_rising, pending_start}
 use Rattle.cg_anneal.specs.Walking.{Walking}
 use Rattle.cg_anneal.specs.Ended.{IsFoundAt}
 use Rattle.cg_anneal.proofs.Reached.{begins, goes_on, ends_found}
@@ -56,7 +57,7 @@ returns-then-cost-eq0 c =
     let V = c.loop-k.walk in
     let same = c.loop-k.invariant.same in
     let walked = c.loop-k.invariant.walked in
-    let zero : cost A K ii V.state ≡ 0 = sym (ap (λ (X : Walking). cost X.arch X.kernel X.ii V.state) same) ∙ sym c.cost.ensures ∙ c.if-cost-eq0.true in
+    let zero : cost A K ii V.state ≡ 0 = sym (ap (λ (X : Walking). cost X.arch X.kernel X.ii V.state) same) ∙ sym c.in_ok-cost.ensures ∙ c.if-cost-eq0.true in
     ends_found A K ii early c.args.moves c.args.seed c.loop-k.k c.loop-k.generator V.state c.in_ok-end.end walked zero (subst (λ (X : Walking). IsFoundAt A K X.ii V.state c.loop-k.k c.in_ok-end.end) same c.in_ok-end.ensures)
 
 pub step-requires-clause-some : goal.step-requires-clause-some
@@ -69,7 +70,7 @@ step-requires-clause-some c =
     let same = c.loop-k.invariant.same in
     let walked = c.loop-k.invariant.walked in
     let no = c.if-cost-eq0.false in
-    let e = c.cost.ensures ∙ ap (λ (X : Walking). cost X.arch X.kernel X.ii V.state) same in
+    let e = c.in_ok-cost.ensures ∙ ap (λ (X : Walking). cost X.arch X.kernel X.ii V.state) same in
     let some : 0 < cost A K ii V.state = omega (arith, no, e) in
     let good = walked_good A K ii early c.requires.ready c.args.moves c.args.seed walked in
     subst (λ (X : Walking). 0 < length X.kernel.nodes) (sym same) (some_nodes A K ii V.state (subst (λ (X : Walking). IsKernel X.kernel) same c.holds.ensures.kernel) good some)
@@ -95,7 +96,7 @@ loop-k-preserved c =
     let same = c.loop-k.invariant.same in
     let walked = c.loop-k.invariant.walked in
     let no = c.if-cost-eq0.false in
-    let e = c.cost.ensures ∙ ap (λ (X : Walking). cost X.arch X.kernel X.ii V.state) same in
+    let e = c.in_ok-cost.ensures ∙ ap (λ (X : Walking). cost X.arch X.kernel X.ii V.state) same in
     let some : 0 < cost A K ii V.state = omega (arith, no, e) in
     let b = goes_on A K ii early c.args.moves c.args.seed c.loop-k.k c.loop-k.generator c.step.new.generator V c.step.new.self same walked c.loop-k-test.true some c.in_ok-step.ensures.step c.in_ok-step.ensures.next in
     record { same = b.0; walked = b.1 }
@@ -113,7 +114,7 @@ returns-then-left-eq0 c =
     let most = c.loop-k.auto.k-end in
     let done : c.loop-k.k ≡ c.args.moves = omega (arith, past, most) in
     let whole = subst (λ n. Walked A K ii early c.args.moves c.args.seed n c.loop-k.generator V.state) done walked in
-    let zero : cost A K ii V.state ≡ 0 = sym (ap (λ (X : Walking). cost X.arch X.kernel X.ii V.state) same) ∙ sym c.cost-left.ensures ∙ c.if-left-eq0.true in
+    let zero : cost A K ii V.state ≡ 0 = sym (ap (λ (X : Walking). cost X.arch X.kernel X.ii V.state) same) ∙ sym c.in_ok-left.ensures ∙ c.if-left-eq0.true in
     ends_found A K ii early c.args.moves c.args.seed c.args.moves c.loop-k.generator V.state c.in_ok-last.last whole zero (subst (λ (X : Walking). IsFoundAt A K X.ii V.state c.args.moves c.in_ok-last.last) same c.in_ok-last.ensures)
 
 pub returns : goal.returns
@@ -130,5 +131,5 @@ returns c =
     let done : c.loop-k.k ≡ c.args.moves = omega (arith, past, most) in
     let whole = subst (λ n. Walked A K ii early c.args.moves c.args.seed n c.loop-k.generator V.state) done walked in
     let no = c.if-left-eq0.false in
-    let e = c.cost-left.ensures ∙ ap (λ (X : Walking). cost X.arch X.kernel X.ii V.state) same in
+    let e = c.in_ok-left.ensures ∙ ap (λ (X : Walking). cost X.arch X.kernel X.ii V.state) same in
     (c.loop-k.generator, V.state, (whole, inr refl), sym e, omega (arith, no))

@@ -3,7 +3,7 @@ use Rattle.cg_recur.specs.declared.recur.Recur.TheVariants.{Times}
 use Rattle.cg_recur.specs.Recurrences.{IsAnswer}
 use Rattle.cg_walk.specs.Good.{IsReady}
 use Rattle.cg_walk.proofs.Early.{early_soon}
-use Rattle.cg_anneal.proofs.finding.search.Goals as goal
+use Rattle.cg_anneal.proofs.finding.search_by.Goals as goal
 
 pub run-requires-clause-ready : goal.run-requires-clause-ready
 run-requires-clause-ready c =

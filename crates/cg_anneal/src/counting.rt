@@ -1,0 +1,28 @@
+//! How the cost of a state is counted.
+
+use crate::walk::Walk;
+use std::alloc::{AllocError, Global};
+
+/// By the counts that are kept from move to move, or anew from the whole state.
+#[derive(Clone, Copy, Drop)]
+pub(crate) enum Counting {
+    /// By the counts that are kept.
+    Kept,
+    /// Anew.
+    Anew,
+}
+
+impl<'g, 'a> Walk<'g, 'a> {
+    ghost use Rattle.std.specs.Prelude.{◌≡◌, IfOk};
+    ghost use Rattle.cg_walk.specs.State.{cost};
+
+    /// What the state costs.
+    pub(crate) fn cost_by(&self, alloc: Global, counting: Counting) -> Result<u64, AllocError>
+        ensures { IfOk result (λ c. c ≡ cost self.now.arch self.now.kernel self.now.ii self.now.state) }
+    {
+        match counting {
+            Counting::Kept => Ok(self.cost()),
+            Counting::Anew => self.recount(alloc),
+        }
+    }
+}

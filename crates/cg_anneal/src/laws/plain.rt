@@ -1,0 +1,92 @@
+//! The plain walk, and the cost of a state counted anew.
+ghost use Rattle.std.specs.Prelude.{◌≡◌, ◌<◌, ◌≤◌, List, IfOk};
+ghost use Rattle.cg_edges.specs.declared.edge.EdgeId.{EdgeId};
+ghost use Rattle.cg_model.specs.Limits.{most_moves};
+ghost use Rattle.cg_place.specs.Placed.{IsOffered};
+ghost use Rattle.cg_recur.specs.Recurrences.{IsRecurrence};
+ghost use Rattle.cg_anneal.specs.Ended.{IsWalked};
+
+use crate::counting::Counting;
+use crate::finding::{Found, search_by};
+use crate::walk::Walk;
+use cg_arch::Arch;
+use cg_claims::laws::PlainUsage;
+use cg_kernel::Kernel;
+use cg_place::Move;
+use cg_place::laws::PlainPlacement;
+use std::alloc::{AllocError, Global};
+
+/// Makes the walk that `search` makes, and counts the cost of each state anew, from all its places and all its routes.
+pub fn plain_search<'a>(
+    alloc: Global,
+    arch: &'a Arch,
+    kernel: &'a Kernel,
+    ii: u32,
+    seed: u64,
+    moves: u32,
+) -> Result<Found<'a>, AllocError>
+    requires some { 0 < ii }
+    requires contexts { ii ≤ arch.now.contexts }
+    requires few { moves ≤ most_moves }
+    requires offered { IsOffered arch.now kernel.now }
+    requires free { (ids : List EdgeId) → IsRecurrence arch.now kernel.now ii ids → ⊥ }
+    ensures { IfOk result (IsWalked arch.now kernel.now ii seed moves) }
+{
+    search_by(alloc, Counting::Anew, arch, kernel, ii, seed, moves)
+}
+
+impl<'g, 'a> Walk<'g, 'a> {
+    ghost use Rattle.std.specs.Prelude.{◌≡◌, ◌≤◌, ◌^◌, IfOk};
+    ghost use Rattle.cg_claims.specs.Table.{excess};
+    ghost use Rattle.cg_walk.specs.State.{cost, table_of_state};
+
+    /// A placement of its places. It has earliest times of 0, which no count asks for.
+    fn placement_anew(&self, alloc: Global) -> Result<PlainPlacement<'a>, AllocError>
+        ensures arch { IfOk result (λ p. p.arch ≡ self.now.arch) }
+        ensures kernel { IfOk result (λ p. p.kernel ≡ self.now.kernel) }
+        ensures interval { IfOk result (λ p. p.ii ≡ self.now.ii) }
+        ensures places { IfOk result (λ p. p.places ≡ self.now.state.places) }
+    {
+        self.holds();
+        let kernel = self.kernel();
+        let count = kernel.nodes().len();
+        let early = vec![in alloc; 0; count]?;
+        let mut placement = PlainPlacement::start(
+            alloc,
+            self.arch(),
+            kernel,
+            self.interval(),
+            &early,
+        )?;
+        for node in 0..count as u32 {
+            let place = self.place_of(node);
+            let _ = placement.apply(Move { node, place });
+        }
+        Ok(placement)
+    }
+
+    /// A use table with the claims of its routes.
+    fn usage_anew(&self, alloc: Global) -> Result<PlainUsage<'a>, AllocError>
+        ensures excess { IfOk result (λ u. excess u ≡ excess (table_of_state self.now.arch self.now.kernel self.now.ii self.now.state)) }
+        ensures few { IfOk result (λ u. excess u ≤ 2 ^ 48) }
+    {
+        self.holds();
+        let mut usage = PlainUsage::new(alloc, self.graph())?;
+        for i in 0..self.count() {
+            self.add_to(&mut usage, i)?;
+        }
+        Ok(usage)
+    }
+
+    /// What the state costs, counted anew.
+    pub(crate) fn recount(&self, alloc: Global) -> Result<u64, AllocError>
+        ensures { IfOk result (λ c. c ≡ cost self.now.arch self.now.kernel self.now.ii self.now.state) }
+    {
+        let placement = self.placement_anew(alloc)?;
+        let usage = self.usage_anew(alloc)?;
+        let heavy = self.missing_anew()
+            + u64::from(placement.order_violations())
+            + u64::from(placement.unit_excess());
+        Ok(1000 * heavy + usage.excess())
+    }
+}
