@@ -1,9 +1,9 @@
 -- The hub's mapping is legal.
 use Rattle.std.proofs.Common.{◌≡◌, ℕ, zero, suc, ◌+◌, ◌-◌, ◌*◌, ◌/◌, ◌%◌, ◌<◌, ◌≤◌, List, [], ◌∷◌, ◌++◌, length, Some, None, refl, sym, ap, ap₂, ◌∙◌, subst, subst₂, arith, Contains, ⊎_elim}
-use Rattle.std.specs.Prelude.{map, slice_get, slice_index_or}
+use Rattle.std.specs.Prelude.{map, slice_get}
 use Rattle.std.specs.List.{range_with_len}
 use Rattle.std.proofs.lemmas.List.FromFn.{get_or-map-range_with_len, get_or-range_with_len, length-range_with_len}
-use Rattle.std.proofs.lemmas.List.Elements.{Contains-append_left, Contains-append_right, Contains-append_cases}
+use Rattle.std.proofs.lemmas.List.Elements.{Contains-append_cases}
 use Rattle.std.proofs.lemmas.Option.{slice_get-get_or}
 use Rattle.std.proofs.Math.Nat.{mod-eq_of_lt}
 use Rattle.cg_model.specs.declared.kernel.Operand.{Operand}
@@ -14,7 +14,7 @@ use Rattle.cg_model.specs.declared.array.Kind.TheVariants.{Out, Register, Port}
 use Rattle.cg_model.specs.Array.{Arch, IsArch, resource, unit, port, owner, delay, delay_by}
 use Rattle.cg_model.specs.declared.mapping.Route.{Route}
 use Rattle.cg_model.specs.Mapping.{Position, IsLegal, Goes, Brings, place, positions, positions_on, positions_after, of_operand, of_route, leaves}
-use Rattle.cg_overlap.proofs.Facts.{slot_of, Contains-nil, Contains-cases, Contains-first, Contains-flat_map, Contains-flat_map_from}
+use Rattle.cg_overlap.proofs.Facts.{slot_of, Contains-nil, Contains-cases, Contains-flat_map_from}
 use Rattle.cg_overlap.proofs.Sequence.{operand_within}
 use Rattle.cg_hub.specs.Hub.{HubEnough, registers, registers_before, host, start, hub_leaves, hub_at, hub_path, hub_route, hub_routes_to, hub_routes, hub_place, hub_map}
 use Rattle.cg_hub.proofs.Numbers.{one_slot, one_run}

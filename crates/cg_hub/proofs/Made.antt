@@ -1,18 +1,17 @@
 -- The loops that make places, ways and routes, one step on; and what is read of a schedule.
-use Rattle.std.proofs.Common.{◌≡◌, ℕ, zero, suc, ◌+◌, ◌-◌, ◌*◌, ◌/◌, ◌<◌, ◌≤◌, List, [], ◌∷◌, ◌++◌, length, map, drop, get_or, Some, refl, sym, ap, ap₂, ◌∙◌, subst, arith, append_assoc, add-one, drop-cons}
-use Rattle.std.specs.Prelude.{flat_map, slice_get, slice_index}
+use Rattle.std.proofs.Common.{◌≡◌, ℕ, zero, suc, ◌+◌, ◌-◌, ◌*◌, ◌/◌, ◌<◌, ◌≤◌, List, [], ◌∷◌, ◌++◌, length, map, get_or, sym, ap, ap₂, ◌∙◌, arith, append_assoc, add-one}
+use Rattle.std.specs.Prelude.{flat_map}
 use Rattle.std.specs.List.{range_with_len}
 use Rattle.std.proofs.lemmas.List.{append-nil, get_or_read}
 use Rattle.std.proofs.lemmas.List.FromFn.{get_or-map-range_with_len, length-map-range_with_len, map-range_with_len_more}
 use Rattle.cg_model.specs.declared.array.Unit.{Unit as UnitOf}
-use Rattle.cg_model.specs.declared.kernel.Operand.{Operand}
 use Rattle.cg_model.specs.declared.kernel.Operand.TheVariants.{Edge}
-use Rattle.cg_model.specs.Kernel.{Kernel, HasOperand, size, node}
-use Rattle.cg_model.specs.Array.{Arch, unit, port, hub_register}
+use Rattle.cg_model.specs.Kernel.{HasOperand, size}
+use Rattle.cg_model.specs.Array.{unit}
 use Rattle.cg_model.specs.declared.mapping.Place.{Place}
 use Rattle.cg_model.specs.declared.mapping.Route.{Route}
-use Rattle.cg_hub.specs.Hub.{registers_before, host, start, hub_leaves, hub_at, hub_path, hub_routes, hub_place, hub_map}
-use Rattle.cg_hub.specs.Scheduled.{Scheduled, IsScheduled, IsKept, hub_places}
+use Rattle.cg_hub.specs.Hub.{registers_before, host, start, hub_leaves, hub_routes, hub_place, hub_map}
+use Rattle.cg_hub.specs.Scheduled.{Scheduled, IsScheduled, IsKept}
 use Rattle.cg_hub.proofs.Times.{host_within, register_within, source_within, in_time, held, has_port}
 
 -- ---- one step on

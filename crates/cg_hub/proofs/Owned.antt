@@ -1,12 +1,12 @@
 -- Which registers are whose, and how many.
-use Rattle.std.proofs.Common.{◌≡◌, ℕ, zero, suc, ◌+◌, ◌*◌, ◌<◌, ◌≤◌, eqb, List, [], ◌∷◌, length, Some, refl, ap, arith, ⊎_elim, eq-eqb}
+use Rattle.std.proofs.Common.{◌≡◌, ℕ, zero, suc, ◌+◌, ◌<◌, ◌≤◌, eqb, List, [], ◌∷◌, length, Some, refl, ap, arith, ⊎_elim, eq-eqb}
 use Rattle.std.specs.Prelude.{slice_get, slice_index_or}
 use Rattle.std.proofs.lemmas.Bool.{cond_both, cases_order, cases_eq, cond-true}
 use Rattle.std.proofs.Math.Nat.{le-max_left, le-max_right}
 use Rattle.cg_model.specs.declared.kernel.Node.{Node}
 use Rattle.cg_model.specs.declared.kernel.Operand.{Operand}
 use Rattle.cg_model.specs.declared.kernel.Operand.TheVariants.{Const as Constant, Edge}
-use Rattle.cg_model.specs.Kernel.{Kernel, IsKernel, HasOperand, no_node, size, node}
+use Rattle.cg_model.specs.Kernel.{Kernel, IsKernel, HasOperand, no_node, node}
 use Rattle.cg_overlap.proofs.Sequence.{operand_within}
 use Rattle.cg_hub.specs.Hub.{needs, most_of, most, registers, registers_before}
 

@@ -1,5 +1,5 @@
 -- The definitions on two small examples.
-use Rattle.std.proofs.Common.{◌≡◌, ℕ, List, [], ◌∷◌, Some, refl}
+use Rattle.std.proofs.Common.{◌≡◌, ℕ, List, [], ◌∷◌, Some, None, refl}
 use Rattle.cg_word.specs.declared.op.Op.TheVariants.{Iter, Add, Mul, Output}
 use Rattle.cg_model.specs.declared.kernel.Operand.TheVariants.{Const as Constant, Edge}
 use Rattle.cg_model.specs.Kernel.{Kernel}
@@ -54,7 +54,7 @@ summed : hub_map single sum 6 ≡
 unfolding host hub_map
 summed = refl
 
--- ---- the sum of products on two units, with a hub of four: registers are 0 to 3
+-- ---- the sum of products on two units that both add, with a hub of four: registers are 0 to 3
 
 abbrev both : List ℕ
 both = 6 ∷ 9 ∷ 0 ∷ 1 ∷ 2 ∷ 3 ∷ []
@@ -71,7 +71,7 @@ double =
           ∷ record { name = []; kind = Out; drivers = [] } ∷ record { name = []; kind = Port; drivers = both } ∷ record { name = []; kind = Port; drivers = both }
           ∷ record { name = []; kind = Out; drivers = [] } ∷ [];
       units =
-          record { name = []; ops = Iter ∷ Add ∷ Output ∷ []; latency = 1; ports = 4 ∷ 5 ∷ []; out = 6 } ∷ record { name = []; ops = Mul ∷ []; latency = 2; ports = 7 ∷ 8 ∷ []; out = 9 } ∷ [];
+          record { name = []; ops = Iter ∷ Add ∷ Output ∷ []; latency = 1; ports = 4 ∷ 5 ∷ []; out = 6 } ∷ record { name = []; ops = Add ∷ Mul ∷ []; latency = 2; ports = 7 ∷ 8 ∷ []; out = 9 } ∷ [];
       hub = 0 ∷ 1 ∷ 2 ∷ 3 ∷ [];
     }
 
@@ -92,6 +92,11 @@ four = refl
 nine : serial double products ≡ Some 9
 unfolding host serial
 nine = refl
+
+-- nothing multiplies on the array of one unit
+unserved : serial single products ≡ None
+unfolding serial
+unserved = refl
 
 -- after nine cycles in the first of its registers the sum is in the second
 multiplied : hub_map double products 9 ≡

@@ -1,14 +1,11 @@
 -- Where and when the hub's mapping begins each node.
-use Rattle.std.proofs.Common.{Contains, ◌≡◌, ℕ, zero, suc, ◌+◌, ◌-◌, ◌*◌, ◌/◌, ◌<◌, ◌≤◌, true, Bool, false, cond, List, [], ◌∷◌, length, Option, Some, None, refl, sym, ap, ◌∙◌, subst, arith, ⊎_elim}
-use Rattle.std.specs.Prelude.{slice_get, slice_index, slice_index_or, nat_lt}
+use Rattle.std.proofs.Common.{Contains, ◌≡◌, ℕ, zero, suc, ◌+◌, ◌-◌, ◌*◌, ◌/◌, ◌<◌, ◌≤◌, true, Bool, false, cond, List, length, Some, None, refl, arith, ⊎_elim}
 use Rattle.std.specs.List.{list_all}
-use Rattle.std.proofs.lemmas.Bool.{cases_order, cases_eq, cases_Bool, ltb-true}
+use Rattle.std.proofs.lemmas.Bool.{cases_order, cases_eq, ltb-true}
 use Rattle.std.proofs.lemmas.Nat.{div_below}
 use Rattle.std.proofs.lemmas.Option.{slice_get_within, slice_get-get_or}
-use Rattle.std.proofs.lemmas.Bool.{and_parts}
 use Rattle.cg_word.specs.Sets.{among}
 use Rattle.cg_word.proofs.Marks.{among_from}
-use Rattle.cg_model.specs.declared.kernel.Node.{Node}
 use Rattle.cg_model.specs.declared.kernel.Operand.{Operand}
 use Rattle.cg_model.specs.declared.kernel.Operand.TheVariants.{Edge}
 use Rattle.cg_model.specs.Kernel.{Kernel, IsKernel, HasOperand, no_node, size, node}

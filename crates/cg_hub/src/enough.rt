@@ -33,10 +33,6 @@ pub fn hub_enough(arch: &Arch, kernel: &Kernel, ii: u32) -> bool
     let hub = arch.hub().len();
     match serial(arch, kernel) {
         None => false,
-        Some(total) => hub > 0
-            && need <= hub
-            && ii > 0
-            && total <= ii
-            && ii <= arch.contexts(),
+        Some(total) => hub > 0 && need <= hub && ii > 0 && total <= ii && ii <= arch.contexts(),
     }
 }

@@ -145,12 +145,7 @@ impl<'a> Schedule<'a> {
 }
 
 /// Where and when each node begins.
-fn places(
-    alloc: Global,
-    arch: &Arch,
-    kernel: &Kernel,
-    ii: u32,
-) -> Result<Vec<Place>, AllocError>
+fn places(alloc: Global, arch: &Arch, kernel: &Kernel, ii: u32) -> Result<Vec<Place>, AllocError>
     requires { HubEnough arch.now kernel.now ii }
     ensures arch { IsArch arch.now }
     ensures kernel { IsKernel kernel.now }

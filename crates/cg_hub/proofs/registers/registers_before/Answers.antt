@@ -1,5 +1,4 @@
-use Rattle.std.proofs.Common.{◌≡◌, ◌≤◌, sym, ap, ◌∙◌, arith, add-one}
-use Rattle.cg_model.specs.declared.kernel.Node.{Node}
+use Rattle.std.proofs.Common.{◌≡◌, ◌≤◌, ap, ◌∙◌, arith, add-one}
 use Rattle.cg_hub.specs.Hub.{most, registers}
 use Rattle.cg_hub.proofs.Owned.{registers_small}
 use Rattle.cg_hub.proofs.registers.registers_before.Goals as goal

@@ -1,4 +1,4 @@
-use Rattle.std.proofs.Common.{◌≡◌, ◌+◌, ◌<◌, ◌≤◌, [], length, ap₂, sym, ap, arith}
+use Rattle.std.proofs.Common.{◌≡◌, ◌+◌, ◌≤◌, [], ap₂, arith}
 use Rattle.std.specs.Prelude.{slice_index_or}
 use Rattle.cg_model.specs.declared.mapping.Place.{Place}
 use Rattle.cg_hub.specs.Hub.{hub_place}

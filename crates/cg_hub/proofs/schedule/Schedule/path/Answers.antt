@@ -1,6 +1,5 @@
 use Rattle.std.proofs.Common.{◌∙◌, ap}
 use Rattle.cg_model.specs.declared.kernel.Operand.TheVariants.{Edge}
-use Rattle.cg_model.specs.Kernel.{Kernel}
 use Rattle.cg_overlap.proofs.Sequence.{operand_within}
 use Rattle.cg_hub.specs.Hub.{registers_before}
 use Rattle.cg_hub.specs.Scheduled.{Scheduled}

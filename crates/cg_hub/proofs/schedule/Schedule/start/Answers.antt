@@ -1,4 +1,4 @@
-use Rattle.std.proofs.Common.{◌≡◌, ◌<◌, length, sym, ap, ◌∙◌, subst, arith, rules}
+use Rattle.std.proofs.Common.{◌<◌, length, ap, subst, arith, rules}
 use Rattle.cg_hub.specs.Scheduled.{Scheduled, IsKept}
 use Rattle.cg_hub.proofs.Made.{all_placed, place_read}
 use Rattle.cg_hub.proofs.schedule.Schedule.start.Goals as goal

@@ -1,8 +1,4 @@
-use Rattle.std.proofs.Common.{◌≡◌, ◌<◌, List, [], length, get_or, sym, ap, ◌∙◌, subst, arith, rules}
-use Rattle.std.proofs.lemmas.List.{get_or_read}
-use Rattle.cg_model.specs.declared.array.Unit.{Unit as UnitOf}
-use Rattle.cg_model.specs.Array.{Arch, unit}
-use Rattle.cg_hub.specs.Hub.{host}
+use Rattle.std.proofs.Common.{◌<◌, length, ap, ◌∙◌, subst, arith, rules}
 use Rattle.cg_hub.specs.Scheduled.{Scheduled, IsKept}
 use Rattle.cg_hub.proofs.Times.{host_within}
 use Rattle.cg_hub.proofs.Made.{all_placed, place_read, unit_read}
