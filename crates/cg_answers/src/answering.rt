@@ -48,12 +48,6 @@ pub fn answer(alloc: Global, plan: &Plan, files: &[File]) -> Result<Outcome, All
             &files[2],
             plan.outputs[0].as_str(),
         ),
-        Command::Map(search) => map(
-            alloc,
-            search,
-            &files[0],
-            &files[1],
-            plan.outputs.as_slice(),
-        ),
+        Command::Map(search) => map(alloc, search, &files[0], &files[1], plan.outputs.as_slice()),
     }
 }

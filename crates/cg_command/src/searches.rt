@@ -57,11 +57,7 @@ fn plan_of_search(
 }
 
 /// The plan of a search that writes the bits.
-fn search_plan(
-    alloc: Global,
-    words: &[&str],
-    search: Search,
-) -> Result<Option<Plan>, AllocError>
+fn search_plan(alloc: Global, words: &[&str], search: Search) -> Result<Option<Plan>, AllocError>
     requires { IsInRange search }
     ensures plan { IfOk result
         (λ p. option_map spec.planned p ≡ spec.search_plan (map (λ word. word.now) words.now) search []) }

@@ -50,11 +50,10 @@ module _ (A : Arch) (K : Kernel) where
 
   -- it isn't after the last one
   pub first_within : (asked : Option ℕ) (first : ℕ) → IsArch A → IsAsked A asked → IsOpen A K (last_tried A asked) → IsFirst A K asked first → (0 < first) × (first ≤ last_tried A asked)
-  first_within None first arch is free least =
-      (
-      least.positive,
-      ⊎_elim (λ after. absurd (not_both A K A.contexts free (least.below A.contexts (last_positive None arch is).0 after))) (λ before. before) (cases_lt A.contexts first)
-      )
+  first_within None first arch is free least = (
+    least.positive,
+    ⊎_elim (λ after. absurd (not_both A K A.contexts free (least.below A.contexts (last_positive None arch is).0 after))) (λ before. before) (cases_lt A.contexts first),
+  )
   first_within (Some n) first arch is free same = (subst (λ z. 0 < z) (sym same) is.0, omega (arith, same))
 
   -- where an interval is open, each operation is offered, so there is a least one
