@@ -1,9 +1,8 @@
 //! What no architecture file reaches: names that begin with no letter of a cell, and the slot of an architecture.
 
-use cg_arch::{ArchFault, Element, Name, NamePlace, Names, Op, OpSet, Parts, flat_text, validate};
+use cg_arch::{Arch, ArchFault, Element, Name, NamePlace, Names, Op, OpSet, Parts, flat_text, validate};
 use cg_model::Items;
 use std::alloc::{AllocError, Global};
-use std::test::Fail;
 
 fn name(alloc: Global, text: &str) -> Result<Name, AllocError> {
     Ok(Name::new(String::from_str(alloc, text)?))
@@ -19,7 +18,7 @@ fn names(alloc: Global, text: &str) -> Result<Names, AllocError> {
 }
 
 /// A register and a unit of two ports, each driven by both, where the register has this name and is driven by these too.
-pub(crate) fn one_unit(alloc: Global, register: &str, drivers: &str) -> Result<Parts, AllocError> {
+fn one_unit(alloc: Global, register: &str, drivers: &str) -> Result<Parts, AllocError> {
     let ports = vec![in alloc; names(alloc, "u_o r")?, names(alloc, "u_o r")?]?;
     let elements = vec![in alloc;
         Element::Register {
@@ -42,29 +41,30 @@ pub(crate) fn one_unit(alloc: Global, register: &str, drivers: &str) -> Result<P
     })
 }
 
-#[test]
-fn text_digest_and_slot_of_one_unit(rt: HostRuntime) -> Result<(), Fail> {
-    let alloc = rt.alloc();
-    let arch = validate(alloc, &one_unit(alloc, "r", "u_o r")?)?;
-    let text = flat_text(alloc, &arch)?;
-    assert!(rt;
-        text.as_slice()
-            == b"cgaflat1\nname t1\ncontexts 4\nmemory 16\nreg r 3 0\nport u_a 3 0\nport u_b 3 0\nout u_o\nunit u latency 1 ports 1 2 out 3 ops iter add output\nhub\n".as_slice()
-    );
-    // Three selects of 2 bits, and a unit of 6 + 16 + 4 + 32 + 2 * 132.
-    assert_eq!(rt; arch.slot_bits(), 328);
-    assert_eq!(rt; arch.order().len(), 4);
-    Ok(())
+/// Whether the flat text, the length of a slot and the order of evaluation are those of one unit: three selects of 2 bits,
+/// and a unit of 6 + 16 + 4 + 32 + 2 * 132.
+pub(crate) fn text_and_slot_of_one_unit(
+    alloc: Global,
+    arch: &Arch,
+    wanted: &[u8],
+) -> Result<bool, AllocError> {
+    let text = flat_text(alloc, arch)?;
+    Ok(text.as_slice() == wanted && arch.slot_bits() == 328 && arch.order().len() == 4)
 }
 
-#[test]
-fn names_that_no_file_gives(rt: HostRuntime) -> Result<(), Fail> {
-    let alloc = rt.alloc();
-    for register in ["", "9r"] {
-        let fault = validate(alloc, &one_unit(alloc, register, "u_o")?).err();
-        assert!(rt; matches!(fault, Some(ArchFault::BadName(NamePlace::Element(0)))));
-    }
+/// Whether a register of that name, driven by these, is refused for its name.
+fn is_bad_name(alloc: Global, register: &str, drivers: &str) -> Result<bool, AllocError> {
+    let fault = validate(alloc, &one_unit(alloc, register, drivers)?).err();
+    Ok(matches!(
+        fault,
+        Some(ArchFault::BadName(NamePlace::Element(0)))
+    ))
+}
+
+/// Whether names that no architecture file gives are refused.
+pub(crate) fn names_that_no_file_gives(alloc: Global) -> Result<bool, AllocError> {
+    let empty = is_bad_name(alloc, "", "u_o")?;
+    let digit = is_bad_name(alloc, "9r", "u_o")?;
     let fault = validate(alloc, &one_unit(alloc, "r", "u_o ")?).err();
-    assert!(rt; matches!(fault, Some(ArchFault::UnknownDriver(_))));
-    Ok(())
+    Ok(empty && digit && matches!(fault, Some(ArchFault::UnknownDriver(_))))
 }

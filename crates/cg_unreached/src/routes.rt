@@ -1,12 +1,11 @@
 //! Least paths and claims on the graph of one unit, whose tables no command lends.
 ghost use Rattle.std.specs.Prelude.{◌≡◌, ◌≤◌, OnOk, length};
 
-use crate::archs::one_unit;
-use cg_arch::validate;
+use cg_arch::Arch;
+use cg_claims::laws::PlainUsage;
 use cg_claims::{ClaimUse, MNode, Mrrg, Usage};
 use cg_route::least_path;
 use std::alloc::{AllocError, Global};
-use std::test::Fail;
 
 /// Whether that path was found.
 fn is(found: Option<Vec<u32>>, path: &[u32]) -> bool {
@@ -99,17 +98,65 @@ fn crowded(usage: &mut Usage) -> Result<bool, AllocError>
     Ok(more && usage.excess() == 0)
 }
 
-#[test]
-fn paths_of_one_unit(rt: HostRuntime) -> Result<(), Fail> {
-    let alloc = rt.alloc();
-    let arch = validate(alloc, &one_unit(alloc, "r", "u_o r")?)?;
-    let graph = Mrrg::expand(alloc, &arch, 3)?;
-    let mut usage = Usage::new(alloc, &graph)?;
-    assert_eq!(rt; graph.resources(), 4);
-    if graph.resources() == 4 {
-        assert!(rt; alone(alloc, &graph, &usage)?);
-        assert!(rt; shared(alloc, &graph, &mut usage)?);
-        assert!(rt; crowded(&mut usage)?);
+/// The same in the plain table, where a third value in that slot would pay 8 for each of the two, and 1.
+fn crowded_plainly(usage: &mut PlainUsage) -> Result<bool, AllocError>
+    requires three { usage.old.interval ≡ 3 }
+    requires four { length usage.old.arch.resources ≡ 4 }
+    requires few { length usage.old.positions ≤ 4 }
+{
+    usage.add(0, 2, &[3, 2])?;
+    let given = MNode {
+        resource: 3,
+        slot: 2,
+    };
+    let more = usage.excess() == 1 && usage.toll(given) == 17;
+    usage.remove(0, 2, &[3, 2]);
+    Ok(more && usage.excess() == 0)
+}
+
+/// A value alone in the plain table.
+fn alone_plainly(usage: &mut PlainUsage) -> Result<bool, AllocError>
+    requires three { usage.old.interval ≡ 3 }
+    requires four { length usage.old.arch.resources ≡ 4 }
+    requires none { length usage.old.positions ≡ 0 }
+    ensures arch { OnOk result (usage.new.arch ≡ usage.old.arch) }
+    ensures interval { OnOk result (usage.new.interval ≡ usage.old.interval) }
+    ensures few { OnOk result (length usage.new.positions ≤ 4) }
+{
+    usage.add(1, 2, &[3, 0, 0, 1])?;
+    Ok(usage.excess() == 0)
+}
+
+/// Both.
+fn claims_plainly(usage: &mut PlainUsage) -> Result<bool, AllocError>
+    requires three { usage.old.interval ≡ 3 }
+    requires four { length usage.old.arch.resources ≡ 4 }
+    requires none { length usage.old.positions ≡ 0 }
+{
+    let alone = alone_plainly(usage)?;
+    let crowded = crowded_plainly(usage)?;
+    Ok(alone && crowded)
+}
+
+/// Whether the paths of one unit at interval 3 are those that its prices give, and its table has their claims.
+pub(crate) fn paths_of_one_unit(alloc: Global, arch: &Arch) -> Result<bool, AllocError> {
+    let graph = Mrrg::expand(alloc, arch, 3)?;
+    if graph.resources() != 4 {
+        return Ok(false);
     }
-    Ok(())
+    let mut usage = Usage::new(alloc, &graph)?;
+    let first = alone(alloc, &graph, &usage)?;
+    let second = shared(alloc, &graph, &mut usage)?;
+    let third = crowded(&mut usage)?;
+    Ok(first && second && third)
+}
+
+/// The same of the plain table.
+pub(crate) fn plain_claims_of_one_unit(alloc: Global, arch: &Arch) -> Result<bool, AllocError> {
+    let graph = Mrrg::expand(alloc, arch, 3)?;
+    if graph.resources() != 4 {
+        return Ok(false);
+    }
+    let mut usage = PlainUsage::new(alloc, &graph)?;
+    claims_plainly(&mut usage)
 }
