@@ -1,20 +1,30 @@
 -- The parts have no fault, and the flat architecture that they stand for.
-use Rattle.std.proofs.Common.{◌≡◌, ℕ, zero, suc, ◌+◌, ◌<◌, ◌≤◌, Bool, true, false, List, [], ◌∷◌, ◌++◌, length, Option, Some, None, refl, ap, ap₂, sym, ◌∙◌, arith, lit<, lit≤, append_assoc}
-use Rattle.std.specs.Prelude.{map, flat_map, codes, unwrap_or}
+use Rattle.std.proofs.Common.{◌≡◌, ℕ, zero, suc, ◌+◌, ◌<◌, ◌≤◌, Bool, true, false, cond, List, [], ◌∷◌, ◌++◌, length, Option, Some, None, refl, ap, ap₂, sym, ◌∙◌, subst, arith}
+use Rattle.std.specs.Prelude.{map, filter, flat_map, codes, unwrap_or}
 use Rattle.std.specs.List.{range_with_len, position_from}
 use Rattle.std.proofs.lemmas.List.{map-append}
+use Rattle.std.proofs.lemmas.List.FromFn.{length-range_with_len}
+use Rattle.cg_word.specs.declared.op.Op.{Op}
+use Rattle.cg_word.specs.Sets.{among}
 use Rattle.cg_model.specs.declared.array.Kind.TheVariants.{Register, Port, Out}
 use Rattle.cg_model.specs.declared.array.Resource.{Resource}
 use Rattle.cg_model.specs.declared.array.Unit.{Unit as ArchUnit}
-use Rattle.cg_model.specs.Array.{Arch}
+use Rattle.cg_model.specs.Array.{Arch, unit}
+use Rattle.cg_model.specs.Kernel.{Kernel}
 use Rattle.cg_parts.specs.declared.parts.Element.{Element}
 use Rattle.cg_parts.specs.declared.entry.Entry.{Entry}
 use Rattle.cg_parts.specs.Parts.{entries_of, entries, distinct, port_name, out_name}
 use Rattle.cg_parts.specs.Numbers.{number_of, is_named}
 use Rattle.cg_arch.specs.Flat.{arch_of, number_in, resource_of, units_of, units_from}
-use Rattle.cg_trial.specs.Trial.{unit_names, out_names, register_name, register_names, unit_ops, register_part, unit_part, parts_with}
+use Rattle.cg_place.specs.Placed.{offering}
+use Rattle.cg_hub.specs.Hub.{HubEnough}
+use Rattle.cg_trial.specs.Words.{generator}
+use Rattle.cg_trial.specs.Drawn.{drawn_kernel, trial_kernel}
+use Rattle.cg_trial.specs.Trial.{trial_arch, unit_names, out_names, register_name, register_names, unit_ops, register_part, unit_part, parts_with}
 use Rattle.cg_trial.proofs.Scans.{map_map, map_map_itself}
 use Rattle.cg_trial.proofs.Named.{distinct_registers, distinct_drivers}
+use Rattle.cg_trial.proofs.Nodes.{AreNodes, all_nodes_are, all_nodes_length}
+use Rattle.cg_trial.proofs.Served.{hub_enough}
 use Rattle.cg_trial.proofs.Whole.{all_elements, register_entry, unit_entries, all_entries, entries_are, register_number, other_number}
 
 -- ---- the flat architecture with n registers
@@ -35,7 +45,7 @@ abbrev pub flat_resources : ℕ → List Resource
 flat_resources n = map (flat_register n) (range_with_len 0 n) ++ flat_map (flat_unit n) unit_names
 
 abbrev pub unit_at : List ℕ → ℕ → ArchUnit
-unit_at name first = record { name = name; ops = unit_ops; latency = 1; ports = first ∷ first + 1 ∷ first + 1 + 1 ∷ []; out = first + 3 }
+unit_at name first = record { name = name; ops = unit_ops; latency = 1; ports = range_with_len first 3; out = first + 3 }
 
 abbrev pub flat_units : List ArchUnit
 flat_units = unit_at (codes "u0") 96 ∷ unit_at (codes "u1") 100 ∷ unit_at (codes "u2") 104 ∷ unit_at (codes "u3") 108 ∷ []
@@ -106,20 +116,47 @@ module _ (n : ℕ) (is : 96 ≡ n) where
       ∙ ap₂ (λ x y. x ++ y) (map_map (resource_of (all_entries n)) (register_entry n) (flat_register n) 0 n register_is) units_are
 
   units_after : units_from 0 (all_elements n) ≡ flat_units
-  units_after = units_from_range n 0 0 n (map (unit_part n) unit_names) ∙ ap (λ m. units_from m (map (unit_part n) unit_names)) (let s : 0 + n ≡ 96 = omega arith in s)
+  units_after = let s : 0 + n ≡ 96 = omega arith in units_from_range n 0 0 n (map (unit_part n) unit_names) ∙ ap (λ m. units_from m (map (unit_part n) unit_names)) s
 
   pub arch_is : arch_of (parts_with n) ≡ flat_arch n
   unfolding arch_of parts_with
   arch_is =
       let built : List Entry → Arch = λ es. record {
-            name = codes "trial";
-            contexts = 64;
-            memory = 256;
-            resources = map (resource_of es) es;
-            units = units_from 0 (all_elements n);
-            hub = map (number_in es) (register_names n);
-          } in
+        name = codes "trial";
+        contexts = 64;
+        memory = 256;
+        resources = map (resource_of es) es;
+        units = units_from 0 (all_elements n);
+        hub = map (number_in es) (register_names n);
+      } in
       let filled : List Resource → List ArchUnit → List ℕ → Arch = λ rs us h. record { name = codes "trial"; contexts = 64; memory = 256; resources = rs; units = us; hub = h } in
       ap built (entries_are n)
       ∙ ap (λ rs. filled rs (units_from 0 (all_elements n)) (map (number_in (all_entries n)) (register_names n))) resources_are
       ∙ ap₂ (λ us h. filled (flat_resources n) us h) units_after registers_are
+
+-- ---- the hub suffices
+
+latency_is : (n x : ℕ) → (unit (flat_arch n) x).latency ≡ 1
+latency_is n zero = refl
+latency_is n (suc zero) = refl
+latency_is n (suc (suc zero)) = refl
+latency_is n (suc (suc (suc zero))) = refl
+latency_is n (suc (suc (suc (suc x)))) = refl
+
+first_passes : (p : ℕ → Bool) (x : ℕ) (xs : List ℕ) → p x ≡ true → 0 < length (filter p (x ∷ xs))
+first_passes p x xs e = subst (λ b. 0 < length (cond b (x ∷ filter p xs) (filter p xs))) (sym e) (omega arith)
+
+offered : (n : ℕ) (op : Op) → among unit_ops op ≡ true → 0 < length (offering (flat_arch n) op)
+offered n op e = first_passes (λ x. among (unit (flat_arch n) x).ops op) 0 (1 ∷ 2 ∷ 3 ∷ []) e
+
+enough_with : (n : ℕ) (K : Kernel) → 96 ≡ n → AreNodes 0 K.nodes → length K.nodes ≡ 32 → HubEnough (flat_arch n) K 64
+enough_with n K e are long = hub_enough (flat_arch n) K are long (length-range_with_len 0 n ∙ sym e) refl (latency_is n) (offered n)
+
+pub trial_arch_is : trial_arch ≡ flat_arch 96
+unfolding trial_arch
+trial_arch_is = arch_is 96 refl
+
+pub trial_enough : (seed : ℕ) → HubEnough trial_arch (trial_kernel seed) 64
+unfolding trial_kernel
+trial_enough seed =
+    subst (λ A. HubEnough A (drawn_kernel (generator seed)) 64) (sym trial_arch_is) (enough_with 96 (drawn_kernel (generator seed)) refl (all_nodes_are (generator seed)) (all_nodes_length (generator seed)))

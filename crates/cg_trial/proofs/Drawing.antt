@@ -1,10 +1,12 @@
 -- Lists that are drawn item by item, each time with what is left to draw.
 use Rattle.std.proofs.Common.{◌≡◌, ℕ, zero, suc, ◌+◌, ◌-◌, ◌<◌, List, [], ◌∷◌, ◌++◌, refl, ap, ap₂, sym, ◌∙◌, arith, append_assoc}
 use Rattle.std.proofs.lemmas.List.{append-nil}
+use Rattle.std.proofs.lemmas.List.FromFn.{map-range_with_len_more}
 use Rattle.rand_pcg.specs.Lcg.{Lcg}
 use Rattle.cg_model.specs.declared.kernel.Node.{Node}
 use Rattle.cg_model.specs.declared.kernel.Operand.{Operand}
 use Rattle.cg_trial.specs.Words.{next, rest, words_of, after}
+use Rattle.cg_trial.specs.Trial.{out_names, register_name, register_names}
 use Rattle.cg_trial.specs.Drawn.{drawn_operand, after_operand, drawn_operands, after_operands, drawn_node, after_node, drawn_nodes}
 
 -- one more item
@@ -45,3 +47,10 @@ pub all_nodes : (list : List Node) (g : Lcg) (first n k : ℕ) → n ≡ k → l
 unfolding drawn_nodes
 all_nodes list g first n k e =
     let s : n - k ≡ 0 = omega arith in sym (append-nil list) ∙ ap (λ m. list ++ drawn_nodes (first + k) m g) (sym s)
+
+-- one more register's name
+pub one_name : (list more : List (List ℕ)) (name : List ℕ) (k : ℕ) → more ≡ list ++ name ∷ [] → list ≡ out_names ++ register_names k → name ≡ register_name k
+    → more ≡ out_names ++ register_names (k + 1)
+one_name list more name k e f h =
+    let next : register_names (k + 1) ≡ register_names k ++ register_name k ∷ [] = map-range_with_len_more register_name 0 k k (omega arith) in
+    e ∙ ap₂ (λ xs x. xs ++ x ∷ []) f h ∙ append_assoc out_names (register_names k) (register_name k ∷ []) ∙ ap (λ z. out_names ++ z) (sym next)

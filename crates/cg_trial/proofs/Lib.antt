@@ -8,3 +8,4 @@ pub mod Whole
 pub mod Sound
 pub mod Served
 pub mod Built
+pub mod Faultless

@@ -200,20 +200,21 @@ edge_one u d init y (suc p) zero a b e f = let bad : Edge u d init ≡ Constant 
 edge_one u d init y (suc p) (suc q) a b e f = ap suc (one_one y p q a b e f)
 
 first_nodes_are : (g : Lcg) → AreNodes 0 (first_nodes g)
-first_nodes_are g =
-    (record {
-      named = refl;
-      operands = no_operand 0;
-      many = refl;
-      one = none_one;
-      valued = λ h. refl;
-      port = refl;
-      sends = λ h. let bad : false ≡ true = h in absurd (cc);
-      reaches = λ h. let bad : false ≡ true = h in absurd (cc);
-      writes = λ h. let bad : false ≡ true = h in absurd (cc);
-      served = refl;
-    },
-    (record {
+first_nodes_are g = (
+  record {
+    named = refl;
+    operands = no_operand 0;
+    many = refl;
+    one = none_one;
+    valued = λ h. refl;
+    port = refl;
+    sends = λ h. let bad : false ≡ true = h in absurd (cc);
+    reaches = λ h. let bad : false ≡ true = h in absurd (cc);
+    writes = λ h. let bad : false ≡ true = h in absurd (cc);
+    served = refl;
+  },
+  (
+    record {
       named = refl;
       operands = one_operand 1 (Constant (next g)) (next_lt g);
       many = refl;
@@ -224,23 +225,27 @@ first_nodes_are g =
       reaches = λ h. let bad : false ≡ true = h in absurd (cc);
       writes = λ h. let bad : false ≡ true = h in absurd (cc);
       served = refl;
-    }, tt))
+    },
+    tt,
+  ),
+)
 
 last_nodes_are : AreNodes 28 last_nodes
-last_nodes_are =
-    (record {
-      named = refl;
-      operands = two_operands 28 (value_of 27) (Constant 255) (value_is 27 28 (lit< tt) (lit< tt)) (lit< tt);
-      many = refl;
-      one = edge_one 27 0 [] (Constant 255);
-      valued = λ h. refl;
-      port = refl;
-      sends = λ h. let bad : false ≡ true = h in absurd (cc);
-      reaches = λ h. let bad : false ≡ true = h in absurd (cc);
-      writes = λ h. let bad : false ≡ true = h in absurd (cc);
-      served = refl;
-    },
-    (record {
+last_nodes_are = (
+  record {
+    named = refl;
+    operands = two_operands 28 (value_of 27) (Constant 255) (value_is 27 28 (lit< tt) (lit< tt)) (lit< tt);
+    many = refl;
+    one = edge_one 27 0 [] (Constant 255);
+    valued = λ h. refl;
+    port = refl;
+    sends = λ h. let bad : false ≡ true = h in absurd (cc);
+    reaches = λ h. let bad : false ≡ true = h in absurd (cc);
+    writes = λ h. let bad : false ≡ true = h in absurd (cc);
+    served = refl;
+  },
+  (
+    record {
       named = refl;
       operands = one_operand 29 (value_of 28) (value_is 28 29 (lit< tt) (lit< tt));
       many = refl;
@@ -252,30 +257,37 @@ last_nodes_are =
       writes = λ h. let bad : false ≡ true = h in absurd (cc);
       served = refl;
     },
-    (record {
-      named = refl;
-      operands = two_operands 30 (value_of 28) (value_of 27) (value_is 28 30 (lit< tt) (lit< tt)) (value_is 27 30 (lit< tt) (lit< tt));
-      many = refl;
-      one = edge_one 28 0 [] (value_of 27);
-      valued = λ h. absurd (omega arith);
-      port = refl;
-      sends = λ h. let bad : false ≡ true = h in absurd (cc);
-      reaches = λ h. inr refl;
-      writes = λ h. refl;
-      served = refl;
-    },
-    (record {
-      named = refl;
-      operands = one_operand 31 (value_of 29) (value_is 29 31 (lit< tt) (lit< tt));
-      many = refl;
-      one = one_one (value_of 29);
-      valued = λ h. absurd (omega arith);
-      port = refl;
-      sends = λ h. refl;
-      reaches = λ h. let bad : false ≡ true = h in absurd (cc);
-      writes = λ h. let bad : false ≡ true = h in absurd (cc);
-      served = refl;
-    }, tt))))
+    (
+      record {
+        named = refl;
+        operands = two_operands 30 (value_of 28) (value_of 27) (value_is 28 30 (lit< tt) (lit< tt)) (value_is 27 30 (lit< tt) (lit< tt));
+        many = refl;
+        one = edge_one 28 0 [] (value_of 27);
+        valued = λ h. absurd (omega arith);
+        port = refl;
+        sends = λ h. let bad : false ≡ true = h in absurd (cc);
+        reaches = λ h. inr refl;
+        writes = λ h. refl;
+        served = refl;
+      },
+      (
+        record {
+          named = refl;
+          operands = one_operand 31 (value_of 29) (value_is 29 31 (lit< tt) (lit< tt));
+          many = refl;
+          one = one_one (value_of 29);
+          valued = λ h. absurd (omega arith);
+          port = refl;
+          sends = λ h. refl;
+          reaches = λ h. let bad : false ≡ true = h in absurd (cc);
+          writes = λ h. let bad : false ≡ true = h in absurd (cc);
+          served = refl;
+        },
+        tt,
+      ),
+    ),
+  ),
+)
 
 pub all_nodes_are : (g : Lcg) → AreNodes 0 (drawn_kernel g).nodes
 unfolding drawn_kernel

@@ -134,6 +134,6 @@ unfolding trial_kernel drawn_kernel
 kernel_made seed g h first drawn nodes order a b c d e f =
     let K : List Node → List OrderEdge → Kernel = λ ns os. record { nodes = ns; order = os } in
     let all : nodes ≡ first_nodes (generator seed) ++ (drawn_nodes 2 26 (rest (generator seed)) ++ last_nodes) =
-        e ∙ ap (λ z. z ++ last_nodes) (d ∙ ap₂ (λ x y. x ++ drawn_nodes 2 26 y) (b ∙ ap first_nodes a) (c ∙ ap rest a))
-        ∙ append_assoc (first_nodes (generator seed)) (drawn_nodes 2 26 (rest (generator seed))) last_nodes in
+    e ∙ ap (λ z. z ++ last_nodes) (d ∙ ap₂ (λ x y. x ++ drawn_nodes 2 26 y) (b ∙ ap first_nodes a) (c ∙ ap rest a))
+    ∙ append_assoc (first_nodes (generator seed)) (drawn_nodes 2 26 (rest (generator seed))) last_nodes in
     ap₂ K all f

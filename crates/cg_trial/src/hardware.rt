@@ -1,6 +1,7 @@
 //! The architecture.
-ghost use Rattle.std.specs.Prelude.{◌≡◌, ◌++◌, IfOk, map};
+ghost use Rattle.std.specs.Prelude.{◌≡◌, [], ◌++◌, IfOk, fold, map};
 ghost use Rattle.std.specs.List.{range_with_len};
+ghost use Rattle.cg_word.specs.Sets.{with_op};
 ghost use Rattle.cg_model.specs.Array.{IsArch};
 ghost use Rattle.cg_trial.specs.Trial as spec;
 
@@ -44,15 +45,22 @@ fn all_names(alloc: Global, count: u32) -> Result<Vec<Name>, AllocError>
     Ok(list)
 }
 
+/// The set of some operations.
+fn set_of(ops: &[Op]) -> OpSet
+    ensures { result ≡ fold with_op [] ops.now }
+{
+    let mut set = OpSet::empty();
+    for op in ops {
+        set = set.with(*op);
+    }
+    set
+}
+
 /// The operations with codes 1 to 22.
 fn unit_ops() -> OpSet
     ensures { result ≡ spec.unit_ops }
 {
-    let mut ops = OpSet::empty();
-    for op in &Op::ALL[..22] {
-        ops = ops.with(*op);
-    }
-    ops
+    set_of(&Op::ALL[..22])
 }
 
 fn register_part(alloc: Global, count: u32, number: u32) -> Result<Element, AllocError>
@@ -117,7 +125,9 @@ pub(crate) fn trial_arch(alloc: Global) -> Result<Arch, AllocError>
 {
     match validate(alloc, &parts_with(alloc, REGISTERS)?) {
         Ok(arch) => Ok(arch),
-        Err(ArchFault::Memory) => Err(AllocError),
-        Err(_) => unreachable!(),
+        Err(fault) => match fault {
+            ArchFault::Memory => Err(AllocError),
+            _ => unreachable!(),
+        },
     }
 }

@@ -16,12 +16,7 @@ fn node_name(alloc: Global, number: u32) -> Result<Name, AllocError>
 }
 
 /// A node that names no port.
-fn node_of(
-    alloc: Global,
-    number: u32,
-    op: Op,
-    operands: Vec<Operand>,
-) -> Result<Node, AllocError>
+fn node_of(alloc: Global, number: u32, op: Op, operands: Vec<Operand>) -> Result<Node, AllocError>
     ensures { IfOk result (λ node. node ≡ spec.node_of number op operands.items) }
 {
     Ok(Node {
@@ -81,11 +76,7 @@ fn drawn_operands(
 
 /// A node: its operation, and then its operands.
 #[tactic(auto, unfolding(crate::specs::Drawn::drawn_node, crate::specs::Drawn::after_node))]
-fn drawn_node(
-    alloc: Global,
-    generator: &mut Lcg64Xsh32,
-    number: u32,
-) -> Result<Node, AllocError>
+fn drawn_node(alloc: Global, generator: &mut Lcg64Xsh32, number: u32) -> Result<Node, AllocError>
     requires { 0 < number }
     ensures node { IfOk result (λ node. node ≡ spec.drawn_node number generator.old) }
     ensures rest { OnOk result (generator.new ≡ spec.after_node generator.old) }

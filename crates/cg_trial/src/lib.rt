@@ -5,6 +5,8 @@ mod draws;
 mod hardware;
 mod kernel;
 pub mod laws;
+#[cfg(test)]
+mod tests;
 mod trial;
 
 pub use cg_arch::Arch;

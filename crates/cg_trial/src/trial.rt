@@ -4,10 +4,10 @@ ghost use Rattle.std.specs.List.{range_with_len};
 ghost use Rattle.cg_trial.specs.Drawn.{trial_kernel as kernel_of};
 ghost use Rattle.cg_trial.specs.Trial.{trial_arch, trial_image};
 
-use cg_arch::Arch;
-use cg_kernel::Kernel;
 use crate::hardware::trial_arch as arch_of_trial;
 use crate::kernel::trial_kernel as kernel_of_trial;
+use cg_arch::Arch;
+use cg_kernel::Kernel;
 use cg_pad::{Image, Words, empty_streams};
 use std::alloc::{AllocError, Global};
 
