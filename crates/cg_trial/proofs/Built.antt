@@ -1,5 +1,5 @@
 -- The parts have no fault, and the flat architecture that they stand for.
-use Rattle.std.proofs.Common.{◌≡◌, ℕ, zero, suc, ◌+◌, ◌<◌, ◌≤◌, Bool, true, false, cond, List, [], ◌∷◌, ◌++◌, length, Option, Some, None, refl, ap, ap₂, sym, ◌∙◌, subst, arith}
+use Rattle.std.proofs.Common.{◌≡◌, ℕ, zero, suc, ◌+◌, ◌<◌, ◌≤◌, Bool, true, cond, List, [], ◌∷◌, ◌++◌, length, refl, ap, ap₂, sym, ◌∙◌, subst, arith}
 use Rattle.std.specs.Prelude.{map, filter, flat_map, codes, unwrap_or}
 use Rattle.std.specs.List.{range_with_len, position_from}
 use Rattle.std.proofs.lemmas.List.{map-append}
@@ -13,9 +13,9 @@ use Rattle.cg_model.specs.Array.{Arch, unit}
 use Rattle.cg_model.specs.Kernel.{Kernel}
 use Rattle.cg_parts.specs.declared.parts.Element.{Element}
 use Rattle.cg_parts.specs.declared.entry.Entry.{Entry}
-use Rattle.cg_parts.specs.Parts.{entries_of, entries, distinct, port_name, out_name}
-use Rattle.cg_parts.specs.Numbers.{number_of, is_named}
-use Rattle.cg_arch.specs.Flat.{arch_of, number_in, resource_of, units_of, units_from}
+use Rattle.cg_parts.specs.Parts.{distinct, port_name, out_name}
+use Rattle.cg_parts.specs.Numbers.{is_named}
+use Rattle.cg_arch.specs.Flat.{arch_of, number_in, resource_of, units_from}
 use Rattle.cg_place.specs.Placed.{offering}
 use Rattle.cg_hub.specs.Hub.{HubEnough}
 use Rattle.cg_trial.specs.Words.{generator}

@@ -1,13 +1,13 @@
 -- Lists that are drawn item by item, each time with what is left to draw.
-use Rattle.std.proofs.Common.{◌≡◌, ℕ, zero, suc, ◌+◌, ◌-◌, ◌<◌, List, [], ◌∷◌, ◌++◌, refl, ap, ap₂, sym, ◌∙◌, arith, append_assoc}
+use Rattle.std.proofs.Common.{◌≡◌, ℕ, suc, ◌+◌, ◌-◌, ◌<◌, List, [], ◌∷◌, ◌++◌, ap, ap₂, sym, ◌∙◌, arith, append_assoc}
+use Rattle.std.specs.Prelude.{map}
+use Rattle.std.specs.List.{range_with_len}
 use Rattle.std.proofs.lemmas.List.{append-nil}
 use Rattle.std.proofs.lemmas.List.FromFn.{map-range_with_len_more}
 use Rattle.rand_pcg.specs.Lcg.{Lcg}
 use Rattle.cg_model.specs.declared.kernel.Node.{Node}
-use Rattle.cg_model.specs.declared.kernel.Operand.{Operand}
-use Rattle.cg_trial.specs.Words.{next, rest, words_of, after}
 use Rattle.cg_trial.specs.Trial.{out_names, register_name, register_names}
-use Rattle.cg_trial.specs.Drawn.{drawn_operand, after_operand, drawn_operands, after_operands, drawn_node, after_node, drawn_nodes}
+use Rattle.cg_trial.specs.Drawn.{drawn_node, after_node, drawn_nodes}
 
 -- one more item
 module _ {X : Type 0} (all : ℕ → Lcg → List X) (g : Lcg) (x : X) (h : Lcg) where
@@ -54,3 +54,7 @@ pub one_name : (list more : List (List ℕ)) (name : List ℕ) (k : ℕ) → mor
 one_name list more name k e f h =
     let next : register_names (k + 1) ≡ register_names k ++ register_name k ∷ [] = map-range_with_len_more register_name 0 k k (omega arith) in
     e ∙ ap₂ (λ xs x. xs ++ x ∷ []) f h ∙ append_assoc out_names (register_names k) (register_name k ∷ []) ∙ ap (λ z. out_names ++ z) (sym next)
+
+-- one more item that is made of a number
+pub one_made : {X : Type 0} (f : ℕ → X) (list more : List X) (x : X) (k : ℕ) → more ≡ list ++ x ∷ [] → list ≡ map f (range_with_len 0 k) → x ≡ f k → more ≡ map f (range_with_len 0 (k + 1))
+one_made f list more x k e g h = e ∙ ap₂ (λ xs y. xs ++ y ∷ []) g h ∙ sym (map-range_with_len_more f 0 k k (omega arith))

@@ -1,9 +1,8 @@
 -- The parts have no fault.
-use Rattle.std.proofs.Common.{◌≡◌, ℕ, zero, suc, ◌+◌, ◌-◌, ◌*◌, ◌<◌, ◌≤◌, ◌⊎◌, inl, inr, ◌&&◌, ◌||◌, Bool, true, false, not, cond, eqb, List, [], ◌∷◌, ◌++◌, length, get_or, Option, Some, None, refl, ap, ap₂, sym, ◌∙◌, subst, arith, lit<, lit≤, append_assoc, length-append, ⊎_elim, bytes_eq, Contains}
-use Rattle.std.specs.Prelude.{map, fold, flat_map, codes, count_by, slice_get, slice_index_or, nat_lt}
+use Rattle.std.proofs.Common.{◌≡◌, ℕ, zero, suc, ◌+◌, ◌-◌, ◌*◌, ◌<◌, ◌≤◌, ◌⊎◌, inl, inr, ◌||◌, Bool, true, false, not, cond, eqb, List, [], ◌∷◌, ◌++◌, length, get_or, Option, Some, None, refl, ap, ap₂, sym, ◌∙◌, subst, arith, lit<, lit≤, append_assoc, length-append, ⊎_elim, bytes_eq, Contains}
+use Rattle.std.specs.Prelude.{map, fold, flat_map, count_by, slice_get, nat_lt}
 use Rattle.std.specs.Option.{option_map, option_map_or, option_or, is_none}
 use Rattle.std.specs.List.{range_with_len, position_from, list_any}
-use Rattle.std.proofs.Math.Nat.{mul-le-mul_left}
 use Rattle.std.proofs.lemmas.Bool.{cases_lt, le-ltb, eq-eqb}
 use Rattle.std.proofs.lemmas.List.{get_or-append_right}
 use Rattle.std.proofs.Math.Bool.{or-true}
@@ -13,15 +12,13 @@ use Rattle.cg_model.specs.declared.array.Kind.{Kind}
 use Rattle.cg_model.specs.declared.array.Kind.TheVariants.{Wire, Register, Port, Out}
 use Rattle.cg_model.specs.declared.array.Resource.{Resource}
 use Rattle.cg_model.specs.Array.{Arch, resource, delay_by}
-use Rattle.cg_model.specs.Names.{is_name}
 use Rattle.cg_model.specs.First.{first_from, first_such, is_before}
-use Rattle.cg_level.specs.Topological.{Passes, IsCombinationalLoop, AreLevels, resource_at}
+use Rattle.cg_level.specs.Topological.{Passes, IsCombinationalLoop, resource_at}
 use Rattle.cg_level.proofs.Levels.{levels_no_loop}
 use Rattle.cg_parts.specs.declared.parts.Element.{Element}
-use Rattle.cg_parts.specs.declared.parts.Parts.{Parts}
 use Rattle.cg_parts.specs.declared.entry.Entry.{Entry}
-use Rattle.cg_parts.specs.Parts.{entries, distinct, drivers_of}
-use Rattle.cg_parts.specs.Numbers.{number_of, is_named, claims, claimer_of}
+use Rattle.cg_parts.specs.Parts.{distinct}
+use Rattle.cg_parts.specs.Numbers.{is_named, claims, claimer_of}
 use Rattle.cg_parts.specs.declared.fault.ArchFault.{ArchFault}
 use Rattle.cg_parts.specs.declared.fault.ArchFault.TheVariants as fault
 use Rattle.cg_parts.specs.declared.fault.HubPlace.TheVariants as hub
@@ -29,15 +26,15 @@ use Rattle.cg_parts.specs.declared.fault.NamePlace.TheVariants as place
 use Rattle.cg_parts.specs.declared.fault.DriverPlace.{DriverPlace}
 use Rattle.cg_parts.specs.declared.drivers.DriverRule.{DriverRule}
 use Rattle.cg_parts.specs.declared.drivers.DriverRule.TheVariants.{UnknownDriver, PortDrives}
-use Rattle.cg_parts.specs.Rules.{links, is_unit, too_large, has_bad_name, bad_name, repeats_by, repeated_name, is_port, is_port_at, is_wrong, first_driver, wrong_driver, fault_before_loops, is_bad_unit, bad_unit, bad_contexts, unit_or_contexts_fault}
+use Rattle.cg_parts.specs.Rules.{links, is_unit, too_large, has_bad_name, bad_name, repeats_by, repeated_name, is_port, is_port_at, is_wrong, first_driver, wrong_driver, fault_before_loops, is_bad_unit, unit_or_contexts_fault}
 use Rattle.cg_arch.specs.Flat.{arch_of}
-use Rattle.cg_arch.specs.Hub.{is_register, is_register_at, names_register, first_bad_entry, first_not_driving, first_missing, missing, outs, all_ports, missing_link, hub_fault}
+use Rattle.cg_arch.specs.Hub.{is_register, is_register_at, names_register, first_bad_entry, first_missing, missing, missing_link, hub_fault}
 use Rattle.cg_arch.specs.Answer.{HasNoCombinationalLoop, IsFault, early, a_loop, late, fault_after_loops}
 use Rattle.cg_arch.proofs.Places.{get_right}
 use Rattle.cg_overlap.proofs.Facts.{Contains-nil}
 use Rattle.cg_trial.specs.Trial.{unit_names, out_names, register_name, register_names, register_part, unit_part, parts_with}
 use Rattle.cg_trial.proofs.Numerals.{numbered}
-use Rattle.cg_trial.proofs.Scans.{past, taken, first_from_range, position_from_range, position_from_found, first_such_range, first_such-append, any_last}
+use Rattle.cg_trial.proofs.Scans.{past, first_from_range, position_from_range, position_from_found, first_such_range, first_such-append, any_last}
 use Rattle.cg_trial.proofs.Named.{name_same, name_apart, distinct_registers, distinct_drivers}
 use Rattle.cg_trial.proofs.Whole.{all_elements, register_entry, unit_entries, all_entries, entries_are, register_number, other_number}
 use Rattle.cg_trial.proofs.Built.{all_drivers, flat_register, flat_unit, flat_resources, flat_arch, arch_is}

@@ -1,19 +1,19 @@
 -- What holds of each node of the kernel, whatever the generator draws.
-use Rattle.std.proofs.Common.{◌≡◌, ℕ, zero, suc, ◌+◌, ◌-◌, ◌*◌, ◌/◌, ◌%◌, ◌^◌, ◌<◌, ◌≤◌, ◌⊎◌, inl, inr, Bool, true, false, List, [], ◌∷◌, ◌++◌, length, Option, Some, None, refl, ap, ap₂, sym, ◌∙◌, subst, arith, lit<, lit≤, length-append}
+use Rattle.std.proofs.Common.{◌≡◌, ℕ, zero, suc, ◌+◌, ◌-◌, ◌*◌, ◌/◌, ◌%◌, ◌^◌, ◌<◌, ◌≤◌, ◌⊎◌, inl, inr, Bool, true, false, List, [], ◌∷◌, ◌++◌, length, Some, None, refl, ap, sym, ◌∙◌, subst, arith, lit<, lit≤, length-append}
 use Rattle.std.specs.Prelude.{slice_get, slice_index, unwrap_or, bit_xor}
 use Rattle.std.specs.Int.{w32, rotate_right}
 use Rattle.std.proofs.Math.Nat.{div-le_self, mod-lt, div-lt_iff_lt-mul, mul-lt-mul_of_pos_right}
 use Rattle.std.proofs.lemmas.Nat.{or_lt}
 use Rattle.rand_pcg.specs.Lcg.{Lcg}
 use Rattle.cg_word.specs.declared.op.Op.{Op}
-use Rattle.cg_word.specs.declared.op.Op.TheVariants.{Const, Iter, Add, And, Load, Store, Output}
+use Rattle.cg_word.specs.declared.op.Op.TheVariants.{Add}
 use Rattle.cg_word.specs.Word.{words, op_of, arity, has_value, is_output, is_access, is_store}
 use Rattle.cg_word.specs.Sets.{among}
 use Rattle.cg_model.specs.declared.kernel.Node.{Node}
 use Rattle.cg_model.specs.declared.kernel.Operand.{Operand}
 use Rattle.cg_model.specs.declared.kernel.Operand.TheVariants.{Const as Constant, Edge}
-use Rattle.cg_trial.specs.Words.{generator, next, rest, below, words_of, after}
-use Rattle.cg_trial.specs.Drawn.{node_name, node_of, drawn_op, drawn_operand, after_operand, drawn_operands, drawn_node, after_node, drawn_nodes, first_nodes, last_nodes, value_of, drawn_kernel, trial_kernel}
+use Rattle.cg_trial.specs.Words.{next, rest, below, words_of}
+use Rattle.cg_trial.specs.Drawn.{node_name, drawn_op, drawn_operand, after_operand, drawn_operands, drawn_node, after_node, drawn_nodes, first_nodes, last_nodes, value_of, drawn_kernel}
 use Rattle.cg_trial.specs.Trial.{unit_ops}
 
 -- ---- words and numbers

@@ -1,9 +1,8 @@
 -- What scans find in lists that begin with items made of the numbers of a range.
-use Rattle.std.proofs.Common.{◌≡◌, ℕ, zero, suc, ◌+◌, ◌*◌, ◌<◌, ◌≤◌, ◌||◌, Bool, true, false, cond, List, [], ◌∷◌, ◌++◌, length, Option, Some, None, refl, ap, ap₂, sym, ◌∙◌, arith, ⊎_elim, append_assoc}
-use Rattle.std.specs.Prelude.{map, fold, flat_map, count_by}
+use Rattle.std.proofs.Common.{◌≡◌, ℕ, zero, suc, ◌+◌, ◌<◌, ◌≤◌, ◌||◌, Bool, true, false, cond, List, [], ◌∷◌, ◌++◌, Option, Some, None, refl, ap, ap₂, sym, ◌∙◌, arith, ⊎_elim}
+use Rattle.std.specs.Prelude.{map, flat_map}
 use Rattle.std.specs.List.{range_with_len, position_from, list_any}
 use Rattle.std.proofs.lemmas.Bool.{cases_lt}
-use Rattle.std.proofs.lemmas.List.{append-nil}
 use Rattle.cg_model.specs.First.{first_from, first_such}
 
 -- a test that fails is passed by

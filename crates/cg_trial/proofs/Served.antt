@@ -1,6 +1,6 @@
 -- The hub suffices.
-use Rattle.std.proofs.Common.{◌≡◌, ℕ, zero, suc, ◌+◌, ◌*◌, ◌<◌, ◌≤◌, Bool, true, false, cond, List, ◌&&◌, [], ◌∷◌, length, max, Some, None, refl, ap, ap₂, sym, ◌∙◌, subst, arith, lit<, lit≤, eqb}
-use Rattle.std.specs.Prelude.{slice_get, slice_index, slice_index_or, nat_lt}
+use Rattle.std.proofs.Common.{◌≡◌, ℕ, zero, suc, ◌+◌, ◌*◌, ◌<◌, ◌≤◌, Bool, true, false, cond, List, ◌&&◌, [], ◌∷◌, length, Some, None, refl, ap, ap₂, ◌∙◌, arith, lit<, lit≤, eqb}
+use Rattle.std.specs.Prelude.{slice_get}
 use Rattle.std.specs.List.{list_all}
 use Rattle.std.proofs.lemmas.Bool.{lt-ltb}
 use Rattle.cg_word.specs.declared.op.Op.{Op}
@@ -8,12 +8,12 @@ use Rattle.cg_word.specs.Sets.{among}
 use Rattle.cg_model.specs.declared.kernel.Node.{Node}
 use Rattle.cg_model.specs.declared.kernel.Operand.{Operand}
 use Rattle.cg_model.specs.declared.kernel.Operand.TheVariants.{Const as Constant, Edge}
-use Rattle.cg_model.specs.Kernel.{Kernel, size, node, no_node}
+use Rattle.cg_model.specs.Kernel.{Kernel, size}
 use Rattle.cg_model.specs.Array.{Arch, unit}
 use Rattle.cg_place.specs.Placed.{offering}
-use Rattle.cg_hub.specs.Hub.{HubEnough, needs, most_of, most, registers, registers_before, need, host, start, is_served, serial}
+use Rattle.cg_hub.specs.Hub.{HubEnough, needs, most_of, most, registers, registers_before, host, start, is_served, serial}
 use Rattle.cg_trial.specs.Trial.{unit_ops}
-use Rattle.cg_trial.proofs.Nodes.{IsOperandOf, IsNodeAt, AreNodes, node_in}
+use Rattle.cg_trial.proofs.Nodes.{IsOperandOf, AreNodes}
 
 -- ---- no value needs more than three registers
 

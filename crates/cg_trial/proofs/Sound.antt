@@ -1,9 +1,8 @@
 -- The kernel is valid, and its accesses are ordered.
-use Rattle.std.proofs.Common.{◌≡◌, ℕ, zero, suc, ◌+◌, ◌<◌, ◌≤◌, ◌⊎◌, inl, inr, Bool, true, false, List, [], ◌∷◌, ◌++◌, length, Some, None, refl, ap, ap₂, sym, ◌∙◌, subst, arith, lit<, lit≤, ⊎_elim, append_assoc}
+use Rattle.std.proofs.Common.{◌≡◌, ℕ, zero, suc, ◌<◌, ◌≤◌, ◌⊎◌, inl, inr, List, ◌++◌, length, Some, None, refl, ap, ap₂, sym, ◌∙◌, subst, arith, lit≤, ⊎_elim, append_assoc}
 use Rattle.std.specs.Prelude.{slice_get}
 use Rattle.std.proofs.lemmas.Option.{slice_get-get_or}
 use Rattle.rand_pcg.specs.Lcg.{Lcg}
-use Rattle.cg_word.specs.Word.{words, is_access, is_store}
 use Rattle.cg_model.specs.declared.kernel.Node.{Node}
 use Rattle.cg_model.specs.declared.kernel.OrderEdge.{OrderEdge}
 use Rattle.cg_model.specs.declared.kernel.Operand.{Operand}
@@ -11,7 +10,7 @@ use Rattle.cg_model.specs.declared.kernel.Operand.TheVariants.{Const as Constant
 use Rattle.cg_model.specs.Kernel.{Kernel, IsKernel, IsWired, IsOrder, IsNamed, HasOperand, HasOrder, size, node, no_node}
 use Rattle.cg_model.specs.Names.{IsName}
 use Rattle.cg_model.specs.Work.{Image}
-use Rattle.cg_model.specs.Order.{IsOrdered, IsUnaliased, Links, Chain, one, by_order}
+use Rattle.cg_model.specs.Order.{IsOrdered, IsUnaliased, one, by_order}
 use Rattle.cg_model.proofs.Identifiers.{is_name-IsName}
 use Rattle.cg_overlap.proofs.Unaliased.{unaliased_from}
 use Rattle.cg_trial.specs.Words.{generator, rest}

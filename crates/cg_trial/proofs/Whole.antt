@@ -1,20 +1,15 @@
 -- The flat architecture, as a whole.
-use Rattle.std.proofs.Common.{◌≡◌, ℕ, zero, suc, ◌+◌, ◌<◌, ◌≤◌, Bool, true, false, List, [], ◌∷◌, ◌++◌, length, Option, Some, None, refl, ap, ap₂, sym, ◌∙◌, arith}
-use Rattle.std.specs.Prelude.{map, flat_map, codes, unwrap_or}
+use Rattle.std.proofs.Common.{◌≡◌, ℕ, ◌<◌, ◌≤◌, List, ◌∷◌, ◌++◌, Some, refl, arith}
+use Rattle.std.specs.Prelude.{map, flat_map}
 use Rattle.std.specs.List.{range_with_len, position_from}
-use Rattle.std.proofs.lemmas.List.{map-append}
-use Rattle.cg_model.specs.declared.array.Kind.TheVariants.{Register, Port, Out}
-use Rattle.cg_model.specs.declared.array.Resource.{Resource}
-use Rattle.cg_model.specs.declared.array.Unit.{Unit as ArchUnit}
-use Rattle.cg_model.specs.Array.{Arch}
+use Rattle.cg_model.specs.declared.array.Kind.TheVariants.{Register}
 use Rattle.cg_parts.specs.declared.parts.Element.{Element}
 use Rattle.cg_parts.specs.declared.entry.Entry.{Entry}
-use Rattle.cg_parts.specs.Parts.{entries_of, entries, distinct, port_name, out_name}
+use Rattle.cg_parts.specs.Parts.{entries_of, entries, distinct}
 use Rattle.cg_parts.specs.Numbers.{number_of, is_named}
-use Rattle.cg_arch.specs.Flat.{arch_of, number_in, resource_of, units_from}
-use Rattle.cg_trial.specs.Trial.{unit_names, out_names, register_name, register_names, unit_ops, register_part, unit_part, parts_with}
-use Rattle.cg_trial.proofs.Scans.{position_from_range, position_from_found, flat_map_range, map_range, map_itself}
-use Rattle.cg_trial.proofs.Named.{name_same, name_apart, distinct_registers, distinct_drivers}
+use Rattle.cg_trial.specs.Trial.{unit_names, out_names, register_name, register_names, register_part, unit_part}
+use Rattle.cg_trial.proofs.Scans.{position_from_range, position_from_found, flat_map_range}
+use Rattle.cg_trial.proofs.Named.{name_same, name_apart}
 
 -- ---- the resources as they are written
 

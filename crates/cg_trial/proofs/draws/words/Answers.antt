@@ -1,4 +1,4 @@
-use Rattle.std.proofs.Common.{◌≡◌, ℕ, suc, ◌+◌, ◌-◌, ◌<◌, List, [], ◌∷◌, ◌++◌, refl, ap, ap₂, sym, ◌∙◌, arith}
+use Rattle.std.proofs.Common.{◌≡◌, ◌+◌, ◌-◌, ◌<◌, ◌∷◌, ◌++◌, refl, ap, ap₂, sym, ◌∙◌, arith}
 use Rattle.cg_trial.specs.Words.{words_of, after}
 use Rattle.cg_trial.proofs.Drawing.{one_more, go_on, all_made, all_gone}
 use Rattle.cg_trial.proofs.draws.words.Goals as goal

@@ -1,4 +1,3 @@
-use Rattle.std.proofs.Common.{◌≡◌}
 use Rattle.cg_trial.proofs.Drawing.{one_name}
 use Rattle.cg_trial.proofs.hardware.all_names.Goals as goal
 

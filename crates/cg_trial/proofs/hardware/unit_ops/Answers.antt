@@ -1,4 +1,4 @@
-use Rattle.std.proofs.Common.{◌≡◌, ◌∙◌}
+use Rattle.std.proofs.Common.{◌∙◌}
 use Rattle.cg_trial.proofs.Offered.{all_added}
 use Rattle.cg_trial.proofs.hardware.unit_ops.Goals as goal
 

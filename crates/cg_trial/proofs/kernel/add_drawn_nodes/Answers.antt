@@ -1,4 +1,4 @@
-use Rattle.std.proofs.Common.{◌≡◌, ℕ, suc, ◌+◌, ◌-◌, ◌<◌, List, [], ◌∷◌, ◌++◌, refl, ap, ap₂, sym, ◌∙◌, arith}
+use Rattle.std.proofs.Common.{◌≡◌, ◌+◌, ◌-◌, ◌<◌, ◌++◌, ap, ◌∙◌, arith}
 use Rattle.cg_trial.specs.Drawn.{drawn_nodes}
 use Rattle.cg_trial.proofs.Drawing.{one_node, all_nodes}
 use Rattle.cg_trial.proofs.kernel.add_drawn_nodes.Goals as goal

@@ -1,4 +1,4 @@
-use Rattle.std.proofs.Common.{◌≡◌, ℕ, suc, ◌+◌, ◌-◌, ◌<◌, List, [], ◌∷◌, ◌++◌, refl, ap, ap₂, sym, ◌∙◌, arith}
+use Rattle.std.proofs.Common.{◌≡◌, ◌+◌, ◌-◌, ◌<◌, ◌∷◌, ◌++◌, refl, ap, ap₂, sym, ◌∙◌, arith}
 use Rattle.cg_trial.specs.Drawn.{drawn_operands, after_operands}
 use Rattle.cg_trial.proofs.Drawing.{one_more, go_on, all_made, all_gone}
 use Rattle.cg_trial.proofs.kernel.drawn_operands.Goals as goal

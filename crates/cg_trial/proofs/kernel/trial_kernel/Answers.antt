@@ -1,4 +1,4 @@
-use Rattle.std.proofs.Common.{◌≡◌, sym, subst, ◌∙◌}
+use Rattle.std.proofs.Common.{sym, subst, ◌∙◌}
 use Rattle.cg_model.specs.Kernel.{IsKernel}
 use Rattle.cg_trial.proofs.Sound.{trial_sound, kernel_made}
 use Rattle.cg_trial.proofs.kernel.trial_kernel.Goals as goal

@@ -1,4 +1,4 @@
-use Rattle.std.proofs.Common.{◌≡◌, ℕ, [], ◌∷◌, ◌++◌, ap, sym, ◌∙◌, arith}
+use Rattle.std.proofs.Common.{ℕ, [], ◌∷◌, ◌++◌, ap, sym, ◌∙◌, arith}
 use Rattle.cg_trial.proofs.Scans.{range_more}
 use Rattle.cg_trial.proofs.trial.memory.Goals as goal
 
