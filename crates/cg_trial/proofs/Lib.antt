@@ -1,0 +1,11 @@
+pub mod Numerals
+pub mod Nodes
+pub mod Drawing
+pub mod Offered
+pub mod Scans
+pub mod Named
+pub mod Whole
+pub mod Sound
+pub mod Served
+pub mod Built
+pub mod Faultless

@@ -1,0 +1,15 @@
+//! A trial: an architecture with a large hub, and the kernel and the image that a number draws for it.
+#![tactic(auto)]
+
+mod draws;
+mod hardware;
+mod kernel;
+pub mod laws;
+#[cfg(test)]
+mod tests;
+mod trial;
+
+pub use cg_arch::Arch;
+pub use cg_kernel::Kernel;
+pub use cg_pad::Image;
+pub use trial::{TrialParts, trial_parts};
