@@ -51,11 +51,6 @@ module _ {X : Type 0} (f : ℕ → X) where
   flat_map_range g e a (suc n) ys h =
       ap (λ z. z ++ flat_map g (map f (range_with_len (a + 1) n) ++ ys)) (h a) ∙ ap (λ z. e a ∷ z) (flat_map_range g e (a + 1) n ys h)
 
-  -- two functions that agree on a range
-  pub map_range : (g : ℕ → X) (a n : ℕ) → ((k : ℕ) → a ≤ k → k < a + n → f k ≡ g k) → map f (range_with_len a n) ≡ map g (range_with_len a n)
-  map_range g a zero h = refl
-  map_range g a (suc n) h = rw (h a (omega arith) (omega arith), map_range g (a + 1) n (λ k l u. h k (omega arith) (omega arith))) refl
-
 none_by : {X : Type 0} (b : Bool) (x : X) (o p : Option X) → cond b (Some x) o ≡ None → (o ≡ None → p ≡ None) → cond b (Some x) p ≡ None
 none_by true x o p e h = let bad : Some x ≡ None = e in absurd (cc)
 none_by false x o p e h = h e
@@ -63,11 +58,6 @@ none_by false x o p e h = h e
 pub first_such-append : {X : Type 0} (t : X → Bool) (xs ys : List X) → first_such t xs ≡ None → first_such t ys ≡ None → first_such t (xs ++ ys) ≡ None
 first_such-append t [] ys e h = h
 first_such-append t (x ∷ xs) ys e h = none_by (t x) x (first_such t xs) (first_such t (xs ++ ys)) e (λ g. first_such-append t xs ys g h)
-
--- the numbers of a range
-pub map_itself : (g : ℕ → ℕ) (a n : ℕ) → ((k : ℕ) → a ≤ k → k < a + n → g k ≡ k) → map g (range_with_len a n) ≡ range_with_len a n
-map_itself g a zero h = refl
-map_itself g a (suc n) h = rw (h a (omega arith) (omega arith), map_itself g (a + 1) n (λ k l u. h k (omega arith) (omega arith))) refl
 
 any_by : (b c d : Bool) → (b || c) ≡ false → (c ≡ false → d ≡ false) → (b || d) ≡ false
 any_by true c d e h = e
