@@ -10,6 +10,7 @@ pub mod Bitstream
 pub mod Paired
 pub mod Bounded
 pub mod Searched
+pub mod Named
 pub mod Commands
 pub mod Imaged
 pub mod Left

@@ -271,7 +271,7 @@ module _ (s : Search) (arch kernel : Name) (outs : List Name) (f g : File) (befo
       read = hold_pair p given;
       free = found.free;
       first = first;
-      is_first = subst (IsFirstOf p) (sym found.tried.0) found.is_first;
+      is_first = subst (λ n. IsFirst p.arch p.kernel s.ii n) (sym found.tried.0) found.is_first;
       costs = costs.items;
       left = subst (λ z. AreAllLeft p.arch p.kernel s.ii s.seed s.moves z costs.items) (sym found.tried.0) found.tried.1;
       no_hub = λ enough. by_hub p.arch p.kernel valid good s.ii s.seed s.moves is enough (answer.Spent first costs) found;
@@ -279,43 +279,41 @@ module _ (s : Search) (arch kernel : Name) (outs : List Name) (f g : File) (befo
       kept = kept_of o (reports BudgetSpent (costs_report first costs.items)) BudgetSpent e done;
       no_write = quiet_of o (reports BudgetSpent (costs_report first costs.items)) BudgetSpent e refl done;
     }
-      where
-        abbrev IsFirstOf : Pair → ℕ → Type 0
-        IsFirstOf q n = IsFirst q.arch q.kernel s.ii n
     spent_of (answer.Mapped m way) o found e status done = absurd (let z : Done ≡ BudgetSpent = sym (ap (λ x. x.status) e.outcome) ∙ status in cc)
     spent_of (answer.Impossible c) o found e status done = absurd (let z : Impossible ≡ BudgetSpent = sym (ap (λ x. x.status) e) ∙ status in cc)
+
+    abbrev Here : Mapping → Mapped
+    Here M = record { arch = p.arch; kernel = p.kernel; mapping = M }
+
+    same : (n : Mapped) → n.arch ≡ p.arch → n.kernel ≡ p.kernel → n ≡ Here n.mapping
+    same n a k = cc
+
+    run : {m : Mapped} (way : Way) (o : Outcome) (found : IsAnswer p.arch p.kernel s.ii s.seed s.moves (answer.Mapped m way)) (e : IsMappingWritten outs m way o) → o.status ≡ Done → Completed o before after Done
+        → (M : Mapping) → m ≡ Here M → IsLegal p.arch p.kernel M → IsMapRun s arch kernel outs before after
+    run {m} way o found e status done M m_is ok =
+        let answered : IsAnswer p.arch p.kernel s.ii s.seed s.moves (answer.Mapped (Here M) way) = subst (λ n. IsAnswer p.arch p.kernel s.ii s.seed s.moves (answer.Mapped n way)) m_is found in
+        let spelled : AreBits p.arch (config_of (Here M)) e.bytes = subst (λ n. AreBits n.arch (config_of n) e.bytes) m_is e.spelled in
+        let outcome : o ≡ record { status = Done; report = map_report (Here M) way; writes = map_writes outs (Here M) e.bytes } = subst (λ n. o ≡ record { status = Done; report = map_report n way; writes = map_writes outs n e.bytes }) m_is e.outcome in
+        record {
+          pair = p;
+          read = hold_pair p given;
+          free = found.free;
+          mapping = M;
+          way = way;
+          found = answered;
+          only = λ other by is_other. alike p.arch p.kernel valid good s.ii s.seed s.moves (answer.Mapped other by) (answer.Mapped (Here M) way) is_other answered;
+          bytes = e.bytes;
+          runs = runs (Here M) e.bytes valid good ok spelled;
+          written = held_writes outs (Here M) e.bytes before after (subst (λ fs. Wrote before.held fs after.held) (ap (λ x. x.writes) outcome) done.held);
+          put = subst (λ report. Appends before.taken report after.taken) (ap (λ x. x.report) outcome) (whole o.status o.report before after status done.put);
+        }
 
     mapped_of : (a : MapAnswer) (o : Outcome) → IsAnswer p.arch p.kernel s.ii s.seed s.moves a → IsOutcomeOf s outs p a o → o.status ≡ Done → Completed o before after Done → IsMapRun s arch kernel outs before after
     mapped_of (answer.Impossible c) o found e status done = absurd (let z : Impossible ≡ Done = sym (ap (λ x. x.status) e) ∙ status in cc)
     mapped_of (answer.Spent first costs) o found e status done = absurd (let z : BudgetSpent ≡ Done = sym (ap (λ x. x.status) e) ∙ status in cc)
     mapped_of (answer.Mapped m way) o found e status done =
         let (one, two, ok) = legal p.arch p.kernel valid good s.ii s.seed s.moves is m way found in
-        run m.mapping (same m one two) ok
-      where
-        abbrev here : Mapping → Mapped
-        here M = record { arch = p.arch; kernel = p.kernel; mapping = M }
-
-        same : (n : Mapped) → n.arch ≡ p.arch → n.kernel ≡ p.kernel → n ≡ here n.mapping
-        same n a k = cc
-
-        run : (M : Mapping) → m ≡ here M → IsLegal p.arch p.kernel M → IsMapRun s arch kernel outs before after
-        run M m_is ok =
-            let answered : IsAnswer p.arch p.kernel s.ii s.seed s.moves (answer.Mapped (here M) way) = subst (λ n. IsAnswer p.arch p.kernel s.ii s.seed s.moves (answer.Mapped n way)) m_is found in
-            let spelled = subst (λ n. AreBits n.arch (config_of n) e.bytes) m_is e.spelled in
-            let outcome = subst (λ n. o ≡ record { status = Done; report = map_report n way; writes = map_writes outs n e.bytes }) m_is e.outcome in
-            record {
-              pair = p;
-              read = hold_pair p given;
-              free = found.free;
-              mapping = M;
-              way = way;
-              found = answered;
-              only = λ other by is_other. let (a, b) = alike p.arch p.kernel valid good s.ii s.seed s.moves (answer.Mapped other by) (answer.Mapped (here M) way) is_other answered in (a, b);
-              bytes = e.bytes;
-              runs = runs (here M) e.bytes valid good ok spelled;
-              written = held_writes outs (here M) e.bytes before after (subst (λ fs. Wrote before.held fs after.held) (ap (λ x. x.writes) outcome) done.held);
-              put = subst (λ report. Appends before.taken report after.taken) (ap (λ x. x.report) outcome) (whole o.status o.report before after status done.put);
-            }
+        run way o found e status done m.mapping (same m one two) ok
 
   -- ---- by what the files give
 

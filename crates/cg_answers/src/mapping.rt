@@ -191,7 +191,11 @@ fn file_named(alloc: Global, name: &str, bytes: Vec<u8>) -> Result<File, AllocEr
 fn mapping_text(alloc: Global, mapping: &LegalMapping<'_>) -> Result<Vec<u8>, AllocError>
     ensures { IfOk result (λ v. v.items ≡ spec.mapping_text mapping.now) }
 {
-    print_mapping(alloc, mapping.arch(), mapping.kernel(), mapping.mapping())
+    let arch = mapping.arch();
+    let _valid_arch = arch.units();
+    let kernel = mapping.kernel();
+    let _valid_kernel = kernel.nodes();
+    print_mapping(alloc, arch, kernel, mapping.mapping())
 }
 
 /// No interval has a mapping: the cost that is left at each.
