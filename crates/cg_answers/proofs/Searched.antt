@@ -1,8 +1,9 @@
 -- What `map` answers, and what its bytes do.
 use Rattle.std.proofs.Common.{◌≡◌, ◌≢◌, ℕ, ◌+◌, ◌<◌, ◌≤◌, nat_lt, Bool, true, false, cond, List, [], ◌∷◌, ◌++◌, length, Option, Some, None, Result, Ok, Err, refl, sym, ◌∙◌, ap, subst, ◌⊎◌, inl, inr, ⊎_elim, arith}
-use Rattle.std.specs.Prelude.{IfSome}
+use Rattle.std.specs.Prelude.{◌^◌, IfSome, bytes_eq}
+use Rattle.std.specs.Global.{Vec}
 use Rattle.std.proofs.lemmas.Bool.{ltb-false}
-use Rattle.std.proofs.lemmas.Slice.Eq.{bytes_eq, bytes_eq-Decides}
+use Rattle.std.proofs.lemmas.Slice.Eq.{bytes_eq-Decides}
 use Rattle.cg_model.specs.Array.{Arch, IsArch}
 use Rattle.cg_model.specs.Kernel.{Kernel, IsKernel}
 use Rattle.cg_model.specs.Mapping.{Mapping, IsLegal}
@@ -25,7 +26,7 @@ use Rattle.cg_map.specs.Laws.{AreAlike, IsAsked}
 use Rattle.cg_map.specs.Laws.{IsMapping as IsMappingOf}
 use Rattle.cg_map.proofs.Alike.{alike, legal, by_hub}
 use Rattle.cg_map.proofs.Always.{some_answer}
-use Rattle.cg_map.proofs.Intervals.{shown_forbids}
+use Rattle.cg_map.proofs.Intervals.{shown_forbids, last_positive}
 use Rattle.cg_command.specs.declared.searches.Search.{Search}
 use Rattle.cg_command.specs.Words.{IsInRange}
 use Rattle.cg_answers.specs.Sources.{Pair, ArePaired, GivesPair, HoldPair}
@@ -103,6 +104,15 @@ asked s A range within = by s.ii range.some within
     by : (o : Option ℕ) → IfSome o (λ ii. 1 ≤ ii) → is_above o A ≡ false → IsAsked A o
     by None some e = tt
     by (Some ii) some e = (omega (arith, some), let l = ltb-false A.contexts ii e in omega (arith, l))
+
+-- there are few costs
+pub spent_few : (s : Search) (A : Arch) (K : Kernel) (first : ℕ) (costs : Vec ℕ) → IsArch A → IsInRange s → is_above s.ii A ≡ false → IsAnswer A K s.ii s.seed s.moves (answer.Spent first costs) → first + length costs.items < 2 ^ 32
+spent_few s A K first costs arch range within p =
+    let (some, most) = last_positive A K s.ii arch (asked s A range within) in
+    let few = arch.small.contexts.1 in
+    let (e, left) = p.tried in
+    let all = left.all in
+    omega (arith, most, few, e, all)
 
 module _ (s : Search) (outs : List Name) (p : Pair) where
   same_kind : (a b : MapAnswer) (x y : Outcome) → AreAlike a b → IsOutcomeOf s outs p a x → IsOutcomeOf s outs p b y → x.status ≡ y.status
@@ -210,10 +220,9 @@ some_map s arch kernel outs range =
 -- after two writes both files are held, but for the first where they have one name
 two_writes : (old new : Held) (a b : Name) (x y : Bytes) → Wrote old (record { name = a; bytes = x } ∷ record { name = b; bytes = y } ∷ []) new → (a ≢ b → Holds new a x) × Holds new b y
 two_writes (Some old) (Some new) a b x y w =
-    let own : (n : Name) → bytes_eq n n ≡ true = λ n. (bytes_eq-Decides n n).1 refl in
-    (
+    let own : (n : Name) → bytes_eq n n ≡ true = λ n. (bytes_eq-Decides n n).1 refl in (
       λ differ. w a ∙ by_name (bytes_eq a b) (λ e. differ ((bytes_eq-Decides a b).0 e)) ∙ ap (λ t. cond t (Some x) (old a)) (own a),
-      w b ∙ ap (λ t. cond t (Some y) (cond (bytes_eq b a) (Some x) (old b))) (own b)
+      w b ∙ ap (λ t. cond t (Some y) (cond (bytes_eq b a) (Some x) (old b))) (own b),
     )
   where
     by_name : (t : Bool) → (t ≡ true → ⊥) → cond t (Some y) (cond (bytes_eq a a) (Some x) (old a)) ≡ cond (bytes_eq a a) (Some x) (old a)
@@ -286,7 +295,7 @@ module _ (s : Search) (arch kernel : Name) (outs : List Name) (f g : File) (befo
     Here M = record { arch = p.arch; kernel = p.kernel; mapping = M }
 
     same : (n : Mapped) → n.arch ≡ p.arch → n.kernel ≡ p.kernel → n ≡ Here n.mapping
-    same n a k = cc
+    same n a k = subst (λ A. n ≡ record { arch = A; kernel = p.kernel; mapping = n.mapping }) a (subst (λ K. n ≡ record { arch = n.arch; kernel = K; mapping = n.mapping }) k refl)
 
     run : {m : Mapped} (way : Way) (o : Outcome) (found : IsAnswer p.arch p.kernel s.ii s.seed s.moves (answer.Mapped m way)) (e : IsMappingWritten outs m way o) → o.status ≡ Done → Completed o before after Done
         → (M : Mapping) → m ≡ Here M → IsLegal p.arch p.kernel M → IsMapRun s arch kernel outs before after

@@ -90,6 +90,7 @@ fn searched(
     requires within { is_above search.ii arch.now ≡ false }
     ensures { IfOk result (λ o. IsSearch search (map string_bytes outputs.now) (record { arch = arch.now; kernel = kernel.now }) (outcome_of o)) }
 {
+    let _valid_arch = arch.units();
     match map_answer(alloc, arch, kernel, search.ii, search.seed, search.moves)? {
         MapAnswer::Impossible(certificate) => impossible(alloc, search, arch, kernel, &certificate),
         MapAnswer::Mapped(mapping, way) => written(alloc, &mapping, way, outputs),
