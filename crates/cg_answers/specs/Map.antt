@@ -9,8 +9,6 @@ use Rattle.cg_ending.specs.Outcome.{Name, Bytes, File, Outcome, line_of}
 use Rattle.cg_ending.specs.Ends.{Moment, IsPut, Wrote}
 use Rattle.cg_ending.specs.Refusals.{reports, malformed_of}
 use Rattle.cg_bits.specs.Spelling.{AreBits}
-use Rattle.cg_mapping.specs.Tried as mappings
-use Rattle.cg_mapping.specs.Limits.{IsWithinLimits}
 use Rattle.cg_mapping.specs.Printed.{data_of}
 use Rattle.cg_check.specs.Legal.{Mapped}
 use Rattle.cg_bound.specs.declared.interval.Certificate.{Certificate}
