@@ -1,6 +1,8 @@
 //! What no architecture file reaches: names that begin with no letter of a cell, and the slot of an architecture.
 
-use cg_arch::{Arch, ArchFault, Element, Name, NamePlace, Names, Op, OpSet, Parts, flat_text, validate};
+use cg_arch::{
+    Arch, ArchFault, Element, Name, NamePlace, Names, Op, OpSet, Parts, flat_text, validate,
+};
 use cg_model::Items;
 use std::alloc::{AllocError, Global};
 
@@ -55,10 +57,7 @@ pub(crate) fn text_and_slot_of_one_unit(
 /// Whether a register of that name, driven by these, is refused for its name.
 fn is_bad_name(alloc: Global, register: &str, drivers: &str) -> Result<bool, AllocError> {
     let fault = validate(alloc, &one_unit(alloc, register, drivers)?).err();
-    Ok(matches!(
-        fault,
-        Some(ArchFault::BadName(NamePlace::Element(0)))
-    ))
+    Ok(matches!(fault, Some(ArchFault::BadName(NamePlace::Element(0)))))
 }
 
 /// Whether names that no architecture file gives are refused.

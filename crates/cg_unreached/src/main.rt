@@ -12,24 +12,22 @@ use cg_arch::Arch;
 use cg_hub::serial;
 use cg_kernel::{Kernel, read_kernel};
 use cg_tiles::read_arch;
-use std::alloc::Global;
 use std::rt::Files;
 use std::{fs, io};
 
 fn main(rt: HostRuntime) -> io::Result<()> {
-    let small = arch_in(&rt, "t1.toml")?;
-    let great = arch_in(&rt, "four_by_four.toml")?;
-    let sum = kernel_in(&rt, "sum.json")?;
-    let outputs = kernel_in(&rt, "outputs.json")?;
-    let filter = kernel_in(&rt, "filter.json")?;
-    match (small, great, sum, outputs, filter) {
-        (Some(small), Some(great), Some(sum), Some(outputs), Some(filter)) => {
-            texts_and_bits(&rt, &small, &sum)?;
-            graph_and_routes(&rt, &small)?;
-            walks_of(&rt, &small, &great, &sum, &outputs, &filter)
-        }
-        _ => rt.print("a file is no architecture or no kernel\n"),
-    }
+    let Some(arch) = arch_in(&rt, "t1.toml")? else {
+        return rt.print("t1.toml is no architecture\n");
+    };
+    let Some(sum) = kernel_in(&rt, "sum.json")? else {
+        return rt.print("sum.json is no kernel\n");
+    };
+    rows_of_texts(&rt, &arch, &sum)?;
+    rows_of_bits(&rt, &arch, &sum)?;
+    rows_of_routes(&rt, &arch)?;
+    rows_of_sum(&rt, &arch, &sum)?;
+    rows_of_outputs(&rt, &arch)?;
+    rows_of_filter(&rt, &arch)
 }
 
 /// The architecture of a file, where it has one.
@@ -51,68 +49,129 @@ fn say(rt: &(impl Print + AllocGlobal), row: &str, holds: bool) -> io::Result<()
     rt.print(line.as_str())
 }
 
-/// Texts, and the bits of the running sum.
-fn texts_and_bits(
+/// Texts of the architecture, the kernel and a mapping.
+fn rows_of_texts(
     rt: &(impl Files + Print + AllocGlobal),
     arch: &Arch,
-    kernel: &Kernel,
+    sum: &Kernel,
 ) -> io::Result<()> {
-    let alloc = rt.alloc();
-    let flat = fs::read(rt, "t1.flat")?;
-    let bits = fs::read(rt, "sum.bits")?;
-    let text = fs::read(rt, "sum.printed")?;
-    let mixed = fs::read(rt, "mixed.map")?;
-    let in_order = fs::read(rt, "mixed.printed")?;
-    let slot = archs::text_and_slot_of_one_unit(alloc, arch, flat.as_slice())?;
-    say(rt, "text and slot of one unit", slot)?;
-    let names = archs::names_that_no_file_gives(alloc)?;
+    row_of_slot(rt, arch)?;
+    let names = archs::names_that_no_file_gives(rt.alloc())?;
     say(rt, "names that no file gives", names)?;
-    let printed = texts::prints(alloc, kernel, text.as_slice())?;
-    say(rt, "kernel as text", printed)?;
-    let mapping =
-        texts::prints_mapping(alloc, arch, kernel, mixed.as_slice(), in_order.as_slice())?;
-    say(rt, "mapping as text", mapping)?;
-    let off = bits::two_slots_that_are_off(alloc, arch)?;
+    row_of_kernel(rt, sum)?;
+    row_of_mapping(rt, arch, sum)
+}
+
+fn row_of_slot(rt: &(impl Files + Print + AllocGlobal), arch: &Arch) -> io::Result<()> {
+    let flat = fs::read(rt, "t1.flat")?;
+    let holds = archs::text_and_slot_of_one_unit(rt.alloc(), arch, flat.as_slice())?;
+    say(rt, "text and slot of one unit", holds)
+}
+
+fn row_of_kernel(rt: &(impl Files + Print + AllocGlobal), sum: &Kernel) -> io::Result<()> {
+    let text = fs::read(rt, "sum.printed")?;
+    let holds = texts::prints(rt.alloc(), sum, text.as_slice())?;
+    say(rt, "kernel as text", holds)
+}
+
+fn row_of_mapping(
+    rt: &(impl Files + Print + AllocGlobal),
+    arch: &Arch,
+    sum: &Kernel,
+) -> io::Result<()> {
+    let mixed = fs::read(rt, "mixed.map")?;
+    let text = fs::read(rt, "mixed.printed")?;
+    let holds = texts::prints_mapping(rt.alloc(), arch, sum, mixed.as_slice(), text.as_slice())?;
+    say(rt, "mapping as text", holds)
+}
+
+/// Bits of configurations, and runs of too many turns.
+fn rows_of_bits(
+    rt: &(impl Files + Print + AllocGlobal),
+    arch: &Arch,
+    sum: &Kernel,
+) -> io::Result<()> {
+    let off = bits::two_slots_that_are_off(rt.alloc(), arch)?;
     say(rt, "two slots that are off", off)?;
-    let cut = bits::cut_bytes_are_truncated(alloc, arch, bits.as_slice())?;
-    say(rt, "cut bytes are truncated", cut)?;
+    let bits = fs::read(rt, "sum.bits")?;
+    row_of_cuts(rt, arch, bits.as_slice())?;
+    row_of_turned_bits(rt, arch, bits.as_slice())?;
+    row_of_turns(rt, arch, sum, bits.as_slice())
+}
+
+fn row_of_cuts(rt: &(impl Print + AllocGlobal), arch: &Arch, bits: &[u8]) -> io::Result<()> {
+    let holds = bits::cut_bytes_are_truncated(rt.alloc(), arch, bits)?;
+    say(rt, "cut bytes are truncated", holds)
+}
+
+fn row_of_turned_bits(rt: &(impl Print + AllocGlobal), arch: &Arch, bits: &[u8]) -> io::Result<()> {
     let count = bits.len();
-    let (unlike, taken) = bits::bits_turned_over(alloc, arch, bits.as_slice())?;
-    let line = format!(in alloc; "{count} bytes, each bit turned over: {unlike} unlike, {taken} taken\n")?;
-    rt.print(line.as_str())?;
-    let many = bits::too_many_turns(alloc, arch, kernel, bits.as_slice())?;
-    say(rt, "too many turns", many)
+    let (unlike, taken) = bits::bits_turned_over(rt.alloc(), arch, bits)?;
+    let line = format!(in rt.alloc();
+        "{count} bytes, each bit turned over: {unlike} unlike, {taken} taken\n"
+    )?;
+    rt.print(line.as_str())
+}
+
+fn row_of_turns(
+    rt: &(impl Print + AllocGlobal),
+    arch: &Arch,
+    sum: &Kernel,
+    bits: &[u8],
+) -> io::Result<()> {
+    let holds = bits::too_many_turns(rt.alloc(), arch, sum, bits)?;
+    say(rt, "too many turns", holds)
 }
 
 /// The graph of one unit, and the least paths in it.
-fn graph_and_routes(rt: &(impl Print + AllocGlobal), arch: &Arch) -> io::Result<()> {
-    let alloc = rt.alloc();
-    let links = graphs::links_of_one_unit(alloc, arch)?;
+fn rows_of_routes(rt: &(impl Print + AllocGlobal), arch: &Arch) -> io::Result<()> {
+    let links = graphs::links_of_one_unit(rt.alloc(), arch)?;
     say(rt, "links of one unit", links)?;
-    let paths = routes::paths_of_one_unit(alloc, arch)?;
+    let paths = routes::paths_of_one_unit(rt.alloc(), arch)?;
     say(rt, "paths of one unit", paths)?;
-    let claims = routes::plain_claims_of_one_unit(alloc, arch)?;
+    let claims = routes::plain_claims_of_one_unit(rt.alloc(), arch)?;
     say(rt, "plain claims of one unit", claims)
 }
 
-/// Walks, and the plain walk beside them.
-fn walks_of(
+/// The running sum on one unit: one node after another, and by the walk.
+fn rows_of_sum(rt: &(impl Print + AllocGlobal), arch: &Arch, sum: &Kernel) -> io::Result<()> {
+    let six = serial(arch, sum) == Some(6);
+    say(rt, "running sum one after another", six)?;
+    let first = walks::maps_sum(rt.alloc(), arch, sum)?;
+    say(rt, "running sum at its first places", first)
+}
+
+/// Two outputs on one unit.
+fn rows_of_outputs(rt: &(impl Files + Print + AllocGlobal), arch: &Arch) -> io::Result<()> {
+    let Some(outputs) = kernel_in(rt, "outputs.json")? else {
+        return rt.print("outputs.json is no kernel\n");
+    };
+    let two = walks::leaves_two_in_a_slot(rt.alloc(), arch, &outputs)?;
+    say(rt, "two outputs in one slot", two)
+}
+
+/// The filter, which one unit doesn't offer, on four rows of four tiles.
+fn rows_of_filter(rt: &(impl Files + Print + AllocGlobal), small: &Arch) -> io::Result<()> {
+    let Some(filter) = kernel_in(rt, "filter.json")? else {
+        return rt.print("filter.json is no kernel\n");
+    };
+    let none = serial(small, &filter).is_none();
+    say(rt, "filter not offered", none)?;
+    let Some(arch) = arch_in(rt, "four_by_four.toml")? else {
+        return rt.print("four_by_four.toml is no architecture\n");
+    };
+    row_of_walks(rt, &arch, &filter, 1)?;
+    row_of_walks(rt, &arch, &filter, 2)
+}
+
+/// The walk of seventy moves at interval 2, and the plain walk beside it.
+fn row_of_walks(
     rt: &(impl Print + AllocGlobal),
-    small: &Arch,
-    great: &Arch,
-    sum: &Kernel,
-    outputs: &Kernel,
-    filter: &Kernel,
+    arch: &Arch,
+    kernel: &Kernel,
+    seed: u64,
 ) -> io::Result<()> {
-    let alloc = rt.alloc();
-    say(rt, "running sum one after another", serial(small, sum) == Some(6))?;
-    say(rt, "filter not offered", serial(small, filter).is_none())?;
-    let first = walks::maps_sum(alloc, small, sum)?;
-    say(rt, "running sum at its first places", first)?;
-    let two = walks::leaves_two_in_a_slot(alloc, small, outputs)?;
-    say(rt, "two outputs in one slot", two)?;
-    let one = walks::end_alike(alloc, great, filter, 2, 1, 70)?;
-    say(rt, "filter, seed 1, 70 moves, as the plain walk", one)?;
-    let other = walks::end_alike(alloc, great, filter, 2, 2, 70)?;
-    say(rt, "filter, seed 2, 70 moves, as the plain walk", other)
+    let alike = walks::end_alike(rt.alloc(), arch, kernel, 2, seed, 70)?;
+    let row = format!(in rt.alloc(); "filter, seed {seed}, 70 moves, as the plain walk")?;
+    say(rt, row.as_str(), alike)
 }

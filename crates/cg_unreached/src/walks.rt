@@ -134,7 +134,11 @@ pub(crate) fn maps_sum(alloc: Global, arch: &Arch, kernel: &Kernel) -> Result<bo
 }
 
 /// Whether two nodes that begin in one slot of one unit are left so where no move is made.
-pub(crate) fn leaves_two_in_a_slot(alloc: Global, arch: &Arch, kernel: &Kernel) -> Result<bool, AllocError> {
+pub(crate) fn leaves_two_in_a_slot(
+    alloc: Global,
+    arch: &Arch,
+    kernel: &Kernel,
+) -> Result<bool, AllocError> {
     match walked(alloc, arch, kernel, 2, 1, 0)? {
         None => Ok(false),
         Some(ends) => {
