@@ -7,20 +7,21 @@ use Rattle.cg_ending.specs.Outcome.{Name, File, Outcome}
 use Rattle.cg_ending.specs.Ends.{Moment}
 use Rattle.cg_kernel.specs.Answer.{answer_of}
 use Rattle.cg_command.specs.declared.plans.Command.{Command}
-use Rattle.cg_command.specs.declared.plans.Command.TheVariants.{Turns, TurnsOnImage, Flat, Run, Bound, Check, Emit, Map}
+use Rattle.cg_command.specs.declared.plans.Command.TheVariants.{Turns, TurnsOnImage, Flat, Run, Bound, Check, Emit, Map, Trial}
 use Rattle.cg_pad.specs.Bytes as images
 use Rattle.cg_model.specs.Work.{Image}
 use Rattle.cg_model.specs.Array.{Arch}
 use Rattle.cg_tiles.specs.Answer.{AreValidBytes}
 use Rattle.cg_model.specs.Order.{IsUnaliased}
-use Rattle.cg_answers.specs.Turns.{turns_of, IsTurned}
-use Rattle.cg_answers.specs.TurnsOnImage.{IsTurnsOnImage, IsOrderedRun, IsUnorderedRun}
-use Rattle.cg_answers.specs.Flat.{IsFlat, IsFlattened}
-use Rattle.cg_answers.specs.Run.{IsRun, IsRunnable, IsArrayRun}
-use Rattle.cg_answers.specs.Bound.{IsBoundOf, IsPairInput, IsBoundRun}
-use Rattle.cg_answers.specs.Check.{IsCheck, IsLegalInput, IsLegalCheck, IsIllegalCheck}
-use Rattle.cg_answers.specs.Emit.{IsEmit, IsEmittedRun}
-use Rattle.cg_answers.specs.Map.{IsMap, IsMappable, IsMapRun, IsImpossibleRun, IsSpentRun}
+use Rattle.cg_run_answers.specs.Turns.{turns_of, IsTurned}
+use Rattle.cg_run_answers.specs.TurnsOnImage.{IsTurnsOnImage, IsOrderedRun, IsUnorderedRun}
+use Rattle.cg_run_answers.specs.Flat.{IsFlat, IsFlattened}
+use Rattle.cg_run_answers.specs.Run.{IsRun, IsRunnable, IsArrayRun}
+use Rattle.cg_map_answers.specs.Bound.{IsBoundOf, IsPairInput, IsBoundRun}
+use Rattle.cg_map_answers.specs.Check.{IsCheck, IsLegalInput, IsLegalCheck, IsIllegalCheck}
+use Rattle.cg_map_answers.specs.Emit.{IsEmit, IsEmittedRun}
+use Rattle.cg_map_answers.specs.Map.{IsMap, IsMappable, IsMapRun, IsImpossibleRun, IsSpentRun}
+use Rattle.cg_answers.specs.Trial.{IsTrialOf, IsTrialRun}
 
 -- the outcomes that the command allows
 abbrev pub IsAnswer : Command → List File → List Name → Outcome → Type 0
@@ -32,6 +33,7 @@ IsAnswer Bound (arch ∷ kernel ∷ []) [] o = IsBoundOf arch kernel o
 IsAnswer Check (arch ∷ kernel ∷ mapping ∷ []) [] o = IsCheck arch kernel mapping o
 IsAnswer Emit (arch ∷ kernel ∷ mapping ∷ []) (out ∷ []) o = IsEmit arch kernel mapping out o
 IsAnswer (Map s) (arch ∷ kernel ∷ []) outs o = IsMap s arch kernel outs o
+IsAnswer (Trial seed) [] [] o = IsTrialOf seed o
 IsAnswer _ _ _ o = ⊥
 
 -- the bytes spell a kernel
@@ -60,6 +62,7 @@ Accepts Bound (arch ∷ kernel ∷ []) = IsPairInput arch kernel
 Accepts Check (arch ∷ kernel ∷ mapping ∷ []) = IsLegalInput arch kernel mapping
 Accepts Emit (arch ∷ kernel ∷ mapping ∷ []) = IsLegalInput arch kernel mapping
 Accepts (Map s) (arch ∷ kernel ∷ []) = IsMappable s arch kernel
+Accepts (Trial seed) [] = Unit {0}
 Accepts _ _ = ⊥
 
 -- what a command whose input and output files have these names leaves where it ends with Done: what is held, and what was put
@@ -72,6 +75,7 @@ LeavesDone Bound (arch ∷ kernel ∷ []) [] before after = IsBoundRun arch kern
 LeavesDone Check (arch ∷ kernel ∷ mapping ∷ []) [] before after = IsLegalCheck arch kernel mapping before after
 LeavesDone Emit (arch ∷ kernel ∷ mapping ∷ []) (out ∷ []) before after = IsEmittedRun arch kernel mapping out before after
 LeavesDone (Map s) (arch ∷ kernel ∷ []) outs before after = IsMapRun s arch kernel outs before after
+LeavesDone (Trial seed) [] [] before after = IsTrialRun seed before after
 LeavesDone _ _ _ before after = Unit {0}
 
 -- what it leaves where it ends with No

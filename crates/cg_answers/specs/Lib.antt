@@ -1,12 +1,2 @@
-pub mod Lines
-pub mod Turns
-pub mod TurnsOnImage
-pub mod Flat
-pub mod Run
-pub mod Sources
-pub mod Given
-pub mod Bound
-pub mod Check
-pub mod Emit
-pub mod Map
+pub mod Trial
 pub mod Commands

@@ -3,17 +3,13 @@ ghost use Rattle.std.specs.Prelude.{◌≡◌, IfOk, length, map, string_bytes};
 ghost use Rattle.cg_ending.specs.Outcome.{file_of, outcome_of};
 ghost use Rattle.cg_command.specs.Words.{HasShape};
 ghost use Rattle.cg_answers.specs.Commands.{IsAnswer};
+ghost use Rattle.cg_answers.specs.Trial.{IsTrialOf};
 
-use crate::bounding::bound;
-use crate::checking::check;
-use crate::emitting::emit;
-use crate::flattening::flat;
-use crate::imaging::turns_on_image;
-use crate::mapping::map;
-use crate::simulating::run;
-use crate::turning::turns;
 use cg_command::{Command, Plan};
-use cg_ending::{File, Outcome};
+use cg_ending::{File, Outcome, Status};
+use cg_map_answers::{bound, check, emit, map};
+use cg_run_answers::{flat, run, turns, turns_on_image};
+use cg_trial_run::trial;
 use std::alloc::{AllocError, Global};
 
 /// The command's outcome over its input files.
@@ -49,5 +45,17 @@ pub fn answer(alloc: Global, plan: &Plan, files: &[File]) -> Result<Outcome, All
             plan.outputs[0].as_str(),
         ),
         Command::Map(search) => map(alloc, search, &files[0], &files[1], plan.outputs.as_slice()),
+        Command::Trial { seed } => trial_of(alloc, seed),
     }
+}
+
+/// The trial of a seed.
+fn trial_of(alloc: Global, seed: u64) -> Result<Outcome, AllocError>
+    ensures { IfOk result (λ o. IsTrialOf seed (outcome_of o)) }
+{
+    Ok(Outcome {
+        status: Status::Done,
+        report: trial(alloc, seed)?,
+        writes: Vec::new(alloc),
+    })
 }

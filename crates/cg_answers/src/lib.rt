@@ -2,16 +2,5 @@
 #![tactic(auto)]
 
 mod answering;
-mod bounding;
-mod checking;
-mod emitting;
-mod flattening;
-mod imaging;
-mod mapping;
-mod running;
-mod simulating;
-mod sources;
-mod streams;
-mod turning;
 
 pub use answering::answer;

@@ -4,7 +4,7 @@ ghost use Rattle.cg_command.specs.Words as spec;
 ghost use Rattle.cg_command.specs.Words.{HasShape};
 
 use crate::arguments::{Arguments, arguments_of};
-use crate::numbers::turns_of;
+use crate::numbers::{seed_of, turns_of};
 use crate::searches::{Search, map_plan};
 use std::alloc::{AllocError, Global};
 
@@ -27,6 +27,8 @@ pub enum Command {
     Emit,
     /// `map ARCH KERNEL OUT [--ii N] [--seed N] [--moves N] [--mapping FILE]`: the bits of a mapping that is searched.
     Map(Search),
+    /// `trial SEED`: a drawn kernel, mapped over the hub of an architecture made for it, run by the array and by its turns.
+    Trial { seed: u64 },
 }
 
 /// A command with the names of its files: the inputs in the order of reading, the outputs in
@@ -69,6 +71,7 @@ fn command_plan(alloc: Global, name: &str, said: &Arguments) -> Result<Option<Pl
         "check" if has_no_options(said) => check_plan(alloc, said.words.as_slice()),
         "emit" if has_no_options(said) => emit_plan(alloc, said.words.as_slice()),
         "map" => map_plan(alloc, said),
+        "trial" if has_no_options(said) => trial_plan(alloc, said.words.as_slice()),
         _ => Ok(None),
     }
 }
@@ -209,6 +212,27 @@ fn emit_plan(alloc: Global, words: &[&str]) -> Result<Option<Plan>, AllocError>
             ]?,
             outputs: vec![in alloc; String::from_str(alloc, out)?]?,
         })),
+        _ => Ok(None),
+    }
+}
+
+fn trial_plan(alloc: Global, words: &[&str]) -> Result<Option<Plan>, AllocError>
+    ensures plan { IfOk result
+        (λ p. option_map spec.planned p ≡ spec.trial_plan (map (λ word. word.now) words.now)) }
+    ensures shape { IfOk result (λ p. IfSome p
+        (λ plan. HasShape plan.command (vec_len plan.inputs) (vec_len plan.outputs))) }
+{
+    match words {
+        [seed] => {
+            let Some(seed) = seed_of(seed) else {
+                return Ok(None);
+            };
+            Ok(Some(Plan {
+                command: Command::Trial { seed },
+                inputs: Vec::new(alloc),
+                outputs: Vec::new(alloc),
+            }))
+        }
         _ => Ok(None),
     }
 }

@@ -28,6 +28,11 @@ abbrev pub line_of : List Bytes → Bytes
 line_of [] = 10 ∷ []
 line_of (piece ∷ pieces) = piece ++ line_of pieces
 
+-- a line of these pieces, and what comes after it
+abbrev pub line_then : List Bytes → Bytes → Bytes
+line_then [] rest = 10 ∷ rest
+line_then (piece ∷ pieces) rest = piece ++ line_then pieces rest
+
 -- what a file of the program stands for
 abbrev pub file_of : FileValue → File
 file_of file = record { name = string_bytes file.name; bytes = file.bytes.items }

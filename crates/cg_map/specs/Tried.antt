@@ -34,7 +34,7 @@ module _ (A : Arch) (K : Kernel) (seed moves : ℕ) where
   IsAttempt ii (at.Mapped m (Walk k)) = (HubEnough A K ii → ⊥) × IsWalked A K ii seed moves (found.Mapped m k)
   IsAttempt ii (at.Left cost) = (HubEnough A K ii → ⊥) × IsWalked A K ii seed moves (found.Spent cost)
 
-  -- from that interval on there is no mapping, and these costs are left
+  -- from that interval on no mapping is found, and these costs are left
   abbrev pub AreLeft : ℕ → List ℕ → Type 0
   AreLeft ii [] = Unit {0}
   AreLeft ii (cost ∷ costs) = IsAttempt ii (at.Left cost) × AreLeft (ii + 1) costs
@@ -42,14 +42,14 @@ module _ (A : Arch) (K : Kernel) (seed moves : ℕ) where
 -- ---- the answer
 
 module _ (A : Arch) (K : Kernel) (asked : Option ℕ) (seed moves : ℕ) where
-  -- the mapping is that of the first interval that has one
+  -- the mapping is that of the first interval at which one is found
   pub record IsFirstMapping (first : ℕ) (m : MappedValue) (way : Way) : Type 0 where
     pub costs : List ℕ
     pub left : AreLeft A K seed moves first costs
     pub within : first + length costs ≤ last_tried A asked
     pub attempt : IsAttempt A K seed moves (first + length costs) (at.Mapped m way)
 
-  -- no interval has one
+  -- none is found at any
   pub record AreAllLeft (first : ℕ) (costs : List ℕ) : Type 0 where
     pub left : AreLeft A K seed moves first costs
     pub all : first + length costs ≡ last_tried A asked + 1

@@ -15,6 +15,8 @@ pub use cg_command::{Command, Plan, plan_words};
 pub use cg_ending::Status;
 use cg_ending::{Outcome, Stop, finish, read_all, usage};
 use cg_files::{Sink, Store};
+pub use cg_trial::{TrialParts, trial_parts};
+pub use cg_trial_run::trial;
 pub use laws::always_defined;
 use std::alloc::{AllocError, Global};
 

@@ -1,0 +1,166 @@
+-- What `emit` answers, and what its bytes do.
+use Rattle.std.proofs.Common.{◌≡◌, ℕ, List, [], ◌∷◌, Option, Some, None, Result, Ok, Err, refl, sym, ◌∙◌, ap, subst, inl, inr}
+use Rattle.cg_model.specs.Work.{Image}
+use Rattle.cg_model.specs.Array.{Arch, IsArch}
+use Rattle.cg_model.specs.Kernel.{Kernel, IsKernel}
+use Rattle.cg_model.specs.Configured.{configuration_of}
+use Rattle.cg_model.specs.Mapping.{Mapping, IsShaped, IsLegal}
+use Rattle.cg_overlap.proofs.Single.{carries_one}
+use Rattle.cg_overlap.proofs.Canonical.{canonical}
+use Rattle.cg_overlap.proofs.Overlap.{follows, leaves_the_same, begins_only, follows_alone, leaves_alone}
+use Rattle.cg_ending.specs.declared.outcome.Status.TheVariants.{Done, Malformed, No}
+use Rattle.cg_ending.specs.Outcome.{Name, File, Outcome, names_of}
+use Rattle.cg_ending.specs.Ends.{Moment, Completed, Wrote}
+use Rattle.cg_ending.specs.Refusals.{reports}
+use Rattle.cg_files.specs.Held.{Holds, Appends}
+use Rattle.cg_bits.specs.Spelling.{AreBits}
+use Rattle.cg_bits.proofs.Packed.{some_bits}
+use Rattle.cg_check.specs.Legal.{Mapped}
+use Rattle.cg_check.specs.declared.rule.Violation.{Violation}
+use Rattle.cg_check.specs.Rules.{violation}
+use Rattle.cg_emit.specs.Emitted.{RunLikeTurns, RunLikeTurnsAlone}
+use Rattle.cg_emit.proofs.Overlapped.{one_config, does_turns}
+use Rattle.cg_sources.specs.Sources.{AreGiven, AreMapped}
+use Rattle.cg_map_answers.specs.Check.{illegal_report, IsLegalInput, IsIllegalCheck}
+use Rattle.cg_map_answers.specs.Emit.{IsEmit, IsEmittedBy, IsEmission, RunsMapping, IsEmittedRun, config_of, emit_report}
+use Rattle.cg_sources.proofs.Sound.{IsSound, IsNamed}
+use Rattle.cg_sources.proofs.Wholes.{whole, one_write}
+use Rattle.cg_sources.proofs.Arrays.{sized}
+use Rattle.cg_sources.proofs.Refusals.{IsRefusal, AreRefused, IsAlike, equal, refusals, sound_refusal}
+use Rattle.cg_sources.proofs.Mapped.{refused_given, given_of, valid_given, IsValid, some_mapped, alike}
+use Rattle.cg_map_answers.proofs.Checked.{given_legal, no_violation, legal_without, hold_mapped, illegal_by}
+
+-- ---- what the bytes do
+
+run_like_turns : (A : Arch) (K : Kernel) (M : Mapping) (bytes : List ℕ) → IsArch A → IsKernel K → IsLegal A K M → AreBits A (configuration_of A K M) bytes → RunLikeTurns A K M bytes
+run_like_turns A K M bytes valid good legal spelled C other n image unaliased =
+    does_turns A K M C n image (one_config A (configuration_of A K M) C bytes valid (sized A) spelled other)
+    (follows A K M n image valid good legal unaliased) (begins_only A K M n image legal) (leaves_the_same A K M n image valid good legal unaliased)
+
+run_like_turns_alone : (A : Arch) (K : Kernel) (M : Mapping) (bytes : List ℕ) → IsArch A → IsKernel K → IsLegal A K M → AreBits A (configuration_of A K M) bytes → RunLikeTurnsAlone A K M bytes
+run_like_turns_alone A K M bytes valid good legal spelled never C other n image =
+    does_turns A K M C n image (one_config A (configuration_of A K M) C bytes valid (sized A) spelled other)
+    (follows_alone A K M n image valid good legal never) (begins_only A K M n image legal) (leaves_alone A K M n image valid good legal never)
+
+-- the bits of a legal mapping run it
+pub runs : (m : Mapped) (bytes : List ℕ) → IsArch m.arch → IsKernel m.kernel → IsLegal m.arch m.kernel m.mapping → AreBits m.arch (config_of m) bytes → RunsMapping m bytes
+runs m bytes valid good legal spelled = record {
+  legal = legal;
+  spelled = spelled;
+  once = carries_one m.arch m.kernel m.mapping legal;
+  overlaps = run_like_turns m.arch m.kernel m.mapping bytes valid good legal spelled;
+  overlaps_alone = run_like_turns_alone m.arch m.kernel m.mapping bytes valid good legal spelled;
+}
+
+-- there are such bits
+pub some_run : (m : Mapped) → IsKernel m.kernel → IsShaped m.kernel m.mapping → IsLegal m.arch m.kernel m.mapping → (bytes : List ℕ) × AreBits m.arch (config_of m) bytes
+some_run m good shape legal = some_bits m.arch (config_of m) (canonical m.arch m.kernel m.mapping good legal shape.places)
+
+-- ---- status and writes
+
+sound_by : (out : Name) (m : Mapped) (v : Option Violation) (o : Outcome) → IsEmittedBy out m v o → IsSound o
+sound_by out m None o p = subst IsSound (sym p.outcome) (record { own = refl; quiet = λ h. cc })
+sound_by out m (Some v) o p = subst IsSound (sym p) (record { own = refl; quiet = λ h. refl })
+
+sound_emission : (out : Name) (mapped : Result Mapped Outcome) (o : Outcome) → AreRefused mapped → IsEmission out mapped o → IsSound o
+sound_emission out (Ok m) o r p = sound_by out m (violation m.arch m.kernel m.mapping) o p
+sound_emission out (Err e) o r p = subst IsSound (sym p) (sound_refusal e r)
+
+pub sound_emit : (arch kernel mapping : File) (out : Name) (o : Outcome) → IsEmit arch kernel mapping out o → IsSound o
+sound_emit arch kernel mapping out o p = sound_emission out p.mapped o (refused_given arch kernel mapping p.mapped p.given) p.emission
+
+named_by : (out : Name) (m : Mapped) (v : Option Violation) (o : Outcome) → IsEmittedBy out m v o → IsNamed (out ∷ []) o
+named_by out m None o p = inl (ap (λ x. names_of x.writes) p.outcome)
+named_by out m (Some v) o p = inr (ap (λ x. x.writes) p)
+
+named_emission : (out : Name) (mapped : Result Mapped Outcome) (o : Outcome) → AreRefused mapped → IsEmission out mapped o → IsNamed (out ∷ []) o
+named_emission out (Ok m) o r p = named_by out m (violation m.arch m.kernel m.mapping) o p
+named_emission out (Err e) o r p = inr (ap (λ x. x.writes) p ∙ r.quiet)
+
+pub named_emit : (arch kernel mapping : File) (out : Name) (o : Outcome) → IsEmit arch kernel mapping out o → IsNamed (out ∷ []) o
+named_emit arch kernel mapping out o p = named_emission out p.mapped o (refused_given arch kernel mapping p.mapped p.given) p.emission
+
+same_written : (out : Name) (m : Mapped) (v : Option Violation) (a b : Outcome) → IsEmittedBy out m v a → IsEmittedBy out m v b → a.status ≡ b.status
+same_written out m None a b p q = ap (λ x. x.status) p.outcome ∙ sym (ap (λ x. x.status) q.outcome)
+same_written out m (Some v) a b p q = ap (λ x. x.status) p ∙ sym (ap (λ x. x.status) q)
+
+same_emission : (out : Name) (mapped : Result Mapped Outcome) (a b : Outcome) → IsEmission out mapped a → IsEmission out mapped b → a.status ≡ b.status
+same_emission out (Ok m) a b p q = same_written out m (violation m.arch m.kernel m.mapping) a b p q
+same_emission out (Err e) a b p q = ap (λ x. x.status) (p ∙ sym q)
+
+same_by : (out : Name) (x y : Result Mapped Outcome) (a b : Outcome) → AreRefused x → AreRefused y → IsAlike x y → IsEmission out x a → IsEmission out y b → a.status ≡ b.status
+same_by out x y a b r q (equal e) p s = same_emission out y a b (subst (λ z. IsEmission out z a) e p) s
+same_by out x y a b r q (refusals o t d e) p s =
+    let first : IsRefusal o = subst AreRefused d r in
+    let second : IsRefusal t = subst AreRefused e q in
+    let mine : a ≡ o = subst (λ z. IsEmission out z a) d p in
+    let other : b ≡ t = subst (λ z. IsEmission out z b) e s in
+    ap (λ z. z.status) mine ∙ first.status ∙ sym second.status ∙ sym (ap (λ z. z.status) other)
+
+pub same_emit : (arch kernel mapping : File) (out : Name) (a b : Outcome) → IsEmit arch kernel mapping out a → IsEmit arch kernel mapping out b → a.status ≡ b.status
+same_emit arch kernel mapping out a b p q =
+    same_by out p.mapped q.mapped a b (refused_given arch kernel mapping p.mapped p.given) (refused_given arch kernel mapping q.mapped q.given) (alike arch kernel mapping p.mapped q.mapped p.given q.given) p.emission q.emission
+
+-- ---- what is accepted
+
+accepted_by : (out : Name) (m : Mapped) (v : Option Violation) (o : Outcome) → v ≡ None → IsEmittedBy out m v o → o.status ≡ Done
+accepted_by out m None o e p = ap (λ x. x.status) p.outcome
+accepted_by out m (Some v) o e p = absurd (cc)
+
+pub accepted_emit : (arch kernel mapping : File) (out : Name) (o : Outcome) → IsLegalInput arch kernel mapping → IsEmit arch kernel mapping out o → o.status ≡ Done
+accepted_emit arch kernel mapping out o a p =
+    accepted_by out a.mapped (violation a.mapped.arch a.mapped.kernel a.mapped.mapping) o (no_violation a.mapped (valid_given arch.bytes kernel.bytes mapping.bytes a.mapped a.given) a.legal) (subst (λ z. IsEmission out z o) (given_legal arch kernel mapping a p.mapped p.given) p.emission)
+
+-- ---- what there is
+
+some_by : (out : Name) (m : Mapped) (v : Option Violation) → violation m.arch m.kernel m.mapping ≡ v → IsValid m → (o : Outcome) × IsEmittedBy out m v o
+some_by out m None e valid =
+    let legal = legal_without m valid e in
+    let spelled = some_run m valid.kernel valid.shape legal in
+    (record { status = Done; report = emit_report m; writes = record { name = out; bytes = spelled.0 } ∷ [] }, record { bytes = spelled.0; spelled = spelled.1; outcome = refl })
+some_by out m (Some v) e valid = (reports No (illegal_report m.arch m.kernel v), refl)
+
+some_emission : (arch kernel mapping : File) (out : Name) (mapped : Result Mapped Outcome) → AreMapped arch kernel mapping mapped → (o : Outcome) × IsEmission out mapped o
+some_emission arch kernel mapping out (Ok m) given = some_by out m (violation m.arch m.kernel m.mapping) refl (valid_given arch.bytes kernel.bytes mapping.bytes m (given_of arch kernel mapping m given))
+some_emission arch kernel mapping out (Err e) given = (e, refl)
+
+pub some_emit : (arch kernel mapping : File) (out : Name) → (o : Outcome) × IsEmit arch kernel mapping out o
+some_emit arch kernel mapping out =
+    let a = some_mapped arch kernel mapping in
+    let e = some_emission arch kernel mapping out a.0 a.1 in
+    (e.0, record { mapped = a.0; given = a.1; emission = e.1 })
+
+-- ---- what is left
+
+module _ (arch kernel mapping out : Name) (f g h : File) (before after : Moment) (arch_held : Holds before.held arch f.bytes) (kernel_held : Holds before.held kernel g.bytes) (mapping_held : Holds before.held mapping h.bytes) where
+  emitted_by : (m : Mapped) (v : Option Violation) (o : Outcome) → violation m.arch m.kernel m.mapping ≡ v → AreGiven f.bytes g.bytes h.bytes m → IsEmittedBy out m v o → o.status ≡ Done → Completed o before after Done → IsEmittedRun arch kernel mapping out before after
+  emitted_by m None o e given is done c =
+      let valid = valid_given f.bytes g.bytes h.bytes m given in
+      let legal = legal_without m valid e in
+      record {
+        mapped = m;
+        read = hold_mapped arch kernel mapping f g h before after arch_held kernel_held mapping_held m given;
+        bytes = is.bytes;
+        written = one_write before.held after.held out is.bytes (subst (λ fs. Wrote before.held fs after.held) (ap (λ x. x.writes) is.outcome) c.held);
+        runs = runs m is.bytes valid.arch valid.kernel legal is.spelled;
+        put = subst (λ report. Appends before.taken report after.taken) (ap (λ x. x.report) is.outcome) (whole o.status o.report before after done c.put);
+      }
+  emitted_by m (Some v) o e given is done c = absurd (let z : No ≡ Done = sym (ap (λ x. x.status) is) ∙ done in cc)
+
+  unemitted_by : (m : Mapped) (v : Option Violation) (o : Outcome) → violation m.arch m.kernel m.mapping ≡ v → AreGiven f.bytes g.bytes h.bytes m → IsEmittedBy out m v o → o.status ≡ No → Completed o before after No → IsIllegalCheck arch kernel mapping before after
+  unemitted_by m None o e given is refused c = absurd (let z : Done ≡ No = sym (ap (λ x. x.status) is.outcome) ∙ refused in cc)
+  unemitted_by m (Some v) o e given is refused c = illegal_by arch kernel mapping f g h before after arch_held kernel_held mapping_held m v o e given is c
+
+  emitted_given : (mapped : Result Mapped Outcome) (o : Outcome) → AreMapped f g h mapped → IsEmission out mapped o → o.status ≡ Done → Completed o before after Done → IsEmittedRun arch kernel mapping out before after
+  emitted_given (Ok m) o given is done c = emitted_by m (violation m.arch m.kernel m.mapping) o refl (given_of f g h m given) is done c
+  emitted_given (Err e) o given is done c = absurd (let r = refused_given f g h (Err e) given in let z : Malformed ≡ Done = sym r.status ∙ sym (ap (λ x. x.status) is) ∙ done in cc)
+
+  unemitted_given : (mapped : Result Mapped Outcome) (o : Outcome) → AreMapped f g h mapped → IsEmission out mapped o → o.status ≡ No → Completed o before after No → IsIllegalCheck arch kernel mapping before after
+  unemitted_given (Ok m) o given is refused c = unemitted_by m (violation m.arch m.kernel m.mapping) o refl (given_of f g h m given) is refused c
+  unemitted_given (Err e) o given is refused c = absurd (let r = refused_given f g h (Err e) given in let z : Malformed ≡ No = sym r.status ∙ sym (ap (λ x. x.status) is) ∙ refused in cc)
+
+  pub emitted_left : (o : Outcome) → IsEmit f g h out o → o.status ≡ Done → Completed o before after Done → IsEmittedRun arch kernel mapping out before after
+  emitted_left o p done c = emitted_given p.mapped o p.given p.emission done c
+
+  pub unemitted_left : (o : Outcome) → IsEmit f g h out o → o.status ≡ No → Completed o before after No → IsIllegalCheck arch kernel mapping before after
+  unemitted_left o p refused c = unemitted_given p.mapped o p.given p.emission refused c

@@ -1,0 +1,5 @@
+pub mod Checked
+pub mod Bitstream
+pub mod Bounded
+pub mod Searched
+pub mod Named

@@ -1,0 +1,63 @@
+-- `check ARCH KERNEL MAPPING`.
+use Rattle.std.specs.Prelude.{◌≡◌, [], ◌∷◌, Option, Some, None, Result, Ok, Err, codes}
+use Rattle.cg_model.specs.Array.{Arch}
+use Rattle.cg_model.specs.Kernel.{Kernel}
+use Rattle.cg_model.specs.Mapping.{IsLegal}
+use Rattle.cg_ending.specs.declared.outcome.Status.TheVariants.{Done, No}
+use Rattle.cg_files.specs.Held.{Appends}
+use Rattle.cg_ending.specs.Outcome.{Name, Bytes, File, Outcome, line_of}
+use Rattle.cg_ending.specs.Ends.{Moment, IsPut, Wrote}
+use Rattle.cg_ending.specs.Refusals.{reports}
+use Rattle.cg_check.specs.Legal.{Mapped}
+use Rattle.cg_check.specs.declared.rule.Violation.{Violation}
+use Rattle.cg_check.specs.Rules.{violation}
+use Rattle.cg_check.specs.Texts.{rule_text}
+use Rattle.cg_sources.specs.Sources.{AreGiven, AreMapped, HoldMapped}
+
+-- the mapping is legal
+abbrev pub legal_report : Bytes
+legal_report = line_of (codes "legal" ∷ [])
+
+-- the lowest rule that it violates, at its first place
+abbrev pub illegal_report : Arch → Kernel → Violation → Bytes
+illegal_report A K v = line_of (codes "illegal " ∷ rule_text A K v.rule v.place ∷ [])
+
+-- by the violation, if there is one
+abbrev pub checked_by : Mapped → Option Violation → Outcome
+checked_by m None = reports Done legal_report
+checked_by m (Some v) = reports No (illegal_report m.arch m.kernel v)
+
+-- by what the files give
+abbrev pub checked : Result Mapped Outcome → Outcome
+checked (Ok m) = checked_by m (violation m.arch m.kernel m.mapping)
+checked (Err refused) = refused
+
+pub record IsCheck (arch kernel mapping : File) (o : Outcome) : Type 0 where
+  pub mapped : Result Mapped Outcome
+  pub given : AreMapped arch kernel mapping mapped
+  pub outcome : o ≡ checked mapped
+
+-- the files give an architecture, a kernel and a legal mapping
+pub record IsLegalInput (arch kernel mapping : File) : Type 0 where
+  pub mapped : Mapped
+  pub given : AreGiven arch.bytes kernel.bytes mapping.bytes mapped
+  pub legal : IsLegal mapped.arch mapped.kernel mapped.mapping
+
+-- Done: the mapping that was read is legal, and that was put
+pub record IsLegalCheck (arch kernel mapping : Name) (before after : Moment) : Type 0 where
+  pub mapped : Mapped
+  pub read : HoldMapped arch kernel mapping before mapped
+  pub legal : IsLegal mapped.arch mapped.kernel mapped.mapping
+  pub put : Appends before.taken legal_report after.taken
+
+-- No: it isn't legal; the lowest rule that it violates was put with its first place, in part where the put failed. No write
+-- was made
+pub record IsIllegalCheck (arch kernel mapping : Name) (before after : Moment) : Type 0 where
+  pub mapped : Mapped
+  pub read : HoldMapped arch kernel mapping before mapped
+  pub illegal : IsLegal mapped.arch mapped.kernel mapped.mapping → ⊥
+  pub lowest : Violation
+  pub lowest_is : violation mapped.arch mapped.kernel mapped.mapping ≡ Some lowest
+  pub put : IsPut No (illegal_report mapped.arch mapped.kernel lowest) before after
+  pub kept : Wrote before.held [] after.held
+  pub no_write : after.write_faults ≡ before.write_faults

@@ -1,0 +1,68 @@
+-- `emit ARCH KERNEL MAPPING OUT`.
+use Rattle.std.specs.Prelude.{◌≡◌, [], ◌∷◌, Option, Some, None, Result, Ok, Err, codes, decimal}
+use Rattle.cg_model.specs.Mapping.{IsLegal}
+use Rattle.cg_model.specs.Config.{Config}
+use Rattle.cg_model.specs.Configured.{configuration_of}
+use Rattle.cg_model.specs.Overlap.{CarriesOne}
+use Rattle.cg_ending.specs.declared.outcome.Status.TheVariants.{Done, No}
+use Rattle.cg_files.specs.Held.{Holds, Appends}
+use Rattle.cg_ending.specs.Outcome.{Name, Bytes, File, Outcome, line_of, line_then}
+use Rattle.cg_ending.specs.Ends.{Moment}
+use Rattle.cg_ending.specs.Refusals.{reports}
+use Rattle.cg_bits.specs.Spelling.{AreBits}
+use Rattle.cg_check.specs.Legal.{Mapped}
+use Rattle.cg_check.specs.declared.rule.Violation.{Violation}
+use Rattle.cg_check.specs.Rules.{violation}
+use Rattle.cg_emit.specs.Emitted.{RunLikeTurns, RunLikeTurnsAlone}
+use Rattle.cg_sources.specs.Sources.{AreMapped}
+use Rattle.cg_map_answers.specs.Check.{HoldMapped, illegal_report}
+
+-- the configuration of a mapping with what it maps
+abbrev pub config_of : Mapped → Config
+config_of m = configuration_of m.arch m.kernel m.mapping
+
+-- its interval and its stages
+abbrev pub emit_report : Mapped → Bytes
+emit_report m =
+    line_then (codes "ii " ∷ decimal m.mapping.ii ∷ []) (line_of (codes "stages " ∷ decimal (config_of m).stages ∷ []))
+
+-- bytes that spell the mapping's configuration are written
+pub record IsEmitted (out : Name) (m : Mapped) (o : Outcome) : Type 0 where
+  pub bytes : Bytes
+  pub spelled : AreBits m.arch (config_of m) bytes
+  pub outcome : o ≡ record { status = Done; report = emit_report m; writes = record { name = out; bytes = bytes } ∷ [] }
+
+-- by the violation, if there is one
+abbrev pub IsEmittedBy : Name → Mapped → Option Violation → Outcome → Type 0
+IsEmittedBy out m None o = IsEmitted out m o
+IsEmittedBy out m (Some v) o = o ≡ reports No (illegal_report m.arch m.kernel v)
+
+-- by what the files give
+abbrev pub IsEmission : Name → Result Mapped Outcome → Outcome → Type 0
+IsEmission out (Ok m) o = IsEmittedBy out m (violation m.arch m.kernel m.mapping) o
+IsEmission out (Err refused) o = o ≡ refused
+
+pub record IsEmit (arch kernel mapping : File) (out : Name) (o : Outcome) : Type 0 where
+  pub mapped : Result Mapped Outcome
+  pub given : AreMapped arch kernel mapping mapped
+  pub emission : IsEmission out mapped o
+
+-- the bytes run a mapping: it is legal, and they are the bits of its configuration. In no cycle a resource carries two of the
+-- turns' values, or a unit begins two operations; and an array that runs these bytes does what the turns of the kernel do one
+-- after the other: for every number of turns and every image on which the kernel's edges order the accesses that matter, and
+-- where no node reaches the memory for every image
+pub record RunsMapping (m : Mapped) (bytes : Bytes) : Type 0 where
+  pub legal : IsLegal m.arch m.kernel m.mapping
+  pub spelled : AreBits m.arch (config_of m) bytes
+  pub once : CarriesOne m.arch m.kernel m.mapping
+  pub overlaps : RunLikeTurns m.arch m.kernel m.mapping bytes
+  pub overlaps_alone : RunLikeTurnsAlone m.arch m.kernel m.mapping bytes
+
+-- Done: what is held under the last name runs the mapping that was read
+pub record IsEmittedRun (arch kernel mapping out : Name) (before after : Moment) : Type 0 where
+  pub mapped : Mapped
+  pub read : HoldMapped arch kernel mapping before mapped
+  pub bytes : Bytes
+  pub written : Holds after.held out bytes
+  pub runs : RunsMapping mapped bytes
+  pub put : Appends before.taken (emit_report mapped) after.taken

@@ -1,0 +1,4 @@
+pub mod Bound
+pub mod Check
+pub mod Emit
+pub mod Map

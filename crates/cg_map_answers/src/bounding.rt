@@ -1,0 +1,86 @@
+//! `bound ARCH KERNEL`.
+ghost use Rattle.std.specs.Prelude.{◌≡◌, ◌∷◌, ◌++◌, [], IfOk};
+ghost use Rattle.cg_ending.specs.Outcome.{file_of, line_of, outcome_of};
+ghost use Rattle.cg_map_answers.specs.Bound as spec;
+ghost use Rattle.cg_map_answers.specs.Bound.{IsBoundOf, IsBounded, bound_report, first_line};
+
+use cg_arch::Arch;
+use cg_bound::{LeastInterval, bound as least_interval, certificate_text};
+use cg_ending::{File, Outcome, Status};
+use cg_kernel::Kernel;
+use cg_sources::{GivenPair, read_pair};
+use std::alloc::{AllocError, Global};
+
+/// The least interval of the kernel that the second file gives on the architecture of the first.
+pub fn bound(alloc: Global, arch: &File, kernel: &File) -> Result<Outcome, AllocError>
+    ensures { IfOk result (λ o. IsBoundOf (file_of arch.now) (file_of kernel.now) (outcome_of o)) }
+{
+    match read_pair(alloc, arch, kernel)? {
+        GivenPair::Pair(array, kernel) => bounded(alloc, &array, &kernel),
+        GivenPair::Refused(outcome) => Ok(outcome),
+    }
+}
+
+/// Both files were read.
+fn bounded(alloc: Global, array: &Arch, kernel: &Kernel) -> Result<Outcome, AllocError>
+    ensures { IfOk result (λ o. IsBounded (record { arch = array.now; kernel = kernel.now }) (outcome_of o)) }
+{
+    let least = least_interval(alloc, array, kernel)?;
+    Ok(Outcome {
+        status: Status::Done,
+        report: bound_report(alloc, array, kernel, &least)?,
+        writes: Vec::new(alloc),
+    })
+}
+
+/// The least interval, and why the one below it is impossible; or why every one is.
+fn bound_report(
+    alloc: Global,
+    array: &Arch,
+    kernel: &Kernel,
+    least: &LeastInterval,
+) -> Result<Vec<u8>, AllocError>
+    ensures { IfOk result (λ v. v.items ≡ bound_report (record { arch = array.now; kernel = kernel.now }) least.now) }
+{
+    let first = first_line(alloc, least.mii)?;
+    match &least.below {
+        None => Ok(first),
+        Some(certificate) => {
+            let text = certificate_text(alloc, array, kernel, below(least.mii), certificate)?;
+            with_line(first, text.as_slice())
+        }
+    }
+}
+
+/// The least interval, if there is one.
+fn first_line(alloc: Global, mii: Option<u32>) -> Result<Vec<u8>, AllocError>
+    ensures { IfOk result (λ v. v.items ≡ first_line mii) }
+{
+    match mii {
+        Some(mii) => {
+            let line = format!(in alloc; "mii {mii}\n")?;
+            Ok(line.into_bytes())
+        }
+        None => Vec::from_slice(alloc, b"mii none\n"),
+    }
+}
+
+/// The interval below it, if there is one.
+fn below(mii: Option<u32>) -> Option<u32>
+    ensures { result ≡ spec.below mii }
+{
+    match mii {
+        Some(mii) => Some(mii.saturating_sub(1)),
+        None => None,
+    }
+}
+
+/// A report with one line more.
+fn with_line(report: Vec<u8>, line: &[u8]) -> Result<Vec<u8>, AllocError>
+    ensures { IfOk result (λ v. v.items ≡ report.items ++ line_of (line.now ∷ [])) }
+{
+    let mut longer = report;
+    longer.extend_from_slice(line)?;
+    longer.push(b'\n')?;
+    Ok(longer)
+}

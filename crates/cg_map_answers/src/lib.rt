@@ -1,0 +1,13 @@
+//! What the commands answer that are about mappings: bounds, a check, bits, and a search. From the bytes of input files to an
+//! outcome.
+#![tactic(auto)]
+
+mod bounding;
+mod checking;
+mod emitting;
+mod mapping;
+
+pub use bounding::bound;
+pub use checking::check;
+pub use emitting::emit;
+pub use mapping::map;

@@ -1,0 +1,4 @@
+pub mod Turns
+pub mod TurnsOnImage
+pub mod Flat
+pub mod Run

@@ -1,0 +1,66 @@
+//! `flat ARCH OUT`.
+ghost use Rattle.std.specs.Prelude.{◌≡◌, ◌≤◌, IfOk};
+ghost use Rattle.cg_model.specs.Limits.{most_links};
+ghost use Rattle.cg_model.specs.Array.{links};
+ghost use Rattle.cg_ending.specs.Outcome.{file_of, outcome_of};
+ghost use Rattle.cg_run_answers.specs.Flat.{IsFlat, flat_report, flattened};
+
+use cg_arch::{Arch, Resource, flat_text};
+use cg_ending::{File, Outcome, Status, malformed};
+use cg_tiles::{TilesFault, read_arch, tiles_fault_text};
+use std::alloc::{AllocError, Global};
+
+/// The text of the architecture that a file gives, under the name `out`.
+pub fn flat(alloc: Global, file: &File, out: &str) -> Result<Outcome, AllocError>
+    ensures { IfOk result (λ o. IsFlat (file_of file.now) out.now (outcome_of o)) }
+{
+    match read_arch(alloc, file.bytes.as_slice()) {
+        Ok(arch) => flattened(alloc, &arch, out),
+        Err(TilesFault::Memory) => Err(AllocError),
+        Err(fault) => {
+            let text = tiles_fault_text(alloc, &fault)?;
+            malformed(alloc, file.name.as_str(), text.as_str())
+        }
+    }
+}
+
+/// The architecture was read: its text, and what the report says of it.
+fn flattened(alloc: Global, arch: &Arch, out: &str) -> Result<Outcome, AllocError>
+    ensures { IfOk result (λ o. outcome_of o ≡ flattened arch.now out.now) }
+{
+    let bytes = flat_text(alloc, arch)?;
+    let name = String::from_str(alloc, out)?;
+    Ok(Outcome {
+        status: Status::Done,
+        report: flat_report(alloc, arch)?,
+        writes: vec![in alloc; File { name, bytes }]?,
+    })
+}
+
+/// How many resources, units and links there are, and the digest of the text.
+fn flat_report(alloc: Global, arch: &Arch) -> Result<Vec<u8>, AllocError>
+    ensures { IfOk result (λ v. v.items ≡ flat_report arch.now) }
+{
+    let resources = arch.resources().len();
+    let units = arch.units().len();
+    let links = count_links(arch.resources());
+    let text = hex::encode(alloc, arch.digest())?;
+    let digest = text.as_str();
+    let report = format!(in alloc;
+        "resources {resources}\nunits {units}\nlinks {links}\ndigest {digest}\n"
+    )?;
+    Ok(report.into_bytes())
+}
+
+/// The links into resources: their drivers.
+#[tactic(auto, unfolding(cg_model::specs::Array::links))]
+fn count_links(resources: &[Resource]) -> usize
+    requires { links resources.now ≤ most_links }
+    ensures { result ≡ links resources.now }
+{
+    let mut count = 0;
+    for resource in resources {
+        count += resource.drivers.as_slice().len();
+    }
+    count
+}

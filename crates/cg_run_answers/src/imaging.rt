@@ -1,0 +1,130 @@
+//! `turns KERNEL TURNS IN OUT`.
+ghost use Rattle.std.specs.Prelude.{◌≡◌, ◌<◌, ◌≤◌, Some, IfOk, IfSome, length, string_bytes};
+ghost use Rattle.cg_model.specs.Kernel.{size, node as node_of};
+ghost use Rattle.cg_model.specs.Limits.{most_memory, most_turns};
+ghost use Rattle.cg_ending.specs.Outcome.{file_of, outcome_of};
+ghost use Rattle.cg_run_answers.specs.TurnsOnImage.{IsImaged, IsOnImage, IsTurnsOnImage, image_report, pair_status};
+ghost use Rattle.cg_pad.specs.Bytes as images;
+
+use crate::running::run;
+use cg_ending::{File, Outcome, Status, malformed};
+use cg_kernel::{Kernel, KernelFault, kernel_fault_text, read_kernel};
+use cg_pad::{Image, ImageFault, image_fault_text, read_image, write_image};
+use cg_turns::UnorderedPair;
+use std::alloc::{AllocError, Global};
+
+/// The turns from the image that a file holds, and the result image under the name `out`.
+#[tactic(auto, unfolding(crate::specs::TurnsOnImage::IsTurnsOnImage))]
+pub fn turns_on_image(
+    alloc: Global,
+    turns: u32,
+    file: &File,
+    input: &File,
+    out: &str,
+) -> Result<Outcome, AllocError>
+    requires { turns ≤ most_turns }
+    ensures { IfOk result (λ o. IsTurnsOnImage turns (file_of file.now) (file_of input.now) out.now (outcome_of o)) }
+{
+    match read_kernel(alloc, file.bytes.as_slice()) {
+        Ok(kernel) => on_image(alloc, turns, &kernel, input, out),
+        Err(KernelFault::Memory) => Err(AllocError),
+        Err(fault) => {
+            let text = kernel_fault_text(alloc, &fault)?;
+            malformed(alloc, file.name.as_str(), text.as_str())
+        }
+    }
+}
+
+fn on_image(
+    alloc: Global,
+    turns: u32,
+    kernel: &Kernel,
+    input: &File,
+    out: &str,
+) -> Result<Outcome, AllocError>
+    requires { turns ≤ most_turns }
+    ensures { IfOk result (λ o. IsOnImage turns kernel.now (file_of input.now) out.now (images.answer_of input.now.bytes.items) (outcome_of o)) }
+{
+    match read_image(alloc, input.bytes.as_slice()) {
+        Ok(image) => imaged(alloc, turns, kernel, &image, out),
+        Err(ImageFault::Memory) => Err(AllocError),
+        Err(fault) => {
+            let text = image_fault_text(alloc, fault)?;
+            malformed(alloc, input.name.as_str(), text.as_str())
+        }
+    }
+}
+
+/// The turns were run: the result image, and what the report says.
+fn imaged(
+    alloc: Global,
+    turns: u32,
+    kernel: &Kernel,
+    image: &Image,
+    out: &str,
+) -> Result<Outcome, AllocError>
+    requires turns { turns ≤ most_turns }
+    requires memory { length image.now.memory ≤ most_memory }
+    ensures { IfOk result (λ o. IsImaged turns kernel.now image.now out.now (outcome_of o)) }
+{
+    let done = run(alloc, kernel, turns, image)?;
+    let bytes = write_image(alloc, &done.image)?;
+    let name = String::from_str(alloc, out)?;
+    Ok(Outcome {
+        status: status_of(done.pair),
+        report: image_report(alloc, kernel, done.outside, done.pair)?,
+        writes: vec![in alloc; File { name, bytes }]?,
+    })
+}
+
+/// Done where all accesses that matter are ordered, else No.
+fn status_of(pair: Option<UnorderedPair>) -> Status
+    ensures { result ≡ pair_status pair }
+{
+    match pair {
+        None => Status::Done,
+        Some(_) => Status::No,
+    }
+}
+
+/// The outside count, and the pair of accesses that no edges order.
+fn image_report(
+    alloc: Global,
+    kernel: &Kernel,
+    outside: u64,
+    pair: Option<UnorderedPair>,
+) -> Result<Vec<u8>, AllocError>
+    requires { IfSome pair (λ p. (p.earlier.node < size kernel.now) × (p.later.node < size kernel.now)) }
+    ensures { IfOk result (λ v. v.items ≡ image_report kernel.now outside pair) }
+{
+    let report = match pair {
+        None => format!(in alloc; "outside {outside}\nordered\n")?,
+        Some(pair) => unordered_report(alloc, kernel, outside, pair)?,
+    };
+    Ok(report.into_bytes())
+}
+
+fn unordered_report(
+    alloc: Global,
+    kernel: &Kernel,
+    outside: u64,
+    pair: UnorderedPair,
+) -> Result<String, AllocError>
+    requires earlier { pair.earlier.node < size kernel.now }
+    requires later { pair.later.node < size kernel.now }
+    ensures { IfOk result (λ s. string_bytes s ≡ image_report kernel.now outside (Some pair)) }
+{
+    let earlier = name_of(kernel, pair.earlier.node);
+    let before = pair.earlier.turn;
+    let later = name_of(kernel, pair.later.node);
+    let after = pair.later.turn;
+    format!(in alloc; "outside {outside}\nunordered {earlier} {before} {later} {after}\n")
+}
+
+/// The name of a node.
+fn name_of(kernel: &Kernel, number: u32) -> &str
+    requires { number < size kernel.now }
+    ensures { result.now ≡ (node_of kernel.now number).name }
+{
+    kernel.nodes()[number as usize].name.as_str()
+}

@@ -1,0 +1,15 @@
+//! What the commands answer that run a kernel or an array, and what `flat` answers: from the bytes of input files to an
+//! outcome.
+#![tactic(auto)]
+
+mod flattening;
+mod imaging;
+mod running;
+mod simulating;
+mod streams;
+mod turning;
+
+pub use flattening::flat;
+pub use imaging::turns_on_image;
+pub use simulating::run;
+pub use turning::turns;

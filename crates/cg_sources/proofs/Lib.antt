@@ -1,0 +1,6 @@
+pub mod Sound
+pub mod Wholes
+pub mod Refusals
+pub mod Arrays
+pub mod Paired
+pub mod Mapped

@@ -1,0 +1,8 @@
+//! A trial: a drawn kernel is mapped over the hub of an architecture, and runs twice: by the array that the bits configure, and
+//! turn by turn.
+#![tactic(auto)]
+
+mod runs;
+mod trial;
+
+pub use trial::trial;

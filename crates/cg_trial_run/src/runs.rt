@@ -1,0 +1,99 @@
+//! The two runs, each down to the digest of the image that it leaves.
+ghost use Rattle.std.specs.Prelude.{◌≡◌, ◌≤◌, Ok, IfOk, length, string_bytes};
+ghost use Rattle.cg_model.specs.Canonical.{IsCanonical};
+ghost use Rattle.cg_model.specs.Configured.{configuration_of};
+ghost use Rattle.cg_model.specs.Limits.{most_memory};
+ghost use Rattle.cg_model.specs.Machine.{machine_left};
+ghost use Rattle.cg_model.specs.Turns.{turns_left};
+ghost use Rattle.cg_bits.specs.Answers.{answer_of};
+ghost use Rattle.cg_pad.specs.Bytes.{IsStorable};
+ghost use Rattle.cg_trial_run.specs.Report as spec;
+ghost use Rattle.cg_trial_run.specs.Report.{trial_turns};
+
+use cg_arch::Arch;
+use cg_check::LegalMapping;
+use cg_kernel::Kernel;
+use cg_pad::{Image, write_image};
+use cg_sim::{Sim, SimFault};
+use cg_turns::{TurnsFault, run_turns};
+use cg_view::ConfigView;
+use sha2::{Digest, Sha256};
+use std::alloc::{AllocError, Global};
+
+/// How many turns each run has.
+pub(crate) const TURNS: u32 = 1000;
+
+/// The digest of an image's file.
+#[tactic(auto, unfolding(crate::specs::Report::image_digest))]
+fn image_digest(alloc: Global, image: &Image) -> Result<String, AllocError>
+    requires { IsStorable image.now }
+    ensures { IfOk result (λ s. string_bytes s ≡ spec.image_digest image.now) }
+{
+    let bytes = write_image(alloc, image)?;
+    hex::encode(alloc, Sha256::digest(bytes.as_slice()))
+}
+
+/// The array runs the bits of a mapping.
+pub(crate) fn run_digest(
+    alloc: Global,
+    mapping: &LegalMapping<'_>,
+    bits: &[u8],
+    image: &Image,
+) -> Result<String, AllocError>
+    requires read { answer_of mapping.now.arch bits.now ≡ Ok (configuration_of mapping.now.arch mapping.now.kernel mapping.now.mapping) }
+    requires fits { length image.now.memory ≤ mapping.now.arch.memory }
+    ensures { IfOk result (λ s. string_bytes s
+        ≡ spec.image_digest (machine_left mapping.now.arch (configuration_of mapping.now.arch mapping.now.kernel mapping.now.mapping) trial_turns image.now).image) }
+{
+    let arch = mapping.arch();
+    match ConfigView::of(arch, bits) {
+        Ok(config) => config_digest(alloc, arch, &config, image),
+        Err(_) => unreachable!(),
+    }
+}
+
+/// The array runs a configuration.
+fn config_digest(
+    alloc: Global,
+    arch: &Arch,
+    config: &ConfigView<'_>,
+    image: &Image,
+) -> Result<String, AllocError>
+    requires canonical { IsCanonical arch.now config.now }
+    requires fits { length image.now.memory ≤ arch.now.memory }
+    ensures { IfOk result (λ s. string_bytes s ≡ spec.image_digest (machine_left arch.now config.now trial_turns image.now).image) }
+{
+    match Sim::new(alloc, arch, config, TURNS, image) {
+        Ok(sim) => left_digest(alloc, sim),
+        Err(SimFault::Memory) => Err(AllocError),
+        Err(_) => unreachable!(),
+    }
+}
+
+/// All cycles are run.
+fn left_digest(alloc: Global, sim: Sim<'_, ConfigView<'_>>) -> Result<String, AllocError>
+    requires { sim.done ≡ 0 }
+    ensures { IfOk result (λ s. string_bytes s
+        ≡ spec.image_digest (machine_left sim.entry.arch sim.entry.config sim.entry.n sim.entry.image).image) }
+{
+    let mut sim = sim;
+    sim.finish();
+    let image = sim.into_image();
+    image_digest(alloc, &image)
+}
+
+/// The turns of the kernel are run, one after the other.
+pub(crate) fn turns_digest(
+    alloc: Global,
+    kernel: &Kernel,
+    image: &Image,
+) -> Result<String, AllocError>
+    requires { length image.now.memory ≤ most_memory }
+    ensures { IfOk result (λ s. string_bytes s ≡ spec.image_digest (turns_left kernel.now trial_turns image.now).image) }
+{
+    match run_turns(alloc, kernel, TURNS, image) {
+        Ok(done) => image_digest(alloc, &done.image),
+        Err(TurnsFault::Memory) => Err(AllocError),
+        Err(_) => unreachable!(),
+    }
+}
