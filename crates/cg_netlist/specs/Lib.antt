@@ -1,0 +1,3 @@
+pub mod Forms
+pub mod Netlist
+pub mod Graph
