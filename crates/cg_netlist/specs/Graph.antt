@@ -1,7 +1,7 @@
 -- What a graph of nets and cells has to be.
 use Rattle.std.specs.Prelude.{◌≡◌, ◌≢◌, ℕ, ◌<◌, ◌≤◌, ◌⊎◌, true, List, map, Contains, codes, bytes_eq}
 use Rattle.std.specs.List.{AllByRecursion, IsDistinct}
-use Rattle.cg_model.specs.Names.{is_identifier}
+use Rattle.cg_verilog.specs.Words.{is_name}
 use Rattle.cg_netlist.specs.Forms.{Form, form_name, form_ports, IsForm}
 use Rattle.cg_netlist.specs.Netlist.{Net, Pin, Cell, NetGraph}
 
@@ -11,7 +11,7 @@ names nets = map (λ (n : Net). n.name) nets
 
 -- a net has a name of its own, other than those of the clock and the reset, and 1 to 32 bits
 pub record IsNet (n : Net) : Type 0 where
-  pub name : is_identifier n.name ≡ true
+  pub name : is_name n.name ≡ true
   pub no_clock : n.name ≢ codes "clk"
   pub no_reset : n.name ≢ codes "rst"
   pub some : 0 < n.width
@@ -23,7 +23,7 @@ IsConnected nets p = Contains nets p.net ⊎ ((p.net ≡ codes "clk") ⊎ (p.net
 
 -- a cell has the name and the pins of a form, and its pins are connected to these nets
 pub record IsCell (nets : List (List ℕ)) (c : Cell) : Type 0 where
-  pub name : is_identifier c.name ≡ true
+  pub name : is_name c.name ≡ true
   pub form : Form
   pub valid : IsForm form
   pub called : c.«module» ≡ form_name form

@@ -61,6 +61,10 @@ argument_pins A p (r ∷ rs) = pin (argument_port p) (word_net (resource A r)) �
 abbrev pub output_pins : List ℕ → List Pin
 output_pins net = pin (codes "q") net ∷ []
 
+-- what chooses a resource's word among those of its drivers
+abbrev pub choice_pins : Arch → Resource → List Pin
+choice_pins A r = select_pin r ∷ (driver_pins A 1 r.drivers ++ output_pins (word_net r))
+
 -- ---- cells
 
 abbrev pub cell : Form → List ℕ → List Pin → Cell
@@ -73,38 +77,49 @@ abbrev pub preset_cell : Resource → Cell
 preset_cell r = cell (PresetForm (select_width r)) (codes "p_" ++ r.name) (clock_pins ++ output_pins (select_net r))
 
 abbrev pub mux_cell : Arch → Resource → Cell
-mux_cell A r =
-    cell (MuxForm (length r.drivers)) (codes "m_" ++ r.name)
-    (select_pin r ∷ (driver_pins A 1 r.drivers ++ output_pins (word_net r)))
+mux_cell A r = cell (MuxForm (length r.drivers)) (codes "m_" ++ r.name) (choice_pins A r)
 
 abbrev pub register_cell : Arch → Resource → Cell
 register_cell A r =
-    cell (RegisterForm (length r.drivers)) (codes "r_" ++ r.name)
-    (clock_pins ++ (select_pin r ∷ (driver_pins A 1 r.drivers ++ output_pins (word_net r))))
+    cell (RegisterForm (length r.drivers)) (codes "r_" ++ r.name) (clock_pins ++ choice_pins A r)
 
 abbrev pub zero_cell : Resource → Cell
 zero_cell r = cell ZeroForm (codes "z_" ++ r.name) (output_pins (word_net r))
 
--- the cells that give a resource of that kind its word; a unit gives an out its word
+-- the cells that give a wire or a port, or a register, its word
+abbrev pub wire_cells : Arch → Resource → List Cell
+wire_cells A r = if_driven r (context_cell r ∷ mux_cell A r ∷ []) (zero_cell r ∷ [])
+
+abbrev pub register_cells : Arch → Resource → List Cell
+register_cells A r = if_driven r (preset_cell r ∷ register_cell A r ∷ []) (zero_cell r ∷ [])
+
+-- the cells of a resource of that kind; a unit gives an out its word
 abbrev pub cells_by : Kind → Arch → Resource → List Cell
-cells_by Wire A r = if_driven r (context_cell r ∷ mux_cell A r ∷ []) (zero_cell r ∷ [])
-cells_by Port A r = if_driven r (context_cell r ∷ mux_cell A r ∷ []) (zero_cell r ∷ [])
-cells_by Register A r = if_driven r (preset_cell r ∷ register_cell A r ∷ []) (zero_cell r ∷ [])
+cells_by Wire A r = wire_cells A r
+cells_by Port A r = wire_cells A r
+cells_by Register A r = register_cells A r
 cells_by Out A r = []
 
 abbrev pub resource_cells : Arch → Resource → List Cell
 resource_cells A r = cells_by r.kind A r
 
 -- bit k for the operation of code k
-abbrev pub bit_of : List Op → Op → ℕ
-bit_of ops op = if among ops op then 2 ^ code op else 0
+abbrev pub code_bit : Op → ℕ
+code_bit op = 2 ^ code op
 
+abbrev pub bit_of : List Op → Op → ℕ
+bit_of ops op = if among ops op then code_bit op else 0
+
+-- the bits of these operations
 unfoldable pub bits_of : List Op → ℕ
 bits_of ops = sum_by (bit_of ops) all_ops
 
+abbrev pub unit_form : Unit → Form
+unit_form u = UnitForm (length u.ports) u.latency (bits_of u.ops)
+
 abbrev pub unit_cell : Arch → Unit → Cell
 unit_cell A u =
-    cell (UnitForm (length u.ports) u.latency (bits_of u.ops)) (codes "u_" ++ u.name)
+    cell (unit_form u) (codes "u_" ++ u.name)
     (clock_pins ++ (argument_pins A 0 u.ports ++ output_pins (word_net (resource A u.out))))
 
 -- the nets and cells of each resource, and then the cell of each unit

@@ -1,0 +1,14 @@
+-- What the cells of an architecture's resources and units are made from.
+use Rattle.std.specs.Prelude.{ℕ, ◌<◌, ◌≤◌, length, slice_index}
+use Rattle.cg_model.specs.Array.{Arch, Resource, Unit}
+
+-- a resource has no more drivers than a valid architecture has links, and they are resources
+pub record IsDriven (A : Arch) (r : Resource) : Type 0 where
+  pub few : length r.drivers ≤ 65536
+  pub known : (k : ℕ) → k < length r.drivers → slice_index r.drivers k < length A.resources
+
+-- a unit has at most three ports, and they are resources, as is its out
+pub record IsPlaced (A : Arch) (u : Unit) : Type 0 where
+  pub few : length u.ports ≤ 3
+  pub known : (k : ℕ) → k < length u.ports → slice_index u.ports k < length A.resources
+  pub out : u.out < length A.resources
