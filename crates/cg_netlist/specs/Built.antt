@@ -1,6 +1,8 @@
 -- What the cells of an architecture's resources and units are made from.
 use Rattle.std.specs.Prelude.{ℕ, ◌<◌, ◌≤◌, length, slice_index}
-use Rattle.cg_model.specs.Array.{Arch, Resource, Unit}
+use Rattle.cg_model.specs.declared.array.Resource.{Resource}
+use Rattle.cg_model.specs.declared.array.Unit.{Unit}
+use Rattle.cg_model.specs.Array.{Arch}
 
 -- a resource has no more drivers than a valid architecture has links, and they are resources
 pub record IsDriven (A : Arch) (r : Resource) : Type 0 where

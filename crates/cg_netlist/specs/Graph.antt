@@ -1,6 +1,6 @@
 -- What a graph of nets and cells has to be.
-use Rattle.std.specs.Prelude.{◌≡◌, ◌≢◌, ℕ, ◌<◌, ◌≤◌, ◌⊎◌, true, List, map, Contains, codes, bytes_eq}
-use Rattle.std.specs.List.{AllByRecursion, IsDistinct}
+use Rattle.std.specs.Prelude.{◌≡◌, ◌≢◌, ℕ, ◌<◌, ◌≤◌, ◌⊎◌, true, List, map, All, Contains, codes, bytes_eq}
+use Rattle.std.specs.List.{IsDistinct}
 use Rattle.cg_verilog.specs.Words.{is_name}
 use Rattle.cg_netlist.specs.Forms.{Form, form_name, form_ports, IsForm}
 use Rattle.cg_netlist.specs.Netlist.{Net, Pin, Cell, NetGraph}
@@ -28,10 +28,10 @@ pub record IsCell (nets : List (List ℕ)) (c : Cell) : Type 0 where
   pub valid : IsForm form
   pub called : c.«module» ≡ form_name form
   pub ports : map (λ (p : Pin). p.port) c.pins ≡ form_ports form
-  pub connected : AllByRecursion (IsConnected nets) c.pins
+  pub connected : All (IsConnected nets) c.pins
 
 -- no two nets have one name
 pub record IsNetGraph (G : NetGraph) : Type 0 where
-  pub nets : AllByRecursion IsNet G.nets
+  pub nets : All IsNet G.nets
   pub once : IsDistinct bytes_eq (names G.nets)
-  pub cells : AllByRecursion (IsCell (names G.nets)) G.cells
+  pub cells : All (IsCell (names G.nets)) G.cells

@@ -1,8 +1,13 @@
 -- The netlist of an architecture: its nets, and the cells that are connected to them.
-use Rattle.std.specs.Prelude.{ℕ, suc, ◌+◌, ◌^◌, List, [], ◌∷◌, ◌++◌, length, map, flat_map, sum_by, codes, eqb, if◌then◌else◌}
-use Rattle.cg_word.specs.Word.{Op, code, all_ops}
+use Rattle.std.specs.Prelude.{ℕ, ◌+◌, ◌^◌, List, [], ◌∷◌, ◌++◌, length, map, flat_map, sum_by, codes, eqb, if◌then◌else◌}
+use Rattle.cg_word.specs.declared.op.Op.{Op}
+use Rattle.cg_word.specs.Word.{code, all_ops}
 use Rattle.cg_word.specs.Sets.{among}
-use Rattle.cg_model.specs.Array.{Arch, Kind, Wire, Register, Port, Out, Resource, Unit, resource}
+use Rattle.cg_model.specs.declared.array.Kind.{Kind}
+use Rattle.cg_model.specs.declared.array.Kind.TheVariants.{Wire, Register, Port, Out}
+use Rattle.cg_model.specs.declared.array.Resource.{Resource}
+use Rattle.cg_model.specs.declared.array.Unit.{Unit}
+use Rattle.cg_model.specs.Array.{Arch, resource}
 use Rattle.cg_flat.specs.Slots.{width}
 use Rattle.cg_netlist.specs.Forms.{Form, ContextForm, PresetForm, MuxForm, RegisterForm, ZeroForm, UnitForm, form_name, driver_port, argument_port}
 pub use Rattle.cg_netlist.specs.declared.parts.Net.{Net}
@@ -51,12 +56,12 @@ select_pin r = pin (codes "s") (select_net r)
 -- the words of these drivers, numbered from k on
 abbrev pub driver_pins : Arch → ℕ → List ℕ → List Pin
 driver_pins A k [] = []
-driver_pins A k (q ∷ qs) = pin (driver_port k) (word_net (resource A q)) ∷ driver_pins A (suc k) qs
+driver_pins A k (q ∷ qs) = pin (driver_port k) (word_net (resource A q)) ∷ driver_pins A (k + 1) qs
 
 -- the words of these ports of a unit, numbered from p on
 abbrev pub argument_pins : Arch → ℕ → List ℕ → List Pin
 argument_pins A p [] = []
-argument_pins A p (r ∷ rs) = pin (argument_port p) (word_net (resource A r)) ∷ argument_pins A (suc p) rs
+argument_pins A p (r ∷ rs) = pin (argument_port p) (word_net (resource A r)) ∷ argument_pins A (p + 1) rs
 
 abbrev pub output_pins : List ℕ → List Pin
 output_pins net = pin (codes "q") net ∷ []

@@ -1,0 +1,5 @@
+pub mod Letters
+pub mod Bits
+pub mod Ports
+pub mod Nets
+pub mod Valid

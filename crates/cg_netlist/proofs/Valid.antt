@@ -1,0 +1,98 @@
+-- The netlist of a valid architecture is a graph of nets and cells.
+use Rattle.std.proofs.Common.{◌≡◌, ℕ, zero, suc, ◌+◌, ◌-◌, ◌^◌, ◌<◌, ◌≤◌, ◌⊎◌, inl, inr, ⊎_elim, Bool, true, false, cond, eqb, List, [], ◌∷◌, ◌++◌, length, map, get_or, refl, ap, sym, ◌∙◌, subst, arith}
+use Rattle.std.specs.Prelude.{All, Contains, codes, bytes_eq, flat_map, slice_index}
+use Rattle.std.specs.List.{list_all, IsDistinct}
+use Rattle.std.proofs.lemmas.Bool.{cases_lt, cond_both, eqb-false, eq-eqb, ne_eqb}
+use Rattle.std.proofs.lemmas.List.{get_or_default, get_or_past}
+use Rattle.std.proofs.lemmas.List.Elements.{All-nil, All-cons, All-append, All-head, All-tail, All-from_get_or, All-map}
+use Rattle.std.proofs.lemmas.Map.Keys.{IsDistinct-from_apart}
+use Rattle.std.proofs.lemmas.Slice.Eq.{bytes_eq-Decides}
+use Rattle.cg_model.specs.declared.array.Kind.{Kind}
+use Rattle.cg_model.specs.declared.array.Kind.TheVariants.{Wire, Register, Port, Out}
+use Rattle.cg_model.specs.declared.array.Resource.{Resource}
+use Rattle.cg_model.specs.declared.array.Unit as unit_type
+use Rattle.cg_model.specs.Array.{Arch, IsArch, resource, unit, port, owner, links}
+use Rattle.cg_model.specs.Limits.{longest_name}
+use Rattle.cg_model.specs.Names.{IsName}
+use Rattle.cg_flat.specs.Slots.{width}
+use Rattle.cg_flat.proofs.Lists.{links_of}
+use Rattle.cg_flat.proofs.Widths.{is_width}
+use Rattle.cg_verilog.specs.Words.{is_name, is_name_byte}
+use Rattle.cg_netlist.specs.Forms.{Form, ContextForm, PresetForm, MuxForm, RegisterForm, ZeroForm, UnitForm, form_name, form_ports, IsForm}
+use Rattle.cg_netlist.specs.Netlist.{Net, Pin, Cell, NetGraph, pin, nets_of, word_net, select_net, select_width, clock_pins, select_pin, driver_pins, argument_pins, output_pins, choice_pins, context_cell, preset_cell, mux_cell, register_cell, zero_cell, wire_cells, register_cells, cells_by, resource_cells, unit_form, unit_cell, netlist_of}
+use Rattle.cg_netlist.specs.Graph.{names, IsNet, IsConnected, IsCell, IsNetGraph}
+use Rattle.cg_netlist.specs.Built.{IsDriven, IsPlaced}
+use Rattle.cg_netlist.proofs.Letters.{IsPlain, plain_append, plain_from, word_name, select_name, context_name, preset_name, mux_name, register_name, zero_name, unit_name}
+use Rattle.cg_netlist.proofs.Bits.{bits_below, bits_some}
+use Rattle.cg_netlist.proofs.Ports.{ports-append, choice_ports, unit_ports}
+use Rattle.cg_netlist.proofs.Nets.{net_names, own_names, has_word, has_select, nets_once}
+
+-- ---- what a valid architecture says of a resource and of a unit
+
+none : Resource
+none = record { name = []; kind = Wire; drivers = [] }
+
+-- a resource of another kind than a wire is one of the architecture's
+there : (A : Arch) (r : ℕ) (kind : Kind) → (resource A r).kind ≡ kind → (Wire ≡ kind → ⊥) → r < length A.resources
+there A r kind is other =
+    ⊎_elim (λ l. l) (λ past. absurd (other (sym (ap (λ (q : Resource). q.kind) (get_or_past A.resources r (record { name = []; kind = Wire; drivers = [] }) past)) ∙ is))) (cases_lt r (length A.resources))
+
+plain_of : (most : ℕ) (name : List ℕ) → IsName most name → IsPlain name
+plain_of most name h = plain_from name h.rest
+
+unit_plain : (A : Arch) → IsArch A → (x : ℕ) → x < length A.units → IsPlain (unit A x).name
+unit_plain A arch x l = plain_of longest_name (unit A x).name (arch.names.units x l)
+
+-- the name of a port's letter
+letter_plain : (p : ℕ) → p < 3 → IsPlain (95 ∷ (97 + p) ∷ [])
+letter_plain zero l = refl
+letter_plain (suc zero) l = refl
+letter_plain (suc (suc zero)) l = refl
+letter_plain (suc (suc (suc p))) l = absurd (omega arith)
+
+plain_along : (a b : List ℕ) → a ≡ b → IsPlain b → IsPlain a
+plain_along a b e h = ap (list_all is_name_byte) e ∙ h
+
+port_plain : (A : Arch) → IsArch A → (r : ℕ) → (resource A r).kind ≡ Port → IsPlain (resource A r).name
+port_plain A arch r is =
+    let own = arch.port_owned r is in
+    let x = own.0 in
+    let p = own.1 in
+    let few = arch.few_ports x own.2 in
+    let low : p < 3 = let lt = own.3 in omega (arith, few, lt) in
+    plain_along (resource A r).name ((unit A x).name ++ 95 ∷ (97 + p) ∷ [])
+    (ap (λ s. (resource A s).name) (sym own.4) ∙ arch.names.ports x p own.2 own.3)
+    (plain_append (unit A x).name (95 ∷ (97 + p) ∷ []) (unit_plain A arch x own.2) (letter_plain p low))
+
+out_plain : (A : Arch) → IsArch A → (r : ℕ) → (resource A r).kind ≡ Out → IsPlain (resource A r).name
+out_plain A arch r is =
+    let own = arch.owned r is in
+    let x = owner A r in
+    plain_along (resource A r).name ((unit A x).name ++ 95 ∷ 111 ∷ [])
+    (ap (λ s. (resource A s).name) (sym own.1) ∙ arch.names.outs x own.0)
+    (plain_append (unit A x).name (95 ∷ 111 ∷ []) (unit_plain A arch x own.0) refl)
+
+plain_by : (A : Arch) → IsArch A → (r : ℕ) → r < length A.resources → (kind : Kind) → (resource A r).kind ≡ kind → IsPlain (resource A r).name
+plain_by A arch r l Wire is = plain_of longest_name (resource A r).name (arch.names.wires r l is)
+plain_by A arch r l Register is = plain_of longest_name (resource A r).name (arch.names.registers r l is)
+plain_by A arch r l Port is = port_plain A arch r is
+plain_by A arch r l Out is = out_plain A arch r is
+
+resource_plain : (A : Arch) → IsArch A → (r : ℕ) → r < length A.resources → IsPlain (resource A r).name
+resource_plain A arch r l = plain_by A arch r l (resource A r).kind refl
+
+pub is_driven : (A : Arch) → IsArch A → (r : ℕ) → r < length A.resources → IsDriven A (resource A r)
+is_driven A arch r l =
+    let some = links_of A.resources r (record { name = []; kind = Wire; drivers = [] }) l in
+    let all = arch.small.links in
+    record {
+      few = omega (arith, some, all);
+      known = λ k h. arch.known (slice_index (resource A r).drivers k) r (k, h, get_or_default (resource A r).drivers k (slice_index (resource A r).drivers k) 0 h);
+    }
+
+pub is_placed : (A : Arch) → IsArch A → (x : ℕ) → x < length A.units → IsPlaced A (unit A x)
+is_placed A arch x l = record {
+  few = arch.few_ports x l;
+  known = λ k h. arch.ports_known x k l h;
+  out = there A (unit A x).out Out (arch.outs x l) (λ e. (cc));
+}
