@@ -3,3 +3,6 @@ pub mod Bits
 pub mod Ports
 pub mod Nets
 pub mod Valid
+pub mod Whole
+pub mod Lines
+pub mod Printable

@@ -29,9 +29,6 @@ use Rattle.cg_netlist.proofs.Nets.{net_names, own_names, has_word, has_select, n
 
 -- ---- what a valid architecture says of a resource and of a unit
 
-none : Resource
-none = record { name = []; kind = Wire; drivers = [] }
-
 -- a resource of another kind than a wire is one of the architecture's
 there : (A : Arch) (r : ℕ) (kind : Kind) → (resource A r).kind ≡ kind → (Wire ≡ kind → ⊥) → r < length A.resources
 there A r kind is other =
@@ -40,7 +37,7 @@ there A r kind is other =
 plain_of : (most : ℕ) (name : List ℕ) → IsName most name → IsPlain name
 plain_of most name h = plain_from name h.rest
 
-unit_plain : (A : Arch) → IsArch A → (x : ℕ) → x < length A.units → IsPlain (unit A x).name
+pub unit_plain : (A : Arch) → IsArch A → (x : ℕ) → x < length A.units → IsPlain (unit A x).name
 unit_plain A arch x l = plain_of longest_name (unit A x).name (arch.names.units x l)
 
 -- the name of a port's letter
@@ -78,7 +75,7 @@ plain_by A arch r l Register is = plain_of longest_name (resource A r).name (arc
 plain_by A arch r l Port is = port_plain A arch r is
 plain_by A arch r l Out is = out_plain A arch r is
 
-resource_plain : (A : Arch) → IsArch A → (r : ℕ) → r < length A.resources → IsPlain (resource A r).name
+pub resource_plain : (A : Arch) → IsArch A → (r : ℕ) → r < length A.resources → IsPlain (resource A r).name
 resource_plain A arch r l = plain_by A arch r l (resource A r).kind refl
 
 pub is_driven : (A : Arch) → IsArch A → (r : ℕ) → r < length A.resources → IsDriven A (resource A r)
