@@ -61,3 +61,7 @@ texts tokens = map (λ (t : Placed). t.text) tokens
 abbrev pub place_of : ℕ → List Placed → ℕ
 place_of end [] = end
 place_of end (t ∷ rest) = t.place
+
+-- the texts of the program's tokens
+abbrev pub words : List Token → List (List ℕ)
+words tokens = map (λ (t : Token). t.text.now) tokens

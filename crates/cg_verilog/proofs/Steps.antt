@@ -6,12 +6,13 @@ use Rattle.std.specs.Prelude.{decimal, ◌-◌}
 use Rattle.cg_tokens.specs.declared.token.Token.{Token}
 use Rattle.std.specs.List.{flat_map, AllByRecursion}
 use Rattle.std.specs.Cmp.Lexicographic.{same_text}
+use Rattle.cg_tokens.specs.Tokens.{words}
 use Rattle.cg_tokens.specs.Table.{going, run, Spelled, none}
 use Rattle.cg_tokens.proofs.Stacks.{through}
 use Rattle.cg_verilog.specs.Words.{same, is_name}
 use Rattle.cg_verilog.specs.Rules.{Symbol, is_top, Exactly, Name, Top, Pins, Cells, Lines, rule, Spells, pin_rule, wire_rule, cell_rule, pins_end, start}
 use Rattle.cg_verilog.specs.Module.{PinText, CellText, WireText, IsPin, IsCell, IsWire, pin_tokens, further_pin, cell_tokens, wire_tokens, ModuleText, IsModule, header, lines_tokens}
-use Rattle.cg_verilog.specs.Read.{words, begins_with, Stops, Misses, MissesText}
+use Rattle.cg_verilog.specs.Read.{begins_with, Stops, Misses, MissesText}
 use Rattle.cg_verilog.specs.declared.fault.Misfit.{Misfit}
 use Rattle.cg_verilog.specs.declared.fault.Misfit.TheVariants.{Memory, Text}
 use Rattle.cg_verilog.proofs.Exact.{table, named_not, name_onto, exactly_onto, pin_onto, wire_onto, only}

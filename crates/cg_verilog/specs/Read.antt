@@ -1,6 +1,6 @@
 -- What reading says of the tokens that it found and left.
 use Rattle.std.specs.Prelude.{◌≡◌, ℕ, Bool, false, List, [], ◌∷◌, ◌++◌, drop, map, Some, Result, Ok, Err}
-use Rattle.cg_tokens.specs.declared.token.Token.{Token}
+use Rattle.cg_tokens.specs.Tokens.{words}
 use Rattle.cg_tokens.specs.Table.{run}
 use Rattle.cg_verilog.specs.declared.reader.Reader.{Reader}
 use Rattle.cg_verilog.specs.declared.fault.Misfit.{Misfit}
@@ -15,9 +15,6 @@ use Rattle.cg_verilog.specs.declared.module.Module.{Module}
 use Rattle.cg_verilog.specs.Words.{same}
 use Rattle.cg_verilog.specs.Module.{PinText, CellText, WireText, ModuleText, IsText}
 use Rattle.cg_verilog.specs.Rules.{Symbol, rule, start}
-
-abbrev pub words : List Token → List (List ℕ)
-words tokens = map (λ (t : Token). t.text.now) tokens
 
 -- the tokens that a reader has left
 abbrev pub left : Reader → List (List ℕ)

@@ -89,7 +89,7 @@ impl<'a> Reader<'_, 'a> {
     ghost use Rattle.std.specs.Prelude.{◌≡◌, decimal, [], ◌∷◌, ◌++◌, ◌<◌, ◌+◌, true, false, length, drop, map, codes, MatchOption, IfSome, OnOk, IfOk, IfErr};
     ghost use Rattle.cg_verilog.specs.Words.{is_name};
     ghost use Rattle.std.specs.List.{AllByRecursion, flat_map};
-    ghost use Rattle.cg_verilog.specs.Rules.{Exactly, Name, Top, Pins, Cells, Lines, pin_rule, wire_rule, cell_rule, pins_end, cells_end};
+    ghost use Rattle.cg_verilog.specs.Rules.{is_top, Exactly, Name, Top, Pins, Cells, Lines, pin_rule, wire_rule, cell_rule, pins_end, cells_end};
     ghost use Rattle.cg_verilog.specs.Module.{IsPin, pin_tokens, further_pin, IsWire, wire_tokens, IsCell, cell_tokens, title, clocks, input, header, IsModule, lines_tokens, module_tokens};
     ghost use Rattle.cg_verilog.specs.Read.{left, begins_with, Misses, pin_of, wire_of, cell_of, module_of, MissesText};
     ghost use Rattle.cg_tokens.specs.Tokens.{place_of, seen};
@@ -143,9 +143,9 @@ impl<'a> Reader<'_, 'a> {
     }
 
     /// Takes the number of the greatest bit of a net.
-    #[tactic(auto, using(crate::proofs::Numbers::top_is, crate::proofs::Numbers::top_small))]
+    #[tactic(auto, using(crate::proofs::Numbers::top_is, crate::proofs::Numbers::top_small, crate::proofs::Numbers::number_top))]
     pub fn top(&mut self) -> Result<u32, Misfit>
-        ensures ok { IfOk result (λ top. (top < 32) × (left self.old ≡ decimal top ∷ left self.new)) }
+        ensures ok { IfOk result (λ top. (top < 32) × (is_top (decimal top) ≡ true) × (left self.old ≡ decimal top ∷ left self.new)) }
         ensures misses { IfErr result (λ e. Misses e (Top ∷ []) (left self.old) (left self.new)) }
         ensures same { self.new.tokens ≡ self.old.tokens }
     {

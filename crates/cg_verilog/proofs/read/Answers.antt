@@ -1,9 +1,9 @@
 use Rattle.std.proofs.Common.{◌≡◌, length, drop, map, Some, sym, ◌∙◌, ap}
 use Rattle.cg_tokens.specs.Table.{run}
-use Rattle.cg_tokens.specs.Tokens.{texts, tokens_of, seen, place_of}
-use Rattle.cg_verilog.specs.Read.{words}
+use Rattle.cg_tokens.specs.Tokens.{texts, tokens_of, seen, words, place_of}
 use Rattle.cg_verilog.specs.Rules.{rule, start}
-use Rattle.cg_verilog.proofs.Whole.{words_seen, fault_in}
+use Rattle.cg_tokens.proofs.Bytes.{words_seen}
+use Rattle.cg_verilog.proofs.Whole.{fault_in}
 use Rattle.cg_verilog.proofs.read.Goals as goal
 
 pub returns-in-Ok-module-clause-found : goal.returns-in-Ok-module-clause-found
