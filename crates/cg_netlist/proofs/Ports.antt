@@ -1,5 +1,5 @@
 -- The pins of a cell are those of its form, in order.
-use Rattle.std.proofs.Common.{◌≡◌, ℕ, zero, suc, ◌+◌, ◌<◌, List, [], ◌∷◌, ◌++◌, length, map, take, get_or, refl, ap, sym, ◌∙◌, arith}
+use Rattle.std.proofs.Common.{◌≡◌, ℕ, zero, suc, ◌+◌, ◌<◌, List, [], ◌∷◌, ◌++◌, length, map, take, get_or, refl, ap, sym, ◌∙◌, append_assoc, arith}
 use Rattle.std.specs.Prelude.{codes}
 use Rattle.std.specs.List.{range_with_len}
 use Rattle.std.proofs.lemmas.List.{map-append}
@@ -53,3 +53,25 @@ arguments-more A k (q ∷ qs) (suc i) d h =
     let rest = arguments-more A (k + 1) qs i d (omega arith) in
     let step = ap (λ n. argument_pins A k (take n (q ∷ qs))) more in
     step ∙ ap (λ ps. pin (argument_port k) (word_net (resource A q)) ∷ ps) (rest ∙ ap (λ n. argument_pins A (k + 1) (take i qs) ++ pin (argument_port n) (word_net (resource A (get_or qs i d))) ∷ []) same)
+
+-- what a loop has pushed
+pub pushed_driver : (A : Arch) (qs : List ℕ) (i : ℕ) (net : List ℕ) (old before after : List Pin) → i < length qs → net ≡ word_net (resource A (get_or qs i 0))
+    → before ≡ old ++ driver_pins A 1 (take i qs) → after ≡ before ++ pin (driver_port (i + 1)) net ∷ [] → after ≡ old ++ driver_pins A 1 (take (i + 1) qs)
+pushed_driver A qs i net old before after l named was is =
+    let place : i + 1 ≡ 1 + i = omega arith in
+    is ∙ ap (λ w. before ++ pin (driver_port (i + 1)) w ∷ []) named
+    ∙ ap (λ b. b ++ pin (driver_port (i + 1)) (word_net (resource A (get_or qs i 0))) ∷ []) was
+    ∙ append_assoc old (driver_pins A 1 (take i qs)) (pin (driver_port (i + 1)) (word_net (resource A (get_or qs i 0))) ∷ [])
+    ∙ ap (λ k. old ++ (driver_pins A 1 (take i qs) ++ pin (driver_port k) (word_net (resource A (get_or qs i 0))) ∷ [])) place
+    ∙ ap (λ ps. old ++ ps) (sym (drivers-more A 1 qs i 0 l))
+
+pub pushed_argument : (A : Arch) (qs : List ℕ) (i : ℕ) (port net : List ℕ) (old before after : List Pin) → i < length qs → port ≡ argument_port i → net ≡ word_net (resource A (get_or qs i 0))
+    → before ≡ old ++ argument_pins A 0 (take i qs) → after ≡ before ++ pin port net ∷ [] → after ≡ old ++ argument_pins A 0 (take (i + 1) qs)
+pushed_argument A qs i port net old before after l ported named was is =
+    let place : i ≡ 0 + i = omega arith in
+    is ∙ ap (λ w. before ++ pin port w ∷ []) named
+    ∙ ap (λ p. before ++ pin p (word_net (resource A (get_or qs i 0))) ∷ []) ported
+    ∙ ap (λ b. b ++ pin (argument_port i) (word_net (resource A (get_or qs i 0))) ∷ []) was
+    ∙ append_assoc old (argument_pins A 0 (take i qs)) (pin (argument_port i) (word_net (resource A (get_or qs i 0))) ∷ [])
+    ∙ ap (λ k. old ++ (argument_pins A 0 (take i qs) ++ pin (argument_port k) (word_net (resource A (get_or qs i 0))) ∷ [])) place
+    ∙ ap (λ ps. old ++ ps) (sym (arguments-more A 0 qs i 0 l))

@@ -3,12 +3,13 @@ use Rattle.std.proofs.Common.{◌≡◌, ℕ, zero, suc, ◌+◌, ◌<◌, ◌�
 use Rattle.std.specs.Prelude.{All, Contains, codes}
 use Rattle.std.specs.List.{AllByRecursion, range_with_len}
 use Rattle.std.proofs.lemmas.List.{length-map}
-use Rattle.std.proofs.lemmas.List.Elements.{All-nil, All-cons, All-append, All-head, All-tail, All-map, All-contains, recursion_from_All}
+use Rattle.std.proofs.lemmas.List.Elements.{All-nil, All-cons, All-append, All-head, All-tail, All-map, All-contains, All-weaker, recursion_from_All}
 use Rattle.cg_verilog.specs.Words.{is_name}
 use Rattle.cg_verilog.specs.Module as text
 use Rattle.cg_netlist.specs.Forms.{Form, ContextForm, PresetForm, MuxForm, RegisterForm, ZeroForm, UnitForm, form_ports, IsForm, driver_port, argument_port}
 use Rattle.cg_netlist.specs.Netlist.{Net, Pin, Cell, NetGraph}
 use Rattle.cg_netlist.specs.Graph.{names, IsNet, IsConnected, IsCell, IsNetGraph}
+use Rattle.cg_netlist.specs.Built.{HasBits, HasPins}
 use Rattle.cg_netlist.specs.Text.{wire_of, pin_of, cell_with, cell_of, module_of}
 use Rattle.cg_netlist.proofs.Letters.{form_name_is, driver_port_is, argument_port_is}
 use Rattle.cg_netlist.proofs.Ports.{ports}
@@ -122,3 +123,11 @@ is_module G h = record {
   wires = wires_are G.nets h.nets;
   cells = cells_are (names G.nets) G.cells (names_are G.nets h.nets) h.cells;
 }
+
+-- ---- what is asked of what is printed
+
+pub all_bits : (G : NetGraph) → IsNetGraph G → All HasBits G.nets
+all_bits G h = All-weaker IsNet HasBits (λ n k. k.some) G.nets h.nets
+
+pub all_pins : (G : NetGraph) → IsNetGraph G → All HasPins G.cells
+all_pins G h = All-weaker (IsCell (names G.nets)) HasPins (some_pin (names G.nets)) G.cells h.cells

@@ -10,12 +10,12 @@ use Rattle.std.proofs.lemmas.Slice.Eq.{bytes_eq-Decides}
 use Rattle.cg_model.specs.declared.array.Kind.{Kind}
 use Rattle.cg_model.specs.declared.array.Kind.TheVariants.{Wire, Register, Port, Out}
 use Rattle.cg_model.specs.declared.array.Resource.{Resource}
-use Rattle.cg_model.specs.declared.array.Unit as unit_type
+use Rattle.cg_model.specs.declared.array.Unit.{Unit}
 use Rattle.cg_model.specs.Array.{Arch, IsArch, resource, unit, port, owner, links}
 use Rattle.cg_model.specs.Limits.{longest_name}
 use Rattle.cg_model.specs.Names.{IsName}
 use Rattle.cg_flat.specs.Slots.{width}
-use Rattle.cg_flat.proofs.Lists.{links_of}
+use Rattle.cg_flat.proofs.Lists.{links_of, item_at}
 use Rattle.cg_flat.proofs.Widths.{is_width}
 use Rattle.cg_verilog.specs.Words.{is_name, is_name_byte}
 use Rattle.cg_netlist.specs.Forms.{Form, ContextForm, PresetForm, MuxForm, RegisterForm, ZeroForm, UnitForm, form_name, form_ports, IsForm}
@@ -93,3 +93,19 @@ is_placed A arch x l = record {
   known = λ k h. arch.ports_known x k l h;
   out = there A (unit A x).out Out (arch.outs x l) (λ e. (cc));
 }
+
+-- ---- the same of an item that a loop comes to
+
+pub driven_item : (A : Arch) → IsArch A → (rs : List Resource) (r : ℕ) (x : Resource) → x ≡ get_or rs r x → rs ≡ A.resources → r < length rs → IsDriven A x
+driven_item A arch rs r x is same l =
+    let all : length rs ≡ length A.resources = ap length same in
+    let own : r < length A.resources = omega (arith, all) in
+    let P : Resource → Type 0 = λ q. IsDriven A q in
+    subst P (sym (item_at rs A.resources r x (record { name = []; kind = Wire; drivers = [] }) is same l)) (is_driven A arch r own)
+
+pub placed_item : (A : Arch) → IsArch A → (us : List Unit) (x : ℕ) (u : Unit) → u ≡ get_or us x u → us ≡ A.units → x < length us → IsPlaced A u
+placed_item A arch us x u is same l =
+    let all : length us ≡ length A.units = ap length same in
+    let own : x < length A.units = omega (arith, all) in
+    let P : Unit → Type 0 = λ v. IsPlaced A v in
+    subst P (sym (item_at us A.units x u (record { name = []; ops = []; latency = 1; ports = []; out = 0 }) is same l)) (is_placed A arch x own)

@@ -249,3 +249,15 @@ is_graph A arch = record {
   once = names_once A arch;
   cells = all_cells A arch;
 }
+
+-- ---- what is built, part after part
+
+pub built : (A : Arch) (nets : List Net) (none some all : List Cell) → nets ≡ flat_map nets_of A.resources → none ≡ [] → some ≡ none ++ flat_map (resource_cells A) A.resources
+    → all ≡ some ++ map (unit_cell A) A.units → record { nets = nets; cells = all } ≡ netlist_of A
+unfolding netlist_of
+built A nets none some all nets_are empty more last =
+    ap (λ ns. record { nets = ns; cells = all }) nets_are
+    ∙ ap (λ cs. record { nets = flat_map nets_of A.resources; cells = cs }) (last ∙ ap (λ cs. cs ++ map (unit_cell A) A.units) (more ∙ ap (λ cs. cs ++ flat_map (resource_cells A) A.resources) empty))
+
+pub built_is : (A : Arch) (G : NetGraph) → IsArch A → G ≡ netlist_of A → IsNetGraph G
+built_is A G arch is = subst IsNetGraph (sym is) (is_graph A arch)

@@ -1,5 +1,6 @@
 //! The netlist of an architecture.
 ghost use Rattle.std.specs.Prelude.{◌≡◌, ◌++◌, ◌≤◌, length, map, flat_map, All, IfOk, OnOk};
+ghost use Rattle.cg_model.specs.Array.{IsArch};
 ghost use Rattle.cg_netlist.specs.Netlist as spec;
 ghost use Rattle.cg_netlist.specs.Built.{IsDriven, IsPlaced};
 
@@ -25,7 +26,8 @@ pub fn netlist(alloc: Global, arch: &Arch) -> Result<NetGraph, AllocError>
 
 /// The nets of all resources.
 fn nets_of(alloc: Global, arch: &Arch) -> Result<Vec<Net>, AllocError>
-    ensures { IfOk result (λ nets. nets.items ≡ flat_map spec.nets_of arch.now.resources) }
+    ensures nets { IfOk result (λ nets. nets.items ≡ flat_map spec.nets_of arch.now.resources) }
+    ensures valid { IsArch arch.now }
 {
     let mut nets = Vec::new(alloc);
     let resources = arch.resources();

@@ -1,8 +1,9 @@
 //! The text of a netlist.
-ghost use Rattle.std.specs.Prelude.{◌≡◌, ◌<◌, ◌++◌, length, string_bytes, IfOk, OnOk};
+ghost use Rattle.std.specs.Prelude.{◌≡◌, ◌<◌, ◌++◌, All, string_bytes, IfOk, OnOk};
 ghost use Rattle.std.specs.List.{flat_map};
 ghost use Rattle.cg_verilog.specs.Module.{IsModule};
 ghost use Rattle.cg_verilog.specs.Printed as printed;
+ghost use Rattle.cg_netlist.specs.Built.{HasBits, HasPins};
 ghost use Rattle.cg_netlist.specs.Text as spec;
 
 use crate::graph::NetGraph;
@@ -14,9 +15,11 @@ pub fn verilog(alloc: Global, netlist: &NetGraph) -> Result<Vec<u8>, AllocError>
     ensures text { IfOk result (λ text. text.items ≡ printed.module_text (spec.module_of netlist.now)) }
     ensures valid { IsModule (spec.module_of netlist.now) }
 {
+    let nets = netlist.nets();
+    let cells = netlist.cells();
     let mut text = header(alloc)?;
-    push_nets(alloc, &mut text, netlist)?;
-    push_cells(alloc, &mut text, netlist)?;
+    push_nets(alloc, &mut text, nets)?;
+    push_cells(alloc, &mut text, cells)?;
     text.extend_from_slice(b"endmodule\n")?;
     Ok(text)
 }
@@ -32,10 +35,10 @@ fn header(alloc: Global) -> Result<Vec<u8>, AllocError>
 }
 
 /// Adds the lines of all nets.
-fn push_nets(alloc: Global, text: &mut Vec<u8>, netlist: &NetGraph) -> Result<(), AllocError>
-    ensures { OnOk result (text.new.items ≡ text.old.items ++ flat_map spec.net_line netlist.now.nets) }
+fn push_nets(alloc: Global, text: &mut Vec<u8>, nets: &[Net]) -> Result<(), AllocError>
+    requires { All HasBits nets.now }
+    ensures { OnOk result (text.new.items ≡ text.old.items ++ flat_map spec.net_line nets.now) }
 {
-    let nets = netlist.nets();
     for net in nets {
         push_net(alloc, text, net)?;
     }
@@ -44,7 +47,7 @@ fn push_nets(alloc: Global, text: &mut Vec<u8>, netlist: &NetGraph) -> Result<()
 
 /// Adds the line of a net.
 fn push_net(alloc: Global, text: &mut Vec<u8>, net: &Net) -> Result<(), AllocError>
-    requires { 0 < net.now.width }
+    requires { HasBits net.now }
     ensures { OnOk result (text.new.items ≡ text.old.items ++ spec.net_line net.now) }
 {
     let line = net_line(alloc, net.name.as_str(), net.width)?;
@@ -63,10 +66,10 @@ fn net_line(alloc: Global, name: &str, width: u32) -> Result<String, AllocError>
 }
 
 /// Adds the lines of all cells.
-fn push_cells(alloc: Global, text: &mut Vec<u8>, netlist: &NetGraph) -> Result<(), AllocError>
-    ensures { OnOk result (text.new.items ≡ text.old.items ++ flat_map spec.cell_line netlist.now.cells) }
+fn push_cells(alloc: Global, text: &mut Vec<u8>, cells: &[Cell]) -> Result<(), AllocError>
+    requires { All HasPins cells.now }
+    ensures { OnOk result (text.new.items ≡ text.old.items ++ flat_map spec.cell_line cells.now) }
 {
-    let cells = netlist.cells();
     for cell in cells {
         push_cell(alloc, text, cell)?;
     }
@@ -74,8 +77,9 @@ fn push_cells(alloc: Global, text: &mut Vec<u8>, netlist: &NetGraph) -> Result<(
 }
 
 /// Adds the line of a cell.
+#[tactic(auto, using(crate::proofs::Lines::pushed_cell))]
 fn push_cell(alloc: Global, text: &mut Vec<u8>, cell: &Cell) -> Result<(), AllocError>
-    requires { 0 < length cell.now.pins }
+    requires { HasPins cell.now }
     ensures { OnOk result (text.new.items ≡ text.old.items ++ spec.cell_line cell.now) }
 {
     push_head(alloc, text, cell.module.as_str(), cell.name.as_str())?;
