@@ -17,6 +17,15 @@ pub fn verilog(alloc: Global, netlist: &NetGraph) -> Result<Vec<u8>, AllocError>
 {
     let nets = netlist.nets();
     let cells = netlist.cells();
+    module_text(alloc, nets, cells)
+}
+
+/// The text of nets and cells as a module.
+fn module_text(alloc: Global, nets: &[Net], cells: &[Cell]) -> Result<Vec<u8>, AllocError>
+    requires bits { All HasBits nets.now }
+    requires pins { All HasPins cells.now }
+    ensures { IfOk result (λ text. text.items ≡ printed.module_text (spec.module_of (record { nets = nets.now; cells = cells.now }))) }
+{
     let mut text = header(alloc)?;
     push_nets(alloc, &mut text, nets)?;
     push_cells(alloc, &mut text, cells)?;
