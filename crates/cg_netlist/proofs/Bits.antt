@@ -1,9 +1,7 @@
 -- Sets of operations as numbers.
-use Rattle.std.proofs.Common.{◌≡◌, ℕ, zero, suc, ◌+◌, ◌-◌, ◌*◌, ◌^◌, ◌<◌, ◌≤◌, Bool, true, false, cond, eqb, List, [], ◌∷◌, length, get_or, refl, ap, sym, ◌∙◌, arith}
-use Rattle.std.specs.Prelude.{All}
-use Rattle.std.specs.List.{sum_by}
+use Rattle.std.proofs.Common.{◌≡◌, ◌-◌, ◌^◌, ◌<◌, ◌≤◌, true, eqb, List, [], ◌∷◌, length, get_or, refl, ap, arith}
 use Rattle.std.proofs.lemmas.Bool.{cond_both, cond-true, eq-eqb}
-use Rattle.std.proofs.lemmas.List.Sums.{sum_by-le, sum_by_more_le, sum_by-take-le}
+use Rattle.std.proofs.lemmas.List.Sums.{sum_by-le, sum_by_more_le}
 use Rattle.cg_word.specs.declared.op.Op.{Op}
 use Rattle.cg_word.specs.declared.op.Op.TheVariants.{Const, Iter, Input, Add, Sub, Mul, And, Or, Xor, Shl, Shr, Sar, Eq, Ne, Lts, Ltu, Mins, Maxs, Select, Load, Store, Output, LoadIf, StoreIf, OutputIf}
 use Rattle.cg_word.specs.Word.{code, all_ops}

@@ -1,11 +1,11 @@
 -- The names of nets, cells and forms are names.
-use Rattle.std.proofs.Common.{◌≡◌, ℕ, zero, suc, ◌+◌, ◌*◌, ◌/◌, ◌%◌, ◌^◌, ◌<◌, ◌≤◌, Bool, true, false, cond, ◌&&◌, ◌||◌, eqb, List, [], ◌∷◌, ◌++◌, refl, ap, sym, ◌∙◌, arith, ⊎_elim}
+use Rattle.std.proofs.Common.{◌≡◌, ℕ, zero, suc, ◌+◌, ◌/◌, ◌%◌, ◌<◌, ◌≤◌, Bool, true, false, ◌&&◌, ◌||◌, eqb, List, [], ◌∷◌, ◌++◌, refl, ap, sym, ◌∙◌, arith}
 use Rattle.std.specs.Prelude.{codes, decimal, slice_index, nat_le}
 use Rattle.std.specs.List.{list_all, range_with_len}
 use Rattle.std.specs.Fmt.{digits, digits_onto, digit_glyph}
 use Rattle.std.proofs.lemmas.Bool.{and_parts, and_from, cond_both, eqb-true, eqb-false}
 use Rattle.std.proofs.Common.{length}
-use Rattle.cg_model.specs.Names.{IsName, within_name}
+use Rattle.cg_model.specs.Names.{within_name}
 use Rattle.cg_verilog.specs.Words.{is_name, is_name_byte}
 use Rattle.cg_netlist.specs.Forms.{Form, ContextForm, PresetForm, MuxForm, RegisterForm, ZeroForm, UnitForm, form_name, hexadecimal, driver_port, argument_port}
 

@@ -6,3 +6,4 @@ pub mod Valid
 pub mod Whole
 pub mod Lines
 pub mod Printable
+mod Rows

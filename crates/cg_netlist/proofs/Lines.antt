@@ -2,9 +2,8 @@
 use Rattle.std.proofs.Common.{◌≡◌, ℕ, ◌-◌, ◌<◌, List, [], ◌∷◌, ◌++◌, length, map, refl, ap, sym, ◌∙◌, append_assoc, subst, get_or, arith}
 use Rattle.std.specs.Prelude.{All, codes, decimal}
 use Rattle.std.specs.List.{flat_map}
-use Rattle.cg_verilog.specs.Module.{PinText, CellText, WireText}
 use Rattle.cg_verilog.specs.Printed.{line, header_text, wire_text, pin_text, further_pin_text, cell_text, module_text}
-use Rattle.cg_netlist.specs.Netlist.{Net, Pin, Cell, NetGraph}
+use Rattle.cg_netlist.specs.Netlist.{Pin, Cell, NetGraph}
 use Rattle.cg_netlist.specs.Text.{wire_of, pin_of, cell_of, cell_with, module_of, net_line, cell_line, head_text, pins_text, first_text, further_text}
 
 pub wire_line : (width : ℕ) (name : List ℕ) → codes "  wire [" ++ (decimal (width - 1) ++ (codes ":0] " ++ (name ++ codes ";\n"))) ≡ wire_text (record { width = width; name = name })
@@ -38,8 +37,8 @@ pushed_cell c old a b d some head pins end =
     ∙ regroup old (head_text c.«module» c.name) (pins_text c.pins) (codes ");\n")
     ∙ ap (λ t. old ++ t) (sym (cell_is c some))
   where
-  regroup : (o h p e : List ℕ) → ((o ++ h) ++ p) ++ e ≡ o ++ (h ++ (p ++ e))
-  regroup o h p e = simp append_assoc
+    regroup : (o h p e : List ℕ) → ((o ++ h) ++ p) ++ e ≡ o ++ (h ++ (p ++ e))
+    regroup o h p e = simp append_assoc
 
 -- and of a graph
 pub whole : (G : NetGraph) (a b c d : List ℕ) → a ≡ header_text → b ≡ a ++ flat_map net_line G.nets → c ≡ b ++ flat_map cell_line G.cells → d ≡ c ++ codes "endmodule\n" → d ≡ module_text (module_of G)

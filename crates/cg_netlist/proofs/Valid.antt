@@ -1,31 +1,20 @@
 -- The netlist of a valid architecture is a graph of nets and cells.
-use Rattle.std.proofs.Common.{◌≡◌, ℕ, zero, suc, ◌+◌, ◌-◌, ◌^◌, ◌<◌, ◌≤◌, ◌⊎◌, inl, inr, ⊎_elim, Bool, true, false, cond, eqb, List, [], ◌∷◌, ◌++◌, length, map, get_or, refl, ap, sym, ◌∙◌, subst, arith}
-use Rattle.std.specs.Prelude.{All, Contains, codes, bytes_eq, flat_map, slice_index}
-use Rattle.std.specs.List.{list_all, IsDistinct}
-use Rattle.std.proofs.lemmas.Bool.{cases_lt, cond_both, eqb-false, eq-eqb, ne_eqb}
+use Rattle.std.proofs.Common.{◌≡◌, ℕ, zero, suc, ◌+◌, ◌<◌, ⊎_elim, List, [], ◌∷◌, ◌++◌, length, get_or, refl, ap, sym, ◌∙◌, subst, arith}
+use Rattle.std.specs.Prelude.{slice_index}
+use Rattle.std.specs.List.{list_all}
+use Rattle.std.proofs.lemmas.Bool.{cases_lt}
 use Rattle.std.proofs.lemmas.List.{get_or_default, get_or_past}
-use Rattle.std.proofs.lemmas.List.Elements.{All-nil, All-cons, All-append, All-head, All-tail, All-from_get_or, All-map}
-use Rattle.std.proofs.lemmas.Map.Keys.{IsDistinct-from_apart}
-use Rattle.std.proofs.lemmas.Slice.Eq.{bytes_eq-Decides}
 use Rattle.cg_model.specs.declared.array.Kind.{Kind}
 use Rattle.cg_model.specs.declared.array.Kind.TheVariants.{Wire, Register, Port, Out}
 use Rattle.cg_model.specs.declared.array.Resource.{Resource}
 use Rattle.cg_model.specs.declared.array.Unit.{Unit}
-use Rattle.cg_model.specs.Array.{Arch, IsArch, resource, unit, port, owner, links}
+use Rattle.cg_model.specs.Array.{Arch, IsArch, resource, unit, owner}
 use Rattle.cg_model.specs.Limits.{longest_name}
 use Rattle.cg_model.specs.Names.{IsName}
-use Rattle.cg_flat.specs.Slots.{width}
 use Rattle.cg_flat.proofs.Lists.{links_of, item_at}
-use Rattle.cg_flat.proofs.Widths.{is_width}
-use Rattle.cg_verilog.specs.Words.{is_name, is_name_byte}
-use Rattle.cg_netlist.specs.Forms.{Form, ContextForm, PresetForm, MuxForm, RegisterForm, ZeroForm, UnitForm, form_name, form_ports, IsForm}
-use Rattle.cg_netlist.specs.Netlist.{Net, Pin, Cell, NetGraph, pin, nets_of, word_net, select_net, select_width, clock_pins, select_pin, driver_pins, argument_pins, output_pins, choice_pins, context_cell, preset_cell, mux_cell, register_cell, zero_cell, wire_cells, register_cells, cells_by, resource_cells, unit_form, unit_cell, netlist_of}
-use Rattle.cg_netlist.specs.Graph.{names, IsNet, IsConnected, IsCell, IsNetGraph}
+use Rattle.cg_verilog.specs.Words.{is_name_byte}
 use Rattle.cg_netlist.specs.Built.{IsDriven, IsPlaced}
-use Rattle.cg_netlist.proofs.Letters.{IsPlain, plain_append, plain_from, word_name, select_name, context_name, preset_name, mux_name, register_name, zero_name, unit_name}
-use Rattle.cg_netlist.proofs.Bits.{bits_below, bits_some}
-use Rattle.cg_netlist.proofs.Ports.{ports-append, choice_ports, unit_ports}
-use Rattle.cg_netlist.proofs.Nets.{net_names, own_names, has_word, has_select, nets_once}
+use Rattle.cg_netlist.proofs.Letters.{IsPlain, plain_append, plain_from}
 
 -- ---- what a valid architecture says of a resource and of a unit
 

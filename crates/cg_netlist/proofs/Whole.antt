@@ -1,5 +1,5 @@
 -- The netlist of a valid architecture is a graph of nets and cells.
-use Rattle.std.proofs.Common.{◌≡◌, ℕ, zero, suc, ◌+◌, ◌-◌, ◌^◌, ◌<◌, ◌≤◌, ◌⊎◌, inl, inr, ⊎_elim, Bool, true, false, cond, eqb, List, [], ◌∷◌, ◌++◌, length, map, get_or, refl, ap, sym, ◌∙◌, subst, arith}
+use Rattle.std.proofs.Common.{◌≡◌, ℕ, suc, ◌+◌, ◌^◌, ◌<◌, ◌≤◌, inl, inr, ⊎_elim, true, false, eqb, List, [], ◌∷◌, ◌++◌, length, map, get_or, refl, ap, sym, ◌∙◌, subst, arith}
 use Rattle.std.specs.Prelude.{All, Contains, codes, bytes_eq, flat_map, slice_index}
 use Rattle.std.specs.List.{IsDistinct}
 use Rattle.std.proofs.lemmas.Bool.{cases_lt, cases_Bool, cond_both, eqb-false}
@@ -10,14 +10,13 @@ use Rattle.std.proofs.lemmas.Slice.Eq.{bytes_eq-Decides}
 use Rattle.cg_model.specs.declared.array.Kind.{Kind}
 use Rattle.cg_model.specs.declared.array.Kind.TheVariants.{Wire, Register, Port, Out}
 use Rattle.cg_model.specs.declared.array.Resource.{Resource}
-use Rattle.cg_model.specs.declared.array.Unit.{Unit}
 use Rattle.cg_model.specs.Array.{Arch, IsArch, resource, unit}
 use Rattle.cg_flat.specs.Slots.{width}
 use Rattle.cg_flat.proofs.Widths.{is_width}
-use Rattle.cg_netlist.specs.Forms.{Form, ContextForm, PresetForm, MuxForm, RegisterForm, ZeroForm, UnitForm, form_name, form_ports, IsForm}
-use Rattle.cg_netlist.specs.Netlist.{Net, Pin, Cell, NetGraph, pin, nets_of, word_net, select_net, select_width, clock_pins, select_pin, driver_pins, argument_pins, output_pins, choice_pins, context_cell, preset_cell, mux_cell, register_cell, zero_cell, wire_cells, register_cells, cells_by, resource_cells, unit_form, unit_cell, bits_of, netlist_of}
-use Rattle.cg_netlist.specs.Graph.{names, IsNet, IsConnected, IsCell, IsNetGraph}
-use Rattle.cg_netlist.specs.Built.{IsDriven, IsPlaced}
+use Rattle.cg_netlist.specs.Forms.{ContextForm, PresetForm, MuxForm, RegisterForm, ZeroForm}
+use Rattle.cg_netlist.specs.Netlist.{Net, Pin, Cell, NetGraph, pin, nets_of, word_net, select_net, select_width, clock_pins, select_pin, driver_pins, argument_pins, output_pins, choice_pins, context_cell, preset_cell, mux_cell, register_cell, zero_cell, wire_cells, register_cells, cells_by, resource_cells, unit_form, unit_cell, netlist_of}
+use Rattle.cg_netlist.specs.Graph.{IsNet, IsConnected, IsCell, IsNetGraph}
+use Rattle.cg_netlist.specs.Built.{IsDriven}
 use Rattle.cg_netlist.proofs.Letters.{IsPlain, word_name, select_name, context_name, preset_name, mux_name, register_name, zero_name, unit_name}
 use Rattle.cg_netlist.proofs.Bits.{bits_below, bits_some}
 use Rattle.cg_netlist.proofs.Ports.{choice_ports, unit_ports}
@@ -229,9 +228,9 @@ unit_is A arch x l =
       called = refl;
       ports = ap (λ ps. codes "clk" ∷ codes "rst" ∷ ps) (unit_ports A u.ports (word_net (resource A u.out)));
       connected =
-        All-append (Joins A) clock_pins (argument_pins A 0 u.ports ++ output_pins (word_net (resource A u.out))) (clocks_join A)
-        (All-append (Joins A) (argument_pins A 0 u.ports) (output_pins (word_net (resource A u.out)))
-        (arguments_join A 0 u.ports placed.known) (output_joins A (word_net (resource A u.out)) word));
+          All-append (Joins A) clock_pins (argument_pins A 0 u.ports ++ output_pins (word_net (resource A u.out))) (clocks_join A)
+          (All-append (Joins A) (argument_pins A 0 u.ports) (output_pins (word_net (resource A u.out)))
+          (arguments_join A 0 u.ports placed.known) (output_joins A (word_net (resource A u.out)) word));
     }
 
 all_cells : (A : Arch) → IsArch A → All (IsCellIn A) (flat_map (resource_cells A) A.resources ++ map (unit_cell A) A.units)

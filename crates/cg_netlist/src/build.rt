@@ -3,6 +3,7 @@ ghost use Rattle.std.specs.Prelude.{◌≡◌, ◌++◌, ◌≤◌, length, map,
 ghost use Rattle.cg_model.specs.Array.{IsArch};
 ghost use Rattle.cg_netlist.specs.Netlist as spec;
 ghost use Rattle.cg_netlist.specs.Built.{IsDriven, IsPlaced};
+ghost use Rattle.cg_netlist.specs.Graph.{IsNetGraph};
 
 use crate::cells::{context_cell, mux_cell, preset_cell, register_cell, unit_cell, zero_cell};
 use crate::graph::NetGraph;
@@ -15,7 +16,8 @@ use std::alloc::{AllocError, Global};
 
 /// The netlist of an architecture.
 pub fn netlist(alloc: Global, arch: &Arch) -> Result<NetGraph, AllocError>
-    ensures { IfOk result (λ graph. graph ≡ spec.netlist_of arch.now) }
+    ensures graph { IfOk result (λ graph. graph ≡ spec.netlist_of arch.now) }
+    ensures valid { OnOk result (IsNetGraph (spec.netlist_of arch.now)) }
 {
     let nets = nets_of(alloc, arch)?;
     let mut cells = Vec::new(alloc);
@@ -125,11 +127,7 @@ fn push_register_cells(
 }
 
 /// Adds the cells of all units.
-fn push_cells_of_units(
-    alloc: Global,
-    cells: &mut Vec<Cell>,
-    arch: &Arch,
-) -> Result<(), AllocError>
+fn push_cells_of_units(alloc: Global, cells: &mut Vec<Cell>, arch: &Arch) -> Result<(), AllocError>
     ensures { OnOk result (cells.new.items ≡ cells.old.items ++ map (spec.unit_cell arch.now) arch.now.units) }
 {
     let units = arch.units();

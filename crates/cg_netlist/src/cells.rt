@@ -7,8 +7,7 @@ ghost use Rattle.cg_netlist.specs.Built.{IsDriven, IsPlaced};
 use crate::operations::bits_of;
 use crate::parts::Cell;
 use crate::pins::{
-    prefixed, push_argument_pins, push_choice_pins, push_clock_pins, push_out_pin,
-    push_output_pin,
+    prefixed, push_argument_pins, push_choice_pins, push_clock_pins, push_out_pin, push_output_pin,
 };
 use cg_arch::Arch;
 use cg_flat::select_bits;
@@ -46,11 +45,7 @@ pub(crate) fn preset_cell(alloc: Global, resource: &Resource) -> Result<Cell, Al
 }
 
 /// The cell that gives a wire or a port the word of its selected driver.
-pub(crate) fn mux_cell(
-    alloc: Global,
-    arch: &Arch,
-    resource: &Resource,
-) -> Result<Cell, AllocError>
+pub(crate) fn mux_cell(alloc: Global, arch: &Arch, resource: &Resource) -> Result<Cell, AllocError>
     requires { IsDriven arch.now resource.now }
     ensures { IfOk result (λ cell. cell ≡ spec.mux_cell arch.now resource.now) }
 {

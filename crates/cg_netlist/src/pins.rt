@@ -28,12 +28,7 @@ fn word_net(alloc: Global, arch: &Arch, resource: u32) -> Result<Name, AllocErro
 }
 
 /// Adds a pin.
-fn push_pin(
-    alloc: Global,
-    pins: &mut Vec<Pin>,
-    port: &str,
-    net: Name,
-) -> Result<(), AllocError>
+fn push_pin(alloc: Global, pins: &mut Vec<Pin>, port: &str, net: Name) -> Result<(), AllocError>
     ensures { OnOk result (pins.new.items ≡ pins.old.items ++ spec.pin port.now net ∷ []) }
 {
     let port = Name::copy_of(alloc, port)?;

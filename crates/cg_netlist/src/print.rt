@@ -98,12 +98,7 @@ fn push_cell(alloc: Global, text: &mut Vec<u8>, cell: &Cell) -> Result<(), Alloc
 }
 
 /// Adds what stands before the pins of a cell.
-fn push_head(
-    alloc: Global,
-    text: &mut Vec<u8>,
-    form: &str,
-    name: &str,
-) -> Result<(), AllocError>
+fn push_head(alloc: Global, text: &mut Vec<u8>, form: &str, name: &str) -> Result<(), AllocError>
     ensures { OnOk result (text.new.items ≡ text.old.items ++ spec.head_text form.now name.now) }
 {
     let head = format!(in alloc; "  {form} {name} (")?;

@@ -1,7 +1,6 @@
-use Rattle.std.proofs.Common.{ap, subst, sym}
+use Rattle.std.proofs.Common.{subst, sym}
 use Rattle.std.specs.Prelude.{All}
 use Rattle.cg_netlist.specs.Built.{HasBits, HasPins}
-use Rattle.cg_netlist.specs.Netlist.{Net, Cell}
 use Rattle.cg_netlist.proofs.Printable.{is_module, all_bits, all_pins}
 use Rattle.cg_netlist.proofs.print.verilog.Goals as goal
 
