@@ -3,7 +3,7 @@ use Rattle.std.proofs.Common.{◌≡◌, List, [], ◌∷◌, sym, ◌∙◌, ap
 use Rattle.cg_ending.specs.declared.outcome.Status.TheVariants.{Done}
 use Rattle.cg_ending.specs.Outcome.{Name, File, Outcome}
 use Rattle.cg_command.specs.declared.plans.Command.{Command}
-use Rattle.cg_command.specs.declared.plans.Command.TheVariants.{Turns, TurnsOnImage, Flat, Run, Bound, Check, Emit, Map, Trial}
+use Rattle.cg_command.specs.declared.plans.Command.TheVariants.{Turns, TurnsOnImage, Flat, Run, Bound, Check, Emit, Map, Trial, Verilog}
 use Rattle.cg_sources.proofs.Sound.{IsSound, IsNamed}
 use Rattle.cg_run_answers.proofs.Turns.{sound_turns, quiet_turns, accepted_turns}
 use Rattle.cg_run_answers.proofs.OnImage.{same_on_image, sound_on_image, accepted_on_image, named_on_image}
@@ -15,6 +15,7 @@ use Rattle.cg_map_answers.proofs.Bitstream.{same_emit, sound_emit, accepted_emit
 use Rattle.cg_map_answers.proofs.Searched.{same_map, sound_map, accepted_map, quiet_map, named_map}
 use Rattle.cg_answers.specs.Commands.{IsAnswer, Accepts}
 use Rattle.cg_answers.proofs.Trialed.{same_trial, sound_trial, accepted_trial, quiet_trial}
+use Rattle.cg_answers.proofs.Netlisted.{same_verilog, sound_verilog, accepted_verilog, named_verilog}
 
 -- where the outcome may be chosen, its status may not
 pub same_status : (c : Command) (files : List File) (outputs : List Name) (a b : Outcome) → IsAnswer c files outputs a → IsAnswer c files outputs b → a.status ≡ b.status
@@ -27,6 +28,7 @@ same_status Check (f ∷ g ∷ h ∷ []) [] a b p q = same_check f g h a b p q
 same_status Emit (f ∷ g ∷ h ∷ []) (out ∷ []) a b p q = same_emit f g h out a b p q
 same_status (Map s) (f ∷ g ∷ []) outs a b p q = same_map s f g outs a b p q
 same_status (Trial seed) [] [] a b p q = same_trial seed a b p q
+same_status Verilog (f ∷ []) (out ∷ []) a b p q = same_verilog f out a b p q
 same_status _ _ _ a b p q = absurd p
 
 pub sound : (c : Command) (files : List File) (outputs : List Name) (o : Outcome) → IsAnswer c files outputs o → IsSound o
@@ -39,6 +41,7 @@ sound Check (f ∷ g ∷ h ∷ []) [] o p = sound_check f g h o p
 sound Emit (f ∷ g ∷ h ∷ []) (out ∷ []) o p = sound_emit f g h out o p
 sound (Map s) (f ∷ g ∷ []) outs o p = sound_map s outs f g o p
 sound (Trial seed) [] [] o p = sound_trial seed o p
+sound Verilog (f ∷ []) (out ∷ []) o p = sound_verilog f out o p
 sound _ _ _ o p = absurd p
 
 -- what a command accepts it does
@@ -52,6 +55,7 @@ accepted Check (f ∷ g ∷ h ∷ []) [] o a p = accepted_check f g h o a p
 accepted Emit (f ∷ g ∷ h ∷ []) (out ∷ []) o a p = accepted_emit f g h out o a p
 accepted (Map s) (f ∷ g ∷ []) outs o a p = accepted_map s f g outs o a p
 accepted (Trial seed) [] [] o a p = accepted_trial seed o p
+accepted Verilog (f ∷ []) (out ∷ []) o a p = accepted_verilog f out a.0 o a.1 p
 accepted _ _ _ o a p = absurd p
 
 -- a command without output files writes none
@@ -91,6 +95,9 @@ quiet Emit (f ∷ g ∷ h ∷ []) o p = absurd p
 quiet Emit (f ∷ g ∷ h ∷ k ∷ fs) o p = absurd p
 quiet (Trial seed) [] o p = quiet_trial seed o p
 quiet (Trial seed) (f ∷ fs) o p = absurd p
+quiet Verilog [] o p = absurd p
+quiet Verilog (f ∷ []) o p = absurd p
+quiet Verilog (f ∷ g ∷ fs) o p = absurd p
 
 -- a command writes its output files, or nothing
 pub named : (c : Command) (files : List File) (outputs : List Name) (o : Outcome) → IsAnswer c files outputs o → IsNamed outputs o
@@ -103,4 +110,5 @@ named Check (f ∷ g ∷ h ∷ []) [] o p = inr (quiet_check f g h o p)
 named Emit (f ∷ g ∷ h ∷ []) (out ∷ []) o p = named_emit f g h out o p
 named (Map s) (f ∷ g ∷ []) outs o p = named_map s outs f g o p
 named (Trial seed) [] [] o p = inr (quiet_trial seed o p)
+named Verilog (f ∷ []) (out ∷ []) o p = named_verilog f out o p
 named _ _ _ o p = absurd p

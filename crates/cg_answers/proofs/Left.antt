@@ -6,7 +6,7 @@ use Rattle.cg_ending.specs.Outcome.{Name, File, Outcome}
 use Rattle.cg_ending.specs.Reads.{AreRead}
 use Rattle.cg_ending.specs.Ends.{Moment, Completed}
 use Rattle.cg_command.specs.declared.plans.Command.{Command}
-use Rattle.cg_command.specs.declared.plans.Command.TheVariants.{Turns, TurnsOnImage, Flat, Run, Bound, Check, Emit, Map, Trial}
+use Rattle.cg_command.specs.declared.plans.Command.TheVariants.{Turns, TurnsOnImage, Flat, Run, Bound, Check, Emit, Map, Trial, Verilog}
 use Rattle.cg_sources.proofs.Wholes.{one_read, first_read, second_read, three_read}
 use Rattle.cg_run_answers.proofs.Turns.{turned_left}
 use Rattle.cg_run_answers.proofs.OnImage.{ordered_left, unordered_left}
@@ -18,6 +18,7 @@ use Rattle.cg_map_answers.proofs.Bitstream.{emitted_left, unemitted_left}
 use Rattle.cg_map_answers.proofs.Searched.{map_left, impossible_left, spent_left}
 use Rattle.cg_answers.specs.Commands.{IsAnswer, Leaves, LeavesDone, LeavesNo, LeavesImpossible, LeavesSpent}
 use Rattle.cg_answers.proofs.Trialed.{trial_left}
+use Rattle.cg_answers.proofs.Netlisted.{netlisted_left}
 
 -- nothing is said of what a command leaves at a status that isn't its own
 abbrev pub is_silent : Status → Bool
@@ -85,6 +86,9 @@ left_done (Map s) (arch ∷ kernel ∷ []) outs (f ∷ []) o before after read a
 left_done (Map s) (arch ∷ kernel ∷ []) outs (f ∷ g ∷ h ∷ fs) o before after read answer is c = absurd answer
 left_done (Trial seed) [] [] [] o before after read answer is c = trial_left seed o before after answer is c
 left_done (Trial seed) [] [] (f ∷ fs) o before after read answer is c = absurd answer
+left_done Verilog (file ∷ []) (out ∷ []) (f ∷ []) o before after read answer is c = netlisted_left file out f o before after (one_read before.held file f read) answer is c
+left_done Verilog (file ∷ []) (out ∷ []) [] o before after read answer is c = absurd answer
+left_done Verilog (file ∷ []) (out ∷ []) (f ∷ g ∷ fs) o before after read answer is c = absurd answer
 left_done _ _ _ _ o before after read answer is c = tt
 
 left_no : (command : Command) (inputs outputs : List Name) (files : List File) (o : Outcome) (before after : Moment)

@@ -1,5 +1,6 @@
 pub mod Shapes
 pub mod Trialed
+pub mod Netlisted
 pub mod Commands
 pub mod Left
 pub mod Defined

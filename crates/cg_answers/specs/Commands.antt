@@ -7,7 +7,7 @@ use Rattle.cg_ending.specs.Outcome.{Name, File, Outcome}
 use Rattle.cg_ending.specs.Ends.{Moment}
 use Rattle.cg_kernel.specs.Answer.{answer_of}
 use Rattle.cg_command.specs.declared.plans.Command.{Command}
-use Rattle.cg_command.specs.declared.plans.Command.TheVariants.{Turns, TurnsOnImage, Flat, Run, Bound, Check, Emit, Map, Trial}
+use Rattle.cg_command.specs.declared.plans.Command.TheVariants.{Turns, TurnsOnImage, Flat, Run, Bound, Check, Emit, Map, Trial, Verilog}
 use Rattle.cg_pad.specs.Bytes as images
 use Rattle.cg_model.specs.Work.{Image}
 use Rattle.cg_model.specs.Array.{Arch}
@@ -22,6 +22,7 @@ use Rattle.cg_map_answers.specs.Check.{IsCheck, IsLegalInput, IsLegalCheck, IsIl
 use Rattle.cg_map_answers.specs.Emit.{IsEmit, IsEmittedRun}
 use Rattle.cg_map_answers.specs.Map.{IsMap, IsMappable, IsMapRun, IsImpossibleRun, IsSpentRun}
 use Rattle.cg_answers.specs.Trial.{IsTrialOf, IsTrialRun}
+use Rattle.cg_answers.specs.Verilog.{IsVerilog, IsNetlisted}
 
 -- the outcomes that the command allows
 abbrev pub IsAnswer : Command → List File → List Name → Outcome → Type 0
@@ -34,6 +35,7 @@ IsAnswer Check (arch ∷ kernel ∷ mapping ∷ []) [] o = IsCheck arch kernel m
 IsAnswer Emit (arch ∷ kernel ∷ mapping ∷ []) (out ∷ []) o = IsEmit arch kernel mapping out o
 IsAnswer (Map s) (arch ∷ kernel ∷ []) outs o = IsMap s arch kernel outs o
 IsAnswer (Trial seed) [] [] o = IsTrialOf seed o
+IsAnswer Verilog (file ∷ []) (out ∷ []) o = IsVerilog file out o
 IsAnswer _ _ _ o = ⊥
 
 -- the bytes spell a kernel
@@ -63,6 +65,7 @@ Accepts Check (arch ∷ kernel ∷ mapping ∷ []) = IsLegalInput arch kernel ma
 Accepts Emit (arch ∷ kernel ∷ mapping ∷ []) = IsLegalInput arch kernel mapping
 Accepts (Map s) (arch ∷ kernel ∷ []) = IsMappable s arch kernel
 Accepts (Trial seed) [] = Unit {0}
+Accepts Verilog (file ∷ []) = GivesArch file
 Accepts _ _ = ⊥
 
 -- what a command whose input and output files have these names leaves where it ends with Done: what is held, and what was put
@@ -76,6 +79,7 @@ LeavesDone Check (arch ∷ kernel ∷ mapping ∷ []) [] before after = IsLegalC
 LeavesDone Emit (arch ∷ kernel ∷ mapping ∷ []) (out ∷ []) before after = IsEmittedRun arch kernel mapping out before after
 LeavesDone (Map s) (arch ∷ kernel ∷ []) outs before after = IsMapRun s arch kernel outs before after
 LeavesDone (Trial seed) [] [] before after = IsTrialRun seed before after
+LeavesDone Verilog (file ∷ []) (out ∷ []) before after = IsNetlisted file out before after
 LeavesDone _ _ _ before after = Unit {0}
 
 -- what it leaves where it ends with No

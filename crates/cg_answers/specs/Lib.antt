@@ -1,2 +1,3 @@
 pub mod Trial
+pub mod Verilog
 pub mod Commands

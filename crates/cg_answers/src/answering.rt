@@ -5,6 +5,7 @@ ghost use Rattle.cg_command.specs.Words.{HasShape};
 ghost use Rattle.cg_answers.specs.Commands.{IsAnswer};
 ghost use Rattle.cg_answers.specs.Trial.{IsTrialOf};
 
+use crate::netlisting::verilog;
 use cg_command::{Command, Plan};
 use cg_ending::{File, Outcome, Status};
 use cg_map_answers::{bound, check, emit, map};
@@ -46,6 +47,7 @@ pub fn answer(alloc: Global, plan: &Plan, files: &[File]) -> Result<Outcome, All
         ),
         Command::Map(search) => map(alloc, search, &files[0], &files[1], plan.outputs.as_slice()),
         Command::Trial { seed } => trial_of(alloc, seed),
+        Command::Verilog => verilog(alloc, &files[0], plan.outputs[0].as_str()),
     }
 }
 

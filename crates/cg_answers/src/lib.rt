@@ -2,5 +2,6 @@
 #![tactic(auto)]
 
 mod answering;
+mod netlisting;
 
 pub use answering::answer;

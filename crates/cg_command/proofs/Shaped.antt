@@ -5,9 +5,9 @@ use Rattle.std.specs.Str.{bytes_eq}
 use Rattle.std.specs.Str.Parse.{digits_value}
 use Rattle.std.proofs.lemmas.Bool.{leb-true}
 use Rattle.cg_model.specs.Limits.{most_turns, most_contexts, most_moves}
-use Rattle.cg_command.specs.declared.plans.Command.TheVariants.{Turns, TurnsOnImage, Flat, Run, Bound, Check, Emit, Map, Trial}
+use Rattle.cg_command.specs.declared.plans.Command.TheVariants.{Turns, TurnsOnImage, Flat, Run, Bound, Check, Emit, Map, Trial, Verilog}
 use Rattle.cg_command.specs.declared.searches.Search.{Search}
-use Rattle.cg_command.specs.Words.{Text, Given, Arguments, Plan, HasShape, IsInRange, values_said, said_once, asked_interval, named_file, search_of, search_plan, map_plan, usual_seed, usual_moves, positive, interval_of, seed_of, moves_of, is_number, number_up_to, turns_of, turns_plan, flat_plan, run_plan, bound_plan, check_plan, emit_plan, trial_plan, is_empty, without_options, command_plan, arguments_of, plan_of}
+use Rattle.cg_command.specs.Words.{Text, Given, Arguments, Plan, HasShape, IsInRange, values_said, said_once, asked_interval, named_file, search_of, search_plan, map_plan, usual_seed, usual_moves, positive, interval_of, seed_of, moves_of, is_number, number_up_to, turns_of, turns_plan, flat_plan, run_plan, bound_plan, check_plan, emit_plan, trial_plan, verilog_plan, is_empty, without_options, command_plan, arguments_of, plan_of}
 
 -- the plan has the shape of its command
 abbrev pub IsShaped : Plan → Type 0
@@ -91,6 +91,12 @@ trial_shaped [] = none_shaped
 trial_shaped (seed ∷ []) = numbered_shaped (seed_of seed) (λ n. record { command = Trial n; inputs = []; outputs = [] }) (λ n e. (refl, refl))
 trial_shaped (a ∷ b ∷ more) = none_shaped
 
+verilog_shaped : (words : List Text) → AreShaped (verilog_plan words)
+verilog_shaped [] = none_shaped
+verilog_shaped (a ∷ []) = none_shaped
+verilog_shaped (arch ∷ out ∷ []) = one_shaped (record { command = Verilog; inputs = arch ∷ []; outputs = out ∷ [] }) (refl, refl)
+verilog_shaped (a ∷ b ∷ c ∷ more) = none_shaped
+
 without_shaped : (plan : List Text → Option Plan) (said : Arguments) → AreShaped (plan said.words) → AreShaped (without_options plan said)
 without_shaped plan said is = either_shaped (is_empty said.options) (plan said.words) None is none_shaped
 
@@ -170,7 +176,8 @@ command_shaped name said =
     (either_shaped (bytes_eq name (codes "check")) (without_options check_plan said) _ (without_shaped check_plan said (check_shaped said.words))
     (either_shaped (bytes_eq name (codes "emit")) (without_options emit_plan said) _ (without_shaped emit_plan said (emit_shaped said.words))
     (either_shaped (bytes_eq name (codes "map")) (map_plan said) _ (map_shaped said)
-    (either_shaped (bytes_eq name (codes "trial")) (without_options trial_plan said) None (without_shaped trial_plan said (trial_shaped said.words)) none_shaped)))))))
+    (either_shaped (bytes_eq name (codes "trial")) (without_options trial_plan said) _ (without_shaped trial_plan said (trial_shaped said.words))
+    (either_shaped (bytes_eq name (codes "verilog")) (without_options verilog_plan said) None (without_shaped verilog_plan said (verilog_shaped said.words)) none_shaped))))))))
 
 said_shaped : (name : Text) (o : Option Arguments) → AreShaped (option_and_then (command_plan name) o)
 said_shaped name None = none_shaped

@@ -5,7 +5,7 @@ use Rattle.std.specs.Str.{bytes_eq}
 use Rattle.cg_model.specs.Limits.{most_turns, most_moves}
 pub use Rattle.cg_command.specs.Numbers.{Text, is_number, number_up_to, positive, turns_of, interval_of, seed_of, moves_of, usual_seed, usual_moves}
 use Rattle.cg_command.specs.declared.plans.Command.{Command}
-use Rattle.cg_command.specs.declared.plans.Command.TheVariants.{Turns, TurnsOnImage, Flat, Run, Bound, Check, Emit, Map, Trial}
+use Rattle.cg_command.specs.declared.plans.Command.TheVariants.{Turns, TurnsOnImage, Flat, Run, Bound, Check, Emit, Map, Trial, Verilog}
 use Rattle.cg_command.specs.declared.searches.Search.{Search}
 use Rattle.cg_command.specs.declared.plans.Plan.{Plan as PlanValue}
 use Rattle.cg_command.specs.declared.arguments.Arguments.{Arguments as ArgumentsValue}
@@ -172,6 +172,11 @@ abbrev pub emit_plan : List Text → Option Plan
 emit_plan (arch ∷ kernel ∷ mapping ∷ out ∷ []) = Some (record { command = Emit; inputs = arch ∷ kernel ∷ mapping ∷ []; outputs = out ∷ [] })
 emit_plan _ = None
 
+-- verilog ARCH OUT
+abbrev pub verilog_plan : List Text → Option Plan
+verilog_plan (arch ∷ out ∷ []) = Some (record { command = Verilog; inputs = arch ∷ []; outputs = out ∷ [] })
+verilog_plan _ = None
+
 -- trial SEED
 abbrev pub trial_plan : List Text → Option Plan
 trial_plan (seed ∷ []) = option_map (λ n. record { command = Trial n; inputs = []; outputs = [] }) (seed_of seed)
@@ -237,7 +242,8 @@ command_plan name said =
     else (if bytes_eq name (codes "emit") then without_options emit_plan said
     else (if bytes_eq name (codes "map") then map_plan said
     else (if bytes_eq name (codes "trial") then without_options trial_plan said
-    else None)))))))
+    else (if bytes_eq name (codes "verilog") then without_options verilog_plan said
+    else None))))))))
 
 -- what the words ask, None where they fit no command
 unfoldable pub plan_of : List Text → Option Plan
@@ -260,3 +266,4 @@ HasShape Check inputs outputs = (inputs ≡ 3) × (outputs ≡ 0)
 HasShape Emit inputs outputs = (inputs ≡ 3) × (outputs ≡ 1)
 HasShape (Map search) inputs outputs = (inputs ≡ 2) × ((outputs ≡ 1) ⊎ (outputs ≡ 2)) × IsInRange search
 HasShape (Trial seed) inputs outputs = (inputs ≡ 0) × (outputs ≡ 0)
+HasShape Verilog inputs outputs = (inputs ≡ 1) × (outputs ≡ 1)

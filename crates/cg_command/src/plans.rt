@@ -29,6 +29,8 @@ pub enum Command {
     Map(Search),
     /// `trial SEED`: a drawn kernel, mapped over the hub of an architecture made for it, run by the array and by its turns.
     Trial { seed: u64 },
+    /// `verilog ARCH OUT`: the netlist of an architecture, as structural Verilog.
+    Verilog,
 }
 
 /// A command with the names of its files: the inputs in the order of reading, the outputs in
@@ -72,6 +74,7 @@ fn command_plan(alloc: Global, name: &str, said: &Arguments) -> Result<Option<Pl
         "emit" if has_no_options(said) => emit_plan(alloc, said.words.as_slice()),
         "map" => map_plan(alloc, said),
         "trial" if has_no_options(said) => trial_plan(alloc, said.words.as_slice()),
+        "verilog" if has_no_options(said) => verilog_plan(alloc, said.words.as_slice()),
         _ => Ok(None),
     }
 }
@@ -233,6 +236,22 @@ fn trial_plan(alloc: Global, words: &[&str]) -> Result<Option<Plan>, AllocError>
                 outputs: Vec::new(alloc),
             }))
         }
+        _ => Ok(None),
+    }
+}
+
+fn verilog_plan(alloc: Global, words: &[&str]) -> Result<Option<Plan>, AllocError>
+    ensures plan { IfOk result
+        (λ p. option_map spec.planned p ≡ spec.verilog_plan (map (λ word. word.now) words.now)) }
+    ensures shape { IfOk result (λ p. IfSome p
+        (λ plan. HasShape plan.command (vec_len plan.inputs) (vec_len plan.outputs))) }
+{
+    match words {
+        [arch, out] => Ok(Some(Plan {
+            command: Command::Verilog,
+            inputs: vec![in alloc; String::from_str(alloc, arch)?]?,
+            outputs: vec![in alloc; String::from_str(alloc, out)?]?,
+        })),
         _ => Ok(None),
     }
 }

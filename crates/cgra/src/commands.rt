@@ -11,4 +11,5 @@ run ARCH BITS TURNS IN OUT    runs an array under a configuration from an image 
 trial SEED                    maps a drawn kernel over a hub, and runs the array and the kernel
 turns KERNEL TURNS            runs the turns of a kernel without memory
 turns KERNEL TURNS IN OUT     runs the turns of a kernel from an image to an image
+verilog ARCH OUT              writes the netlist of an array as structural Verilog
 ";

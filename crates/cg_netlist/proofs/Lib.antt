@@ -1,0 +1,9 @@
+pub mod Letters
+pub mod Bits
+pub mod Ports
+pub mod Nets
+pub mod Valid
+pub mod Whole
+pub mod Lines
+pub mod Printable
+mod Rows

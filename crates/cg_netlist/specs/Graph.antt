@@ -1,0 +1,37 @@
+-- What a graph of nets and cells has to be.
+use Rattle.std.specs.Prelude.{◌≡◌, ◌≢◌, ℕ, ◌<◌, ◌≤◌, ◌⊎◌, true, List, map, All, Contains, codes, bytes_eq}
+use Rattle.std.specs.List.{IsDistinct}
+use Rattle.cg_verilog.specs.Words.{is_name}
+use Rattle.cg_netlist.specs.Forms.{Form, form_name, form_ports, IsForm}
+use Rattle.cg_netlist.specs.Netlist.{Net, Pin, Cell, NetGraph}
+
+-- the names of nets
+abbrev pub names : List Net → List (List ℕ)
+names nets = map (λ (n : Net). n.name) nets
+
+-- a net has a name of its own, other than those of the clock and the reset, and 1 to 32 bits
+pub record IsNet (n : Net) : Type 0 where
+  pub name : is_name n.name ≡ true
+  pub no_clock : n.name ≢ codes "clk"
+  pub no_reset : n.name ≢ codes "rst"
+  pub some : 0 < n.width
+  pub wide : n.width ≤ 32
+
+-- what a pin may be connected to: a net, the clock or the reset
+abbrev pub IsConnected : List (List ℕ) → Pin → Type 0
+IsConnected nets p = Contains nets p.net ⊎ ((p.net ≡ codes "clk") ⊎ (p.net ≡ codes "rst"))
+
+-- a cell has the name and the pins of a form, and its pins are connected to these nets
+pub record IsCell (nets : List (List ℕ)) (c : Cell) : Type 0 where
+  pub name : is_name c.name ≡ true
+  pub form : Form
+  pub valid : IsForm form
+  pub called : c.«module» ≡ form_name form
+  pub ports : map (λ (p : Pin). p.port) c.pins ≡ form_ports form
+  pub connected : All (IsConnected nets) c.pins
+
+-- no two nets have one name
+pub record IsNetGraph (G : NetGraph) : Type 0 where
+  pub nets : All IsNet G.nets
+  pub once : IsDistinct bytes_eq (names G.nets)
+  pub cells : All (IsCell (names G.nets)) G.cells

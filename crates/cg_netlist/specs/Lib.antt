@@ -1,0 +1,5 @@
+pub mod Forms
+pub mod Netlist
+pub mod Graph
+pub mod Built
+pub mod Text

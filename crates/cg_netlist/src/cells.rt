@@ -1,0 +1,115 @@
+//! The cells of resources and units.
+ghost use Rattle.std.specs.Prelude.{◌≡◌, ◌≤◌, length, IfOk};
+ghost use Rattle.cg_netlist.specs.Forms as forms;
+ghost use Rattle.cg_netlist.specs.Netlist as spec;
+ghost use Rattle.cg_netlist.specs.Built.{IsDriven, IsPlaced};
+
+use crate::operations::bits_of;
+use crate::parts::Cell;
+use crate::pins::{
+    prefixed, push_argument_pins, push_choice_pins, push_clock_pins, push_out_pin, push_output_pin,
+};
+use cg_arch::Arch;
+use cg_flat::select_bits;
+use cg_model::{Items, Name, Resource, Unit};
+use std::alloc::{AllocError, Global};
+
+/// The cell that gives a resource's select in each cycle.
+pub(crate) fn context_cell(alloc: Global, resource: &Resource) -> Result<Cell, AllocError>
+    requires { length resource.now.drivers ≤ 65536 }
+    ensures { IfOk result (λ cell. cell ≡ spec.context_cell resource.now) }
+{
+    let width = select_bits(resource.drivers.as_slice());
+    let module = Name::new(format!(in alloc; "cg_ctx_{width}")?);
+    let name = prefixed(alloc, "c_", &resource.name)?;
+    let mut pins = Vec::new(alloc);
+    push_clock_pins(alloc, &mut pins)?;
+    push_output_pin(alloc, &mut pins, prefixed(alloc, "s_", &resource.name)?)?;
+    let pins = Items::new(pins);
+    Ok(Cell { module, name, pins })
+}
+
+/// The cell that gives a register's select of the next slot in each cycle.
+pub(crate) fn preset_cell(alloc: Global, resource: &Resource) -> Result<Cell, AllocError>
+    requires { length resource.now.drivers ≤ 65536 }
+    ensures { IfOk result (λ cell. cell ≡ spec.preset_cell resource.now) }
+{
+    let width = select_bits(resource.drivers.as_slice());
+    let module = Name::new(format!(in alloc; "cg_pre_{width}")?);
+    let name = prefixed(alloc, "p_", &resource.name)?;
+    let mut pins = Vec::new(alloc);
+    push_clock_pins(alloc, &mut pins)?;
+    push_output_pin(alloc, &mut pins, prefixed(alloc, "s_", &resource.name)?)?;
+    let pins = Items::new(pins);
+    Ok(Cell { module, name, pins })
+}
+
+/// The cell that gives a wire or a port the word of its selected driver.
+pub(crate) fn mux_cell(alloc: Global, arch: &Arch, resource: &Resource) -> Result<Cell, AllocError>
+    requires { IsDriven arch.now resource.now }
+    ensures { IfOk result (λ cell. cell ≡ spec.mux_cell arch.now resource.now) }
+{
+    let count = resource.drivers.as_slice().len();
+    let module = Name::new(format!(in alloc; "cg_mux_{count}")?);
+    let name = prefixed(alloc, "m_", &resource.name)?;
+    let mut pins = Vec::new(alloc);
+    push_choice_pins(alloc, &mut pins, arch, resource)?;
+    let pins = Items::new(pins);
+    Ok(Cell { module, name, pins })
+}
+
+/// The cell that gives a register the word of its selected driver.
+pub(crate) fn register_cell(
+    alloc: Global,
+    arch: &Arch,
+    resource: &Resource,
+) -> Result<Cell, AllocError>
+    requires { IsDriven arch.now resource.now }
+    ensures { IfOk result (λ cell. cell ≡ spec.register_cell arch.now resource.now) }
+{
+    let count = resource.drivers.as_slice().len();
+    let module = Name::new(format!(in alloc; "cg_reg_{count}")?);
+    let name = prefixed(alloc, "r_", &resource.name)?;
+    let mut pins = Vec::new(alloc);
+    push_clock_pins(alloc, &mut pins)?;
+    push_choice_pins(alloc, &mut pins, arch, resource)?;
+    let pins = Items::new(pins);
+    Ok(Cell { module, name, pins })
+}
+
+/// The cell that gives a resource without drivers the word 0.
+pub(crate) fn zero_cell(alloc: Global, resource: &Resource) -> Result<Cell, AllocError>
+    ensures { IfOk result (λ cell. cell ≡ spec.zero_cell resource.now) }
+{
+    let module = Name::copy_of(alloc, "cg_zero")?;
+    let name = prefixed(alloc, "z_", &resource.name)?;
+    let mut pins = Vec::new(alloc);
+    push_output_pin(alloc, &mut pins, prefixed(alloc, "n_", &resource.name)?)?;
+    let pins = Items::new(pins);
+    Ok(Cell { module, name, pins })
+}
+
+/// The cell of a unit.
+pub(crate) fn unit_cell(alloc: Global, arch: &Arch, unit: &Unit) -> Result<Cell, AllocError>
+    requires { IsPlaced arch.now unit.now }
+    ensures { IfOk result (λ cell. cell ≡ spec.unit_cell arch.now unit.now) }
+{
+    let module = unit_module(alloc, unit)?;
+    let name = prefixed(alloc, "u_", &unit.name)?;
+    let mut pins = Vec::new(alloc);
+    push_clock_pins(alloc, &mut pins)?;
+    push_argument_pins(alloc, &mut pins, arch, unit.ports.as_slice())?;
+    push_out_pin(alloc, &mut pins, arch, unit.out)?;
+    let pins = Items::new(pins);
+    Ok(Cell { module, name, pins })
+}
+
+/// The name of a unit's module.
+fn unit_module(alloc: Global, unit: &Unit) -> Result<Name, AllocError>
+    ensures { IfOk result (λ name. name ≡ forms.form_name (spec.unit_form unit.now)) }
+{
+    let ports = unit.ports.as_slice().len();
+    let latency = unit.latency;
+    let bits = bits_of(unit.ops);
+    Ok(Name::new(format!(in alloc; "cg_unit_{ports}_{latency}_{bits:x}")?))
+}

@@ -1,0 +1,67 @@
+-- The tokens of bytes, each with the place where it begins.
+use Rattle.std.specs.Prelude.{ℕ, zero, suc, ◌+◌, Bool, false, ◌||◌, ◌==◌, List, [], ◌∷◌, map, take, if◌then◌else◌}
+use Rattle.std.specs.List.{prefix_len}
+use Rattle.std.specs.Char.{is_ascii_alphabetic, is_ascii_digit}
+use Rattle.cg_tokens.specs.declared.token.Kind.{Kind}
+use Rattle.cg_tokens.specs.declared.token.Kind.TheVariants.{Word, Number, Mark}
+use Rattle.cg_tokens.specs.declared.token.Token.{Token}
+
+-- a token's bytes, and where it begins
+pub record Placed : Type 0 where
+  pub text : List ℕ
+  pub place : ℕ
+
+-- a space, a tab, a carriage return or a line feed
+abbrev pub is_blank : ℕ → Bool
+is_blank b = b == 32 || b == 9 || b == 13 || b == 10
+
+-- a letter or _
+abbrev pub is_letter : ℕ → Bool
+is_letter b = is_ascii_alphabetic b || b == 95
+
+-- a token's kind is told by its first byte
+abbrev pub kind_of : ℕ → Kind
+kind_of b = if is_letter b then Word else (if is_ascii_digit b then Number else Mark)
+
+-- whether a token of the kind goes on with a byte
+abbrev pub goes_on : Kind → ℕ → Bool
+goes_on Word b = is_letter b || is_ascii_digit b
+goes_on Number b = is_ascii_digit b
+goes_on Mark b = false
+
+-- how many bytes a token has after its first, which it goes on with as far as it can
+abbrev pub more_of : ℕ → List ℕ → ℕ
+more_of b bytes = prefix_len (goes_on (kind_of b)) bytes
+
+-- the token at the front of bytes, which begin with b
+abbrev pub first_token : ℕ → List ℕ → ℕ → Placed
+first_token b bytes place = record { text = b ∷ take (more_of b bytes) bytes; place = place }
+
+-- the tokens of the bytes from a place on, of which the first few belong to the token before
+abbrev pub tokens_from : ℕ → ℕ → List ℕ → List Placed
+tokens_from inside place [] = []
+tokens_from (suc inside) place (b ∷ bytes) = tokens_from inside (place + 1) bytes
+tokens_from zero place (b ∷ bytes) =
+    if is_blank b then tokens_from 0 (place + 1) bytes
+    else (first_token b bytes place ∷ tokens_from (more_of b bytes) (place + 1) bytes)
+
+-- the tokens of the bytes
+abbrev pub tokens_of : List ℕ → List Placed
+tokens_of bytes = tokens_from 0 0 bytes
+
+-- a token of the program
+abbrev pub seen : Token → Placed
+seen t = record { text = t.text.now; place = t.place }
+
+-- the texts of tokens
+abbrev pub texts : List Placed → List (List ℕ)
+texts tokens = map (λ (t : Placed). t.text) tokens
+
+-- the place of the first token, or the end
+abbrev pub place_of : ℕ → List Placed → ℕ
+place_of end [] = end
+place_of end (t ∷ rest) = t.place
+
+-- the texts of the program's tokens
+abbrev pub words : List Token → List (List ℕ)
+words tokens = map (λ (t : Token). t.text.now) tokens

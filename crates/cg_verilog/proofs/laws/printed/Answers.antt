@@ -1,0 +1,5 @@
+use Rattle.cg_verilog.proofs.Printing.{printed}
+use Rattle.cg_verilog.proofs.laws.printed.Goals as goal
+
+pub returns : goal.returns
+returns c = printed

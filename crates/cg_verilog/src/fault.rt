@@ -1,0 +1,43 @@
+//! Why a text is not read.
+use std::alloc::{AllocError, AllocFailed};
+use thiserror::Error;
+
+/// Why a step of reading stops.
+#[derive(Debug, Drop)]
+pub enum Misfit {
+    Memory,
+    /// No text goes on so.
+    Text,
+}
+
+/// Why bytes are not read.
+#[derive(Clone, Copy, Debug, PartialEq, Eq, Error)]
+pub enum ModuleFault {
+    #[error("memory ran out")]
+    Memory,
+    /// The place of the first token that no text goes on with, or the length where the text ends early.
+    #[error("no module goes on so at {0}")]
+    Text(usize),
+}
+
+impl From<AllocError> for Misfit {
+    ghost use Rattle.std.specs.Prelude.{◌≡◌};
+    ghost use Rattle.cg_verilog.specs.declared.fault.Misfit.TheVariants.{Memory};
+
+    ghost from_gives = { λ _ e. e ≡ Memory };
+
+    fn from(_error: AllocError) -> Self {
+        Misfit::Memory
+    }
+}
+
+impl<T: Drop> From<AllocFailed<T>> for Misfit {
+    ghost use Rattle.std.specs.Prelude.{◌≡◌};
+    ghost use Rattle.cg_verilog.specs.declared.fault.Misfit.TheVariants.{Memory};
+
+    ghost from_gives = { λ _ e. e ≡ Memory };
+
+    fn from(_error: AllocFailed<T>) -> Self {
+        Misfit::Memory
+    }
+}

@@ -1,0 +1,58 @@
+//! The text of a structural Verilog module, read exactly.
+#![tactic(auto)]
+
+ghost use Rattle.std.specs.Prelude.{◌≡◌, IfOk, IfErr};
+ghost use Rattle.cg_tokens.specs.Tokens.{tokens_of, texts};
+ghost use Rattle.cg_verilog.specs.Module.{ModuleText, IsModule, module_tokens};
+ghost use Rattle.cg_verilog.specs.Printed.{module_text};
+ghost use Rattle.cg_verilog.specs.Read.{module_of, IsFault, Gives};
+
+mod fault;
+pub mod laws;
+mod module;
+mod reader;
+
+use cg_tokens::tokens;
+use fault::Misfit;
+pub use fault::ModuleFault;
+pub use module::{Cell, Module, Pin, Wire};
+use reader::Reader;
+use std::alloc::Global;
+
+/// The module that the bytes spell.
+pub fn read_module(alloc: Global, bytes: &[u8]) -> Result<Module<'_>, ModuleFault>
+    // What is read is spelled so.
+    ensures found { IfOk result (λ m. IsModule (module_of m) × (texts (tokens_of bytes.now) ≡ module_tokens (module_of m))) }
+    // What is spelled so is read, unless memory runs out.
+    ensures only { (m : ModuleText) → IsModule m → texts (tokens_of bytes.now) ≡ module_tokens m → Gives m result }
+    // So is what is printed.
+    ensures printed { (m : ModuleText) → IsModule m → bytes.now ≡ module_text m → Gives m result }
+    // Which fault it is.
+    ensures fault { IfErr result (λ e. IsFault e bytes.now) }
+{
+    read(alloc, bytes)
+}
+
+/// The same, without the laws that follow from its two clauses.
+fn read(alloc: Global, bytes: &[u8]) -> Result<Module<'_>, ModuleFault>
+    // What is read is spelled so.
+    ensures found { IfOk result (λ m. IsModule (module_of m) × (texts (tokens_of bytes.now) ≡ module_tokens (module_of m))) }
+    // Which fault it is.
+    ensures fault { IfErr result (λ e. IsFault e bytes.now) }
+{
+    let Ok(tokens) = tokens(alloc, bytes) else {
+        return Err(ModuleFault::Memory);
+    };
+    let mut reader = Reader {
+        tokens: tokens.as_slice(),
+        at: 0,
+    };
+    match reader.module(alloc) {
+        Ok(module) => Ok(module),
+        Err(Misfit::Memory) => Err(ModuleFault::Memory),
+        Err(Misfit::Text) => Err(ModuleFault::Text(reader.place(bytes.len()))),
+    }
+}
+
+#[cfg(test)]
+mod tests;
