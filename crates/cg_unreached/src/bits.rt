@@ -22,16 +22,17 @@ fn turned(alloc: Global, bytes: &[u8], place: usize, bit: u8) -> Result<Vec<u8>,
     Ok(copy)
 }
 
-/// What five turns of a canonical configuration leave, as the bytes of an image; none where they can't be run.
-fn left_by<C: Contexts>(
+/// What so many turns of a canonical configuration leave, as the bytes of an image; none where they can't be run.
+pub(crate) fn left_by<C: Contexts>(
     alloc: Global,
     arch: &Arch,
     config: &C,
+    turns: u32,
+    image: &Image,
 ) -> Result<Option<Vec<u8>>, AllocError>
     requires { IsCanonical arch.now (C.config config.now) }
 {
-    let image = Image::empty(alloc)?;
-    match Sim::new(alloc, arch, config, 5, &image) {
+    match Sim::new(alloc, arch, config, turns, image) {
         Ok(sim) => {
             let mut run = sim;
             run.finish();
@@ -70,15 +71,16 @@ pub(crate) fn cut_bytes_are_truncated(
     Ok(true)
 }
 
-/// Whether tables and view refuse these bytes alike, or both take them, write them back and run alike.
+/// Whether tables and view refuse these bytes alike, or both take them, write them back and run five turns alike.
 fn answer_alike(alloc: Global, arch: &Arch, bytes: &[u8]) -> Result<bool, AllocError> {
+    let image = Image::empty(alloc)?;
     match (read_bits(alloc, arch, bytes), ConfigView::of(arch, bytes)) {
         (Ok(tables), Ok(view)) => {
-            let left = left_by(alloc, arch, &tables)?;
+            let left = left_by(alloc, arch, &tables, 5, &image)?;
             Ok(
                 write_bits(alloc, arch, &tables)?.as_slice() == bytes
                     && left.is_some()
-                    && left_by(alloc, arch, &view)? == left,
+                    && left_by(alloc, arch, &view, 5, &image)? == left,
             )
         }
         (tables, view) => Ok(tables.err() == view.err()),

@@ -1,11 +1,13 @@
 //! What no command reaches: rows that were worked out by hand, and what comes of them, a line each.
 #![tactic(auto)]
 
+mod alike;
 mod archs;
 mod bits;
 mod graphs;
 mod routes;
 mod texts;
+mod trial;
 mod walks;
 
 use cg_arch::Arch;
@@ -14,6 +16,7 @@ use cg_kernel::{Kernel, read_kernel};
 use cg_tiles::read_arch;
 use std::rt::Files;
 use std::{fs, io};
+use trial::{digest_text, trial_of};
 
 fn main(rt: HostRuntime) -> io::Result<()> {
     let Some(arch) = arch_in(&rt, "t1.toml")? else {
@@ -27,7 +30,8 @@ fn main(rt: HostRuntime) -> io::Result<()> {
     rows_of_routes(&rt, &arch)?;
     rows_of_sum(&rt, &arch, &sum)?;
     rows_of_outputs(&rt, &arch)?;
-    rows_of_filter(&rt, &arch)
+    rows_of_filter(&rt, &arch)?;
+    rows_of_trial(&rt)
 }
 
 /// The architecture of a file, where it has one.
@@ -174,4 +178,38 @@ fn row_of_walks(
     let alike = walks::end_alike(rt.alloc(), arch, kernel, 2, seed, 70)?;
     let row = format!(in rt.alloc(); "filter, seed {seed}, 70 moves, as the plain walk")?;
     say(rt, row.as_str(), alike)
+}
+
+/// The trial of seed 1: its bits, and the images that the array and the turns leave.
+fn rows_of_trial(rt: &(impl Print + AllocGlobal)) -> io::Result<()> {
+    let trial = trial_of(rt.alloc(), 1)?;
+    let parts = &trial.parts;
+    let bits = trial.bits.as_slice();
+    row_of_bytes(rt, bits)?;
+    let alike = trial::reads_alike(rt.alloc(), &parts.arch, bits)?;
+    say(rt, "trial, each select and field by tables and view", alike)?;
+    let run = trial::run_image(rt.alloc(), &parts.arch, bits, &parts.image)?;
+    row_of_digest(rt, "run-image", run)?;
+    let turns = trial::turns_image(rt.alloc(), &parts.kernel, &parts.image)?;
+    row_of_digest(rt, "turns-image", turns)
+}
+
+fn row_of_bytes(rt: &(impl Print + AllocGlobal), bits: &[u8]) -> io::Result<()> {
+    let count = bits.len();
+    let line = format!(in rt.alloc(); "trial of seed 1: {count} bytes\n")?;
+    rt.print(line.as_str())
+}
+
+/// The digest of an image's bytes.
+fn row_of_digest(
+    rt: &(impl Print + AllocGlobal),
+    row: &str,
+    image: Option<Vec<u8>>,
+) -> io::Result<()> {
+    let Some(image) = image else {
+        return say(rt, row, false);
+    };
+    let digest = digest_text(rt.alloc(), image.as_slice())?;
+    let line = format!(in rt.alloc(); "{row} {digest}\n")?;
+    rt.print(line.as_str())
 }

@@ -1,0 +1,91 @@
+//! The trial of a seed: the bits of its mapping over the hub, by tables and view, and what a thousand turns leave.
+ghost use Rattle.std.specs.Prelude.{◌≡◌, IfOk, string_bytes};
+ghost use Rattle.sha2.specs.Sha256.{sha256};
+ghost use Rattle.hex.specs.Hex.{encode_lower};
+ghost use Rattle.cg_hub.specs.Hub.{HubEnough};
+
+use crate::alike::is_same;
+use crate::bits::left_by;
+use cg_arch::Arch;
+use cg_bits::read_bits;
+use cg_emit::emit;
+use cg_hub::hub_mapping;
+use cg_pad::{Image, write_image};
+use cg_trial::{Kernel, TrialParts, laws, trial_parts};
+use cg_turns::{TurnsFault, run_turns};
+use cg_view::ConfigView;
+use sha2::{Digest, Sha256};
+use std::alloc::{AllocError, Global};
+
+/// The turns of a run.
+const TURNS: u32 = 1000;
+
+/// The parts, and the bits of their mapping over the hub.
+#[derive(Drop)]
+pub(crate) struct Trial {
+    pub(crate) parts: TrialParts,
+    pub(crate) bits: Vec<u8>,
+}
+
+/// The trial of a seed.
+pub(crate) fn trial_of(alloc: Global, seed: u64) -> Result<Trial, AllocError> {
+    let parts = trial_parts(alloc, seed)?;
+    laws::enough();
+    let bits = hub_bits(alloc, &parts)?;
+    Ok(Trial { parts, bits })
+}
+
+/// The bits of the mapping over the hub, at an interval of 64 cycles.
+fn hub_bits(alloc: Global, parts: &TrialParts) -> Result<Vec<u8>, AllocError>
+    requires { HubEnough parts.now.arch parts.now.kernel 64 }
+{
+    let legal = hub_mapping(alloc, &parts.arch, &parts.kernel, 64)?;
+    emit(alloc, &legal)
+}
+
+/// Whether tables and view take the bits, and say the same of each select and of each field.
+pub(crate) fn reads_alike(alloc: Global, arch: &Arch, bits: &[u8]) -> Result<bool, AllocError> {
+    match (read_bits(alloc, arch, bits), ConfigView::of(arch, bits)) {
+        (Ok(tables), Ok(view)) => Ok(is_same(arch, &tables, &view)),
+        _ => Ok(false),
+    }
+}
+
+/// The image that the array leaves, as bytes; none where it can't be run.
+pub(crate) fn run_image(
+    alloc: Global,
+    arch: &Arch,
+    bits: &[u8],
+    image: &Image,
+) -> Result<Option<Vec<u8>>, AllocError> {
+    match ConfigView::of(arch, bits) {
+        Ok(view) => left_by(alloc, arch, &view, TURNS, image),
+        Err(_) => Ok(None),
+    }
+}
+
+/// The image that the kernel's turns leave, as bytes; none where there are too many or it is too large for a file.
+pub(crate) fn turns_image(
+    alloc: Global,
+    kernel: &Kernel,
+    image: &Image,
+) -> Result<Option<Vec<u8>>, AllocError> {
+    match run_turns(alloc, kernel, TURNS, image) {
+        Ok(done) => {
+            if done.image.is_storable() {
+                Ok(Some(write_image(alloc, &done.image)?))
+            } else {
+                Ok(None)
+            }
+        }
+        Err(TurnsFault::Memory) => Err(AllocError),
+        Err(_) => Ok(None),
+    }
+}
+
+/// The SHA-256 of bytes, as text.
+pub(crate) fn digest_text(alloc: Global, bytes: &[u8]) -> Result<String, AllocError>
+    ensures { IfOk result (λ s. string_bytes s ≡ encode_lower (sha256 bytes.now)) }
+{
+    hex::encode(alloc, Sha256::digest(bytes))
+}
