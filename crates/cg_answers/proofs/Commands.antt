@@ -5,10 +5,10 @@ use Rattle.cg_ending.specs.Outcome.{Name, File, Outcome}
 use Rattle.cg_command.specs.declared.plans.Command.{Command}
 use Rattle.cg_command.specs.declared.plans.Command.TheVariants.{Turns, TurnsOnImage, Flat, Run, Bound, Check, Emit, Map, Trial, Verilog}
 use Rattle.cg_sources.proofs.Sound.{IsSound, IsNamed}
-use Rattle.cg_run_answers.proofs.Turns.{sound_turns, quiet_turns, accepted_turns}
+use Rattle.cg_run_answers.proofs.TurnsAnswers.{sound_turns, quiet_turns, accepted_turns}
 use Rattle.cg_run_answers.proofs.OnImage.{same_on_image, sound_on_image, accepted_on_image, named_on_image}
-use Rattle.cg_run_answers.proofs.Flat.{same_flat, sound_flat, accepted_flat, named_flat}
-use Rattle.cg_run_answers.proofs.Run.{same_run, sound_run, accepted_run, named_run}
+use Rattle.cg_run_answers.proofs.FlatAnswers.{same_flat, sound_flat, accepted_flat, named_flat}
+use Rattle.cg_run_answers.proofs.RunAnswers.{same_run, sound_run, accepted_run, named_run}
 use Rattle.cg_map_answers.proofs.Bounded.{same_bound, sound_bound, accepted_bound, quiet_bound}
 use Rattle.cg_map_answers.proofs.Checked.{same_check, sound_check, accepted_check, quiet_check}
 use Rattle.cg_map_answers.proofs.Bitstream.{same_emit, sound_emit, accepted_emit, named_emit}

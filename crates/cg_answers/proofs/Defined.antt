@@ -6,8 +6,8 @@ use Rattle.cg_command.specs.declared.plans.Command.TheVariants.{Turns, TurnsOnIm
 use Rattle.cg_command.specs.Words.{HasShape}
 use Rattle.cg_run_answers.specs.Turns.{turns_of}
 use Rattle.cg_run_answers.proofs.OnImage.{some_on_image}
-use Rattle.cg_run_answers.proofs.Flat.{some_flat}
-use Rattle.cg_run_answers.proofs.Run.{some_run}
+use Rattle.cg_run_answers.proofs.FlatAnswers.{some_flat}
+use Rattle.cg_run_answers.proofs.RunAnswers.{some_run}
 use Rattle.cg_map_answers.proofs.Bounded.{some_bounding}
 use Rattle.cg_map_answers.proofs.Checked.{some_check}
 use Rattle.cg_map_answers.proofs.Bitstream.{some_emit}

@@ -8,10 +8,10 @@ use Rattle.cg_ending.specs.Ends.{Moment, Completed}
 use Rattle.cg_command.specs.declared.plans.Command.{Command}
 use Rattle.cg_command.specs.declared.plans.Command.TheVariants.{Turns, TurnsOnImage, Flat, Run, Bound, Check, Emit, Map, Trial, Verilog}
 use Rattle.cg_sources.proofs.Wholes.{one_read, first_read, second_read, three_read}
-use Rattle.cg_run_answers.proofs.Turns.{turned_left}
+use Rattle.cg_run_answers.proofs.TurnsAnswers.{turned_left}
 use Rattle.cg_run_answers.proofs.OnImage.{ordered_left, unordered_left}
-use Rattle.cg_run_answers.proofs.Flat.{flattened_left}
-use Rattle.cg_run_answers.proofs.Run.{run_left}
+use Rattle.cg_run_answers.proofs.FlatAnswers.{flattened_left}
+use Rattle.cg_run_answers.proofs.RunAnswers.{run_left}
 use Rattle.cg_map_answers.proofs.Bounded.{bound_left}
 use Rattle.cg_map_answers.proofs.Checked.{legal_left, illegal_left}
 use Rattle.cg_map_answers.proofs.Bitstream.{emitted_left, unemitted_left}

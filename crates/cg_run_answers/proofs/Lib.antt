@@ -1,7 +1,7 @@
 pub mod Reports
 pub mod Turned
 pub mod Imaged
-pub mod Turns
+pub mod TurnsAnswers
 pub mod OnImage
-pub mod Flat
-pub mod Run
+pub mod FlatAnswers
+pub mod RunAnswers

@@ -3,6 +3,6 @@
 #![tactic(auto)]
 
 mod runs;
-mod trial;
+mod summary;
 
-pub use trial::trial;
+pub use summary::trial;
