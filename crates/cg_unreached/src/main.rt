@@ -30,8 +30,13 @@ fn main(rt: HostRuntime) -> io::Result<()> {
     rows_of_routes(&rt, &arch)?;
     rows_of_sum(&rt, &arch, &sum)?;
     rows_of_outputs(&rt, &arch)?;
-    rows_of_filter(&rt, &arch)?;
-    rows_of_trial(&rt)
+    last_rows(&rt, &arch)
+}
+
+/// The rows of a filter, and of a trial.
+fn last_rows(rt: &(impl Files + Print + AllocGlobal), arch: &Arch) -> io::Result<()> {
+    rows_of_filter(rt, arch)?;
+    rows_of_trial(rt)
 }
 
 /// The architecture of a file, where it has one.
