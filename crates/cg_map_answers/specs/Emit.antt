@@ -14,8 +14,8 @@ use Rattle.cg_check.specs.Legal.{Mapped}
 use Rattle.cg_check.specs.declared.rule.Violation.{Violation}
 use Rattle.cg_check.specs.Rules.{violation}
 use Rattle.cg_emit.specs.Emitted.{RunLikeTurns, RunLikeTurnsAlone}
-use Rattle.cg_sources.specs.Sources.{AreMapped}
-use Rattle.cg_map_answers.specs.Check.{HoldMapped, illegal_report}
+use Rattle.cg_sources.specs.Sources.{AreMapped, HoldMapped}
+use Rattle.cg_map_answers.specs.Check.{illegal_report}
 
 -- the configuration of a mapping with what it maps
 abbrev pub config_of : Mapped → Config
