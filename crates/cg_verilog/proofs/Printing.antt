@@ -11,7 +11,7 @@ use Rattle.cg_verilog.specs.Words.{is_word, is_name, is_name_byte}
 use Rattle.cg_verilog.specs.Module.{PinText, CellText, WireText, ModuleText, IsPin, IsCell, IsWire, IsModule, pin_tokens, further_pin, cell_tokens, wire_tokens, lines_tokens, header, module_tokens}
 use Rattle.cg_verilog.specs.Printed.{pin_text, further_pin_text, wire_text, cell_text, header_text, module_text}
 use Rattle.cg_verilog.specs.Read.{Gives}
-use Rattle.cg_verilog.specs.Laws.{IsPrinted, AreOneInPrint}
+use Rattle.cg_verilog.specs.Laws.{IsPrinted, AreOneInPrint, AreWritten}
 use Rattle.cg_verilog.proofs.Numbers.{both, decimal_parts}
 use Rattle.cg_verilog.proofs.Unique.{one_module}
 
@@ -125,3 +125,6 @@ one_in_print m n h k e = one_module m n h k (sym (printed m h) ∙ ap (λ x. tex
 pub printed_of : (bytes : List ℕ) (r : Result Module ModuleFault) → ((m : ModuleText) → IsModule m → texts (tokens_of bytes) ≡ module_tokens m → Gives m r)
     → (m : ModuleText) → IsModule m → bytes ≡ module_text m → Gives m r
 printed_of bytes r only m h e = only m h (ap (λ x. texts (tokens_of x)) e ∙ printed m h)
+
+pub written : AreWritten
+written tokens p = (module_text p.0, printed p.0 p.1 ∙ sym p.2)

@@ -1,7 +1,7 @@
 -- Laws of modules and their texts.
-use Rattle.std.specs.Prelude.{◌≡◌}
+use Rattle.std.specs.Prelude.{◌≡◌, ℕ, List}
 use Rattle.cg_tokens.specs.Tokens.{tokens_of, texts}
-use Rattle.cg_verilog.specs.Module.{ModuleText, IsModule, module_tokens}
+use Rattle.cg_verilog.specs.Module.{ModuleText, IsModule, module_tokens, IsText}
 use Rattle.cg_verilog.specs.Printed.{module_text}
 
 -- the printed text of a module has its tokens
@@ -15,3 +15,7 @@ AreOne = (m n : ModuleText) → IsModule m → IsModule n → module_tokens m �
 -- modules with the same printed text are one
 abbrev pub AreOneInPrint : Type 0
 AreOneInPrint = (m n : ModuleText) → IsModule m → IsModule n → module_text m ≡ module_text n → m ≡ n
+
+-- the tokens of a module are those of some bytes, so what is said of tokens can be said of bytes
+abbrev pub AreWritten : Type 0
+AreWritten = (tokens : List (List ℕ)) → IsText tokens → (bytes : List ℕ) × (texts (tokens_of bytes) ≡ tokens)
