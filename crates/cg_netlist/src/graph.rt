@@ -26,8 +26,8 @@ impl NetGraph {
     ghost use Rattle.std.specs.Prelude.{◌≡◌};
     ghost use Rattle.cg_netlist.specs.Graph.{IsNetGraph};
 
-    /// A graph of these nets and cells.
-    pub(crate) fn new(nets: Vec<Net>, cells: Vec<Cell>) -> NetGraph
+    /// A graph of these nets and cells, which have to be one.
+    pub fn new(nets: Vec<Net>, cells: Vec<Cell>) -> NetGraph
         requires { IsNetGraph (record { nets = nets.items; cells = cells.items }) }
         ensures { result ≡ record { nets = nets.items; cells = cells.items } }
     {
