@@ -3,5 +3,5 @@ use Rattle.std.specs.Prelude.{◌≡◌, ℕ}
 use Rattle.cg_trial_run.specs.Report.{run_image, turns_image}
 
 -- the array leaves the image that the turns leave, and so the two digests are equal
-abbrev pub LeavesSame : ℕ → Type 0
-LeavesSame seed = run_image seed ≡ turns_image seed
+pub record LeavesSame (seed : ℕ) : Type 0 where
+  pub image : run_image seed ≡ turns_image seed

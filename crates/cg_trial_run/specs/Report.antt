@@ -1,5 +1,5 @@
 -- What a trial reports: the numbers of its mapping, and the digests of the images that its two runs leave.
-use Rattle.std.specs.Prelude.{◌≡◌, ℕ, ◌∷◌, [], length, codes, decimal}
+use Rattle.std.specs.Prelude.{◌≡◌, ℕ, ◌∷◌, ◌++◌, [], length, codes, decimal}
 use Rattle.hex.specs.Hex.{encode_lower}
 use Rattle.sha2.specs.Sha256.{sha256}
 use Rattle.cg_model.specs.Kernel.{size}
@@ -40,24 +40,39 @@ turns_image seed = (turns_left (trial_kernel seed) trial_turns trial_image).imag
 unfoldable pub image_digest : Image → Bytes
 image_digest image = encode_lower (sha256 (image_bytes image))
 
--- the report on a mapping, so many bytes of bits, and two digests
-abbrev pub report_of : ℕ → Mapped → ℕ → Bytes → Bytes → Bytes
-report_of seed m bits run turns =
+-- the lines on a mapping
+abbrev pub mapping_lines : ℕ → Mapped → Bytes
+mapping_lines seed m =
     line_then (codes "trial " ∷ decimal seed ∷ [])
     (line_then (codes "nodes " ∷ decimal (size m.kernel) ∷ [])
     (line_then (codes "ii " ∷ decimal m.mapping.ii ∷ [])
-    (line_then (codes "stages " ∷ decimal (configuration_of m.arch m.kernel m.mapping).stages ∷ [])
-    (line_then (codes "bits " ∷ decimal bits ∷ [])
+    (line_of (codes "stages " ∷ decimal (configuration_of m.arch m.kernel m.mapping).stages ∷ []))))
+
+-- those on so many bytes of bits, and two digests
+abbrev pub run_lines : ℕ → Bytes → Bytes → Bytes
+run_lines bits run turns =
+    line_then (codes "bits " ∷ decimal bits ∷ [])
     (line_then (codes "turns " ∷ decimal trial_turns ∷ [])
     (line_then (codes "run-image " ∷ run ∷ [])
-    (line_of (codes "turns-image " ∷ turns ∷ []))))))))
+    (line_of (codes "turns-image " ∷ turns ∷ []))))
+
+-- the report
+unfoldable pub report_of : ℕ → Mapped → ℕ → Bytes → Bytes → Bytes
+report_of seed m bits run turns = mapping_lines seed m ++ run_lines bits run turns
 
 -- that of a seed, where these bytes are the bits
 abbrev pub trial_report : ℕ → Bytes → Bytes
 trial_report seed bits = report_of seed (trial_mapped seed) (length bits) (image_digest (run_image seed)) (image_digest (turns_image seed))
 
--- it speaks of bits that spell the configuration
-pub record IsTrial (seed : ℕ) (report : Bytes) : Type 0 where
+-- a report on a mapping, bits that spell its configuration, and the images that the array and the turns leave of an image
+pub record IsReport (seed : ℕ) (m : Mapped) (image : Image) (report : Bytes) : Type 0 where
   pub bits : Bytes
-  pub spelled : AreBits trial_arch (trial_config seed) bits
-  pub report_is : report ≡ trial_report seed bits
+  pub spelled : AreBits m.arch (configuration_of m.arch m.kernel m.mapping) bits
+  pub report_is :
+      report
+      ≡ report_of seed m (length bits) (image_digest (machine_left m.arch (configuration_of m.arch m.kernel m.mapping) trial_turns image).image)
+      (image_digest (turns_left m.kernel trial_turns image).image)
+
+-- the report of a seed's trial
+abbrev pub IsTrial : ℕ → Bytes → Type 0
+IsTrial seed report = IsReport seed (trial_mapped seed) trial_image report

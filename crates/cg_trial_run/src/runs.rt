@@ -1,5 +1,5 @@
 //! The two runs, each down to the digest of the image that it leaves.
-ghost use Rattle.std.specs.Prelude.{◌≡◌, ◌≤◌, Ok, IfOk, length, string_bytes};
+ghost use Rattle.std.specs.Prelude.{◌≡◌, ◌≤◌, ℕ, Ok, IfOk, length, string_bytes};
 ghost use Rattle.cg_model.specs.Canonical.{IsCanonical};
 ghost use Rattle.cg_model.specs.Configured.{configuration_of};
 ghost use Rattle.cg_model.specs.Limits.{most_memory};
@@ -7,6 +7,7 @@ ghost use Rattle.cg_model.specs.Machine.{machine_left};
 ghost use Rattle.cg_model.specs.Turns.{turns_left};
 ghost use Rattle.cg_bits.specs.Answers.{answer_of};
 ghost use Rattle.cg_pad.specs.Bytes.{IsStorable};
+ghost use Rattle.cg_turns.specs.Done.{left_of, IsSmall};
 ghost use Rattle.cg_trial_run.specs.Report as spec;
 ghost use Rattle.cg_trial_run.specs.Report.{trial_turns};
 
@@ -15,7 +16,7 @@ use cg_check::LegalMapping;
 use cg_kernel::Kernel;
 use cg_pad::{Image, write_image};
 use cg_sim::{Sim, SimFault};
-use cg_turns::{TurnsFault, run_turns};
+use cg_turns::{TurnsDone, TurnsFault, run_turns};
 use cg_view::ConfigView;
 use sha2::{Digest, Sha256};
 use std::alloc::{AllocError, Global};
@@ -65,8 +66,19 @@ fn config_digest(
 {
     match Sim::new(alloc, arch, config, TURNS, image) {
         Ok(sim) => left_digest(alloc, sim),
-        Err(SimFault::Memory) => Err(AllocError),
-        Err(_) => unreachable!(),
+        Err(fault) => Err(want_of_run(fault)),
+    }
+}
+
+/// The lone fault of few enough turns from an image that fits.
+fn want_of_run(fault: SimFault) -> AllocError
+    requires many { (t : ℕ) → fault ≡ SimFault.TooManyTurns t → ⊥ }
+    requires large { (w : ℕ) → fault ≡ SimFault.ImageTooLarge w → ⊥ }
+{
+    match fault {
+        SimFault::Memory => AllocError,
+        SimFault::TooManyTurns(_) => unreachable!(),
+        SimFault::ImageTooLarge(_) => unreachable!(),
     }
 }
 
@@ -82,18 +94,37 @@ fn left_digest(alloc: Global, sim: Sim<'_, ConfigView<'_>>) -> Result<String, Al
     image_digest(alloc, &image)
 }
 
-/// The turns of the kernel are run, one after the other.
+/// The turns of a mapping's kernel are run, one after the other.
 pub(crate) fn turns_digest(
     alloc: Global,
-    kernel: &Kernel,
+    mapping: &LegalMapping<'_>,
     image: &Image,
 ) -> Result<String, AllocError>
     requires { length image.now.memory ≤ most_memory }
-    ensures { IfOk result (λ s. string_bytes s ≡ spec.image_digest (turns_left kernel.now trial_turns image.now).image) }
+    ensures { IfOk result (λ s. string_bytes s ≡ spec.image_digest (turns_left mapping.now.kernel trial_turns image.now).image) }
+{
+    let done = turned(alloc, mapping.kernel(), image)?;
+    let text = image_digest(alloc, &done.image)?;
+    Ok(text)
+}
+
+/// The turns of a kernel.
+fn turned(alloc: Global, kernel: &Kernel, image: &Image) -> Result<TurnsDone, AllocError>
+    ensures done { IfOk result (λ d. left_of d ≡ turns_left kernel.now trial_turns image.now) }
+    ensures small { IfOk result (λ d. IsSmall image.now trial_turns d.image) }
 {
     match run_turns(alloc, kernel, TURNS, image) {
-        Ok(done) => image_digest(alloc, &done.image),
-        Err(TurnsFault::Memory) => Err(AllocError),
-        Err(_) => unreachable!(),
+        Ok(done) => Ok(done),
+        Err(fault) => Err(want_of_turns(fault)),
+    }
+}
+
+/// The lone fault of few enough turns.
+fn want_of_turns(fault: TurnsFault) -> AllocError
+    requires { (t : ℕ) → fault ≡ TurnsFault.TooManyTurns t → ⊥ }
+{
+    match fault {
+        TurnsFault::Memory => AllocError,
+        TurnsFault::TooManyTurns(_) => unreachable!(),
     }
 }

@@ -1,18 +1,21 @@
 //! A trial from its seed to its report.
-ghost use Rattle.std.specs.Prelude.{◌≡◌, IfOk};
-ghost use Rattle.cg_trial_run.specs.Report.{IsTrial, report_of};
+ghost use Rattle.std.specs.Prelude.{◌≡◌, ◌≤◌, IfOk, length};
+ghost use Rattle.cg_model.specs.Limits.{most_memory};
+ghost use Rattle.cg_trial_run.specs.Report.{IsReport, IsTrial, mapping_lines, report_of, run_lines};
 ghost use Rattle.cg_trial_run.specs.Laws.{LeavesSame};
 
 use crate::runs::{TURNS, run_digest, turns_digest};
 use cg_check::LegalMapping;
 use cg_emit::{emit, stages};
 use cg_hub::hub_mapping;
+use cg_pad::Image;
 use cg_trial::laws::enough;
 use cg_trial::trial_parts;
 use std::alloc::{AllocError, Global};
 
 /// The trial of a seed: its parts are mapped at an interval of 64 cycles, the bits are run by the array, and the kernel turn
 /// by turn. The report has eight lines, of which the last two say the SHA-256 of the images that are left.
+#[tactic(auto, using(crate::proofs::Trials::same_image))]
 pub fn trial(alloc: Global, seed: u64) -> Result<Vec<u8>, AllocError>
     ensures report { IfOk result (λ v. IsTrial seed v.items) }
     // Both runs leave the same image.
@@ -21,20 +24,31 @@ pub fn trial(alloc: Global, seed: u64) -> Result<Vec<u8>, AllocError>
     let parts = trial_parts(alloc, seed)?;
     enough();
     let mapping = hub_mapping(alloc, &parts.arch, &parts.kernel, 64)?;
-    let bits = emit(alloc, &mapping)?;
-    let run = run_digest(alloc, &mapping, bits.as_slice(), &parts.image)?;
-    let turns = turns_digest(alloc, &parts.kernel, &parts.image)?;
-    report(
-        alloc,
-        seed,
-        &mapping,
-        bits.len(),
-        run.as_str(),
-        turns.as_str(),
-    )
+    let text = report_on(alloc, seed, &mapping, &parts.image)?;
+    Ok(text)
+}
+
+/// The report on a mapping that runs from an image.
+fn report_on(
+    alloc: Global,
+    seed: u64,
+    mapping: &LegalMapping<'_>,
+    image: &Image,
+) -> Result<Vec<u8>, AllocError>
+    requires fits { length image.now.memory ≤ mapping.now.arch.memory }
+    requires storable { length image.now.memory ≤ most_memory }
+    ensures { IfOk result (λ v. IsReport seed mapping.now image.now v.items) }
+{
+    let bits = emit(alloc, mapping)?;
+    let run = run_digest(alloc, mapping, bits.as_slice(), image)?;
+    let turns = turns_digest(alloc, mapping, image)?;
+    let count = bits.len();
+    let text = report(alloc, seed, mapping, count, run.as_str(), turns.as_str())?;
+    Ok(text)
 }
 
 /// The report.
+#[tactic(auto, unfolding(crate::specs::Report::report_of))]
 fn report(
     alloc: Global,
     seed: u64,
@@ -45,14 +59,33 @@ fn report(
 ) -> Result<Vec<u8>, AllocError>
     ensures { IfOk result (λ v. v.items ≡ report_of seed mapping.now bits run.now turns.now) }
 {
+    let mut text = mapping_lines(alloc, seed, mapping)?;
+    let lines = run_lines(alloc, bits, run, turns)?;
+    text.extend_from_slice(lines.as_slice())?;
+    Ok(text)
+}
+
+/// The lines on a mapping.
+fn mapping_lines(
+    alloc: Global,
+    seed: u64,
+    mapping: &LegalMapping<'_>,
+) -> Result<Vec<u8>, AllocError>
+    ensures { IfOk result (λ v. v.items ≡ mapping_lines seed mapping.now) }
+{
     let nodes = mapping.kernel().nodes().len();
     let ii = mapping.mapping().ii();
     let stages = stages(mapping);
-    let head = format!(in alloc; "trial {seed}\nnodes {nodes}\nii {ii}\nstages {stages}\n")?;
-    let sizes = format!(in alloc; "bits {bits}\nturns {TURNS}\n")?;
-    let images = format!(in alloc; "run-image {run}\nturns-image {turns}\n")?;
-    let mut text = head.into_bytes();
-    text.extend_from_slice(sizes.as_bytes())?;
-    text.extend_from_slice(images.as_bytes())?;
-    Ok(text)
+    let lines = format!(in alloc; "trial {seed}\nnodes {nodes}\nii {ii}\nstages {stages}\n")?;
+    Ok(lines.into_bytes())
+}
+
+/// The lines on bits and digests.
+fn run_lines(alloc: Global, bits: usize, run: &str, turns: &str) -> Result<Vec<u8>, AllocError>
+    ensures { IfOk result (λ v. v.items ≡ run_lines bits run.now turns.now) }
+{
+    let lines = format!(in alloc;
+        "bits {bits}\nturns {TURNS}\nrun-image {run}\nturns-image {turns}\n"
+    )?;
+    Ok(lines.into_bytes())
 }
