@@ -9,7 +9,8 @@ use Rattle.cg_verilog.proofs.Unique.{one_module}
 use Rattle.cg_verilog.proofs.Printing.{printed}
 use Rattle.cg_netlist_reader.specs.declared.fault.VerilogFault.{VerilogFault}
 use Rattle.cg_netlist_reader.specs.declared.fault.VerilogFault.TheVariants as faults
-use Rattle.cg_netlist.specs.Netlist.{Cell, NetGraph}
+use Rattle.cg_netlist.specs.declared.parts.Cell.{Cell}
+use Rattle.cg_netlist.specs.Netlist.{NetGraph}
 use Rattle.cg_netlist.specs.Graph.{IsNetGraph}
 use Rattle.cg_netlist.specs.Text.{module_of}
 use Rattle.cg_netlist_reader.specs.Reading.{Spells, IsFormed, unknown_net, IsFault, Gives}

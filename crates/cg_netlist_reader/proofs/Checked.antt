@@ -9,7 +9,10 @@ use Rattle.std.proofs.lemmas.Slice.Eq.{bytes_eq-Decides}
 use Rattle.cg_verilog.specs.Words.{is_name}
 use Rattle.cg_verilog.specs.Module as text
 use Rattle.cg_netlist.specs.Forms.{Form, form_name, form_ports, IsForm}
-use Rattle.cg_netlist.specs.Netlist.{Net, Pin, Cell, NetGraph}
+use Rattle.cg_netlist.specs.declared.parts.Net.{Net}
+use Rattle.cg_netlist.specs.declared.parts.Pin.{Pin}
+use Rattle.cg_netlist.specs.declared.parts.Cell.{Cell}
+use Rattle.cg_netlist.specs.Netlist.{NetGraph}
 use Rattle.cg_netlist.specs.Graph.{names, IsNet, IsConnected, IsCell, IsNetGraph}
 use Rattle.cg_netlist.specs.Text.{wire_of, pin_of, cell_with, cell_of, module_of}
 use Rattle.cg_netlist_reader.specs.Reading.{ports, IsOf, IsFormed, given, has, repeated, unknown, pin_net, pin_nets, unknown_net}
@@ -101,6 +104,15 @@ graph_of G valid formed none =
       once = once.1;
       cells = cells_are (names G.nets) G.cells valid.cells formed (all_of_flat (IsKnown (given ++ names G.nets)) G.cells known);
     }
+
+-- the same of what a function has at hand
+pub graph_is : (nets n : List Net) (cells f m : List Cell) → text.IsModule (module_of (record { nets = nets; cells = cells })) → f ≡ cells → n ≡ nets → m ≡ cells → All IsFormed f
+    → unknown_net (record { nets = n; cells = m }) ≡ None → IsNetGraph (record { nets = nets; cells = cells })
+graph_is nets n cells f m valid a b d formed none =
+    let P : List Cell → Type 0 = λ x. All IsFormed x in
+    let Q : List Net → Type 0 = λ x. unknown_net (record { nets = x; cells = m }) ≡ None in
+    let R : List Cell → Type 0 = λ x. unknown_net (record { nets = nets; cells = x }) ≡ None in
+    graph_of (record { nets = nets; cells = cells }) valid (subst P a formed) (subst R d (subst Q b none))
 
 -- ---- a graph passes what is checked
 

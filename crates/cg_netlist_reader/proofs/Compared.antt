@@ -3,7 +3,7 @@ use Rattle.std.proofs.Common.{◌≡◌, ℕ, ◌+◌, ◌<◌, Bool, true, fals
 use Rattle.std.specs.Prelude.{IsTrue, ◌↔◌, bytes_eq}
 use Rattle.std.proofs.lemmas.List.{get_or-map, get_or_default, length-map, take_more_same}
 use Rattle.std.proofs.lemmas.Slice.Eq.{bytes_eq-Decides}
-use Rattle.cg_netlist.specs.Netlist.{Pin}
+use Rattle.cg_netlist.specs.declared.parts.Pin.{Pin}
 use Rattle.cg_netlist_reader.specs.Formed.{ports_of}
 use Rattle.cg_netlist_reader.proofs.Found.{differ_item, ports_differ}
 

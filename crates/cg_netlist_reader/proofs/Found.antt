@@ -11,7 +11,7 @@ use Rattle.std.proofs.lemmas.List.FromFn.{map-range_with_len_more}
 use Rattle.std.proofs.lemmas.List.Folds.{find-append}
 use Rattle.std.proofs.lemmas.Slice.Eq.{bytes_eq-Decides}
 use Rattle.std.proofs.Math.Seq.{drop-cons}
-use Rattle.cg_netlist.specs.Netlist.{Net}
+use Rattle.cg_netlist.specs.declared.parts.Net.{Net}
 use Rattle.cg_netlist.specs.Graph.{names}
 use Rattle.cg_netlist_reader.specs.Reading.{given, has, repeated}
 

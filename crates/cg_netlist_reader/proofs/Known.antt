@@ -7,7 +7,10 @@ use Rattle.std.proofs.lemmas.Bool.{cond_both, cond-false, or_parts, or_cases, or
 use Rattle.std.proofs.lemmas.List.Elements.{All-nil, All-cons, All-append, All-head, All-tail, recursion_from_All, All-from_recursion}
 use Rattle.std.proofs.lemmas.Map.Keys.{IsDistinct-head, IsDistinct-tail, IsDistinct-cons}
 use Rattle.std.proofs.lemmas.Slice.Eq.{bytes_eq-Decides}
-use Rattle.cg_netlist.specs.Netlist.{Net, Pin, Cell, NetGraph}
+use Rattle.cg_netlist.specs.declared.parts.Net.{Net}
+use Rattle.cg_netlist.specs.declared.parts.Pin.{Pin}
+use Rattle.cg_netlist.specs.declared.parts.Cell.{Cell}
+use Rattle.cg_netlist.specs.Netlist.{NetGraph}
 use Rattle.cg_netlist.specs.Graph.{names, IsConnected}
 use Rattle.cg_netlist_reader.specs.Reading.{given, has, repeated, unknown}
 

@@ -8,7 +8,10 @@ use Rattle.indexmap.specs.IndexMap.{IndexMap}
 use Rattle.cg_names.specs.Numbers.{found_in}
 use Rattle.cg_netlist_reader.specs.declared.fault.VerilogFault.{VerilogFault}
 use Rattle.cg_netlist_reader.specs.declared.fault.VerilogFault.TheVariants as faults
-use Rattle.cg_netlist.specs.Netlist.{Net, Pin, Cell, NetGraph}
+use Rattle.cg_netlist.specs.declared.parts.Net.{Net}
+use Rattle.cg_netlist.specs.declared.parts.Pin.{Pin}
+use Rattle.cg_netlist.specs.declared.parts.Cell.{Cell}
+use Rattle.cg_netlist.specs.Netlist.{NetGraph}
 use Rattle.cg_netlist.specs.Graph.{names}
 use Rattle.cg_netlist_reader.specs.Reading.{given, has, repeated, unknown, pin_net, pin_nets, unknown_net}
 use Rattle.cg_netlist_reader.specs.Looked.{IsSet, IsAdded, unknown_by}

@@ -6,7 +6,8 @@ use Rattle.std.proofs.lemmas.Bool.{and_parts, and_from, or_cases, or_left, or_ri
 use Rattle.std.proofs.lemmas.List.{length-map, append_cancel_left}
 use Rattle.std.proofs.lemmas.Slice.Eq.{bytes_eq-Decides}
 use Rattle.cg_netlist.specs.Forms.{Form, ContextForm, PresetForm, MuxForm, RegisterForm, ZeroForm, UnitForm, form_name, form_ports, IsForm, driver_port, argument_port, hexadecimal}
-use Rattle.cg_netlist.specs.Netlist.{Pin, Cell}
+use Rattle.cg_netlist.specs.declared.parts.Pin.{Pin}
+use Rattle.cg_netlist.specs.declared.parts.Cell.{Cell}
 use Rattle.cg_netlist_reader.specs.Reading.{ports, IsOf, IsFormed}
 use Rattle.cg_netlist_reader.specs.Formed.{IsContext, IsPreset, IsMux, IsRegister, IsZero, IsUnit, ports_of, unit_ports, IsNumbered, IsOperations, HasLatency, IsUnitName, IsAfter, Parses, IsNumber}
 

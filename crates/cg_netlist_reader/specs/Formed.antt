@@ -2,7 +2,8 @@
 use Rattle.std.specs.Prelude.{◌≡◌, ℕ, ◌+◌, ◌^◌, ◌<◌, ◌≤◌, List, [], ◌∷◌, ◌++◌, map, length, codes, decimal, Option, Some, None}
 use Rattle.std.specs.List.{range_with_len}
 use Rattle.cg_netlist.specs.Forms.{Form, ContextForm, PresetForm, MuxForm, RegisterForm, ZeroForm, UnitForm, form_name, argument_port, hexadecimal}
-use Rattle.cg_netlist.specs.Netlist.{Pin, Cell}
+use Rattle.cg_netlist.specs.declared.parts.Pin.{Pin}
+use Rattle.cg_netlist.specs.declared.parts.Cell.{Cell}
 use Rattle.cg_netlist_reader.specs.Reading.{IsOf}
 
 abbrev pub IsContext : Cell → Type 0

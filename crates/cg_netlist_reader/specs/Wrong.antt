@@ -3,7 +3,8 @@ use Rattle.std.specs.Prelude.{◌≡◌, ℕ, List, All, Option, Some}
 use Rattle.cg_verilog.specs.Module.{ModuleText}
 use Rattle.cg_netlist_reader.specs.declared.fault.VerilogFault.{VerilogFault}
 use Rattle.cg_netlist_reader.specs.declared.fault.VerilogFault.TheVariants as faults
-use Rattle.cg_netlist.specs.Netlist.{Cell, NetGraph}
+use Rattle.cg_netlist.specs.declared.parts.Cell.{Cell}
+use Rattle.cg_netlist.specs.Netlist.{NetGraph}
 use Rattle.cg_netlist.specs.Text.{module_of}
 use Rattle.cg_netlist_reader.specs.Reading.{IsFormed, IsUnknownCell, unknown_net}
 

@@ -1,5 +1,5 @@
 use Rattle.std.proofs.Common.{ℕ, ◌<◌, get_or}
-use Rattle.cg_netlist.specs.Netlist.{Cell}
+use Rattle.cg_netlist.specs.declared.parts.Cell.{Cell}
 use Rattle.cg_netlist_reader.specs.Reading.{IsFormed}
 use Rattle.cg_netlist_reader.proofs.forming.check_forms.Given as goal
 
