@@ -1,0 +1,9 @@
+pub mod Known
+pub mod Checked
+pub mod Shapes
+pub mod Ascii
+pub mod Found
+pub mod Faults
+pub mod Answered
+pub mod Looks
+pub mod Compared

@@ -1,0 +1,84 @@
+-- What a text of structural Verilog stands for, and why it stands for no netlist.
+use Rattle.std.specs.Prelude.{◌≡◌, ℕ, ◌<◌, Bool, List, [], ◌∷◌, ◌++◌, map, All, codes, bytes_eq, not, Option, Some, None, Result, Ok, Err, find, length, slice_index_or, if◌then◌else◌}
+use Rattle.std.specs.List.{list_any, flat_map}
+use Rattle.std.specs.Option.{option_or}
+use Rattle.cg_tokens.specs.Tokens.{tokens_of, texts}
+use Rattle.cg_tokens.specs.Faults.{FaultIn}
+use Rattle.cg_verilog.specs.Module.{IsModule, IsText, module_tokens}
+use Rattle.cg_netlist.specs.Forms.{Form, form_name, form_ports, IsForm}
+use Rattle.cg_netlist_reader.specs.declared.fault.VerilogFault.{VerilogFault}
+use Rattle.cg_netlist_reader.specs.declared.fault.VerilogFault.TheVariants as faults
+use Rattle.cg_netlist.specs.declared.parts.Net.{Net}
+use Rattle.cg_netlist.specs.declared.parts.Pin.{Pin}
+use Rattle.cg_netlist.specs.declared.parts.Cell.{Cell}
+use Rattle.cg_netlist.specs.Netlist.{NetGraph}
+use Rattle.cg_netlist.specs.Graph.{names}
+use Rattle.cg_netlist.specs.Text.{module_of}
+
+-- the bytes spell these nets and cells, whatever they stand for
+pub record Spells (bytes : List ℕ) (G : NetGraph) : Type 0 where
+  pub valid : IsModule (module_of G)
+  pub tokens : texts (tokens_of bytes) ≡ module_tokens (module_of G)
+
+-- ---- cells
+
+abbrev pub ports : Cell → List (List ℕ)
+ports c = map (λ (p : Pin). p.port) c.pins
+
+-- the cell has the name of this form, and the form's pins in order
+pub record IsOf (c : Cell) (f : Form) : Type 0 where
+  pub valid : IsForm f
+  pub called : c.«module» ≡ form_name f
+  pub ports : ports c ≡ form_ports f
+
+abbrev pub IsFormed : Cell → Type 0
+IsFormed c = (f : Form) × IsOf c f
+
+-- cell i is the first that is of no form
+pub record IsUnknownCell (cells : List Cell) (i : ℕ) : Type 0 where
+  pub within : i < length cells
+  pub before : (j : ℕ) (d : Cell) → j < i → IsFormed (slice_index_or cells j d)
+  pub there : (d : Cell) → IsFormed (slice_index_or cells i d) → ⊥
+
+-- ---- nets
+
+-- the clock and the reset
+abbrev pub given : List (List ℕ)
+given = codes "clk" ∷ codes "rst" ∷ []
+
+abbrev pub has : List (List ℕ) → List ℕ → Bool
+has names name = list_any (λ n. bytes_eq n name) names
+
+-- the first name that stands among those or earlier ones
+abbrev pub repeated : List (List ℕ) → List (List ℕ) → Option (List ℕ)
+repeated seen [] = None
+repeated seen (name ∷ names) = if has seen name then Some name else repeated (seen ++ name ∷ []) names
+
+-- the first name that doesn't stand among those
+abbrev pub unknown : List (List ℕ) → List (List ℕ) → Option (List ℕ)
+unknown known names = find (λ name. not (has known name)) names
+
+-- the net of a pin, and the nets of a cell's pins
+abbrev pub pin_net : Pin → List (List ℕ)
+pin_net p = p.net ∷ []
+
+abbrev pub pin_nets : Cell → List (List ℕ)
+pin_nets c = flat_map pin_net c.pins
+
+-- the first net that is declared again; else the first pin's net that isn't declared
+abbrev pub unknown_net : NetGraph → Option (List ℕ)
+unknown_net G = option_or (repeated given (names G.nets)) (unknown (given ++ names G.nets) (flat_map pin_nets G.cells))
+
+-- ---- answers
+
+-- why the bytes spell no netlist: the fault of the lowest number, at its first place
+abbrev pub IsFault : VerilogFault → List ℕ → Type 0
+IsFault faults.Memory bytes = Unit {0}
+IsFault (faults.Text place) bytes = FaultIn IsText bytes place
+IsFault (faults.UnknownCell i) bytes = (G : NetGraph) × Spells bytes G × IsUnknownCell G.cells i
+IsFault (faults.UnknownNet name) bytes = (G : NetGraph) × Spells bytes G × All IsFormed G.cells × (unknown_net G ≡ Some name)
+
+-- unless memory ran out, this graph was read
+abbrev pub Gives : NetGraph → Result NetGraph VerilogFault → Type 0
+Gives G (Ok H) = H ≡ G
+Gives G (Err e) = e ≡ faults.Memory

@@ -1,0 +1,13 @@
+//! Netlists from structural Verilog.
+#![tactic(auto)]
+
+mod fault;
+mod forming;
+mod joining;
+mod read;
+mod taken;
+mod texts;
+
+pub use fault::VerilogFault;
+pub use read::read_verilog;
+pub use texts::verilog_fault_text;

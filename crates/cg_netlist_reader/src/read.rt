@@ -1,0 +1,76 @@
+//! Netlists from texts.
+ghost use Rattle.std.specs.Prelude.{◌≡◌, IfOk, IfErr};
+ghost use Rattle.cg_verilog.specs.Module as texts;
+ghost use Rattle.cg_verilog.specs.Read as modules;
+ghost use Rattle.cg_netlist.specs.Netlist as netlists;
+ghost use Rattle.cg_netlist.specs.Graph.{IsNetGraph};
+ghost use Rattle.cg_netlist.specs.Text.{module_of};
+ghost use Rattle.cg_netlist_reader.specs.Wrong.{IsBad, IsWrong};
+ghost use Rattle.cg_netlist_reader.specs.Reading as spec;
+ghost use Rattle.cg_verilog.specs.Printed as printed;
+
+use crate::fault::VerilogFault;
+use crate::forming::check_forms;
+use crate::joining::check_nets;
+use crate::taken::{cells_of, nets_of};
+use cg_netlist::{Cell, Net, NetGraph};
+use cg_verilog::{Module, ModuleFault, read_module};
+use std::alloc::Global;
+
+/// The netlist that the bytes spell.
+#[tactic(auto, using(crate::proofs::Answered::only_of, crate::proofs::Answered::printed_spells))]
+pub fn read_verilog(alloc: Global, bytes: &[u8]) -> Result<NetGraph, VerilogFault>
+    // What is read is spelled so.
+    ensures found { IfOk result (λ graph. spec.Spells bytes.now graph) }
+    // What is spelled so is read, unless memory runs out.
+    ensures only { (graph : netlists.NetGraph) → IsNetGraph graph → spec.Spells bytes.now graph → spec.Gives graph result }
+    // So is what is printed.
+    ensures printed { (graph : netlists.NetGraph) → IsNetGraph graph → bytes.now ≡ printed.module_text (module_of graph) → spec.Gives graph result }
+    // Which fault it is.
+    ensures fault { IfErr result (λ e. spec.IsFault e bytes.now) }
+{
+    read(alloc, bytes)
+}
+
+/// The same, without the laws that follow from its two clauses.
+#[tactic(auto, using(crate::proofs::Faults::read_found, crate::proofs::Faults::read_fault))]
+fn read(alloc: Global, bytes: &[u8]) -> Result<NetGraph, VerilogFault>
+    // What is read is spelled so.
+    ensures found { IfOk result (λ graph. spec.Spells bytes.now graph) }
+    // Which fault it is.
+    ensures fault { IfErr result (λ e. spec.IsFault e bytes.now) }
+{
+    match read_module(alloc, bytes) {
+        Ok(module) => graph_of(alloc, &module),
+        Err(ModuleFault::Memory) => Err(VerilogFault::Memory),
+        Err(ModuleFault::Text(place)) => Err(VerilogFault::Text(place)),
+    }
+}
+
+/// The netlist of a module.
+#[tactic(auto, using(crate::proofs::Faults::graph_found, crate::proofs::Faults::graph_fault))]
+fn graph_of(alloc: Global, text: &Module<'_>) -> Result<NetGraph, VerilogFault>
+    requires { texts.IsModule (modules.module_of text.now) }
+    ensures found { IfOk result (λ graph. module_of graph ≡ modules.module_of text.now) }
+    ensures fault { IfErr result (λ e. IsWrong e (modules.module_of text.now)) }
+{
+    let nets = nets_of(alloc, &text.wires)?;
+    let cells = cells_of(alloc, &text.cells)?;
+    checked(alloc, nets, cells)
+}
+
+/// The netlist of nets and cells, where it is one.
+#[tactic(auto, using(crate::proofs::Checked::graph_of, crate::proofs::Faults::cell_bad, crate::proofs::Faults::net_bad))]
+fn checked(alloc: Global, nets: Vec<Net>, cells: Vec<Cell>) -> Result<NetGraph, VerilogFault>
+    requires { texts.IsModule (module_of (record { nets = nets.items; cells = cells.items })) }
+    ensures found { IfOk result (λ graph. graph ≡ record { nets = nets.items; cells = cells.items }) }
+    ensures fault { IfErr result (λ e. IsBad e (record { nets = nets.items; cells = cells.items })) }
+{
+    if let Err(fault) = check_forms(alloc, &cells) {
+        return Err(fault);
+    }
+    if let Err(fault) = check_nets(alloc, &nets, &cells) {
+        return Err(fault);
+    }
+    Ok(NetGraph::new(nets, cells))
+}
