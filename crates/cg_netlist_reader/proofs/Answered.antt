@@ -3,13 +3,12 @@ use Rattle.std.proofs.Common.{◌≡◌, ℕ, List, [], Some, None, Ok, Err, Res
 use Rattle.std.specs.Prelude.{All, IfOk, IfErr}
 use Rattle.cg_tokens.specs.Tokens.{tokens_of, texts}
 use Rattle.cg_tokens.proofs.Bytes.{no_text}
-use Rattle.cg_verilog.specs.Module.{ModuleText, IsModule, IsText, module_tokens}
+use Rattle.cg_verilog.specs.Module.{IsText}
 use Rattle.cg_verilog.specs.Printed.{module_text}
 use Rattle.cg_verilog.proofs.Unique.{one_module}
 use Rattle.cg_verilog.proofs.Printing.{printed}
 use Rattle.cg_netlist_reader.specs.declared.fault.VerilogFault.{VerilogFault}
 use Rattle.cg_netlist_reader.specs.declared.fault.VerilogFault.TheVariants as faults
-use Rattle.cg_netlist.specs.declared.parts.Cell.{Cell}
 use Rattle.cg_netlist.specs.Netlist.{NetGraph}
 use Rattle.cg_netlist.specs.Graph.{IsNetGraph}
 use Rattle.cg_netlist.specs.Text.{module_of}

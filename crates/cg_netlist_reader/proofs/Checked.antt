@@ -1,21 +1,20 @@
 -- What is checked of a text's nets and cells makes them a graph, and nothing less does.
-use Rattle.std.proofs.Common.{◌≡◌, ℕ, zero, suc, ◌+◌, ◌<◌, ◌≤◌, ◌⊎◌, inl, inr, ⊎_elim, Bool, true, false, ◌||◌, List, [], ◌∷◌, ◌++◌, length, map, Option, Some, None, refl, ap, sym, ◌∙◌, subst, arith}
-use Rattle.std.specs.Prelude.{All, Contains, codes, bytes_eq}
-use Rattle.std.specs.List.{flat_map, AllByRecursion, IsDistinct}
+use Rattle.std.proofs.Common.{◌≡◌, ℕ, ⊎_elim, true, false, ◌||◌, List, [], ◌∷◌, ◌++◌, map, Option, Some, None, refl, ap, sym, ◌∙◌, subst}
+use Rattle.std.specs.Prelude.{All, codes, bytes_eq}
+use Rattle.std.specs.List.{flat_map, AllByRecursion}
 use Rattle.std.specs.Option.{option_or}
 use Rattle.std.proofs.lemmas.Bool.{false_from_ne_true, or_cases}
 use Rattle.std.proofs.lemmas.List.Elements.{All-nil, All-cons, All-append, All-head, All-tail, All-weaker}
 use Rattle.std.proofs.lemmas.Slice.Eq.{bytes_eq-Decides}
 use Rattle.cg_verilog.specs.Words.{is_name}
 use Rattle.cg_verilog.specs.Module as text
-use Rattle.cg_netlist.specs.Forms.{Form, form_name, form_ports, IsForm}
 use Rattle.cg_netlist.specs.declared.parts.Net.{Net}
 use Rattle.cg_netlist.specs.declared.parts.Pin.{Pin}
 use Rattle.cg_netlist.specs.declared.parts.Cell.{Cell}
 use Rattle.cg_netlist.specs.Netlist.{NetGraph}
 use Rattle.cg_netlist.specs.Graph.{names, IsNet, IsConnected, IsCell, IsNetGraph}
 use Rattle.cg_netlist.specs.Text.{wire_of, pin_of, cell_with, cell_of, module_of}
-use Rattle.cg_netlist_reader.specs.Reading.{ports, IsOf, IsFormed, given, has, repeated, unknown, pin_net, pin_nets, unknown_net}
+use Rattle.cg_netlist_reader.specs.Reading.{IsFormed, given, has, repeated, unknown, pin_net, pin_nets, unknown_net}
 use Rattle.cg_netlist_reader.proofs.Known.{IsFresh, IsKnown, none_repeated, never_repeated, none_unknown, never_unknown, connected, known_pin}
 
 -- ---- parts of an answer

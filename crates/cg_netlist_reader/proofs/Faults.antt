@@ -1,5 +1,5 @@
 -- Faults of nets and cells are faults of the bytes that spell them.
-use Rattle.std.proofs.Common.{◌≡◌, ℕ, List, Some, None, Ok, Err, Result, refl, ap, sym, ◌∙◌, subst}
+use Rattle.std.proofs.Common.{◌≡◌, ℕ, List, Ok, Err, Result, ap, sym, ◌∙◌, subst}
 use Rattle.std.specs.Prelude.{All, IfOk, IfErr}
 use Rattle.cg_tokens.specs.Tokens.{tokens_of, texts}
 use Rattle.cg_verilog.specs.Module.{ModuleText, WireText, CellText, IsModule, module_tokens}

@@ -1,16 +1,12 @@
 -- Nets that are declared once, and pins whose nets are declared.
-use Rattle.std.proofs.Common.{◌≡◌, ℕ, zero, suc, ◌+◌, ◌<◌, ◌⊎◌, inl, inr, ⊎_elim, Bool, true, false, cond, ◌||◌, List, [], ◌∷◌, ◌++◌, length, get_or, Option, Some, None, refl, ap, sym, ◌∙◌, subst, arith}
-use Rattle.std.specs.Prelude.{All, Contains, codes, bytes_eq, not, find}
-use Rattle.std.specs.List.{list_any, IsDistinct, AllByRecursion}
-use Rattle.std.specs.Option.{option_or}
-use Rattle.std.proofs.lemmas.Bool.{cond_both, cond-false, or_parts, or_cases, or_from, or_left, or_right, true_from_ne_false, false_from_ne_true, not-true, not-false, not_from_true}
-use Rattle.std.proofs.lemmas.List.Elements.{All-nil, All-cons, All-append, All-head, All-tail, recursion_from_All, All-from_recursion}
+use Rattle.std.proofs.Common.{◌≡◌, ℕ, zero, suc, ◌<◌, inl, inr, ⊎_elim, Bool, true, false, ◌||◌, List, [], ◌∷◌, ◌++◌, length, get_or, Some, None, refl, ap, sym, ◌∙◌, arith}
+use Rattle.std.specs.Prelude.{All, Contains, codes, bytes_eq, not}
+use Rattle.std.specs.List.{IsDistinct, AllByRecursion}
+use Rattle.std.proofs.lemmas.Bool.{cond_both, cond-false, or_parts, or_cases, or_from, or_left, or_right, not-false, not_from_true}
+use Rattle.std.proofs.lemmas.List.Elements.{All-nil, All-cons, All-head, All-tail}
 use Rattle.std.proofs.lemmas.Map.Keys.{IsDistinct-head, IsDistinct-tail, IsDistinct-cons}
 use Rattle.std.proofs.lemmas.Slice.Eq.{bytes_eq-Decides}
-use Rattle.cg_netlist.specs.declared.parts.Net.{Net}
 use Rattle.cg_netlist.specs.declared.parts.Pin.{Pin}
-use Rattle.cg_netlist.specs.declared.parts.Cell.{Cell}
-use Rattle.cg_netlist.specs.Netlist.{NetGraph}
 use Rattle.cg_netlist.specs.Graph.{names, IsConnected}
 use Rattle.cg_netlist_reader.specs.Reading.{given, has, repeated, unknown}
 

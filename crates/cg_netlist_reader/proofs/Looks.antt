@@ -1,6 +1,6 @@
 -- Names that are looked up in a map, one after another.
-use Rattle.std.proofs.Common.{◌≡◌, ℕ, zero, suc, ◌+◌, ◌<◌, Bool, true, false, cond, ◌||◌, List, [], ◌∷◌, ◌++◌, length, take, drop, get_or, Option, Some, None, refl, ap, sym, ◌∙◌, subst, arith}
-use Rattle.std.specs.Prelude.{is_some, not, find, String, bytes_eq}
+use Rattle.std.proofs.Common.{◌≡◌, ℕ, ◌+◌, ◌<◌, false, ◌||◌, List, [], ◌∷◌, ◌++◌, length, take, drop, get_or, Option, Some, None, ap, sym, ◌∙◌, subst}
+use Rattle.std.specs.Prelude.{is_some, not, String, bytes_eq}
 use Rattle.std.specs.List.{flat_map}
 use Rattle.std.specs.Option.{option_or}
 use Rattle.std.specs.declared.alloc.Global.{Global}
@@ -9,11 +9,9 @@ use Rattle.cg_names.specs.Numbers.{found_in}
 use Rattle.cg_netlist_reader.specs.declared.fault.VerilogFault.{VerilogFault}
 use Rattle.cg_netlist_reader.specs.declared.fault.VerilogFault.TheVariants as faults
 use Rattle.cg_netlist.specs.declared.parts.Net.{Net}
-use Rattle.cg_netlist.specs.declared.parts.Pin.{Pin}
 use Rattle.cg_netlist.specs.declared.parts.Cell.{Cell}
-use Rattle.cg_netlist.specs.Netlist.{NetGraph}
 use Rattle.cg_netlist.specs.Graph.{names}
-use Rattle.cg_netlist_reader.specs.Reading.{given, has, repeated, unknown, pin_net, pin_nets, unknown_net}
+use Rattle.cg_netlist_reader.specs.Reading.{given, has, repeated, unknown, pin_nets, unknown_net}
 use Rattle.cg_netlist_reader.specs.Looked.{IsSet, IsAdded, unknown_by}
 use Rattle.cg_netlist_reader.specs.Wrong.{IsOfNet}
 use Rattle.cg_netlist_reader.proofs.Known.{has_push}

@@ -1,15 +1,15 @@
 -- Tests of cells, form by form.
-use Rattle.std.proofs.Common.{◌≡◌, ℕ, zero, suc, ◌+◌, ◌-◌, ◌*◌, ◌^◌, ◌<◌, ◌≤◌, ◌⊎◌, inl, inr, ⊎_elim, Bool, true, false, cond, ◌&&◌, ◌||◌, eqb, List, [], ◌∷◌, ◌++◌, length, map, take, drop, get_or, Option, Some, None, Result, Ok, Err, refl, ap, sym, ◌∙◌, subst, arith, append_assoc, length-append}
-use Rattle.std.specs.Prelude.{◌↔◌, IsTrue, All, codes, decimal, bytes_eq, nat_lt, nat_le}
+use Rattle.std.proofs.Common.{◌≡◌, ℕ, zero, suc, ◌+◌, ◌-◌, ◌<◌, ◌≤◌, ◌⊎◌, inl, inr, ⊎_elim, Bool, true, false, ◌&&◌, ◌||◌, List, [], ◌∷◌, ◌++◌, length, map, refl, ap, sym, ◌∙◌, subst, arith, append_assoc, length-append}
+use Rattle.std.specs.Prelude.{◌↔◌, IsTrue, codes, decimal, bytes_eq, nat_lt, nat_le}
 use Rattle.std.specs.List.{range_with_len}
-use Rattle.std.proofs.lemmas.Bool.{and_parts, and_from, or_cases, or_left, or_right, lt-ltb, le-leb, ltb-true, leb-true, cond_both, eqb-true, both_ways}
+use Rattle.std.proofs.lemmas.Bool.{and_parts, and_from, or_cases, or_left, or_right, lt-ltb, le-leb, ltb-true, leb-true}
 use Rattle.std.proofs.lemmas.List.{length-map, append_cancel_left}
 use Rattle.std.proofs.lemmas.Slice.Eq.{bytes_eq-Decides}
-use Rattle.cg_netlist.specs.Forms.{Form, ContextForm, PresetForm, MuxForm, RegisterForm, ZeroForm, UnitForm, form_name, form_ports, IsForm, driver_port, argument_port, hexadecimal}
+use Rattle.cg_netlist.specs.Forms.{ContextForm, PresetForm, MuxForm, RegisterForm, ZeroForm, UnitForm, form_name, form_ports, driver_port, argument_port, hexadecimal}
 use Rattle.cg_netlist.specs.declared.parts.Pin.{Pin}
 use Rattle.cg_netlist.specs.declared.parts.Cell.{Cell}
 use Rattle.cg_netlist_reader.specs.Reading.{ports, IsOf, IsFormed}
-use Rattle.cg_netlist_reader.specs.Formed.{IsContext, IsPreset, IsMux, IsRegister, IsZero, IsUnit, ports_of, unit_ports, IsNumbered, IsOperations, HasLatency, IsUnitName, IsAfter, Parses, IsNumber}
+use Rattle.cg_netlist_reader.specs.Formed.{IsContext, IsPreset, IsMux, IsRegister, IsZero, IsUnit, ports_of, unit_ports, IsNumbered, IsOperations, HasLatency, IsUnitName}
 
 -- ---- of some form
 

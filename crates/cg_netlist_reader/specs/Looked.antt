@@ -1,6 +1,5 @@
 -- What is found where names are looked up in a map.
-use Rattle.std.specs.Prelude.{◌≡◌, ℕ, Bool, ◌||◌, bytes_eq, List, ◌∷◌, [], ◌++◌, map, not, Option, Some, None, find, is_some, String}
-use Rattle.std.specs.List.{flat_map}
+use Rattle.std.specs.Prelude.{◌≡◌, ℕ, ◌||◌, bytes_eq, List, not, Option, None, find, is_some, String}
 use Rattle.std.specs.declared.alloc.Global.{Global}
 use Rattle.indexmap.specs.IndexMap.{IndexMap}
 use Rattle.cg_names.specs.Numbers.{found_in}

@@ -8,7 +8,6 @@ use Rattle.cg_verilog.specs.Module.{IsModule, IsText, module_tokens}
 use Rattle.cg_netlist.specs.Forms.{Form, form_name, form_ports, IsForm}
 use Rattle.cg_netlist_reader.specs.declared.fault.VerilogFault.{VerilogFault}
 use Rattle.cg_netlist_reader.specs.declared.fault.VerilogFault.TheVariants as faults
-use Rattle.cg_netlist.specs.declared.parts.Net.{Net}
 use Rattle.cg_netlist.specs.declared.parts.Pin.{Pin}
 use Rattle.cg_netlist.specs.declared.parts.Cell.{Cell}
 use Rattle.cg_netlist.specs.Netlist.{NetGraph}
