@@ -1,7 +1,7 @@
 -- What `trial` answers, and what its bits do.
 use Rattle.std.proofs.Common.{◌≡◌, ℕ, [], refl, sym, ◌∙◌, ap, subst}
 use Rattle.cg_ending.specs.declared.outcome.Status.TheVariants.{Done}
-use Rattle.cg_ending.specs.Outcome.{Bytes, Outcome}
+use Rattle.cg_ending.specs.Outcome.{Outcome}
 use Rattle.cg_ending.specs.Ends.{Moment, Completed}
 use Rattle.cg_ending.specs.Refusals.{reports}
 use Rattle.cg_files.specs.Held.{Appends}

@@ -8,7 +8,7 @@ use Rattle.clap.specs.Lexer.{long_of, short_of}
 use Rattle.clap.specs.Words.{Kinds, Row, HasKind, kind_of, fault_of, matches_of}
 use Rattle.clap.specs.declared.error.Error.{Error}
 use Rattle.clap.specs.declared.error.kind.ErrorKind.TheVariants as kind
-use Rattle.cg_command.specs.Words.{Text, Part, plain, named, Given, Arguments, options, is_file, plain_words, values_of, given_values, given_by, arguments_by, arguments_of}
+use Rattle.cg_command.specs.Words.{Text, Part, plain, named, Arguments, options, is_file, plain_words, values_of, given_values, given_by, arguments_by, arguments_of}
 use Rattle.cg_command.specs.Matches.{row_texts, has_file, judged, arguments_in_rows, words_app}
 use Rattle.cg_command.proofs.Uses.{before, is_dashes, known, option_said, word_said, value_said, uses}
 use Rattle.cg_command.proofs.Parts.{are_files, checked, Checked, parts-uses, left_true}

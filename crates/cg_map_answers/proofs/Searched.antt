@@ -1,5 +1,5 @@
 -- What `map` answers, and what its bytes do.
-use Rattle.std.proofs.Common.{◌≡◌, ◌≢◌, ℕ, ◌+◌, ◌<◌, ◌≤◌, nat_lt, Bool, true, false, cond, List, [], ◌∷◌, ◌++◌, length, Option, Some, None, Result, Ok, Err, refl, sym, ◌∙◌, ap, subst, ◌⊎◌, inl, inr, ⊎_elim, arith}
+use Rattle.std.proofs.Common.{◌≡◌, ◌≢◌, ℕ, ◌+◌, ◌<◌, ◌≤◌, Bool, true, false, cond, List, [], ◌∷◌, length, Option, Some, None, Result, Ok, Err, refl, sym, ◌∙◌, ap, subst, ◌⊎◌, inl, inr, ⊎_elim, arith}
 use Rattle.std.specs.Prelude.{◌^◌, IfSome, bytes_eq}
 use Rattle.std.specs.Global.{Vec}
 use Rattle.std.proofs.lemmas.Bool.{ltb-false}
@@ -15,7 +15,6 @@ use Rattle.cg_ending.specs.Refusals.{reports}
 use Rattle.cg_files.specs.Held.{Held, Holds, Appends}
 use Rattle.cg_bits.specs.Spelling.{AreBits}
 use Rattle.cg_check.specs.Legal.{Mapped}
-use Rattle.cg_bound.specs.Bound.{IsForbidden}
 use Rattle.cg_bound.proofs.Intervals.{certifies}
 use Rattle.cg_bound.proofs.Legal.{excluded}
 use Rattle.cg_map.specs.declared.trying.Way.{Way}
@@ -30,7 +29,7 @@ use Rattle.cg_map.proofs.Intervals.{shown_forbids, last_positive}
 use Rattle.cg_command.specs.declared.searches.Search.{Search}
 use Rattle.cg_command.specs.Words.{IsInRange}
 use Rattle.cg_sources.specs.Sources.{Pair, ArePaired, GivesPair, HoldPair}
-use Rattle.cg_map_answers.specs.Emit.{config_of, RunsMapping}
+use Rattle.cg_map_answers.specs.Emit.{config_of}
 use Rattle.cg_map_answers.specs.Map.{IsMap, IsMapping, IsSearchWithin, IsSearch, IsOutcomeOf, IsMappingWritten, IsMappable, IsMapRun, IsImpossibleRun, IsSpentRun, HoldsMapped, is_above, above_contexts, map_report, map_writes, mapping_text, costs_report, impossible_report}
 use Rattle.cg_sources.proofs.Sound.{IsSound, IsNamed}
 use Rattle.cg_sources.proofs.Wholes.{whole, one_write}

@@ -9,7 +9,7 @@ use Rattle.cg_model.specs.Machine.{machine_left}
 use Rattle.cg_overlap.proofs.Overlap.{leaves_the_same, unaliased_without}
 use Rattle.cg_files.specs.Held.{Holds, Appends}
 use Rattle.cg_ending.specs.declared.outcome.Status.TheVariants.{Done, Malformed}
-use Rattle.cg_ending.specs.Outcome.{Name, File, Outcome, names_of}
+use Rattle.cg_ending.specs.Outcome.{Name, File, Outcome}
 use Rattle.cg_ending.specs.Ends.{Moment, Completed, Wrote}
 use Rattle.cg_grid.specs.declared.fault.TilesFault.{TilesFault}
 use Rattle.cg_grid.specs.declared.fault.TilesFault.TheVariants as fault

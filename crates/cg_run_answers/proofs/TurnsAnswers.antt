@@ -1,5 +1,5 @@
 -- What `turns` answers for a kernel alone.
-use Rattle.std.proofs.Common.{◌≡◌, ℕ, [], Result, Ok, Err, refl, sym, ◌∙◌, ap, subst, inr}
+use Rattle.std.proofs.Common.{◌≡◌, ℕ, [], Result, Ok, Err, refl, ◌∙◌, ap, subst}
 use Rattle.cg_model.specs.Kernel.{Kernel}
 use Rattle.cg_files.specs.Held.{Holds, Appends}
 use Rattle.cg_ending.specs.declared.outcome.Status.TheVariants.{Done, Malformed}

@@ -1,7 +1,7 @@
 -- What three files give: an architecture, a kernel and a mapping, or a refusal.
-use Rattle.std.proofs.Common.{◌≡◌, [], Result, Ok, Err, refl, sym, ◌∙◌, ap, subst}
-use Rattle.cg_model.specs.Array.{Arch, IsArch}
-use Rattle.cg_model.specs.Kernel.{Kernel, IsKernel}
+use Rattle.std.proofs.Common.{◌≡◌, Result, Ok, Err, refl, sym, ◌∙◌, ap, subst}
+use Rattle.cg_model.specs.Array.{IsArch}
+use Rattle.cg_model.specs.Kernel.{IsKernel}
 use Rattle.cg_model.specs.Mapping.{Mapping, IsShaped}
 use Rattle.cg_ending.specs.Outcome.{Name, Bytes, File, Outcome}
 use Rattle.cg_kernel.proofs.Spelled.{spelled_valid}

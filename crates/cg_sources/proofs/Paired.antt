@@ -1,5 +1,5 @@
 -- What two files give: an architecture and a kernel, or a refusal.
-use Rattle.std.proofs.Common.{◌≡◌, ◌≢◌, [], ◌∷◌, Result, Ok, Err, refl, sym, ◌∙◌, ap, subst}
+use Rattle.std.proofs.Common.{◌≡◌, ◌≢◌, Result, Ok, Err, refl, sym, ◌∙◌, ap, subst}
 use Rattle.cg_model.specs.Array.{Arch, IsArch}
 use Rattle.cg_model.specs.Kernel.{Kernel, IsKernel}
 use Rattle.cg_ending.specs.Outcome.{Name, Bytes, File, Outcome}
@@ -14,7 +14,7 @@ use Rattle.cg_kernel.specs.Answer as kernels
 use Rattle.cg_kernel.proofs.Spelled.{spelled_valid}
 use Rattle.cg_sources.specs.Sources.{Pair, pair_by, pair_of, ArePaired, GivesPair}
 use Rattle.cg_sources.proofs.Arrays.{same_array, valid_array}
-use Rattle.cg_sources.proofs.Refusals.{IsRefusal, AreRefused, IsAlike, equal, refusals}
+use Rattle.cg_sources.proofs.Refusals.{AreRefused, IsAlike, equal, refusals}
 
 refused_by : (A : Arch) (kernel : Name) (r : Result Kernel KernelFault) → AreRefused (pair_by A kernel r)
 refused_by A kernel (Ok K) = tt

@@ -2,7 +2,7 @@
 use Rattle.std.proofs.Common.{◌≡◌, ℕ, ◌≤◌, List, length, ap, refl, sym, ◌∙◌, subst, arith}
 use Rattle.std.proofs.lemmas.List.FromFn.{length-range_with_len}
 use Rattle.cg_model.specs.Array.{Arch, IsArch}
-use Rattle.cg_model.specs.Kernel.{Kernel, IsKernel}
+use Rattle.cg_model.specs.Kernel.{Kernel}
 use Rattle.cg_model.specs.Mapping.{IsLegal}
 use Rattle.cg_model.specs.Work.{Image}
 use Rattle.cg_model.specs.Turns.{turns_left}

@@ -1,4 +1,4 @@
-use Rattle.std.proofs.Common.{◌≡◌, subst, sym}
+use Rattle.std.proofs.Common.{subst, sym}
 use Rattle.cg_model.specs.Array.{IsArch}
 use Rattle.cg_model.specs.Kernel.{IsKernel}
 use Rattle.cg_mapping.specs.Sound.{NamesParts}

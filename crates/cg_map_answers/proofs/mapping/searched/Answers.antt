@@ -1,4 +1,4 @@
-use Rattle.std.proofs.Common.{◌≡◌, ◌+◌, ◌<◌, ◌^◌, length, subst, sym}
+use Rattle.std.proofs.Common.{◌+◌, ◌<◌, ◌^◌, length, subst, sym}
 use Rattle.cg_map.specs.declared.answering.MapAnswer.TheVariants.{Spent}
 use Rattle.cg_map.specs.Tried.{IsAnswer}
 use Rattle.cg_map_answers.proofs.Searched.{spent_few}
