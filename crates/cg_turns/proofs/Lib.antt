@@ -1,4 +1,5 @@
 pub mod Pairs
+pub mod Loads
 pub mod Worked
 pub mod Rows
 pub mod Steps

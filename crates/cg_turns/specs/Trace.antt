@@ -1,12 +1,13 @@
--- How the pair of accesses that no edges order is found: by the last access of each node to each word.
-use Rattle.std.specs.Prelude.{◌≡◌, ℕ, ◌/◌, ◌%◌, ◌<◌, ◌≤◌, ◌⊎◌, List, length, Contains, Option, Some, None, nat_lt, if◌then◌else◌, slice_index_or}
-use Rattle.cg_model.specs.Kernel.{Kernel, size}
+-- How the pair of accesses that no edges order is found: by the last store to each word and the loads of it since.
+use Rattle.std.specs.Prelude.{◌≡◌, ℕ, ◌/◌, ◌%◌, ◌<◌, ◌≤◌, ◌⊎◌, Bool, true, false, List, [], Contains, Option, Some, None, nat_lt, if◌then◌else◌}
+use Rattle.cg_word.specs.Word.{is_store}
+use Rattle.cg_model.specs.Kernel.{Kernel, size, node}
 use Rattle.cg_model.specs.Work.{Image, Reaches}
 use Rattle.cg_model.specs.Turns.{work}
 use Rattle.cg_model.specs.Order.{IsOrdered}
 use Rattle.cg_turns.specs.declared.pair.Access.{Access}
 use Rattle.cg_turns.specs.declared.pair.UnorderedPair.{UnorderedPair}
-use Rattle.cg_turns.specs.Pairs.{step_of, IsRival, IsConflict, AreOrdered, IsPair}
+use Rattle.cg_turns.specs.Pairs.{step_of, IsConflict, AreOrdered, IsPair}
 
 -- what is known after so many steps: None where all conflicts so far are ordered
 abbrev pub IsPairSoFar : Kernel → Image → ℕ → Option UnorderedPair → Type 0
@@ -17,46 +18,85 @@ IsPairSoFar K image steps (Some p) = IsPair K image steps p
 abbrev pub no_access : Access
 no_access = record { node = 0; turn = 0 }
 
--- a list has each node at most once
-abbrev pub IsOnce : List Access → Type 0
-IsOnce last = (j k : ℕ) → j < length last → k < length last →
-    (slice_index_or last j no_access).node ≡ (slice_index_or last k no_access).node → j ≡ k
+-- what is kept of the accesses to a word: the last store, and loads since
+pub record Kept : Type 0 where
+  pub store : Option Access
+  pub loads : List Access
 
--- the last accesses of one word before a step: each is one, each node has one at most, and no node
--- that accessed it has a later one than that in the list
-pub record IsTrace (K : Kernel) (image : Image) (steps word : ℕ) (last : List Access) : Type 0 where
-  pub once : IsOnce last
-  pub nodes : (x : Access) → Contains last x → x.node < size K
-  pub past : (x : Access) → Contains last x → step_of (size K) x < steps
-  pub reach : (x : Access) → Contains last x → Reaches (work K image (step_of (size K) x)) word
-  pub whole : (k : ℕ) → k < steps → Reaches (work K image k) word →
-      (x : Access) × Contains last x × (x.node ≡ k % size K) × (k / size K ≤ x.turn)
+abbrev pub nothing_kept : Kept
+nothing_kept = record { store = None; loads = [] }
 
--- the list after one more access
+-- a list has an access of a node in a turn or later
+abbrev pub Covers : List Access → ℕ → ℕ → Type 0
+Covers accesses v i = (x : Access) × Contains accesses x × (x.node ≡ v) × (i ≤ x.turn)
+
+-- step k is no later than a store
+abbrev pub IsUpTo : ℕ → Option Access → ℕ → Type 0
+IsUpTo m store k = (s : Access) × (store ≡ Some s) × (k ≤ step_of m s)
+
+-- an access of a word before a step
+pub record IsAccess (K : Kernel) (image : Image) (steps word : ℕ) (x : Access) : Type 0 where
+  pub node : x.node < size K
+  pub past : step_of (size K) x < steps
+  pub reach : Reaches (work K image (step_of (size K) x)) word
+
+-- what is kept of one word before a step: the store and the loads are accesses of it before that step, no store accessed
+-- it later than the one that is kept, and each step that accessed it is no later than that store, or is of a node that has
+-- a load in the same turn or a later one
+pub record IsTrace (K : Kernel) (image : Image) (steps word : ℕ) (kept : Kept) : Type 0 where
+  pub store : (s : Access) → kept.store ≡ Some s → IsAccess K image steps word s × (is_store (node K s.node).op ≡ true)
+  pub loads : (x : Access) → Contains kept.loads x → IsAccess K image steps word x
+  pub stores : (k : ℕ) → k < steps → Reaches (work K image k) word → is_store (node K (k % size K)).op ≡ true → IsUpTo (size K) kept.store k
+  pub whole : (k : ℕ) → k < steps → Reaches (work K image k) word → IsUpTo (size K) kept.store k ⊎ Covers kept.loads (k % size K) (k / size K)
+
+-- a list has the accesses of another, or later ones of their nodes, and no others
+pub record IsThinned (old new : List Access) : Type 0 where
+  pub covers : (y : Access) → Contains old y → Covers new y.node y.turn
+  pub origin : (y : Access) → Contains new y → Contains old y
+
+-- a list has one more access, or a later one of its node
 pub record Takes (x : Access) (old new : List Access) : Type 0 where
-  pub has : Contains new x
-  pub kept : (y : Access) → Contains old y → (y.node ≡ x.node → ⊥) → Contains new y
+  pub has : Covers new x.node x.turn
+  pub covers : (y : Access) → Contains old y → Covers new y.node y.turn
   pub origin : (y : Access) → Contains new y → (y ≡ x) ⊎ Contains old y
-  pub once : IsOnce old → IsOnce new
 
--- of the accesses in a list, the latest that is not ordered before another and has a store with it
-abbrev pub IsLatest : Kernel → Access → List Access → Option Access → Type 0
-IsLatest K later last None = (y : Access) → Contains last y → IsRival K y.node later.node → IsOrdered K y.node y.turn later.node later.turn
-IsLatest K later last (Some x) =
-    Contains last x × IsRival K x.node later.node × (IsOrdered K x.node x.turn later.node later.turn → ⊥) ×
-    ((y : Access) → Contains last y → IsRival K y.node later.node → IsOrdered K y.node y.turn later.node later.turn ⊎ (step_of (size K) y ≤ step_of (size K) x))
+-- a store is kept alone, and a load beside the last store and the other loads
+abbrev pub Keeps : Bool → Access → Kept → Kept → Type 0
+Keeps true x old new = new ≡ record { store = Some x; loads = [] }
+Keeps false x old new = (new.store ≡ old.store) × Takes x old.loads new.loads
+
+-- the loads that an access can make a pair with: a store with all, a load with none
+abbrev pub rivals_of : Bool → Kept → List Access
+rivals_of true kept = kept.loads
+rivals_of false kept = []
+
+-- a store that may be, or an access in a list
+abbrev pub IsOneOf : Option Access → List Access → Access → Type 0
+IsOneOf store loads x = (store ≡ Some x) ⊎ Contains loads x
+
+-- of a store that may be and loads, the latest that is not ordered before another access
+abbrev pub IsLatest : Kernel → Access → Option Access → List Access → Option Access → Type 0
+IsLatest K later store loads None = (y : Access) → IsOneOf store loads y → IsOrdered K y.node y.turn later.node later.turn
+IsLatest K later store loads (Some x) =
+    IsOneOf store loads x × (IsOrdered K x.node x.turn later.node later.turn → ⊥) ×
+    ((y : Access) → IsOneOf store loads y → IsOrdered K y.node y.turn later.node later.turn ⊎ (step_of (size K) y ≤ step_of (size K) x))
 
 -- the later of an access that may be known and another one
 abbrev pub later_access : ℕ → Option Access → Access → Option Access
 later_access m None y = Some y
 later_access m (Some x) y = if nat_lt (step_of m x) (step_of m y) then Some y else Some x
 
+-- after a look at one access more, the latest that is not ordered before another
+abbrev pub IsLooked : Kernel → ℕ → Access → Access → Option Access → Option Access → Type 0
+IsLooked K m later y old new =
+    (IsOrdered K y.node y.turn later.node later.turn × (new ≡ old)) ⊎
+    ((IsOrdered K y.node y.turn later.node later.turn → ⊥) × (new ≡ later_access m old y))
+
 -- the pair of an earlier access, where there is one, and a later one
 abbrev pub paired : Access → Option Access → Option UnorderedPair
 paired later None = None
 paired later (Some x) = Some (record { earlier = x; later = later })
 
--- the pair after one access more: the one that was known, else that of the latest unordered access of the list
-abbrev pub IsCompared : Kernel → Access → List Access → Option UnorderedPair → Option UnorderedPair → Type 0
-IsCompared K later last (Some p) new = new ≡ Some p
-IsCompared K later last None new = (found : Option Access) × IsLatest K later last found × (new ≡ paired later found)
+-- the pair that an access makes with what is kept, where there is one
+abbrev pub IsCompared : Kernel → Bool → Access → Kept → Option UnorderedPair → Type 0
+IsCompared K stores later kept pair = (found : Option Access) × IsLatest K later kept.store (rivals_of stores kept) found × (pair ≡ paired later found)

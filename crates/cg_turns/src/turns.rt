@@ -50,7 +50,7 @@ fn run(alloc: Global, kernel: &Kernel, n: u32, image: &Image) -> Result<TurnsDon
     ensures small { IfOk result (λ d. IsSmall image.now n d.image) }
 {
     let table = min_distance(alloc, kernel)?;
-    let mut watch = unwatched(alloc, image.memory().len())?;
+    let mut watch = unwatched(alloc, kernel, image.memory().len())?;
     let mut frame = start(alloc, kernel, image)?;
     let mut row = 0;
     for turn in 0..n {

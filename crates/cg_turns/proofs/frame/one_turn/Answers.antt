@@ -6,7 +6,7 @@ use Rattle.cg_model.proofs.Lengths.{memory_stays}
 use Rattle.cg_turns.specs.declared.pair.Access.{Access}
 use Rattle.cg_turns.specs.Pairs.{step_of}
 use Rattle.cg_turns.specs.Watched.{IsWatched}
-use Rattle.cg_turns.proofs.Pairs.{watched_step, reached_within, reached_nodes}
+use Rattle.cg_turns.proofs.Pairs.{watched_step}
 use Rattle.cg_turns.specs.Step.{Steps, work_in}
 use Rattle.cg_turns.proofs.Steps.{stepped, work_right}
 use Rattle.cg_turns.proofs.frame.one_turn.Goals as goal
@@ -32,22 +32,6 @@ loop-place-preserved c =
       watched = subst (λ z. IsWatched K c.args.image.now z c.watch_step.new.watch) next
           (watched_step K c.args.image.now (length f.memory) (work_in K c.loop-place.place c.args.turn c.args.row f) access c.in_ok-word.word c.loop-place.watch c.watch_step.new.watch within long right c.in_ok-word.ensures.reached c.in_ok-watch_step.ensures c.loop-place.invariant.watched);
     }
-
-pub watch_step-requires-clause-address : goal.watch_step-requires-clause-address
-watch_step-requires-clause-address c =
-    let K = c.args.kernel.now in
-    let f = c.loop-place.frame in
-    let w = work_in K c.loop-place.place c.args.turn c.args.row f in
-    let long : length f.memory ≡ length c.args.image.now.memory = ap length c.loop-place.invariant.at.memory ∙ memory_stays K c.args.image.now (c.args.turn * plain.size K + c.loop-place.place) in
-    reached_within (length f.memory) (length c.loop-place.watch.words.items) w c.in_ok-word.word c.in_ok-word.ensures.reached (long ∙ sym c.loop-place.invariant.watched.long)
-
-pub watch_step-requires-clause-nodes : goal.watch_step-requires-clause-nodes
-watch_step-requires-clause-nodes c =
-    let K = c.args.kernel.now in
-    let f = c.loop-place.frame in
-    let w = work_in K c.loop-place.place c.args.turn c.args.row f in
-    let long : length f.memory ≡ length c.args.image.now.memory = ap length c.loop-place.invariant.at.memory ∙ memory_stays K c.args.image.now (c.args.turn * plain.size K + c.loop-place.place) in
-    reached_nodes K c.args.image.now (c.args.turn * plain.size K + c.loop-place.place) (length f.memory) w c.in_ok-word.word c.loop-place.watch c.in_ok-word.ensures.reached long c.loop-place.invariant.watched
 
 pub returns-clause-watched : goal.returns-clause-watched
 returns-clause-watched c =

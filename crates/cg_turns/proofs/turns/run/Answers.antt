@@ -13,7 +13,7 @@ use Rattle.cg_turns.proofs.turns.run.Goals as goal
 use Rattle.cg_turns.proofs.turns.run.Goals.{then-row-eq4, else-row-eq4}
 
 pub loop-turn-init : goal.loop-turn-init
-loop-turn-init c = record { at = c.in_ok-frame.ensures.at; outside = omega (arith, c.in_ok-frame.ensures.outside); row = search rules; watched = (let z : 0 ≡ 0 * plain.size c.args.kernel.now + 0 = omega arith in subst (λ (s : ℕ). IsWatched c.args.kernel.now c.args.image.now s c.in_ok-watch.watch) z (watched_start c.args.kernel.now c.args.image.now c.in_ok-watch.watch _ c.in_ok-watch.ensures.words c.in_ok-watch.ensures.pair (ap length c.memory.ensures))) }
+loop-turn-init c = record { at = c.in_ok-frame.ensures.at; outside = omega (arith, c.in_ok-frame.ensures.outside); row = search rules; watched = (let z : 0 ≡ 0 * plain.size c.args.kernel.now + 0 = omega arith in subst (λ (s : ℕ). IsWatched c.args.kernel.now c.args.image.now s c.in_ok-watch.watch) z (watched_start c.args.kernel.now c.args.image.now c.in_ok-watch.watch _ c.in_ok-watch.ensures (ap length c.memory.ensures))) }
 
 pub loop-turn-preserved : goal.loop-turn-preserved
 loop-turn-preserved c =
