@@ -1,5 +1,5 @@
 -- What each command answers for its input files. A command is a case of each definition.
-use Rattle.std.specs.Prelude.{◌≡◌, ℕ, List, [], ◌∷◌, Ok}
+use Rattle.std.specs.Prelude.{◌≡◌, ℕ, Bool, true, false, List, [], ◌∷◌, Ok}
 use Rattle.cg_model.specs.Kernel.{Kernel}
 use Rattle.cg_ending.specs.declared.outcome.Status.{Status}
 use Rattle.cg_ending.specs.declared.outcome.Status.TheVariants.{Done, Impossible, BudgetSpent, No}
@@ -81,6 +81,12 @@ LeavesDone (Map s) (arch ∷ kernel ∷ []) outs before after = IsMapRun s arch 
 LeavesDone (Trial seed) [] [] before after = IsTrialRun seed before after
 LeavesDone Verilog (file ∷ []) (out ∷ []) before after = IsNetlisted file out before after
 LeavesDone _ _ _ before after = Unit {0}
+
+-- the commands that judge a mapping before they write: where they end with No, they write nothing
+abbrev pub judges : Command → Bool
+judges Check = true
+judges Emit = true
+judges _ = false
 
 -- what it leaves where it ends with No
 abbrev pub LeavesNo : Command → List Name → List Name → Moment → Moment → Type 0

@@ -67,6 +67,40 @@ impl Bench {
         self.store.hold(alloc, name, bytes)
     }
 
+    /// Keeps of a file the first bytes alone. False where nothing is held.
+    pub(crate) fn cut(
+        &mut self,
+        alloc: Global,
+        name: &str,
+        count: usize,
+    ) -> Result<bool, AllocError> {
+        let Some(bytes) = self.store.held(name) else {
+            return Ok(false);
+        };
+        let first = Vec::from_slice(alloc, bytes.get(..count).unwrap_or(bytes))?;
+        self.store.hold(alloc, name, first.as_slice())?;
+        Ok(true)
+    }
+
+    /// Turns over a bit of a file, counted from the most significant one of its first byte. False where there is none.
+    pub(crate) fn flip(
+        &mut self,
+        alloc: Global,
+        name: &str,
+        bit: usize,
+    ) -> Result<bool, AllocError> {
+        let Some(bytes) = self.store.held(name) else {
+            return Ok(false);
+        };
+        let mut turned = Vec::from_slice(alloc, bytes)?;
+        match turned.get_mut(bit / 8) {
+            None => return Ok(false),
+            Some(byte) => *byte ^= 128 >> (bit % 8),
+        }
+        self.store.hold(alloc, name, turned.as_slice())?;
+        Ok(true)
+    }
+
     /// What is held under a name.
     pub(crate) fn held(&self, name: &str) -> Option<&[u8]> {
         self.store.held(name)

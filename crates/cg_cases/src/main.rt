@@ -4,6 +4,7 @@
 
 mod bench;
 mod content;
+mod series;
 mod transcript;
 
 use std::rt::Files;

@@ -2,6 +2,7 @@
 
 use crate::bench::Bench;
 use crate::content::add_line;
+use crate::series::{Series, with_number};
 use std::alloc::{AllocError, Global};
 
 /// What the content lines that come next say.
@@ -17,12 +18,23 @@ enum Purpose {
     Held(String),
 }
 
+/// How much of some bytes the content lines say.
+#[derive(Clone, Copy)]
+enum Reach {
+    /// All of them.
+    Whole,
+    /// How they begin.
+    Beginning,
+}
+
 /// A transcript that is being followed.
 #[derive(Drop)]
 pub(crate) struct Transcript {
     title: String,
     bench: Bench,
     case: Option<String>,
+    /// The series whose lines are being taken in.
+    series: Option<Series>,
     purpose: Purpose,
     /// The bytes that the content lines said so far.
     bytes: Vec<u8>,
@@ -45,6 +57,7 @@ impl Transcript {
             title: String::from_str(alloc, title)?,
             bench: Bench::new(alloc),
             case: None,
+            series: None,
             purpose: Purpose::None,
             bytes: Vec::new(alloc),
             open_status: None,
@@ -56,23 +69,67 @@ impl Transcript {
         })
     }
 
-    /// Follows one line.
+    /// Follows one line; a line of a series where its cases are over.
     pub(crate) fn follow(&mut self, alloc: Global, line: &str) -> Result<(), AllocError> {
         if line.is_empty() || line.starts_with('#') {
             return Ok(());
         }
-        if line == "any" {
-            self.purpose = Purpose::None;
+        if let Some(title) = line.strip_prefix("case ") {
+            self.end_series(alloc)?;
+            self.series = Series::begun(alloc, title)?;
+            if self.series.is_some() {
+                return Ok(());
+            }
+        }
+        match &mut self.series {
+            Some(series) => series.add(alloc, line),
+            None => self.follow_line(alloc, line),
+        }
+    }
+
+    /// Follows the cases of the series, where there is one.
+    fn end_series(&mut self, alloc: Global) -> Result<(), AllocError> {
+        let Some(series) = self.series.take() else {
             return Ok(());
+        };
+        for number in series.first..=series.last {
+            self.follow_case(alloc, &series, number)?;
+        }
+        Ok(())
+    }
+
+    /// Follows the case of a series with this number.
+    fn follow_case(
+        &mut self,
+        alloc: Global,
+        series: &Series,
+        number: u32,
+    ) -> Result<(), AllocError> {
+        let name = series.name.as_str();
+        let title = format!(in alloc; "{name} {number}")?;
+        self.settle(alloc, Reach::Whole)?;
+        self.begin(alloc, title.as_str())?;
+        for line in &series.lines {
+            let line = with_number(alloc, line.as_str(), number)?;
+            self.follow_line(alloc, line.as_str())?;
+        }
+        Ok(())
+    }
+
+    /// Follows a line of a case.
+    fn follow_line(&mut self, alloc: Global, line: &str) -> Result<(), AllocError> {
+        if line == "any" {
+            return self.settle(alloc, Reach::Beginning);
         }
         if self.has_content() && add_line(alloc, &mut self.bytes, line)? {
             return Ok(());
         }
-        self.settle(alloc)?;
+        self.settle(alloc, Reach::Whole)?;
         let (word, rest) = line.split_once(' ').unwrap_or((line, ""));
         match word {
             "case" => self.begin(alloc, rest),
             "file" => self.expect(alloc, Purpose::File(String::from_str(alloc, rest)?)),
+            "cut" | "flip" => self.alter(alloc, word, rest),
             "fail-store" => self.fail_store(alloc, rest),
             "fail-sink" => self.fail_sink(alloc, rest),
             "run" => self.run(alloc, rest),
@@ -85,7 +142,8 @@ impl Transcript {
 
     /// Ends the transcript, and gives all that is printed.
     pub(crate) fn finish(mut self, alloc: Global) -> Result<String, AllocError> {
-        self.settle(alloc)?;
+        self.end_series(alloc)?;
+        self.settle(alloc, Reach::Whole)?;
         self.end_case(alloc)?;
         let title = self.title.as_str();
         let cases = self.cases;
@@ -108,7 +166,7 @@ impl Transcript {
     }
 
     /// Does with the content lines what they are for.
-    fn settle(&mut self, alloc: Global) -> Result<(), AllocError> {
+    fn settle(&mut self, alloc: Global, reach: Reach) -> Result<(), AllocError> {
         let purpose = std::mem::replace(&mut self.purpose, Purpose::None);
         let bytes = std::mem::replace(&mut self.bytes, Vec::new(alloc));
         match purpose {
@@ -118,8 +176,8 @@ impl Transcript {
             } else {
                 self.bench.share(alloc, name.as_str(), bytes.as_slice())
             },
-            Purpose::Report => self.judge_report(alloc, bytes.as_slice()),
-            Purpose::Held(name) => self.judge_held(alloc, name.as_str(), bytes.as_slice()),
+            Purpose::Report => self.judge_report(alloc, bytes.as_slice(), reach),
+            Purpose::Held(name) => self.judge_held(alloc, name.as_str(), bytes.as_slice(), reach),
         }
     }
 
@@ -153,6 +211,25 @@ impl Transcript {
             None => Ok(()),
             Some(_) => self.differ(alloc, "no status said", "of the last call"),
         }
+    }
+
+    /// Cuts a file that is held, or turns over some of its bits: `NAME N ..`.
+    fn alter(&mut self, alloc: Global, word: &str, line: &str) -> Result<(), AllocError> {
+        let (name, numbers) = line.split_once(' ').unwrap_or((line, ""));
+        for number in numbers.split(' ') {
+            let Ok(count) = number.parse::<usize>() else {
+                self.differ(alloc, "no number", number)?;
+                continue;
+            };
+            let altered = match word {
+                "cut" => self.bench.cut(alloc, name, count)?,
+                _ => self.bench.flip(alloc, name, count)?,
+            };
+            if !altered {
+                self.differ(alloc, "nothing to alter under", line)?;
+            }
+        }
+        Ok(())
     }
 
     fn fail_store(&mut self, alloc: Global, numbers: &str) -> Result<(), AllocError> {
@@ -203,17 +280,28 @@ impl Transcript {
         self.expect(alloc, Purpose::Report)
     }
 
-    fn judge_report(&mut self, alloc: Global, wanted: &[u8]) -> Result<(), AllocError> {
-        if self.bench.report() == wanted {
+    fn judge_report(
+        &mut self,
+        alloc: Global,
+        wanted: &[u8],
+        reach: Reach,
+    ) -> Result<(), AllocError> {
+        if is_wanted(self.bench.report(), wanted, reach) {
             return Ok(());
         }
         let got = shown(alloc, self.bench.report())?;
         self.differ(alloc, "put", got.as_str())
     }
 
-    fn judge_held(&mut self, alloc: Global, name: &str, wanted: &[u8]) -> Result<(), AllocError> {
+    fn judge_held(
+        &mut self,
+        alloc: Global,
+        name: &str,
+        wanted: &[u8],
+        reach: Reach,
+    ) -> Result<(), AllocError> {
         let what = match self.bench.held(name) {
-            Some(bytes) => if bytes == wanted {
+            Some(bytes) => if is_wanted(bytes, wanted, reach) {
                 return Ok(());
             } else {
                 shown(alloc, bytes)?
@@ -241,6 +329,14 @@ impl Transcript {
         };
         let line = format!(in alloc; "{title}: {case}: {what} {text}\n")?;
         self.text.push_str(line.as_str())
+    }
+}
+
+/// Whether bytes are the wanted ones, or begin so.
+fn is_wanted(bytes: &[u8], wanted: &[u8], reach: Reach) -> bool {
+    match reach {
+        Reach::Whole => bytes == wanted,
+        Reach::Beginning => bytes.starts_with(wanted),
     }
 }
 

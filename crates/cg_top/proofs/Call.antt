@@ -5,6 +5,7 @@ use Rattle.cg_ending.specs.Outcome.{Name}
 use Rattle.cg_ending.specs.Ends.{Moment}
 use Rattle.cg_top.specs.TopCall.{Ends, KeepsCounts, IsCall}
 use Rattle.cg_top.proofs.Complete.{complete}
+use Rattle.cg_top.proofs.Effects.{effect}
 use Rattle.cg_top.proofs.Exact.{exact}
 use Rattle.cg_top.proofs.Left.{left}
 use Rattle.cg_top.proofs.Table.{table}
@@ -14,6 +15,7 @@ call words before after status ends counts = record {
   ends = ends;
   exact = exact words before after status ends;
   table = table words before after status ends;
+  effect = effect words before after status ends;
   complete = complete words before after status ends;
   counts = counts;
   left = left words before after status ends;

@@ -1,6 +1,7 @@
 pub mod Exact
 pub mod Kept
 pub mod Table
+pub mod Effects
 pub mod Complete
 pub mod Left
 pub mod Call

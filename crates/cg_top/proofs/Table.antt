@@ -13,7 +13,7 @@ use Rattle.cg_ending.specs.Status.{leaves_all}
 use Rattle.cg_command.specs.Words.{Plan, plan_of}
 use Rattle.cg_ending.specs.Refusals.{usage_outcome}
 use Rattle.cg_top.specs.TopCall.{IsPlanned, Ends, IsAnswered, IsStopped, IsByTable}
-use Rattle.cg_top.proofs.Kept.{kept, no_part}
+use Rattle.cg_top.proofs.Kept.{no_part}
 use Rattle.cg_answers.proofs.Commands.{sound}
 use Rattle.cg_sources.proofs.Sound.{is_own}
 
@@ -28,7 +28,7 @@ origin words held rose o None e h = inl h
 origin words held rose o (Some plan) e (inl a) = inr (inl (record { plan = plan; planned = e; outcome = o; answers = a; status_is = refl }))
 origin words held rose o (Some plan) e (inr s) = inr (inr (record { plan = plan; planned = e; outcome = o; stops = s; status_is = refl }))
 
-stop_status : (held : Held) (rose : Type 0) (names : List Name) (o : Outcome) → StopsAt held rose names o → (o.status ≡ ReadFault) ⊎ (o.status ≡ Malformed)
+pub stop_status : (held : Held) (rose : Type 0) (names : List Name) (o : Outcome) → StopsAt held rose names o → (o.status ≡ ReadFault) ⊎ (o.status ≡ Malformed)
 stop_status held rose names o s = elim s.cause [ inl p ↦ inl (ap (λ x. x.status) p.0) | inr p ↦ inr (ap (λ x. x.status) p.0) ]
 
 -- the statuses that only a command's answer has
@@ -55,21 +55,27 @@ refused words held rose o s m e (inl u) = absurd (let z : Usage ≡ Malformed = 
 refused words held rose o s m e (inr (inl a)) = inl (subst (λ z. IsAnswered words held z) (sym e ∙ m) a)
 refused words held rose o s m e (inr (inr a)) = inr (subst (λ z. IsStopped words held rose z) (sym e ∙ m) a)
 
+not_own : (s t : Status) → is_own s ≡ true → is_own t ≡ false → s ≡ t → ⊥
+not_own s t a b e = cc
+
+-- a command's answer is never a read fault
+halted : (words : List Name) (held : Held) (rose : Type 0) (o : Outcome) (s : Status) → s ≡ ReadFault → s ≡ o.status → Origin words held rose o → IsStopped words held rose ReadFault
+halted words held rose o s r e (inl u) = absurd (let z : Usage ≡ ReadFault = sym (ap (λ x. x.status) u) ∙ sym e ∙ r in cc)
+halted words held rose o s r e (inr (inl a)) = absurd (not_own a.outcome.status ReadFault (sound a.plan.command a.answers.files a.plan.outputs a.outcome a.answers.answer).own refl (a.status_is ∙ sym e ∙ r))
+halted words held rose o s r e (inr (inr a)) = subst (λ z. IsStopped words held rose z) (sym e ∙ r) a
+
 -- what is known of an outcome by its status
-record Known (words : List Name) (before after : Moment) (o : Outcome) : Type 0 where
-  usage : o.status ≡ Usage → plan_of words ≡ None
-  unfit : plan_of words ≡ None → o ≡ usage_outcome
-  read_fault : o.status ≡ ReadFault → Rose before.read_faults after.read_faults
+pub record Known (words : List Name) (before after : Moment) (o : Outcome) : Type 0 where
+  pub usage : o.status ≡ Usage → plan_of words ≡ None
+  pub unfit : plan_of words ≡ None → o ≡ usage_outcome
+  pub read_fault : o.status ≡ ReadFault → Rose before.read_faults after.read_faults
       ⊎ ((plan : Plan) × (plan_of words ≡ Some plan) × (name : Name) × Contains plan.inputs name × IsMissing before.held name)
-  no_fault : o.status ≡ WriteFault → ⊥
-  no_memory : o.status ≡ Memory → ⊥
-  quiet : leaves_all o.status ≡ true → o.writes ≡ []
+  pub no_fault : o.status ≡ WriteFault → ⊥
+  pub no_memory : o.status ≡ Memory → ⊥
+  pub quiet : leaves_all o.status ≡ true → o.writes ≡ []
 
 there : (xs : List Name) (x : Name) (ys all : List Name) → all ≡ xs ++ x ∷ ys → Contains all x
 there xs x ys all e = rw e (length xs, grind (arith, common_steps), get_or-append_seam xs x ys x)
-
-not_own : (s t : Status) → is_own s ≡ true → is_own t ≡ false → s ≡ t → ⊥
-not_own s t a b e = cc
 
 one_plan : (p : Option Plan) (plan : Plan) → p ≡ Some plan → p ≡ None → ⊥
 one_plan p plan a b = cc
@@ -123,7 +129,7 @@ from_stop words before after o plan e s = by_cause s.cause
         differ_memory : Malformed ≡ Memory → ⊥
         differ_memory u = cc
 
-known : (words : List Name) (before after : Moment) (o : Outcome) (p : Option Plan) → plan_of words ≡ p
+pub known : (words : List Name) (before after : Moment) (o : Outcome) (p : Option Plan) → plan_of words ≡ p
     → IsPlanned before.held (Rose before.read_faults after.read_faults) p o → Known words before after o
 known words before after o None e h = rw h (record {
   usage = λ _. e;
@@ -152,53 +158,41 @@ known words before after o (Some plan) e (inl a) = let s = sound plan.command a.
 }
 known words before after o (Some plan) e (inr a) = from_stop words before after o plan e a
 
-loud : (s : Status) → s ≡ WriteFault → leaves_all s ≡ true → ⊥
-loud s e h = cc
-
-loud_memory : (s : Status) → s ≡ Memory → leaves_all s ≡ true → ⊥
-loud_memory s e h = cc
-
 not_done : Usage ≡ Done → ⊥
 not_done e = cc
 
 -- what a status that no outcome of a command has tells: nothing of most rows
 faulty : (words : List Name) (before after : Moment) (status : Status) → status ≡ WriteFault
-    → Rose before.write_faults after.write_faults ⊎ Rose before.faults after.faults → (plan_of words ≡ None → ⊥) → Ends words before after status → IsByTable words before after status
-faulty words before after status e cause fits ends = record {
+    → Rose before.write_faults after.write_faults ⊎ Rose before.faults after.faults → (plan_of words ≡ None → ⊥) → IsByTable words before after status
+faulty words before after status e cause fits = record {
   done = λ u. absurd (let z : WriteFault ≡ Done = sym e ∙ u in cc);
   malformed = λ u. absurd (let z : WriteFault ≡ Malformed = sym e ∙ u in cc);
   impossible = λ u. absurd (let z : WriteFault ≡ Impossible = sym e ∙ u in cc);
   spent = λ u. absurd (let z : WriteFault ≡ BudgetSpent = sym e ∙ u in cc);
   refused = λ u. absurd (let z : WriteFault ≡ No = sym e ∙ u in cc);
-  silent = λ u. absurd (let z : WriteFault ≡ Memory = sym e ∙ u in cc);
   usage = λ u. absurd (let z : WriteFault ≡ Usage = sym e ∙ u in cc);
   unfit = λ n. absurd (fits n);
+  stopped = λ u. absurd (let z : WriteFault ≡ ReadFault = sym e ∙ u in cc);
   read_fault = λ u. absurd (let z : WriteFault ≡ ReadFault = sym e ∙ u in cc);
   write_fault = λ _. cause;
-  kept = λ h. absurd (loud status e h);
-  no_write = λ h. absurd (loud status e h);
-  nothing_asked = kept words before after status ends;
 }
 
-wanting : (words : List Name) (before after : Moment) (status : Status) → status ≡ Memory → after.taken ≡ before.taken → Ends words before after status → IsByTable words before after status
-wanting words before after status e put ends = record {
+wanting : (words : List Name) (before after : Moment) (status : Status) → status ≡ Memory → IsByTable words before after status
+wanting words before after status e = record {
   done = λ u. absurd (let z : Memory ≡ Done = sym e ∙ u in cc);
   malformed = λ u. absurd (let z : Memory ≡ Malformed = sym e ∙ u in cc);
   impossible = λ u. absurd (let z : Memory ≡ Impossible = sym e ∙ u in cc);
   spent = λ u. absurd (let z : Memory ≡ BudgetSpent = sym e ∙ u in cc);
   refused = λ u. absurd (let z : Memory ≡ No = sym e ∙ u in cc);
-  silent = λ _. put;
   usage = λ u. absurd (let z : Memory ≡ Usage = sym e ∙ u in cc);
   unfit = λ _. inr e;
+  stopped = λ u. absurd (let z : Memory ≡ ReadFault = sym e ∙ u in cc);
   read_fault = λ u. absurd (let z : Memory ≡ ReadFault = sym e ∙ u in cc);
   write_fault = λ u. absurd (let z : Memory ≡ WriteFault = sym e ∙ u in cc);
-  kept = λ h. absurd (loud_memory status e h);
-  no_write = λ h. absurd (loud_memory status e h);
-  nothing_asked = kept words before after status ends;
 }
 
 pub table : (words : List Name) (before after : Moment) (status : Status) → Ends words before after status → IsByTable words before after status
-table words before after status (inr g) = wanting words before after status g.status_is g.put (inr g)
+table words before after status (inr g) = wanting words before after status g.status_is
 table words before after status (inl e) = by_way e.finished
   where
     o : Outcome
@@ -220,17 +214,14 @@ table words before after status (inl e) = by_way e.finished
       impossible = λ u. subst (λ z. IsAnswered words before.held z) u (answered words before.held rose o status (ap answer_alone u) d.status_is from);
       spent = λ u. subst (λ z. IsAnswered words before.held z) u (answered words before.held rose o status (ap answer_alone u) d.status_is from);
       refused = λ u. subst (λ z. IsAnswered words before.held z) u (answered words before.held rose o status (ap answer_alone u) d.status_is from);
-      silent = λ m. absurd (k.no_memory (sym d.status_is ∙ m));
       usage = λ u. k.usage (sym d.status_is ∙ u);
       unfit = λ n. inl (d.status_is ∙ ap (λ x. x.status) (k.unfit n));
+      stopped = λ u. halted words before.held rose o status u d.status_is from;
       read_fault = λ u. k.read_fault (sym d.status_is ∙ u);
       write_fault = λ u. absurd (k.no_fault (sym d.status_is ∙ u));
-      kept = λ h. let q : o.writes ≡ [] = k.quiet (rw d.status_is at h) in rw q at d.held;
-      no_write = λ h. d.no_write (k.quiet (rw d.status_is at h));
-      nothing_asked = kept words before after status (inl e);
     }
     by_way (inr (inl y)) = faulty words before after status y.status_is (inl y.cause)
-        (λ n. no_part y.held.done y.held.failed y.held.rest (sym (ap (λ x. x.writes) (k.unfit n)) ∙ y.held.parts)) (inl e)
+        (λ n. no_part y.held.done y.held.failed y.held.rest (sym (ap (λ x. x.writes) (k.unfit n)) ∙ y.held.parts))
     by_way (inr (inr (inl y))) = faulty words before after status y.status_is (inr y.cause)
-        (λ n. not_done (sym (ap (λ x. x.status) (k.unfit n)) ∙ y.was)) (inl e)
-    by_way (inr (inr (inr y))) = wanting words before after status y.status_is y.put (inl e)
+        (λ n. not_done (sym (ap (λ x. x.status) (k.unfit n)) ∙ y.was))
+    by_way (inr (inr (inr y))) = wanting words before after status y.status_is

@@ -1,17 +1,17 @@
 -- How a call of the top call ends. No command is named here.
-use Rattle.std.specs.Prelude.{◌≡◌, ◌≤◌, ◌⊎◌, true, List, [], Contains, Option, Some, None}
+use Rattle.std.specs.Prelude.{◌≡◌, ◌≤◌, ◌⊎◌, Bool, true, false, List, [], Contains, Option, Some, None}
 use Rattle.cg_files.specs.Asked.{Names, NotesPart}
 use Rattle.cg_files.specs.Causes.{Rose}
-use Rattle.cg_files.specs.Held.{Held, IsMissing}
+use Rattle.cg_files.specs.Held.{Held, IsMissing, AppendsSome}
 use Rattle.cg_ending.specs.declared.outcome.Status.{Status}
 use Rattle.cg_ending.specs.declared.outcome.Status.TheVariants.{Done, Memory, Usage, Malformed, Impossible, ReadFault, WriteFault, BudgetSpent, No}
 use Rattle.cg_ending.specs.Status.{leaves_all}
 use Rattle.cg_ending.specs.Outcome.{Name, Bytes, File, Outcome}
 use Rattle.cg_ending.specs.Reads.{AreRead, StopsAt}
-use Rattle.cg_ending.specs.Ends.{Moment, Finished, Wrote}
+use Rattle.cg_ending.specs.Ends.{Moment, Finished, Wrote, WrotePart, FailedAt, IsPut}
 use Rattle.cg_command.specs.Words.{Plan, plan_of}
 use Rattle.cg_ending.specs.Refusals.{usage_outcome}
-use Rattle.cg_answers.specs.Commands.{IsAnswer, Accepts, Leaves}
+use Rattle.cg_answers.specs.Commands.{IsAnswer, Accepts, Leaves, judges}
 
 -- ---- what words and files define
 
@@ -75,12 +75,7 @@ pub record IsStopped (words : List Name) (held : Held) (rose : Type 0) (status :
   pub stops : StopsAt held rose plan.inputs outcome
   pub status_is : outcome.status ≡ status
 
--- the words ask for no output file
-abbrev pub WritesNothing : Option Plan → Type 0
-WritesNothing None = Unit {0}
-WritesNothing (Some plan) = plan.outputs ≡ []
-
--- the table of statuses, by row
+-- the causes of a status, by row
 pub record IsByTable (words : List Name) (before after : Moment) (status : Status) : Type 0 where
   -- 0, 3, 4, 7 and 8: by the command's answer, or for 3 at a file that is too long
   pub done : status ≡ Done → IsAnswered words before.held Done
@@ -88,19 +83,77 @@ pub record IsByTable (words : List Name) (before after : Moment) (status : Statu
   pub impossible : status ≡ Impossible → IsAnswered words before.held Impossible
   pub spent : status ≡ BudgetSpent → IsAnswered words before.held BudgetSpent
   pub refused : status ≡ No → IsAnswered words before.held No
-  -- 1
-  pub silent : status ≡ Memory → after.taken ≡ before.taken
   -- 2
   pub usage : status ≡ Usage → plan_of words ≡ None
   pub unfit : plan_of words ≡ None → (status ≡ Usage) ⊎ (status ≡ Memory)
-  -- 5
+  -- 5: the input files before the one that is named were read
+  pub stopped : status ≡ ReadFault → IsStopped words before.held (Rose before.read_faults after.read_faults) ReadFault
   pub read_fault : status ≡ ReadFault → Rose before.read_faults after.read_faults
       ⊎ ((plan : Plan) × (plan_of words ≡ Some plan) × (name : Name) × Contains plan.inputs name × IsMissing before.held name)
   -- 6
   pub write_fault : status ≡ WriteFault → Rose before.write_faults after.write_faults ⊎ Rose before.faults after.faults
+
+-- ---- what is held and what was put, by status
+
+-- a status that an outcome has
+abbrev pub is_answer : Status → Bool
+is_answer Memory = false
+is_answer WriteFault = false
+is_answer _ = true
+
+-- an outcome of this status came: all that it writes was written and nothing else, and its report was put
+pub record Came (words : List Name) (before after : Moment) (status : Status) : Type 0 where
+  pub outcome : Outcome
+  pub is_outcome : IsOutcome words before.held (Rose before.read_faults after.read_faults) outcome
+  pub status_is : outcome.status ≡ status
+  pub held : Wrote before.held outcome.writes after.held
+  pub put : IsPut status outcome.report before after
+
+-- one of an outcome's writes failed: those before it were made, what is held under its name is open, and nothing was put
+pub record Halted (words : List Name) (before after : Moment) : Type 0 where
+  pub outcome : Outcome
+  pub is_outcome : IsOutcome words before.held (Rose before.read_faults after.read_faults) outcome
+  pub cause : Rose before.write_faults after.write_faults
+  pub held : FailedAt before.held outcome.writes after.held
+  pub put : after.taken ≡ before.taken
+
+-- all was written of an outcome that is Done, and a first part of its report was put
+pub record Unput (words : List Name) (before after : Moment) : Type 0 where
+  pub outcome : Outcome
+  pub is_outcome : IsOutcome words before.held (Rose before.read_faults after.read_faults) outcome
+  pub was : outcome.status ≡ Done
+  pub cause : Rose before.faults after.faults
+  pub held : Wrote before.held outcome.writes after.held
+  pub put : AppendsSome before.taken outcome.report after.taken
+
+-- some first ones of an outcome's writes were made
+pub record Begun (words : List Name) (before after : Moment) : Type 0 where
+  pub outcome : Outcome
+  pub is_outcome : IsOutcome words before.held (Rose before.read_faults after.read_faults) outcome
+  pub held : WrotePart before.held outcome.writes after.held
+
+-- all is held as before, and no write failed
+abbrev pub KeepsAll : Moment → Moment → Type 0
+KeepsAll before after = Wrote before.held [] after.held × (after.write_faults ≡ before.write_faults)
+
+-- the words ask for no output file
+abbrev pub WritesNothing : Option Plan → Type 0
+WritesNothing None = Unit {0}
+WritesNothing (Some plan) = plan.outputs ≡ []
+
+-- the effects of a call, by its status
+pub record IsEffect (words : List Name) (before after : Moment) (status : Status) : Type 0 where
+  -- 0, 2, 3, 4, 5, 7 and 8
+  pub came : is_answer status ≡ true → Came words before after status
+  -- 6
+  pub failed : status ≡ WriteFault → Halted words before after ⊎ Unput words before after
+  -- 1
+  pub begun : status ≡ Memory → Begun words before after ⊎ (after.held ≡ before.held)
+  pub silent : status ≡ Memory → after.taken ≡ before.taken
   -- after 2, 3, 4, 5 and 7 all is held as before, and no write call was made
-  pub kept : leaves_all status ≡ true → Wrote before.held [] after.held
-  pub no_write : leaves_all status ≡ true → after.write_faults ≡ before.write_faults
+  pub kept : leaves_all status ≡ true → KeepsAll before after
+  -- nor after 8 of a command that judges a mapping
+  pub judged : status ≡ No → (plan : Plan) → plan_of words ≡ Some plan → judges plan.command ≡ true → KeepsAll before after
   -- where the words ask for no output file all is held as before, however the call ends
   pub nothing_asked : WritesNothing (plan_of words) → Wrote before.held [] after.held
 
@@ -127,6 +180,7 @@ pub record IsCall (words : List Name) (before after : Moment) (status : Status) 
   pub ends : Ends words before after status
   pub exact : IsExact words before after status
   pub table : IsByTable words before after status
+  pub effect : IsEffect words before after status
   pub complete : IsComplete words before after status
   pub counts : KeepsCounts before after
   pub left : IsLeft words before after status

@@ -1,0 +1,50 @@
+-- A command that judges a mapping writes nothing where the answer is No.
+use Rattle.std.proofs.Common.{◌≡◌, true, false, List, [], ◌∷◌, sym, ◌∙◌, ap, refl}
+use Rattle.std.specs.Prelude.{Option, Some, None, Result, Ok, Err}
+use Rattle.cg_ending.specs.declared.outcome.Status.TheVariants.{Done, Malformed, No}
+use Rattle.cg_ending.specs.Outcome.{Name, File, Outcome}
+use Rattle.cg_check.specs.Legal.{Mapped}
+use Rattle.cg_check.specs.declared.rule.Violation.{Violation}
+use Rattle.cg_check.specs.Rules.{violation}
+use Rattle.cg_command.specs.declared.plans.Command.{Command}
+use Rattle.cg_command.specs.declared.plans.Command.TheVariants.{Turns, TurnsOnImage, Flat, Run, Bound, Check, Emit, Map, Trial, Verilog}
+use Rattle.cg_sources.specs.Sources.{AreMapped}
+use Rattle.cg_map_answers.specs.Emit.{IsEmittedBy, IsEmission}
+use Rattle.cg_map_answers.proofs.Checked.{quiet_check}
+use Rattle.cg_answers.specs.Commands.{IsAnswer, judges}
+use Rattle.cg_sources.proofs.Refusals.{AreRefused}
+use Rattle.cg_sources.proofs.Mapped.{refused_given}
+
+not_judging : false ≡ true → ⊥
+not_judging e = cc
+
+unwritten_by : (out : Name) (m : Mapped) (v : Option Violation) (o : Outcome) → IsEmittedBy out m v o → o.status ≡ No → o.writes ≡ []
+unwritten_by out m None o is said = absurd (let z : Done ≡ No = sym (ap (λ x. x.status) is.outcome) ∙ said in cc)
+unwritten_by out m (Some v) o is said = ap (λ x. x.writes) is
+
+unwritten : (out : Name) (mapped : Result Mapped Outcome) (o : Outcome) → AreRefused mapped → IsEmission out mapped o → o.status ≡ No → o.writes ≡ []
+unwritten out (Ok m) o refused is said = unwritten_by out m (violation m.arch m.kernel m.mapping) o is said
+unwritten out (Err e) o refused is said = absurd (let z : Malformed ≡ No = sym refused.status ∙ sym (ap (λ x. x.status) is) ∙ said in cc)
+
+pub judged : (c : Command) (files : List File) (outputs : List Name) (o : Outcome) → judges c ≡ true → IsAnswer c files outputs o → o.status ≡ No → o.writes ≡ []
+judged Check (f ∷ g ∷ h ∷ []) [] o j p said = quiet_check f g h o p
+judged Check (f ∷ g ∷ h ∷ []) (out ∷ outs) o j p said = absurd p
+judged Check [] outputs o j p said = absurd p
+judged Check (f ∷ []) outputs o j p said = absurd p
+judged Check (f ∷ g ∷ []) outputs o j p said = absurd p
+judged Check (f ∷ g ∷ h ∷ k ∷ fs) outputs o j p said = absurd p
+judged Emit (f ∷ g ∷ h ∷ []) (out ∷ []) o j p said = unwritten out p.mapped o (refused_given f g h p.mapped p.given) p.emission said
+judged Emit (f ∷ g ∷ h ∷ []) [] o j p said = absurd p
+judged Emit (f ∷ g ∷ h ∷ []) (out ∷ other ∷ outs) o j p said = absurd p
+judged Emit [] outputs o j p said = absurd p
+judged Emit (f ∷ []) outputs o j p said = absurd p
+judged Emit (f ∷ g ∷ []) outputs o j p said = absurd p
+judged Emit (f ∷ g ∷ h ∷ k ∷ fs) outputs o j p said = absurd p
+judged (Turns n) files outputs o j p said = absurd (not_judging j)
+judged (TurnsOnImage n) files outputs o j p said = absurd (not_judging j)
+judged Flat files outputs o j p said = absurd (not_judging j)
+judged (Run n) files outputs o j p said = absurd (not_judging j)
+judged Bound files outputs o j p said = absurd (not_judging j)
+judged (Map s) files outputs o j p said = absurd (not_judging j)
+judged (Trial seed) files outputs o j p said = absurd (not_judging j)
+judged Verilog files outputs o j p said = absurd (not_judging j)

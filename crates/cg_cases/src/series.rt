@@ -1,0 +1,52 @@
+//! Cases that differ in a number alone.
+
+use std::alloc::{AllocError, Global};
+
+/// Cases that differ in a number alone, one for each from the first to the last. In their lines `%` stands for it.
+#[derive(Drop)]
+pub(crate) struct Series {
+    pub(crate) name: String,
+    pub(crate) first: u32,
+    pub(crate) last: u32,
+    pub(crate) lines: Vec<String>,
+}
+
+impl Series {
+    /// What `NAME A..B` begins; none where that is the name of one case.
+    pub(crate) fn begun(alloc: Global, title: &str) -> Result<Option<Series>, AllocError> {
+        let Some((name, range)) = title.split_once(' ') else {
+            return Ok(None);
+        };
+        let Some((first, last)) = range.split_once("..") else {
+            return Ok(None);
+        };
+        let (Ok(first), Ok(last)) = (first.parse::<u32>(), last.parse::<u32>()) else {
+            return Ok(None);
+        };
+        Ok(Some(Series {
+            name: String::from_str(alloc, name)?,
+            first,
+            last,
+            lines: Vec::new(alloc),
+        }))
+    }
+
+    /// Takes in a line of all its cases.
+    pub(crate) fn add(&mut self, alloc: Global, line: &str) -> Result<(), AllocError> {
+        self.lines.push(String::from_str(alloc, line)?)?;
+        Ok(())
+    }
+}
+
+/// A line with a number in place of each `%`.
+pub(crate) fn with_number(alloc: Global, line: &str, number: u32) -> Result<String, AllocError> {
+    let digits = format!(in alloc; "{number}")?;
+    let mut text = String::new(alloc);
+    for (place, part) in line.split('%').enumerate() {
+        if place > 0 {
+            text.push_str(digits.as_str())?;
+        }
+        text.push_str(part)?;
+    }
+    Ok(text)
+}
