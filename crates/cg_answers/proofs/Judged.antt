@@ -1,5 +1,5 @@
 -- A command that judges a mapping writes nothing where the answer is No.
-use Rattle.std.proofs.Common.{◌≡◌, true, false, List, [], ◌∷◌, sym, ◌∙◌, ap, refl}
+use Rattle.std.proofs.Common.{◌≡◌, true, false, List, [], ◌∷◌, sym, ◌∙◌, ap}
 use Rattle.std.specs.Prelude.{Option, Some, None, Result, Ok, Err}
 use Rattle.cg_ending.specs.declared.outcome.Status.TheVariants.{Done, Malformed, No}
 use Rattle.cg_ending.specs.Outcome.{Name, File, Outcome}
@@ -7,8 +7,7 @@ use Rattle.cg_check.specs.Legal.{Mapped}
 use Rattle.cg_check.specs.declared.rule.Violation.{Violation}
 use Rattle.cg_check.specs.Rules.{violation}
 use Rattle.cg_command.specs.declared.plans.Command.{Command}
-use Rattle.cg_command.specs.declared.plans.Command.TheVariants.{Turns, TurnsOnImage, Flat, Run, Bound, Check, Emit, Map, Trial, Verilog}
-use Rattle.cg_sources.specs.Sources.{AreMapped}
+use Rattle.cg_command.specs.declared.plans.Command.TheVariants.{Turns, TurnsOnImage, Flat, Run, Bound, Check, Emit, Map, Seek, Trial, Verilog}
 use Rattle.cg_map_answers.specs.Emit.{IsEmittedBy, IsEmission}
 use Rattle.cg_map_answers.proofs.Checked.{quiet_check}
 use Rattle.cg_answers.specs.Commands.{IsAnswer, judges}
@@ -46,5 +45,6 @@ judged Flat files outputs o j p said = absurd (not_judging j)
 judged (Run n) files outputs o j p said = absurd (not_judging j)
 judged Bound files outputs o j p said = absurd (not_judging j)
 judged (Map s) files outputs o j p said = absurd (not_judging j)
+judged (Seek s) files outputs o j p said = absurd (not_judging j)
 judged (Trial seed) files outputs o j p said = absurd (not_judging j)
 judged Verilog files outputs o j p said = absurd (not_judging j)

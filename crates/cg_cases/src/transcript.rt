@@ -136,6 +136,7 @@ impl Transcript {
             "status" => self.judge_status(alloc, rest),
             "held" => self.expect(alloc, Purpose::Held(String::from_str(alloc, rest)?)),
             "missing" => self.judge_missing(alloc, rest),
+            "same" => self.judge_same(alloc, rest),
             _ => self.differ(alloc, "no such line", line),
         }
     }
@@ -316,6 +317,15 @@ impl Transcript {
         match self.bench.held(name) {
             None => Ok(()),
             Some(_) => self.differ(alloc, "not missing:", name),
+        }
+    }
+
+    /// Two names hold the same bytes.
+    fn judge_same(&mut self, alloc: Global, line: &str) -> Result<(), AllocError> {
+        let (first, second) = line.split_once(' ').unwrap_or((line, ""));
+        match (self.bench.held(first), self.bench.held(second)) {
+            (Some(some), Some(others)) if some == others => Ok(()),
+            _ => self.differ(alloc, "not the same:", line),
         }
     }
 

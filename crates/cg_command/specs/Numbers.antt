@@ -41,6 +41,10 @@ moves_of word = number_up_to most_moves word
 abbrev pub usual_seed : ℕ
 usual_seed = 1
 
--- the number of moves where none is given
+-- the number of the walk's moves where none is given
 abbrev pub usual_moves : ℕ
 usual_moves = 10000
+
+-- the number of best responses where none is given
+abbrev pub usual_responses : ℕ
+usual_responses = 12000

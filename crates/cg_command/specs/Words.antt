@@ -3,9 +3,9 @@ use Rattle.std.specs.Prelude.{◌≡◌, ◌≤◌, ◌==◌, ◌⊎◌, ℕ, Bo
 use Rattle.std.specs.List.{list_any, before_first, after_first}
 use Rattle.std.specs.Str.{bytes_eq}
 use Rattle.cg_model.specs.Limits.{most_turns, most_moves}
-pub use Rattle.cg_command.specs.Numbers.{Text, is_number, number_up_to, positive, turns_of, interval_of, seed_of, moves_of, usual_seed, usual_moves}
+pub use Rattle.cg_command.specs.Numbers.{Text, is_number, number_up_to, positive, turns_of, interval_of, seed_of, moves_of, usual_seed, usual_moves, usual_responses}
 use Rattle.cg_command.specs.declared.plans.Command.{Command}
-use Rattle.cg_command.specs.declared.plans.Command.TheVariants.{Turns, TurnsOnImage, Flat, Run, Bound, Check, Emit, Map, Trial, Verilog}
+use Rattle.cg_command.specs.declared.plans.Command.TheVariants.{Turns, TurnsOnImage, Flat, Run, Bound, Check, Emit, Map, Seek, Trial, Verilog}
 use Rattle.cg_command.specs.declared.searches.Search.{Search}
 use Rattle.cg_command.specs.declared.plans.Plan.{Plan as PlanValue}
 use Rattle.cg_command.specs.declared.arguments.Arguments.{Arguments as ArgumentsValue}
@@ -201,26 +201,31 @@ asked_interval value = option_map Some (interval_of value)
 abbrev pub named_file : Text → Option (List Text)
 named_file value = Some (value ∷ [])
 
--- what the options of a search say: without `--ii` no interval is asked
-abbrev pub search_of : List Given → Option Search
-search_of given =
+-- what the options of a search say, with so many moves where none are given; without `--ii` no interval is asked
+abbrev pub search_of : ℕ → List Given → Option Search
+search_of usual given =
     option_and_then (λ ii. option_and_then (λ seed. option_map (λ moves. record { ii = ii; seed = seed; moves = moves })
-    (said_once usual_moves moves_of (values_said (codes "moves") given)))
+    (said_once usual moves_of (values_said (codes "moves") given)))
     (said_once usual_seed seed_of (values_said (codes "seed") given)))
     (said_once None asked_interval (values_said (codes "ii") given))
 
 -- the plan of a search that writes the bits, and maybe the mapping
-abbrev pub search_plan : List Text → Search → List Text → Option Plan
-search_plan (arch ∷ kernel ∷ out ∷ []) search mapping =
-    Some (record { command = Map search; inputs = arch ∷ kernel ∷ []; outputs = out ∷ mapping })
-search_plan _ search mapping = None
+abbrev pub search_plan : List Text → Command → List Text → Option Plan
+search_plan (arch ∷ kernel ∷ out ∷ []) command mapping =
+    Some (record { command = command; inputs = arch ∷ kernel ∷ []; outputs = out ∷ mapping })
+search_plan _ command mapping = None
+
+-- the same, by what was said
+abbrev pub searching_plan : Command → Arguments → Option Plan
+searching_plan command said = option_and_then (search_plan said.words command) (said_once [] named_file (values_said (codes "mapping") said.options))
 
 -- map ARCH KERNEL OUT [--ii N] [--seed N] [--moves N] [--mapping FILE]
 abbrev pub map_plan : Arguments → Option Plan
-map_plan said =
-    option_and_then (λ search. option_and_then (search_plan said.words search)
-    (said_once [] named_file (values_said (codes "mapping") said.options)))
-    (search_of said.options)
+map_plan said = option_and_then (λ search. searching_plan (Map search) said) (search_of usual_moves said.options)
+
+-- search ARCH KERNEL OUT [--ii N] [--seed N] [--moves N] [--mapping FILE]
+abbrev pub seek_plan : Arguments → Option Plan
+seek_plan said = option_and_then (λ search. searching_plan (Seek search) said) (search_of usual_responses said.options)
 
 -- no option was given
 abbrev pub is_empty : List Given → Bool
@@ -241,9 +246,10 @@ command_plan name said =
     else (if bytes_eq name (codes "check") then without_options check_plan said
     else (if bytes_eq name (codes "emit") then without_options emit_plan said
     else (if bytes_eq name (codes "map") then map_plan said
+    else (if bytes_eq name (codes "search") then seek_plan said
     else (if bytes_eq name (codes "trial") then without_options trial_plan said
     else (if bytes_eq name (codes "verilog") then without_options verilog_plan said
-    else None))))))))
+    else None)))))))))
 
 -- what the words ask, None where they fit no command
 unfoldable pub plan_of : List Text → Option Plan
@@ -265,5 +271,6 @@ HasShape Bound inputs outputs = (inputs ≡ 2) × (outputs ≡ 0)
 HasShape Check inputs outputs = (inputs ≡ 3) × (outputs ≡ 0)
 HasShape Emit inputs outputs = (inputs ≡ 3) × (outputs ≡ 1)
 HasShape (Map search) inputs outputs = (inputs ≡ 2) × ((outputs ≡ 1) ⊎ (outputs ≡ 2)) × IsInRange search
+HasShape (Seek search) inputs outputs = (inputs ≡ 2) × ((outputs ≡ 1) ⊎ (outputs ≡ 2)) × IsInRange search
 HasShape (Trial seed) inputs outputs = (inputs ≡ 0) × (outputs ≡ 0)
 HasShape Verilog inputs outputs = (inputs ≡ 1) × (outputs ≡ 1)

@@ -10,8 +10,11 @@ use cg_model::{MOST_CONTEXTS, MOST_MOVES, MOST_TURNS};
 /// The seed where none is given.
 pub(crate) const USUAL_SEED: u64 = 1;
 
-/// The number of moves where none is given.
+/// The number of the walk's moves where none is given.
 pub(crate) const USUAL_MOVES: u32 = 10_000;
+
+/// The number of best responses where none is given.
+pub(crate) const USUAL_RESPONSES: u32 = 12_000;
 
 /// The interval that a word writes.
 pub fn interval_of(word: &str) -> Option<u32>

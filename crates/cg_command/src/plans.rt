@@ -5,7 +5,7 @@ ghost use Rattle.cg_command.specs.Words.{HasShape};
 
 use crate::arguments::{Arguments, arguments_of};
 use crate::numbers::{seed_of, turns_of};
-use crate::searches::{Search, map_plan};
+use crate::searches::{Search, map_plan, seek_plan};
 use std::alloc::{AllocError, Global};
 
 /// A command, with its numbers.
@@ -27,6 +27,8 @@ pub enum Command {
     Emit,
     /// `map ARCH KERNEL OUT [--ii N] [--seed N] [--moves N] [--mapping FILE]`: the bits of a mapping that is searched.
     Map(Search),
+    /// `search ARCH KERNEL OUT [--ii N] [--seed N] [--moves N] [--mapping FILE]`: the bits of a mapping near the least interval.
+    Seek(Search),
     /// `trial SEED`: a drawn kernel, mapped over the hub of an architecture made for it, run by the array and by its turns.
     Trial { seed: u64 },
     /// `verilog ARCH OUT`: the netlist of an architecture, as structural Verilog.
@@ -73,6 +75,7 @@ fn command_plan(alloc: Global, name: &str, said: &Arguments) -> Result<Option<Pl
         "check" if has_no_options(said) => check_plan(alloc, said.words.as_slice()),
         "emit" if has_no_options(said) => emit_plan(alloc, said.words.as_slice()),
         "map" => map_plan(alloc, said),
+        "search" => seek_plan(alloc, said),
         "trial" if has_no_options(said) => trial_plan(alloc, said.words.as_slice()),
         "verilog" if has_no_options(said) => verilog_plan(alloc, said.words.as_slice()),
         _ => Ok(None),

@@ -1,11 +1,11 @@
-//! The words of `map`: its files, and the options of its search.
+//! The words of `map` and `search`: their files, and the options of what is searched.
 ghost use Rattle.std.specs.Prelude.{◌≡◌, ◌≤◌, [], ◌∷◌, None, IfOk, IfSome, map, option_and_then, option_map, vec_len};
 ghost use Rattle.cg_model.specs.Limits.{most_moves};
 ghost use Rattle.cg_command.specs.Words as spec;
 ghost use Rattle.cg_command.specs.Words.{HasShape, IsInRange, heard_option, said_once};
 
 use crate::arguments::{Arguments, Given};
-use crate::numbers::{USUAL_MOVES, USUAL_SEED, interval_of, moves_of, seed_of};
+use crate::numbers::{USUAL_MOVES, USUAL_RESPONSES, USUAL_SEED, interval_of, moves_of, seed_of};
 use crate::plans::{Command, Plan};
 use std::alloc::{AllocError, Global};
 
@@ -14,9 +14,9 @@ use std::alloc::{AllocError, Global};
 pub struct Search {
     /// The only interval to try, in cycles; None for each from the least one on.
     pub ii: Option<u32>,
-    /// The seed of the words that the walk draws.
+    /// The seed of the words that are drawn.
     pub seed: u64,
-    /// The most moves of the walk at an interval.
+    /// The most moves at an interval: of the walk for `map`, best responses for `search`.
     pub moves: u32,
 }
 
@@ -27,46 +27,75 @@ pub(crate) fn map_plan(alloc: Global, said: &Arguments) -> Result<Option<Plan>, 
     ensures shape { IfOk result (λ p. IfSome p
         (λ plan. HasShape plan.command (vec_len plan.inputs) (vec_len plan.outputs))) }
 {
-    let options = said.options.as_slice();
-    let Some(search) = search_of(alloc, options)? else {
-        return Ok(None);
-    };
-    let files = values_said(alloc, options, "mapping")?;
-    plan_of_search(alloc, said.words.as_slice(), search, files.as_slice())
+    match search_of(alloc, USUAL_MOVES, said.options.as_slice())? {
+        Some(search) => searching_plan(alloc, Command::Map(search), said),
+        None => Ok(None),
+    }
 }
 
-/// The plan of a search, with what is said of the mapping's file.
-fn plan_of_search(
+/// `search ARCH KERNEL OUT [--ii N] [--seed N] [--moves N] [--mapping FILE]`.
+pub(crate) fn seek_plan(alloc: Global, said: &Arguments) -> Result<Option<Plan>, AllocError>
+    ensures plan { IfOk result
+        (λ p. option_map spec.planned p ≡ spec.seek_plan (spec.heard said.now)) }
+    ensures shape { IfOk result (λ p. IfSome p
+        (λ plan. HasShape plan.command (vec_len plan.inputs) (vec_len plan.outputs))) }
+{
+    match search_of(alloc, USUAL_RESPONSES, said.options.as_slice())? {
+        Some(search) => searching_plan(alloc, Command::Seek(search), said),
+        None => Ok(None),
+    }
+}
+
+/// The plan of a command that searches, with what is said of its files.
+fn searching_plan(
+    alloc: Global,
+    command: Command,
+    said: &Arguments,
+) -> Result<Option<Plan>, AllocError>
+    requires one { HasShape command 2 1 }
+    requires two { HasShape command 2 2 }
+    ensures plan { IfOk result
+        (λ p. option_map spec.planned p ≡ spec.searching_plan command (spec.heard said.now)) }
+    ensures shape { IfOk result (λ p. IfSome p
+        (λ plan. HasShape plan.command (vec_len plan.inputs) (vec_len plan.outputs))) }
+{
+    let files = values_said(alloc, said.options.as_slice(), "mapping")?;
+    plan_with_files(alloc, said.words.as_slice(), command, files.as_slice())
+}
+
+/// The same, with the files that are named for the mapping.
+fn plan_with_files(
     alloc: Global,
     words: &[&str],
-    search: Search,
+    command: Command,
     files: &[&str],
 ) -> Result<Option<Plan>, AllocError>
-    requires { IsInRange search }
+    requires one { HasShape command 2 1 }
+    requires two { HasShape command 2 2 }
     ensures plan { IfOk result
-        (λ p. option_map spec.planned p ≡ option_and_then (spec.search_plan (map (λ word. word.now) words.now) search)
+        (λ p. option_map spec.planned p ≡ option_and_then (spec.search_plan (map (λ word. word.now) words.now) command)
         (said_once [] spec.named_file (map (λ file. file.now) files.now))) }
     ensures shape { IfOk result (λ p. IfSome p
         (λ plan. HasShape plan.command (vec_len plan.inputs) (vec_len plan.outputs))) }
 {
     match files {
-        [] => search_plan(alloc, words, search),
-        [file] => plan_with_mapping(alloc, words, search, file),
+        [] => search_plan(alloc, words, command),
+        [file] => plan_with_mapping(alloc, words, command, file),
         _ => Ok(None),
     }
 }
 
 /// The plan of a search that writes the bits.
-fn search_plan(alloc: Global, words: &[&str], search: Search) -> Result<Option<Plan>, AllocError>
-    requires { IsInRange search }
+fn search_plan(alloc: Global, words: &[&str], command: Command) -> Result<Option<Plan>, AllocError>
+    requires { HasShape command 2 1 }
     ensures plan { IfOk result
-        (λ p. option_map spec.planned p ≡ spec.search_plan (map (λ word. word.now) words.now) search []) }
+        (λ p. option_map spec.planned p ≡ spec.search_plan (map (λ word. word.now) words.now) command []) }
     ensures shape { IfOk result (λ p. IfSome p
         (λ plan. HasShape plan.command (vec_len plan.inputs) (vec_len plan.outputs))) }
 {
     match words {
         [arch, kernel, out] => Ok(Some(Plan {
-            command: Command::Map(search),
+            command,
             inputs: vec![in alloc;
                 String::from_str(alloc, arch)?,
                 String::from_str(alloc, kernel)?,
@@ -81,18 +110,18 @@ fn search_plan(alloc: Global, words: &[&str], search: Search) -> Result<Option<P
 fn plan_with_mapping(
     alloc: Global,
     words: &[&str],
-    search: Search,
+    command: Command,
     mapping: &str,
 ) -> Result<Option<Plan>, AllocError>
-    requires { IsInRange search }
+    requires { HasShape command 2 2 }
     ensures plan { IfOk result
-        (λ p. option_map spec.planned p ≡ spec.search_plan (map (λ word. word.now) words.now) search (mapping.now ∷ [])) }
+        (λ p. option_map spec.planned p ≡ spec.search_plan (map (λ word. word.now) words.now) command (mapping.now ∷ [])) }
     ensures shape { IfOk result (λ p. IfSome p
         (λ plan. HasShape plan.command (vec_len plan.inputs) (vec_len plan.outputs))) }
 {
     match words {
         [arch, kernel, out] => Ok(Some(Plan {
-            command: Command::Map(search),
+            command,
             inputs: vec![in alloc;
                 String::from_str(alloc, arch)?,
                 String::from_str(alloc, kernel)?,
@@ -106,9 +135,10 @@ fn plan_with_mapping(
     }
 }
 
-/// What the options of a search say.
-fn search_of(alloc: Global, options: &[Given]) -> Result<Option<Search>, AllocError>
-    ensures value { IfOk result (λ s. s ≡ spec.search_of (map heard_option options.now)) }
+/// What the options of a search say, with so many moves where none are given.
+fn search_of(alloc: Global, usual: u32, options: &[Given]) -> Result<Option<Search>, AllocError>
+    requires { usual ≤ most_moves }
+    ensures value { IfOk result (λ s. s ≡ spec.search_of usual (map heard_option options.now)) }
     ensures range { IfOk result (λ s. IfSome s IsInRange) }
 {
     let Some(ii) = interval_said(values_said(alloc, options, "ii")?.as_slice()) else {
@@ -117,7 +147,7 @@ fn search_of(alloc: Global, options: &[Given]) -> Result<Option<Search>, AllocEr
     let Some(seed) = seed_said(values_said(alloc, options, "seed")?.as_slice()) else {
         return Ok(None);
     };
-    let Some(moves) = moves_said(values_said(alloc, options, "moves")?.as_slice()) else {
+    let Some(moves) = moves_said(usual, values_said(alloc, options, "moves")?.as_slice()) else {
         return Ok(None);
     };
     Ok(Some(Search { ii, seed, moves }))
@@ -168,12 +198,13 @@ fn seed_said(values: &[&str]) -> Option<u64>
 }
 
 /// The most moves at an interval; None where the values can't be read.
-fn moves_said(values: &[&str]) -> Option<u32>
-    ensures value { result ≡ said_once spec.usual_moves spec.moves_of (map (λ value. value.now) values.now) }
+fn moves_said(usual: u32, values: &[&str]) -> Option<u32>
+    requires { usual ≤ most_moves }
+    ensures value { result ≡ said_once usual spec.moves_of (map (λ value. value.now) values.now) }
     ensures few { IfSome result (λ moves. moves ≤ most_moves) }
 {
     match values {
-        [] => Some(USUAL_MOVES),
+        [] => Some(usual),
         [value] => moves_of(value),
         _ => None,
     }

@@ -63,7 +63,7 @@ pub fn last_tried(arch: &Arch, asked: Option<u32>) -> u32
 }
 
 /// The first one.
-fn first_tried(
+pub fn first_tried(
     alloc: Global,
     arch: &Arch,
     kernel: &Kernel,

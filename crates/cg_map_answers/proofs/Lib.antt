@@ -1,5 +1,7 @@
 pub mod Checked
 pub mod Bitstream
 pub mod Bounded
+pub mod Over
+pub mod Left
 pub mod Searched
 pub mod Named

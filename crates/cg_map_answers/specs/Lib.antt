@@ -1,4 +1,5 @@
 pub mod Bound
 pub mod Check
 pub mod Emit
+pub mod Searches
 pub mod Map

@@ -57,7 +57,7 @@ fn written(alloc: Global, legal: &LegalMapping<'_>, out: &str) -> Result<Outcome
 }
 
 /// The interval, and the stages of the configuration.
-pub(crate) fn emit_report(alloc: Global, legal: &LegalMapping<'_>) -> Result<Vec<u8>, AllocError>
+pub fn emit_report(alloc: Global, legal: &LegalMapping<'_>) -> Result<Vec<u8>, AllocError>
     ensures { IfOk result (λ v. v.items ≡ emit_report legal.now) }
 {
     let ii = legal.mapping().ii();

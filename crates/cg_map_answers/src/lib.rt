@@ -6,8 +6,12 @@ mod bounding;
 mod checking;
 mod emitting;
 mod mapping;
+mod refusing;
+mod writing;
 
 pub use bounding::bound;
 pub use checking::check;
-pub use emitting::emit;
+pub use emitting::{emit, emit_report};
 pub use mapping::map;
+pub use refusing::{above, asks_above, impossible};
+pub use writing::written;

@@ -4,19 +4,18 @@ ghost use Rattle.cg_ending.specs.Outcome.{file_of, outcome_of};
 ghost use Rattle.cg_ending.specs.Refusals.{reports};
 ghost use Rattle.cg_ending.specs.declared.outcome.Status.TheVariants as status;
 ghost use Rattle.cg_command.specs.Words.{IsInRange};
-ghost use Rattle.cg_map_answers.specs.Map as spec;
-ghost use Rattle.cg_map_answers.specs.Map.{IsMap, IsSearchWithin, IsSearch, IsMappingWritten, is_above, above_contexts, cost_line, costs_report, impossible_report, map_report, map_writes, way_line};
+ghost use Rattle.cg_map_answers.specs.Map.{IsMap, IsSearch, IsMappingWritten, cost_line, costs_report, map_report, way_line};
+ghost use Rattle.cg_map_answers.specs.Searches.{IsWithin, is_above};
 
 use crate::emitting::emit_report;
+use crate::refusing::{above, asks_above, impossible};
+use crate::writing::written;
 use cg_arch::Arch;
-use cg_bound::{Certificate, certificate_text};
 use cg_check::LegalMapping;
 use cg_command::Search;
-use cg_emit::emit as emit_bits;
-use cg_ending::{File, Outcome, Status, malformed};
+use cg_ending::{File, Outcome, Status};
 use cg_kernel::Kernel;
-use cg_map::{MapAnswer, Way, last_tried, map_answer};
-use cg_mapping::print_mapping;
+use cg_map::{MapAnswer, Way, map_answer};
 use cg_sources::{GivenPair, read_pair};
 use std::alloc::{AllocError, Global};
 
@@ -50,32 +49,13 @@ fn searched_within(
     outputs: &[String],
 ) -> Result<Outcome, AllocError>
     requires { IsInRange search }
-    ensures { IfOk result (λ o. IsSearchWithin search name.now (map string_bytes outputs.now)
+    ensures { IfOk result (λ o. IsWithin (IsSearch search (map string_bytes outputs.now)) name.now
         (record { arch = arch.now; kernel = kernel.now }) (is_above search.ii arch.now) (outcome_of o)) }
 {
     if asks_above(search.ii, arch) {
         return above(alloc, name, arch);
     }
     searched(alloc, search, arch, kernel, outputs)
-}
-
-/// Whether an interval is asked that has more cycles than the architecture has contexts.
-fn asks_above(asked: Option<u32>, arch: &Arch) -> bool
-    ensures { result ≡ is_above asked arch.now }
-{
-    match asked {
-        Some(ii) => ii > arch.contexts(),
-        None => false,
-    }
-}
-
-/// The refusal of such an interval.
-fn above(alloc: Global, name: &str, arch: &Arch) -> Result<Outcome, AllocError>
-    ensures { IfOk result (λ o. outcome_of o ≡ above_contexts name.now arch.now) }
-{
-    let contexts = arch.contexts();
-    let fault = format!(in alloc; "G2 IntervalAboveContexts contexts {contexts}")?;
-    malformed(alloc, name, fault.as_str())
 }
 
 /// The intervals may be tried.
@@ -93,34 +73,13 @@ fn searched(
     let _valid_arch = arch.units();
     match map_answer(alloc, arch, kernel, search.ii, search.seed, search.moves)? {
         MapAnswer::Impossible(certificate) => impossible(alloc, search, arch, kernel, &certificate),
-        MapAnswer::Mapped(mapping, way) => written(alloc, &mapping, way, outputs),
+        MapAnswer::Mapped(mapping, way) => found(alloc, &mapping, way, outputs),
         MapAnswer::Spent { first, costs } => spent(alloc, first, costs.as_slice()),
     }
 }
 
-/// The last interval is impossible.
-fn impossible(
-    alloc: Global,
-    search: Search,
-    arch: &Arch,
-    kernel: &Kernel,
-    certificate: &Certificate,
-) -> Result<Outcome, AllocError>
-    ensures { IfOk result (λ o. outcome_of o
-        ≡ reports status.Impossible (impossible_report (record { arch = arch.now; kernel = kernel.now }) search certificate.now)) }
-{
-    let last = last_tried(arch, search.ii);
-    let mut report = certificate_text(alloc, arch, kernel, Some(last), certificate)?;
-    report.push(b'\n')?;
-    Ok(Outcome {
-        status: Status::Impossible,
-        report,
-        writes: Vec::new(alloc),
-    })
-}
-
 /// A mapping was found: its bits and its text.
-fn written(
+fn found(
     alloc: Global,
     mapping: &LegalMapping<'_>,
     way: Way,
@@ -128,12 +87,8 @@ fn written(
 ) -> Result<Outcome, AllocError>
     ensures { IfOk result (λ o. IsMappingWritten (map string_bytes outputs.now) mapping.now way (outcome_of o)) }
 {
-    let bytes = emit_bits(alloc, mapping)?;
-    Ok(Outcome {
-        status: Status::Done,
-        report: map_report(alloc, mapping, way)?,
-        writes: map_writes(alloc, mapping, bytes, outputs)?,
-    })
+    let report = map_report(alloc, mapping, way)?;
+    written(alloc, mapping, report, outputs)
 }
 
 /// The interval, the stages, and how the mapping was found.
@@ -154,49 +109,6 @@ fn way_line(alloc: Global, way: Way) -> Result<String, AllocError>
         Way::Hub => String::from_str(alloc, "by hub\n"),
         Way::Walk(moves) => format!(in alloc; "by walk {moves}\n"),
     }
-}
-
-/// The files of a mapping.
-fn map_writes(
-    alloc: Global,
-    mapping: &LegalMapping<'_>,
-    bytes: Vec<u8>,
-    outputs: &[String],
-) -> Result<Vec<File>, AllocError>
-    ensures { IfOk result (λ v. map file_of v.items ≡ map_writes (map string_bytes outputs.now) mapping.now bytes.items) }
-{
-    match outputs {
-        [out] => Ok(vec![in alloc; file_named(alloc, out.as_str(), bytes)?]?),
-        [out, file] => {
-            let text = mapping_text(alloc, mapping)?;
-            Ok(vec![in alloc;
-                file_named(alloc, out.as_str(), bytes)?,
-                file_named(alloc, file.as_str(), text)?,
-            ]?)
-        }
-        _ => Ok(Vec::new(alloc)),
-    }
-}
-
-/// A file of that name.
-fn file_named(alloc: Global, name: &str, bytes: Vec<u8>) -> Result<File, AllocError>
-    ensures { IfOk result (λ f. file_of f ≡ record { name = name.now; bytes = bytes.items }) }
-{
-    Ok(File {
-        name: String::from_str(alloc, name)?,
-        bytes,
-    })
-}
-
-/// The text of a mapping.
-fn mapping_text(alloc: Global, mapping: &LegalMapping<'_>) -> Result<Vec<u8>, AllocError>
-    ensures { IfOk result (λ v. v.items ≡ spec.mapping_text mapping.now) }
-{
-    let arch = mapping.arch();
-    let _valid_arch = arch.units();
-    let kernel = mapping.kernel();
-    let _valid_kernel = kernel.nodes();
-    print_mapping(alloc, arch, kernel, mapping.mapping())
 }
 
 /// No interval has a mapping: the cost that is left at each.

@@ -1,5 +1,5 @@
 -- What is held and what was put, by status.
-use Rattle.std.proofs.Common.{◌≡◌, ◌⊎◌, true, false, List, [], Some, refl, sym, ◌∙◌, ap, subst, inl, inr}
+use Rattle.std.proofs.Common.{◌≡◌, ◌⊎◌, true, List, [], Some, refl, sym, ◌∙◌, subst, inl, inr}
 use Rattle.cg_files.specs.Causes.{Rose}
 use Rattle.cg_ending.specs.declared.outcome.Status.{Status}
 use Rattle.cg_ending.specs.declared.outcome.Status.TheVariants.{Memory, Malformed, ReadFault, WriteFault, No}

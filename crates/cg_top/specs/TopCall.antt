@@ -11,7 +11,7 @@ use Rattle.cg_ending.specs.Reads.{AreRead, StopsAt}
 use Rattle.cg_ending.specs.Ends.{Moment, Finished, Wrote, WrotePart, FailedAt, IsPut}
 use Rattle.cg_command.specs.Words.{Plan, plan_of}
 use Rattle.cg_ending.specs.Refusals.{usage_outcome}
-use Rattle.cg_answers.specs.Commands.{IsAnswer, Accepts, Leaves, judges}
+use Rattle.cg_answers.specs.Commands.{IsAnswer, Accepts, AgreeIn, Leaves, judges}
 
 -- ---- what words and files define
 
@@ -52,10 +52,15 @@ Ends words before after status = CarriedOut words before after status ⊎ NeverS
 
 -- ---- what follows from it
 
+-- how a status agrees with that of an outcome that is defined for the words: it is the same, but where the command may choose
+abbrev pub Agrees : Option Plan → Status → Status → Type 0
+Agrees None a b = a ≡ b
+Agrees (Some plan) a b = AgreeIn plan.command a b
+
 -- the status is the defined one, but for want of memory and for faults, which show in their counts
 abbrev pub IsExact : List Name → Moment → Moment → Status → Type 0
 IsExact words before after status = (files : Name → Option Bytes) (o : Outcome) → before.held ≡ Some files → IsDefined words files o
-    → (status ≡ o.status) ⊎ ((status ≡ Memory)
+    → Agrees (plan_of words) status o.status ⊎ ((status ≡ Memory)
     ⊎ (((status ≡ ReadFault) × Rose before.read_faults after.read_faults)
     ⊎ ((status ≡ WriteFault) × (Rose before.write_faults after.write_faults ⊎ Rose before.faults after.faults))))
 

@@ -1,0 +1,96 @@
+-- What searches for mappings have in common: why there is none, what is written of one, and the files that they are over.
+use Rattle.std.specs.Prelude.{◌≡◌, ◌≢◌, ℕ, nat_lt, Bool, true, false, List, [], ◌∷◌, ◌++◌, Option, Some, None, Result, Ok, Err, codes, decimal}
+use Rattle.serde_json.specs.Written.{compact_text}
+use Rattle.cg_model.specs.Array.{Arch}
+use Rattle.cg_model.specs.Mapping.{Mapping, IsLegal}
+use Rattle.cg_ending.specs.declared.outcome.Status.TheVariants as status
+use Rattle.cg_files.specs.Held.{Holds}
+use Rattle.cg_ending.specs.Outcome.{Name, Bytes, File, Outcome, line_of}
+use Rattle.cg_ending.specs.Ends.{Moment, IsPut, Wrote}
+use Rattle.cg_ending.specs.Refusals.{malformed_of}
+use Rattle.cg_bits.specs.Spelling.{AreBits}
+use Rattle.cg_mapping.specs.Printed.{data_of}
+use Rattle.cg_check.specs.Legal.{Mapped}
+use Rattle.cg_bound.specs.declared.interval.Certificate.{Certificate}
+use Rattle.cg_bound.specs.Bound.{IsForbidden, Certifies, Shows}
+use Rattle.cg_bound.specs.Text.{certificate_text}
+use Rattle.cg_map.specs.Tried.{last_tried}
+use Rattle.cg_command.specs.declared.searches.Search.{Search}
+use Rattle.cg_command.specs.Words.{IsInRange}
+use Rattle.cg_sources.specs.Sources.{Pair, ArePaired, HoldPair}
+use Rattle.cg_map_answers.specs.Emit.{config_of}
+
+-- ---- reports
+
+-- why the last interval that is tried is impossible
+abbrev pub impossible_report : Pair → Search → Certificate → Bytes
+impossible_report p s c = line_of (certificate_text p.arch p.kernel (Some (last_tried p.arch s.ii)) c ∷ [])
+
+-- ---- files
+
+-- a mapping as text
+abbrev pub mapping_text : Mapped → Bytes
+mapping_text m = compact_text (data_of m.arch m.kernel m.mapping)
+
+-- what is written where a mapping was found: its bits, and its text where a file is named for it
+abbrev pub map_writes : List Name → Mapped → Bytes → List File
+map_writes (out ∷ []) m bytes = record { name = out; bytes = bytes } ∷ []
+map_writes (out ∷ file ∷ []) m bytes =
+    record { name = out; bytes = bytes } ∷ record { name = file; bytes = mapping_text m } ∷ []
+map_writes _ m bytes = []
+
+-- ---- outcomes
+
+-- a mapping was found, and bytes that spell its configuration are written; this is said of it
+pub record IsWritten (outs : List Name) (m : Mapped) (report : Bytes) (o : Outcome) : Type 0 where
+  pub bytes : Bytes
+  pub spelled : AreBits m.arch (config_of m) bytes
+  pub outcome : o ≡ record { status = status.Done; report = report; writes = map_writes outs m bytes }
+
+-- an interval is asked that has more cycles than the architecture has contexts
+abbrev pub is_above : Option ℕ → Arch → Bool
+is_above None A = false
+is_above (Some ii) A = nat_lt A.contexts ii
+
+-- that, of the architecture's file
+abbrev pub above_contexts : Name → Arch → Outcome
+above_contexts arch A = malformed_of arch (codes "G2 IntervalAboveContexts contexts " ++ decimal A.contexts)
+
+-- that, or what is defined for the pair
+abbrev pub IsWithin : (Pair → Outcome → Type 0) → Name → Pair → Bool → Outcome → Type 0
+IsWithin defines arch p true o = o ≡ above_contexts arch p.arch
+IsWithin defines arch p false o = defines p o
+
+-- by what the files give
+abbrev pub IsOverPair : (Pair → Outcome → Type 0) → Option ℕ → Name → Result Pair Outcome → Outcome → Type 0
+IsOverPair defines asked arch (Ok p) o = IsWithin defines arch p (is_above asked p.arch) o
+IsOverPair defines asked arch (Err refused) o = o ≡ refused
+
+-- a search over two files
+pub record IsSearchOver (defines : Pair → Outcome → Type 0) (s : Search) (arch kernel : File) (o : Outcome) : Type 0 where
+  pub range : IsInRange s
+  pub pair : Result Pair Outcome
+  pub given : ArePaired arch kernel pair
+  pub outcome : IsOverPair defines s.ii arch.name pair o
+
+-- ---- what is left
+
+-- the bits are held, and the mapping's text where a file is named for it; of two files of one name the later is held
+abbrev pub HoldsMapped : List Name → Mapped → Bytes → Moment → Type 0
+HoldsMapped (out ∷ []) m bytes after = Holds after.held out bytes
+HoldsMapped (out ∷ file ∷ []) m bytes after = (out ≢ file → Holds after.held out bytes) × Holds after.held file (mapping_text m)
+HoldsMapped _ m bytes after = Unit {0}
+
+-- Impossible: a recurrence or an overfull set forbids the last interval that would be tried. One was put, in part where the put
+-- failed, and no mapping of that interval is legal. No write was made
+pub record IsImpossibleRun (s : Search) (arch kernel : Name) (before after : Moment) : Type 0 where
+  pub pair : Pair
+  pub read : HoldPair arch kernel before pair
+  pub certificate : Certificate
+  pub shown : Shows pair.arch pair.kernel (last_tried pair.arch s.ii) certificate
+  pub certifies : Certifies pair.arch pair.kernel (last_tried pair.arch s.ii) certificate
+  pub forbidden : IsForbidden pair.arch pair.kernel (last_tried pair.arch s.ii)
+  pub excludes : (M : Mapping) → M.ii ≡ last_tried pair.arch s.ii → IsLegal pair.arch pair.kernel M → ⊥
+  pub put : IsPut status.Impossible (impossible_report pair s certificate) before after
+  pub kept : Wrote before.held [] after.held
+  pub no_write : after.write_faults ≡ before.write_faults

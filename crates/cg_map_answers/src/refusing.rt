@@ -1,0 +1,54 @@
+//! Why a search has no mapping: an interval above the contexts, or one that is impossible.
+ghost use Rattle.std.specs.Prelude.{◌≡◌, IfOk};
+ghost use Rattle.cg_ending.specs.Outcome.{outcome_of};
+ghost use Rattle.cg_ending.specs.Refusals.{reports};
+ghost use Rattle.cg_ending.specs.declared.outcome.Status.TheVariants as status;
+ghost use Rattle.cg_map_answers.specs.Searches.{is_above, above_contexts, impossible_report};
+
+use cg_arch::Arch;
+use cg_bound::{Certificate, certificate_text};
+use cg_command::Search;
+use cg_ending::{Outcome, Status, malformed};
+use cg_kernel::Kernel;
+use cg_map::last_tried;
+use std::alloc::{AllocError, Global};
+
+/// Whether an interval is asked that has more cycles than the architecture has contexts.
+pub fn asks_above(asked: Option<u32>, arch: &Arch) -> bool
+    ensures { result ≡ is_above asked arch.now }
+{
+    match asked {
+        Some(ii) => ii > arch.contexts(),
+        None => false,
+    }
+}
+
+/// The refusal of such an interval.
+pub fn above(alloc: Global, name: &str, arch: &Arch) -> Result<Outcome, AllocError>
+    ensures { IfOk result (λ o. outcome_of o ≡ above_contexts name.now arch.now) }
+{
+    let contexts = arch.contexts();
+    let fault = format!(in alloc; "G2 IntervalAboveContexts contexts {contexts}")?;
+    malformed(alloc, name, fault.as_str())
+}
+
+/// The last interval is impossible.
+pub fn impossible(
+    alloc: Global,
+    search: Search,
+    arch: &Arch,
+    kernel: &Kernel,
+    certificate: &Certificate,
+) -> Result<Outcome, AllocError>
+    ensures { IfOk result (λ o. outcome_of o
+        ≡ reports status.Impossible (impossible_report (record { arch = arch.now; kernel = kernel.now }) search certificate.now)) }
+{
+    let last = last_tried(arch, search.ii);
+    let mut report = certificate_text(alloc, arch, kernel, Some(last), certificate)?;
+    report.push(b'\n')?;
+    Ok(Outcome {
+        status: Status::Impossible,
+        report,
+        writes: Vec::new(alloc),
+    })
+}

@@ -1,0 +1,72 @@
+//! What is written where a mapping was found.
+ghost use Rattle.std.specs.Prelude.{◌≡◌, IfOk, map, string_bytes};
+ghost use Rattle.cg_ending.specs.Outcome.{file_of, outcome_of};
+ghost use Rattle.cg_map_answers.specs.Searches as spec;
+ghost use Rattle.cg_map_answers.specs.Searches.{IsWritten, map_writes};
+
+use cg_check::LegalMapping;
+use cg_emit::emit as emit_bits;
+use cg_ending::{File, Outcome, Status};
+use cg_mapping::print_mapping;
+use std::alloc::{AllocError, Global};
+
+/// A mapping was found, and this is said of it: its bits, under the first of the names `outputs`, and its text, where there
+/// is a second one.
+pub fn written(
+    alloc: Global,
+    mapping: &LegalMapping<'_>,
+    report: Vec<u8>,
+    outputs: &[String],
+) -> Result<Outcome, AllocError>
+    ensures { IfOk result (λ o. IsWritten (map string_bytes outputs.now) mapping.now report.items (outcome_of o)) }
+{
+    let bytes = emit_bits(alloc, mapping)?;
+    Ok(Outcome {
+        status: Status::Done,
+        report,
+        writes: map_writes(alloc, mapping, bytes, outputs)?,
+    })
+}
+
+/// The files of a mapping.
+fn map_writes(
+    alloc: Global,
+    mapping: &LegalMapping<'_>,
+    bytes: Vec<u8>,
+    outputs: &[String],
+) -> Result<Vec<File>, AllocError>
+    ensures { IfOk result (λ v. map file_of v.items ≡ map_writes (map string_bytes outputs.now) mapping.now bytes.items) }
+{
+    match outputs {
+        [out] => Ok(vec![in alloc; file_named(alloc, out.as_str(), bytes)?]?),
+        [out, file] => {
+            let text = mapping_text(alloc, mapping)?;
+            Ok(vec![in alloc;
+                file_named(alloc, out.as_str(), bytes)?,
+                file_named(alloc, file.as_str(), text)?,
+            ]?)
+        }
+        _ => Ok(Vec::new(alloc)),
+    }
+}
+
+/// A file of that name.
+fn file_named(alloc: Global, name: &str, bytes: Vec<u8>) -> Result<File, AllocError>
+    ensures { IfOk result (λ f. file_of f ≡ record { name = name.now; bytes = bytes.items }) }
+{
+    Ok(File {
+        name: String::from_str(alloc, name)?,
+        bytes,
+    })
+}
+
+/// The text of a mapping.
+fn mapping_text(alloc: Global, mapping: &LegalMapping<'_>) -> Result<Vec<u8>, AllocError>
+    ensures { IfOk result (λ v. v.items ≡ spec.mapping_text mapping.now) }
+{
+    let arch = mapping.arch();
+    let _valid_arch = arch.units();
+    let kernel = mapping.kernel();
+    let _valid_kernel = kernel.nodes();
+    print_mapping(alloc, arch, kernel, mapping.mapping())
+}

@@ -1,0 +1,68 @@
+//! The latest times of nodes.
+
+use crate::lists::number_at;
+use crate::problem::DataEdge;
+use cg_model::OrderEdge;
+use std::alloc::{AllocError, Global};
+
+/// The latest time of each node at which no node is later than the last of the earliest times.
+pub(crate) fn latest(
+    alloc: Global,
+    ii: u32,
+    edges: &Vec<DataEdge>,
+    order: &Vec<OrderEdge>,
+    quickest: &Vec<u32>,
+    early: &Vec<u32>,
+) -> Result<Vec<u32>, AllocError> {
+    let mut late = vec![in alloc; last_of(early.as_slice()); early.len()]?;
+    for _ in 0..early.len() {
+        pull_by_edges(ii, edges, quickest, &mut late);
+        pull_by_order(ii, order, &mut late);
+    }
+    Ok(late)
+}
+
+/// The greatest of these times, 0 where there is none.
+fn last_of(times: &[u32]) -> u32 {
+    let mut last: u32 = 0;
+    for time in times {
+        last = last.max(*time);
+    }
+    last
+}
+
+/// Makes the source of each data edge as early as its target asks.
+fn pull_by_edges(ii: u32, edges: &Vec<DataEdge>, quickest: &Vec<u32>, late: &mut Vec<u32>) {
+    for edge in edges {
+        let latency = number_at(quickest.as_slice(), edge.source as usize);
+        pull(
+            late,
+            edge.source,
+            edge.target,
+            ii.saturating_mul(edge.distance),
+            latency,
+        );
+    }
+}
+
+/// Makes the source of each order edge as early as its target asks.
+fn pull_by_order(ii: u32, order: &Vec<OrderEdge>, late: &mut Vec<u32>) {
+    for edge in order {
+        pull(
+            late,
+            edge.from,
+            edge.to,
+            ii.saturating_mul(edge.distance),
+            1,
+        );
+    }
+}
+
+/// Makes a source begin so many cycles before its target, which is some turns later.
+fn pull(late: &mut Vec<u32>, source: u32, target: u32, turns: u32, cycles: u32) {
+    let end = number_at(late.as_slice(), target as usize).saturating_add(turns);
+    let time = end.saturating_sub(cycles);
+    if let Some(latest) = late.get_mut(source as usize) {
+        *latest = time.min(*latest);
+    }
+}

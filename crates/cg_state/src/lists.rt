@@ -1,0 +1,56 @@
+//! Lists of numbers.
+
+use std::alloc::{AllocError, Global};
+
+/// A list of numbers for each thing of a kind.
+#[derive(Drop)]
+pub struct Lists {
+    lists: Vec<Vec<u32>>,
+}
+
+impl Lists {
+    /// Empty lists for so many things.
+    pub fn new(alloc: Global, things: u32) -> Result<Lists, AllocError> {
+        let mut lists = Vec::new(alloc);
+        for _ in 0..things {
+            lists.push(Vec::new(alloc))?;
+        }
+        Ok(Lists { lists })
+    }
+
+    /// Adds a number to the list of a thing.
+    pub fn add(&mut self, thing: u32, number: u32) -> Result<(), AllocError> {
+        if let Some(list) = self.lists.get_mut(thing as usize) {
+            list.push(number)?;
+        }
+        Ok(())
+    }
+
+    /// The list of a thing; empty where there is no such thing.
+    pub fn of(&self, thing: u32) -> &[u32] {
+        match self.lists.get(thing as usize) {
+            Some(list) => list.as_slice(),
+            None => &[],
+        }
+    }
+}
+
+/// The number of the entries of a list, or the greatest word where that is none.
+pub fn count<T>(list: &[T]) -> u32 {
+    list.len().min(0xffff_ffff) as u32
+}
+
+/// An entry of a list; 0 past its end.
+pub fn number_at(list: &[u32], place: usize) -> u32 {
+    match list.get(place) {
+        Some(number) => *number,
+        None => 0,
+    }
+}
+
+/// Adds to an entry of a list, where there is one.
+pub fn raise(list: &mut Vec<u32>, place: usize, by: u32) {
+    if let Some(number) = list.get_mut(place) {
+        *number = number.saturating_add(by);
+    }
+}

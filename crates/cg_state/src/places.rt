@@ -1,0 +1,161 @@
+//! Where and when nodes stand, and what it costs to stand there too.
+ghost use Rattle.std.specs.Prelude.{◌≡◌};
+
+use crate::lists::{number_at, raise};
+use crate::problem::slot;
+use cg_model::Place;
+use std::alloc::{AllocError, Global};
+
+/// What a second node in a slot of a unit costs at first, against the wires and registers on which a route goes.
+const BASE: u32 = 16;
+
+/// By what factor a place is dearer for each that stands there.
+const FACTOR: u32 = 3;
+
+/// By how much a slot of a unit in which several nodes begin grows dearer in each sweep.
+const AGE: u32 = 2;
+
+/// The places of nodes at an interval. A unit may begin several nodes in one slot.
+#[derive(Drop)]
+pub struct Places {
+    ii: u32,
+    places: Vec<Option<Place>>,
+    counts: Vec<u32>,
+    histories: Vec<u32>,
+}
+
+impl Places {
+    /// None of so many nodes stands on one of so many units.
+    pub fn new(alloc: Global, nodes: usize, units: usize, ii: u32) -> Result<Places, AllocError> {
+        let slots = units.saturating_mul(ii as usize);
+        Ok(Places {
+            ii,
+            places: nowhere(alloc, nodes)?,
+            counts: vec![in alloc; 0u32; slots]?,
+            histories: vec![in alloc; 0u32; slots]?,
+        })
+    }
+
+    /// Where a node stands, if it does.
+    pub fn at(&self, node: u32) -> Option<Place> {
+        match self.places.get(node as usize) {
+            Some(place) => *place,
+            None => None,
+        }
+    }
+
+    /// The number of a unit's slot.
+    fn entry(&self, place: Place) -> usize {
+        let first = (place.unit as usize).saturating_mul(self.ii as usize);
+        first.saturating_add(slot(self.ii, place.time) as usize)
+    }
+
+    /// Puts a node that is lifted somewhere.
+    pub fn put(&mut self, node: u32, place: Place) {
+        let entry = self.entry(place);
+        raise(&mut self.counts, entry, 1);
+        if let Some(standing) = self.places.get_mut(node as usize) {
+            *standing = Some(place);
+        }
+    }
+
+    /// Lifts a node.
+    pub fn lift(&mut self, node: u32) {
+        if let Some(place) = self.at(node) {
+            let entry = self.entry(place);
+            if let Some(count) = self.counts.get_mut(entry) {
+                *count = count.saturating_sub(1);
+            }
+        }
+        if let Some(standing) = self.places.get_mut(node as usize) {
+            *standing = None;
+        }
+    }
+
+    /// What it costs to stand there.
+    pub fn price(&self, place: Place) -> u32 {
+        let entry = self.entry(place);
+        let history = number_at(self.histories.as_slice(), entry);
+        price_of(history, number_at(self.counts.as_slice(), entry))
+    }
+
+    /// Whether another node stands in the unit's slot where a node stands.
+    pub fn is_shared(&self, node: u32) -> bool {
+        match self.at(node) {
+            Some(place) => number_at(self.counts.as_slice(), self.entry(place)) > 1,
+            None => false,
+        }
+    }
+
+    /// By how many the nodes are more than one in a unit's slot, over all.
+    pub fn excess(&self) -> u32 {
+        let mut sum: u32 = 0;
+        for count in &self.counts {
+            sum = sum.saturating_add(count.saturating_sub(1));
+        }
+        sum
+    }
+
+    /// How many nodes stand nowhere.
+    pub fn missing(&self) -> u32 {
+        let mut sum: u32 = 0;
+        for place in &self.places {
+            if place.is_none() {
+                sum = sum.saturating_add(1);
+            }
+        }
+        sum
+    }
+
+    /// The least time of a node, 0 where none stands anywhere.
+    pub fn least_time(&self) -> u32 {
+        let mut least = None;
+        for place in &self.places {
+            least = sooner(least, *place);
+        }
+        least.unwrap_or(0)
+    }
+
+    /// Makes slots in which several nodes begin dearer.
+    pub fn age(&mut self) {
+        for entry in 0..self.counts.len() {
+            self.age_at(entry);
+        }
+    }
+
+    /// Makes a slot dearer where several nodes begin in it.
+    fn age_at(&mut self, entry: usize) {
+        if number_at(self.counts.as_slice(), entry) > 1 {
+            raise(&mut self.histories, entry, AGE);
+        }
+    }
+
+    /// Forgets what slots cost.
+    pub fn forget(&mut self) {
+        self.histories.fill(0);
+    }
+}
+
+/// A place for none of so many nodes.
+fn nowhere(alloc: Global, nodes: usize) -> Result<Vec<Option<Place>>, AllocError> {
+    let mut places = Vec::new(alloc);
+    for _ in 0..nodes {
+        places.push(None)?;
+    }
+    Ok(places)
+}
+
+/// What a slot costs by its history and the nodes in it.
+fn price_of(history: u32, count: u32) -> u32 {
+    let each = history.saturating_add(BASE).saturating_mul(FACTOR);
+    history.saturating_add(each.saturating_mul(count))
+}
+
+/// The sooner of a time and that of a place, where there are both.
+fn sooner(least: Option<u32>, place: Option<Place>) -> Option<u32> {
+    match (least, place) {
+        (Some(time), Some(place)) => Some(time.min(place.time)),
+        (None, Some(place)) => Some(place.time),
+        (least, None) => least,
+    }
+}
