@@ -51,15 +51,8 @@ impl Layers {
         }
     }
 
-    /// Layers 0 to `last`, of the cycles from `start` on, without a price but for the out, where the value begins.
-    pub fn begin(
-        &mut self,
-        _claims: &Claims,
-        wiring: &Wiring,
-        out: u32,
-        _start: u32,
-        last: u32,
-    ) -> Result<(), AllocError> {
+    /// Layers 0 to `last`, without a price but for the out, where the value begins.
+    pub fn begin(&mut self, wiring: &Wiring, out: u32, last: u32) -> Result<(), AllocError> {
         self.make_blank(wiring, last)?;
         let entry = Entry {
             price: 0,
@@ -71,14 +64,7 @@ impl Layers {
     }
 
     /// Makes a standing route of the same value free: branches only leave it.
-    pub fn lay(
-        &mut self,
-        claims: &Claims,
-        _wiring: &Wiring,
-        start: u32,
-        last: u32,
-        route: &[Stand],
-    ) {
+    pub fn lay(&mut self, claims: &Claims, start: u32, last: u32, route: &[Stand]) {
         let mut entry = Entry {
             price: 0,
             before: NOWHERE,
@@ -96,7 +82,7 @@ impl Layers {
 
     /// The least price of a resource in a layer; `UNREACHED` where there is no way, or outside.
     #[inline]
-    pub fn price(&self, _wiring: &Wiring, layer: u32, resource: u32) -> u32
+    pub fn price(&self, layer: u32, resource: u32) -> u32
         ensures { result ≤ UNREACHED }
     {
         if resource < self.width && layer <= self.last {
@@ -116,7 +102,7 @@ impl Layers {
         last: u32,
     ) -> Result<Vec<Stand>, AllocError> {
         let mut path = Vec::new(alloc);
-        if self.price(wiring, last, port) < UNREACHED {
+        if self.price(last, port) < UNREACHED {
             self.walk_back(wiring, port, start, last, &mut path)?;
             path.reverse();
         }

@@ -1,5 +1,5 @@
 //! How many registers a value enters at least on its way to a port.
-ghost use Rattle.std.specs.Prelude.{◌≡◌, ◌<◌, ◌≤◌, length};
+ghost use Rattle.std.specs.Prelude.{◌<◌, ◌≤◌, length};
 ghost use Rattle.cg_model.specs.Limits.{most_resources};
 
 use crate::flow::is_of;

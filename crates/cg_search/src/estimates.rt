@@ -93,15 +93,7 @@ impl Estimates {
     }
 
     /// Adds the route of an edge into the node, to a port of a unit.
-    fn add_in(
-        &mut self,
-        problem: &Problem,
-        routes: &Routes,
-        link: Link,
-        row: u32,
-        port: u32,
-        turns: u32,
-    ) {
+    fn add_in(&mut self, routes: &Routes, link: Link, row: u32, port: u32, turns: u32) {
         for column in 0..self.window.width() {
             let begin = self
                 .window
@@ -114,14 +106,14 @@ impl Estimates {
             } else if layer > link.last {
                 link.penalty
             } else {
-                routes.price(problem, layer, port).min(link.penalty)
+                routes.price(layer, port).min(link.penalty)
             };
             self.add(row, column, cost);
         }
     }
 
     /// Adds the route of an edge out of the node, from the out of a unit.
-    fn add_out(&mut self, problem: &Problem, routes: &Routes, link: Link, row: u32, host: Host) {
+    fn add_out(&mut self, routes: &Routes, link: Link, row: u32, host: Host) {
         for column in 0..self.window.width() {
             let begin = self.window.first.saturating_add(column);
             let leaves = begin.saturating_add(host.latency);
@@ -131,7 +123,7 @@ impl Estimates {
             } else if layer > link.last {
                 self.add(row, column, link.penalty);
             } else {
-                let price = routes.price(problem, layer, host.out);
+                let price = routes.price(layer, host.out);
                 self.add_route_out(row, column, price, link.penalty);
             }
         }
@@ -258,14 +250,7 @@ fn estimate_from(
     let mut row: u32 = 0;
     for unit in problem.offers.of(node) {
         if let Some(host) = problem.host(*unit) {
-            estimates.add_in(
-                problem,
-                &state.routes,
-                link,
-                row,
-                host.port(facts.arg),
-                turns,
-            );
+            estimates.add_in(&state.routes, link, row, host.port(facts.arg), turns);
         }
         row = row.saturating_add(1);
     }
@@ -318,7 +303,7 @@ fn estimate_to(
     let mut row: u32 = 0;
     for unit in problem.offers.of(node) {
         if let Some(host) = problem.host(*unit) {
-            estimates.add_out(problem, &state.routes, link, row, host);
+            estimates.add_out(&state.routes, link, row, host);
         }
         row = row.saturating_add(1);
     }

@@ -1,5 +1,5 @@
 //! The mapping that a state stands for.
-ghost use Rattle.std.specs.Prelude.{◌≡◌, ◌<◌, ◌≤◌, ◌++◌, ◌∷◌, [], ◌^◌, IfOk, OnOk, length, map, vec_len};
+ghost use Rattle.std.specs.Prelude.{◌≡◌, ◌<◌, ◌++◌, ◌∷◌, [], ◌^◌, IfOk, OnOk, length, map};
 ghost use Rattle.cg_model.specs.Kernel.{size};
 ghost use Rattle.cg_model.specs.Mapping.{IsShaped, end_of, ends_of, ends_from};
 

@@ -1,5 +1,5 @@
 //! The search for a mapping at an interval.
-ghost use Rattle.std.specs.Prelude.{◌≡◌, ◌<◌, ◌≤◌, List, IfOk};
+ghost use Rattle.std.specs.Prelude.{◌<◌, ◌≤◌, List, IfOk};
 ghost use Rattle.cg_edges.specs.declared.edge.EdgeId.{EdgeId};
 ghost use Rattle.cg_model.specs.Limits.{most_moves};
 ghost use Rattle.cg_place.specs.Placed.{IsOffered};

@@ -37,7 +37,7 @@ impl Lists {
 
 /// The number of the entries of a list, or the greatest word where that is none.
 pub fn count<T>(list: &[T]) -> u32 {
-    list.len().min(0xffff_ffff) as u32
+    list.len().min(u32::MAX as usize) as u32
 }
 
 /// An entry of a list; 0 past its end.

@@ -1,5 +1,4 @@
 //! Where and when nodes stand, and what it costs to stand there too.
-ghost use Rattle.std.specs.Prelude.{◌≡◌};
 
 use crate::lists::{number_at, raise};
 use crate::problem::slot;

@@ -103,10 +103,9 @@ impl Routes {
         last: u32,
         target: Option<u32>,
     ) -> Result<(), AllocError> {
-        self.layers
-            .begin(&self.claims, &problem.wiring, out, start, last)?;
+        self.layers.begin(&problem.wiring, out, last)?;
         for edge in problem.outs.of(source) {
-            self.lay(problem, *edge, start, last);
+            self.lay(*edge, start, last);
         }
         self.layers
             .forward(&self.claims, &problem.wiring, start, last, target);
@@ -114,10 +113,9 @@ impl Routes {
     }
 
     /// Makes the route of an edge free.
-    fn lay(&mut self, problem: &Problem, edge: u32, start: u32, last: u32) {
+    fn lay(&mut self, edge: u32, start: u32, last: u32) {
         if let Some(route) = route_in(&self.routes, edge) {
-            self.layers
-                .lay(&self.claims, &problem.wiring, start, last, route);
+            self.layers.lay(&self.claims, start, last, route);
         }
     }
 
@@ -134,8 +132,8 @@ impl Routes {
     }
 
     /// The least price that was found for a resource in a layer.
-    pub fn price(&self, problem: &Problem, layer: u32, resource: u32) -> u32 {
-        self.layers.price(&problem.wiring, layer, resource)
+    pub fn price(&self, layer: u32, resource: u32) -> u32 {
+        self.layers.price(layer, resource)
     }
 
     /// Routes an edge without a route, and gives what the route costs; none where there is no route.
@@ -175,7 +173,7 @@ impl Routes {
             return Ok(None);
         }
         self.forward(problem, source, ends.out, ends.start, last, Some(ends.port))?;
-        let price = self.price(problem, last, ends.port);
+        let price = self.price(last, ends.port);
         if price >= UNREACHED {
             return Ok(None);
         }

@@ -77,7 +77,7 @@ impl State {
 
     /// Makes an order edge dearer where it is violated.
     fn age_at(&mut self, problem: &Problem, tie: usize) {
-        if self.is_broken(problem, tie.min(0xffff_ffff) as u32) {
+        if self.is_broken(problem, tie.min(u32::MAX as usize) as u32) {
             raise(&mut self.histories, tie, PENALTY_AGE);
         }
     }

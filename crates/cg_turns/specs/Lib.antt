@@ -4,4 +4,5 @@ pub mod Step
 pub mod Done
 pub mod Pairs
 pub mod Trace
+pub mod Last
 pub mod Watched

@@ -5,39 +5,45 @@ use cg_distance::DistanceTable;
 use std::alloc::{AllocError, Global};
 use std::marker::Model;
 
-/// The number of loads that are kept without being thinned.
-const LEAST_ROOM: usize = 8;
+/// What stands in the place of a word's last store where there is none: no node has this number.
+const NO_STORE: Access = Access {
+    node: u32::MAX,
+    turn: 0,
+};
+
+/// The number of accesses that a word's first list has room for.
+const LEAST_ROOM: usize = 3;
 
 /// The last store to a word, and loads of it since: of each node its latest, and maybe earlier ones.
+///
+/// They stand in one list, so that a word takes 24 bytes until it is accessed: first the store, or `NO_STORE` where only loads came.
 #[derive(Drop)]
 pub(crate) struct LastAccesses {
-    store: Option<Access>,
-    loads: Vec<Access>,
-    room: usize,
+    accesses: Vec<Access>,
 }
 
 impl Model for LastAccesses {
     ghost use Rattle.cg_turns.specs.Trace.{Kept};
+    ghost use Rattle.cg_turns.specs.Last.{kept_in};
 
     ghost Value = { Kept };
 
-    ghost view = { λ l. record { store = l.store; loads = l.loads.items } };
+    ghost view = { λ l. kept_in l.accesses.items };
 }
 
 impl LastAccesses {
-    ghost use Rattle.std.specs.Prelude.{◌≡◌, ◌≤◌, OnOk};
+    ghost use Rattle.std.specs.Prelude.{◌≡◌, ◌<◌, ◌≤◌, OnOk};
     ghost use Rattle.cg_model.specs.Kernel.{size as size_of};
     ghost use Rattle.cg_model.specs.Limits.{most_nodes};
-    ghost use Rattle.cg_turns.specs.Trace.{nothing_kept, rivals_of, IsLatest, Keeps, IsThinned};
+    ghost use Rattle.cg_turns.specs.Last.{no_store};
+    ghost use Rattle.cg_turns.specs.Trace.{nothing_kept, rivals_of, IsLatest, Keeps};
 
     /// No access.
     pub(crate) fn new(alloc: Global) -> LastAccesses
         ensures { result ≡ nothing_kept }
     {
         LastAccesses {
-            store: None,
-            loads: Vec::new(alloc),
-            room: LEAST_ROOM,
+            accesses: Vec::new(alloc),
         }
     }
 
@@ -53,90 +59,146 @@ impl LastAccesses {
         requires few { size ≤ most_nodes }
         ensures { IsLatest table.now later self.now.store (rivals_of stores self.now) result }
     {
-        latest_unordered(table, size, self.store, self.rivals(stores), later)
+        latest_unordered(table, size, self.store(), self.rivals(stores), later)
+    }
+
+    /// The last store.
+    fn store(&self) -> Option<Access>
+        ensures { result ≡ self.now.store }
+    {
+        match self.accesses.first() {
+            Some(first) => {
+                if first.node == NO_STORE.node {
+                    None
+                } else {
+                    Some(*first)
+                }
+            }
+            None => None,
+        }
+    }
+
+    /// The loads since.
+    fn loads(&self) -> &[Access]
+        ensures { result.now ≡ self.now.loads }
+    {
+        match self.accesses.split_first() {
+            Some((_, loads)) => loads,
+            None => &[],
+        }
     }
 
     /// The loads that a store can make a pair with; a load can with none.
     fn rivals(&self, stores: bool) -> &[Access]
         ensures { result.now ≡ rivals_of stores self.now }
     {
-        if stores { &self.loads } else { &[] }
+        if stores { self.loads() } else { &[] }
     }
 
     /// Takes in an access: a store in place of all, a load in place of its node's last one or beside it.
     ///
-    /// The places tell where each node's last load stands in the loads of some word.
+    /// The places tell where each node's last load stands in the list of some word.
     pub(crate) fn take(
         &mut self,
         stores: bool,
         access: Access,
         places: &mut Vec<usize>,
     ) -> Result<(), AllocError>
+        requires { access.node < no_store.node }
         ensures { OnOk result (Keeps stores access self.old self.new) }
     {
         if stores {
-            self.loads.clear();
-            self.store = Some(access);
+            store_alone(&mut self.accesses, access)?;
             return Ok(());
         }
-        self.make_room(places)?;
-        take_in(&mut self.loads, access, places)?;
-        Ok(())
-    }
-
-    /// Thins the loads where they are twice as many as after they were last thinned.
-    fn make_room(&mut self, places: &mut Vec<usize>) -> Result<(), AllocError>
-        ensures store { OnOk result (self.new.store ≡ self.old.store) }
-        ensures loads { OnOk result (IsThinned self.old.loads self.new.loads) }
-    {
-        if self.loads.len() < self.room {
-            return Ok(());
-        }
-        let latest = thinned(&self.loads, places)?;
-        self.room = latest.len().saturating_mul(2).max(LEAST_ROOM);
-        self.loads = latest;
+        put_store_place(&mut self.accesses)?;
+        make_room(&mut self.accesses, places)?;
+        take_in(&mut self.accesses, access, places)?;
         Ok(())
     }
 }
 
-ghost use Rattle.std.specs.Prelude.{◌≡◌, ◌<◌, IfOk, IfSome, OnOk, length, slice_index_or};
-ghost use Rattle.cg_turns.specs.Trace.{IsThinned, Takes, no_access};
+ghost use Rattle.std.specs.Prelude.{◌≡◌, ◌<◌, ◌∷◌, [], IfOk, IfSome, OnOk, length, slice_index_or};
+ghost use Rattle.cg_turns.specs.Last.{with_store_place, IsThinnedBehind, TakesBehind};
+ghost use Rattle.cg_turns.specs.Trace.{no_access};
 
-/// The latest load of each node.
-fn thinned(loads: &Vec<Access>, places: &mut Vec<usize>) -> Result<Vec<Access>, AllocError>
-    ensures { IfOk result (λ t. IsThinned loads.now.items t.items) }
+/// A store in place of all.
+fn store_alone(accesses: &mut Vec<Access>, store: Access) -> Result<(), AllocError>
+    ensures { OnOk result (accesses.new.items ≡ store ∷ []) }
 {
-    let mut latest = Vec::new(*loads.allocator());
-    for place in 0..loads.len() {
-        take_in(&mut latest, loads[place], places)?;
+    accesses.clear();
+    accesses.reserve_exact(LEAST_ROOM)?;
+    accesses.push(store)?;
+    Ok(())
+}
+
+/// Gives the last store its place, where there was no access yet.
+fn put_store_place(accesses: &mut Vec<Access>) -> Result<(), AllocError>
+    ensures { OnOk result (accesses.new.items ≡ with_store_place accesses.old.items) }
+{
+    if accesses.is_empty() {
+        accesses.reserve_exact(LEAST_ROOM)?;
+        accesses.push(NO_STORE)?;
+    }
+    Ok(())
+}
+
+/// Thins the loads where the list has no more room, and leaves room for as many accesses more.
+fn make_room(accesses: &mut Vec<Access>, places: &mut Vec<usize>) -> Result<(), AllocError>
+    requires { 0 < length accesses.old.items }
+    ensures { OnOk result (IsThinnedBehind accesses.old.items accesses.new.items) }
+{
+    if accesses.len() < accesses.capacity() {
+        return Ok(());
+    }
+    let mut latest = thinned(accesses, places)?;
+    latest.reserve(latest.len())?;
+    *accesses = latest;
+    Ok(())
+}
+
+/// The store's place, and the latest load of each node.
+fn thinned(accesses: &Vec<Access>, places: &mut Vec<usize>) -> Result<Vec<Access>, AllocError>
+    requires { 0 < length accesses.now.items }
+    ensures { IfOk result (λ t. IsThinnedBehind accesses.now.items t.items) }
+{
+    let mut latest = Vec::new(*accesses.allocator());
+    latest.push(accesses[0])?;
+    for place in 1..accesses.len() {
+        take_in(&mut latest, accesses[place], places)?;
     }
     Ok(latest)
 }
 
-/// Writes a load over that of its node, where it is found and no later, or adds it.
-fn take_in(loads: &mut Vec<Access>, load: Access, places: &mut Vec<usize>) -> Result<(), AllocError>
-    ensures { OnOk result (Takes load loads.old.items loads.new.items) }
+/// Behind the store's place, writes a load over that of its node, where it is found and no later, or adds it.
+fn take_in(
+    accesses: &mut Vec<Access>,
+    load: Access,
+    places: &mut Vec<usize>,
+) -> Result<(), AllocError>
+    requires { 0 < length accesses.old.items }
+    ensures { OnOk result (TakesBehind load accesses.old.items accesses.new.items) }
 {
-    match place_of(loads, load.node, places) {
+    match place_of(accesses, load.node, places) {
         Some(place) => {
-            if loads[place].turn < load.turn {
-                loads[place] = load;
+            if accesses[place].turn < load.turn {
+                accesses[place] = load;
             }
         }
         None => {
-            put_place(places, load.node, loads.len());
-            loads.push(load)?;
+            put_place(places, load.node, accesses.len());
+            accesses.push(load)?;
         }
     }
     Ok(())
 }
 
 /// Where a node's load stands, if it is where the places say.
-fn place_of(loads: &[Access], node: u32, places: &[usize]) -> Option<usize>
-    ensures { IfSome result (λ p. (p < length loads.now) × ((slice_index_or loads.now p no_access).node ≡ node)) }
+fn place_of(accesses: &[Access], node: u32, places: &[usize]) -> Option<usize>
+    ensures { IfSome result (λ p. (0 < p) × (p < length accesses.now) × ((slice_index_or accesses.now p no_access).node ≡ node)) }
 {
     let place = *places.get(node as usize)?;
-    if place < loads.len() && loads[place].node == node {
+    if 0 < place && place < accesses.len() && accesses[place].node == node {
         Some(place)
     } else {
         None

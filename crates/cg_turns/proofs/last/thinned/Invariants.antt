@@ -1,6 +1,6 @@
-use Rattle.std.proofs.Common.{take}
-use Rattle.cg_turns.specs.Trace.{IsThinned}
+use Rattle.std.proofs.Common.{◌<◌, take}
+use Rattle.cg_turns.specs.Last.{IsThinnedBehind}
 use Rattle.cg_turns.proofs.last.thinned.Given as goal
 
 abbrev pub invariant-loop-place : goal.invariant-loop-place
-invariant-loop-place l = IsThinned (take l.place l.loads.items) l.latest.items
+invariant-loop-place l = (0 < l.place) × IsThinnedBehind (take l.place l.accesses.items) l.latest.items
