@@ -41,12 +41,13 @@ pub struct Room {
 }
 
 impl Room {
-    ghost use Rattle.std.specs.Prelude.{◌≡◌, ◌≢◌, IfErr};
+    ghost use Rattle.std.specs.Prelude.{◌≡◌, ◌+◌, IfErr, OnOk, length};
     ghost use Rattle.cg_tiles.specs.declared.room.MakingFault.TheVariants.{Memory};
 
     /// Takes the room of a name.
     pub fn spend(&mut self, name: &str) -> Result<(), MakingFault>
         ensures links { self.new.links ≡ self.old.links }
+        ensures text { OnOk result (self.new.text + length name.now ≡ self.old.text) }
         ensures memory { IfErr result (λ fault. fault ≡ Memory) }
     {
         if name.len() > self.text {
