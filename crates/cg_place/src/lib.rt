@@ -9,8 +9,6 @@ mod offers;
 mod placement;
 mod places;
 mod reservations;
-#[cfg(test)]
-mod tests;
 mod touching;
 
 pub use cg_arch::Arch;

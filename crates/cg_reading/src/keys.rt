@@ -29,19 +29,3 @@ fn is_unlisted(known: &[&str], key: &str) -> bool
     }
     true
 }
-
-#[cfg(test)]
-mod tests {
-    use super::*;
-    use std::test::Fail;
-
-    #[test]
-    fn tells_another_key(rt: HostRuntime) -> Result<(), Fail> {
-        let mut members = BTreeMap::new(rt.alloc());
-        members.insert("from".to_string(rt.alloc())?, 1u8)?;
-        members.insert("to".to_string(rt.alloc())?, 2u8)?;
-        assert!(rt; !has_other(&members, &["to", "from"]));
-        assert!(rt; has_other(&members, &["from"]));
-        Ok(())
-    }
-}

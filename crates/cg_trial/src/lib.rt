@@ -5,8 +5,6 @@ mod draws;
 mod hardware;
 mod kernel;
 pub mod laws;
-#[cfg(test)]
-mod tests;
 mod trial;
 
 pub use cg_arch::Arch;

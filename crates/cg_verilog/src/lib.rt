@@ -53,6 +53,3 @@ fn read(alloc: Global, bytes: &[u8]) -> Result<Module<'_>, ModuleFault>
         Err(Misfit::Text) => Err(ModuleFault::Text(reader.place(bytes.len()))),
     }
 }
-
-#[cfg(test)]
-mod tests;
