@@ -5,6 +5,7 @@ mod alike;
 mod archs;
 mod bits;
 mod graphs;
+mod places;
 mod routes;
 mod texts;
 mod trial;
@@ -33,8 +34,9 @@ fn main(rt: HostRuntime) -> io::Result<()> {
     last_rows(&rt, &arch)
 }
 
-/// The rows of a filter, and of a trial.
+/// The rows of moves, of a filter, and of a trial.
 fn last_rows(rt: &(impl Files + Print + AllocGlobal), arch: &Arch) -> io::Result<()> {
+    row_of_moves(rt)?;
     rows_of_filter(rt, arch)?;
     rows_of_trial(rt)
 }
@@ -159,6 +161,18 @@ fn rows_of_outputs(rt: &(impl Files + Print + AllocGlobal), arch: &Arch) -> io::
     say(rt, "two outputs in one slot", two)
 }
 
+/// Moves of three nodes on two units.
+fn row_of_moves(rt: &(impl Files + Print + AllocGlobal)) -> io::Result<()> {
+    let Some(arch) = arch_in(rt, "two_units.toml")? else {
+        return rt.print("two_units.toml is no architecture\n");
+    };
+    let Some(kernel) = kernel_in(rt, "three.json")? else {
+        return rt.print("three.json is no kernel\n");
+    };
+    let holds = places::moves_of_three_nodes(rt.alloc(), &arch, &kernel)?;
+    say(rt, "moves of three nodes", holds)
+}
+
 /// The filter, which one unit doesn't offer, on four rows of four tiles.
 fn rows_of_filter(rt: &(impl Files + Print + AllocGlobal), small: &Arch) -> io::Result<()> {
     let Some(filter) = kernel_in(rt, "filter.json")? else {
@@ -190,6 +204,7 @@ fn rows_of_trial(rt: &(impl Print + AllocGlobal)) -> io::Result<()> {
     let trial = trial_of(rt.alloc(), 1)?;
     let parts = &trial.parts;
     let bits = trial.bits.as_slice();
+    say(rt, "trial, its parts", trial::are_parts_of_seed_1(parts))?;
     row_of_bytes(rt, bits)?;
     let alike = trial::reads_alike(rt.alloc(), &parts.arch, bits)?;
     say(rt, "trial, each select and field by tables and view", alike)?;

@@ -10,6 +10,7 @@ use cg_arch::Arch;
 use cg_bits::read_bits;
 use cg_emit::emit;
 use cg_hub::hub_mapping;
+use cg_kernel::{Op, Operand};
 use cg_pad::{Image, write_image};
 use cg_trial::{Kernel, TrialParts, laws, trial_parts};
 use cg_turns::{TurnsFault, run_turns};
@@ -33,6 +34,42 @@ pub(crate) fn trial_of(alloc: Global, seed: u64) -> Result<Trial, AllocError> {
     laws::enough();
     let bits = hub_bits(alloc, &parts)?;
     Ok(Trial { parts, bits })
+}
+
+/// Whether an operand is the value of that node, so many turns ago, after these words.
+fn is_edge(operand: &Operand, source: u32, turns: u32, words: &[u32]) -> bool {
+    match operand {
+        Operand::Const(_) => false,
+        Operand::Edge {
+            from,
+            distance,
+            init,
+        } => *from == source && *distance == turns && init.as_slice() == words,
+    }
+}
+
+/// Whether the last node that is drawn shifts `v5` by `v12` of two turns ago, after words that another program computed.
+fn ends_with_shift(kernel: &Kernel) -> bool {
+    match kernel.nodes().get(27) {
+        Some(node) => match node.operands.as_slice() {
+            [value, by] => matches!(node.op, Op::Shl)
+                && is_edge(value, 5, 0, &[])
+                && is_edge(by, 12, 2, &[721_041_334, 3_403_107_711]),
+            _ => false,
+        },
+        None => false,
+    }
+}
+
+/// Whether the parts are those of seed 1. Selects have 7 bits, 96 registers and 12 ports have them; units have
+/// 6 + 16 + 4 + 32 + 3 * 132 bits.
+pub(crate) fn are_parts_of_seed_1(parts: &TrialParts) -> bool {
+    parts.kernel.nodes().len() == 32
+        && ends_with_shift(&parts.kernel)
+        && parts.arch.resources().len() == 112
+        && parts.arch.hub().len() == 96
+        && parts.arch.slot_bits() == 2572
+        && parts.image.memory().len() == 256
 }
 
 /// The bits of the mapping over the hub, at an interval of 64 cycles.
