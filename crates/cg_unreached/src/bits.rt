@@ -73,18 +73,28 @@ pub(crate) fn cut_bytes_are_truncated(
 
 /// Whether tables and view refuse these bytes alike, or both take them, write them back and run five turns alike.
 fn answer_alike(alloc: Global, arch: &Arch, bytes: &[u8]) -> Result<bool, AllocError> {
-    let image = Image::empty(alloc)?;
     match (read_bits(alloc, arch, bytes), ConfigView::of(arch, bytes)) {
-        (Ok(tables), Ok(view)) => {
-            let left = left_by(alloc, arch, &tables, 5, &image)?;
-            Ok(
-                write_bits(alloc, arch, &tables)?.as_slice() == bytes
-                    && left.is_some()
-                    && left_by(alloc, arch, &view, 5, &image)? == left,
-            )
-        }
+        (Ok(tables), Ok(view)) => leave_alike(alloc, arch, bytes, &tables, &view),
         (tables, view) => Ok(tables.err() == view.err()),
     }
+}
+
+/// Whether tables and view are written back and run five turns alike.
+fn leave_alike(
+    alloc: Global,
+    arch: &Arch,
+    bytes: &[u8],
+    tables: &Config,
+    view: &ConfigView<'_>,
+) -> Result<bool, AllocError>
+    requires tables { IsCanonical arch.now tables.now }
+    requires view { IsCanonical arch.now view.now }
+{
+    let image = Image::empty(alloc)?;
+    let left = left_by(alloc, arch, tables, 5, &image)?;
+    let other = left_by(alloc, arch, view, 5, &image)?;
+    let written = write_bits(alloc, arch, tables)?;
+    Ok(written.as_slice() == bytes && left.is_some() && left == other)
 }
 
 /// With each of the bits turned over: how often tables and view don't answer alike, and how many are taken.

@@ -15,28 +15,48 @@ use cg_arch::Arch;
 use cg_hub::serial;
 use cg_kernel::{Kernel, read_kernel};
 use cg_tiles::read_arch;
+use cg_trial::TrialParts;
 use std::rt::Files;
 use std::{fs, io};
 use trial::{digest_text, trial_of};
 
 fn main(rt: HostRuntime) -> io::Result<()> {
-    let Some(arch) = arch_in(&rt, "t1.toml")? else {
-        return rt.print("t1.toml is no architecture\n");
-    };
-    let Some(sum) = kernel_in(&rt, "sum.json")? else {
-        return rt.print("sum.json is no kernel\n");
-    };
-    rows_of_texts(&rt, &arch, &sum)?;
-    rows_of_bits(&rt, &arch, &sum)?;
-    rows_of_routes(&rt, &arch)?;
-    rows_of_sum(&rt, &arch, &sum)?;
-    rows_of_outputs(&rt, &arch)?;
-    last_rows(&rt, &arch)
+    rows(&rt)
 }
 
-/// The rows of moves, of a filter, and of a trial.
+/// All rows: those of one unit, and the others.
+fn rows(rt: &(impl Files + Print + AllocGlobal)) -> io::Result<()> {
+    let Some(arch) = arch_in(rt, "t1.toml")? else {
+        return rt.print("t1.toml is no architecture\n");
+    };
+    rows_of_one_unit(rt, &arch)
+}
+
+/// The rows that begin with one unit.
+fn rows_of_one_unit(rt: &(impl Files + Print + AllocGlobal), arch: &Arch) -> io::Result<()> {
+    let Some(sum) = kernel_in(rt, "sum.json")? else {
+        return rt.print("sum.json is no kernel\n");
+    };
+    first_rows(rt, arch, &sum)?;
+    last_rows(rt, arch)
+}
+
+/// The rows of one unit and the running sum.
+fn first_rows(
+    rt: &(impl Files + Print + AllocGlobal),
+    arch: &Arch,
+    sum: &Kernel,
+) -> io::Result<()> {
+    rows_of_texts(rt, arch, sum)?;
+    rows_of_bits(rt, arch, sum)?;
+    rows_of_routes(rt, arch)?;
+    rows_of_sum(rt, arch, sum)
+}
+
+/// The rows of two outputs, of moves, of a filter, and of a trial.
 fn last_rows(rt: &(impl Files + Print + AllocGlobal), arch: &Arch) -> io::Result<()> {
-    row_of_moves(rt)?;
+    row_of_outputs(rt, arch)?;
+    rows_of_two_units(rt)?;
     rows_of_filter(rt, arch)?;
     rows_of_trial(rt)
 }
@@ -153,7 +173,7 @@ fn rows_of_sum(rt: &(impl Print + AllocGlobal), arch: &Arch, sum: &Kernel) -> io
 }
 
 /// Two outputs on one unit.
-fn rows_of_outputs(rt: &(impl Files + Print + AllocGlobal), arch: &Arch) -> io::Result<()> {
+fn row_of_outputs(rt: &(impl Files + Print + AllocGlobal), arch: &Arch) -> io::Result<()> {
     let Some(outputs) = kernel_in(rt, "outputs.json")? else {
         return rt.print("outputs.json is no kernel\n");
     };
@@ -161,30 +181,42 @@ fn rows_of_outputs(rt: &(impl Files + Print + AllocGlobal), arch: &Arch) -> io::
     say(rt, "two outputs in one slot", two)
 }
 
-/// Moves of three nodes on two units.
-fn row_of_moves(rt: &(impl Files + Print + AllocGlobal)) -> io::Result<()> {
+/// The rows of two units.
+fn rows_of_two_units(rt: &(impl Files + Print + AllocGlobal)) -> io::Result<()> {
     let Some(arch) = arch_in(rt, "two_units.toml")? else {
         return rt.print("two_units.toml is no architecture\n");
     };
+    row_of_moves(rt, &arch)
+}
+
+/// Moves of three nodes.
+fn row_of_moves(rt: &(impl Files + Print + AllocGlobal), arch: &Arch) -> io::Result<()> {
     let Some(kernel) = kernel_in(rt, "three.json")? else {
         return rt.print("three.json is no kernel\n");
     };
-    let holds = places::moves_of_three_nodes(rt.alloc(), &arch, &kernel)?;
+    let holds = places::moves_of_three_nodes(rt.alloc(), arch, &kernel)?;
     say(rt, "moves of three nodes", holds)
 }
 
-/// The filter, which one unit doesn't offer, on four rows of four tiles.
+/// The rows of a filter, which one unit doesn't offer.
 fn rows_of_filter(rt: &(impl Files + Print + AllocGlobal), small: &Arch) -> io::Result<()> {
     let Some(filter) = kernel_in(rt, "filter.json")? else {
         return rt.print("filter.json is no kernel\n");
     };
-    let none = serial(small, &filter).is_none();
-    say(rt, "filter not offered", none)?;
+    say(rt, "filter not offered", serial(small, &filter).is_none())?;
+    rows_of_sixteen_tiles(rt, &filter)
+}
+
+/// The filter on four rows of four tiles.
+fn rows_of_sixteen_tiles(
+    rt: &(impl Files + Print + AllocGlobal),
+    filter: &Kernel,
+) -> io::Result<()> {
     let Some(arch) = arch_in(rt, "four_by_four.toml")? else {
         return rt.print("four_by_four.toml is no architecture\n");
     };
-    row_of_walks(rt, &arch, &filter, 1)?;
-    row_of_walks(rt, &arch, &filter, 2)
+    row_of_walks(rt, &arch, filter, 1)?;
+    row_of_walks(rt, &arch, filter, 2)
 }
 
 /// The walk of seventy moves at interval 2, and the plain walk beside it.
@@ -199,17 +231,36 @@ fn row_of_walks(
     say(rt, row.as_str(), alike)
 }
 
-/// The trial of seed 1: its bits, and the images that the array and the turns leave.
+/// The trial of seed 1.
 fn rows_of_trial(rt: &(impl Print + AllocGlobal)) -> io::Result<()> {
     let trial = trial_of(rt.alloc(), 1)?;
-    let parts = &trial.parts;
-    let bits = trial.bits.as_slice();
+    rows_of_parts(rt, &trial.parts, trial.bits.as_slice())
+}
+
+/// Its parts, its bits, and the images that the array and the turns leave.
+fn rows_of_parts(
+    rt: &(impl Print + AllocGlobal),
+    parts: &TrialParts,
+    bits: &[u8],
+) -> io::Result<()> {
     say(rt, "trial, its parts", trial::are_parts_of_seed_1(parts))?;
     row_of_bytes(rt, bits)?;
-    let alike = trial::reads_alike(rt.alloc(), &parts.arch, bits)?;
-    say(rt, "trial, each select and field by tables and view", alike)?;
+    row_of_readers(rt, &parts.arch, bits)?;
+    row_of_run(rt, parts, bits)?;
+    row_of_trial_turns(rt, parts)
+}
+
+fn row_of_readers(rt: &(impl Print + AllocGlobal), arch: &Arch, bits: &[u8]) -> io::Result<()> {
+    let alike = trial::reads_alike(rt.alloc(), arch, bits)?;
+    say(rt, "trial, each select and field by tables and view", alike)
+}
+
+fn row_of_run(rt: &(impl Print + AllocGlobal), parts: &TrialParts, bits: &[u8]) -> io::Result<()> {
     let run = trial::run_image(rt.alloc(), &parts.arch, bits, &parts.image)?;
-    row_of_digest(rt, "run-image", run)?;
+    row_of_digest(rt, "run-image", run)
+}
+
+fn row_of_trial_turns(rt: &(impl Print + AllocGlobal), parts: &TrialParts) -> io::Result<()> {
     let turns = trial::turns_image(rt.alloc(), &parts.kernel, &parts.image)?;
     row_of_digest(rt, "turns-image", turns)
 }
