@@ -1,4 +1,5 @@
-//! The trial of a seed: the bits of its mapping over the hub, by tables and view, and what a thousand turns leave.
+//! The trial of a seed: its parts, the bits of its mapping over the hub, by tables and view, and what a thousand turns
+//! leave.
 ghost use Rattle.std.specs.Prelude.{◌≡◌, IfOk, string_bytes};
 ghost use Rattle.sha2.specs.Sha256.{sha256};
 ghost use Rattle.hex.specs.Hex.{encode_lower};
@@ -61,8 +62,8 @@ fn ends_with_shift(kernel: &Kernel) -> bool {
     }
 }
 
-/// Whether the parts are those of seed 1. Selects have 7 bits, 96 registers and 12 ports have them; units have
-/// 6 + 16 + 4 + 32 + 3 * 132 bits.
+/// Whether the parts are those of seed 1. Of the 2,572 bits of a slot, 96 registers and 12 ports have a select of 7 each, and
+/// 4 units 6 + 16 + 4 + 32 + 3 * 132 each.
 pub(crate) fn are_parts_of_seed_1(parts: &TrialParts) -> bool {
     parts.kernel.nodes().len() == 32
         && ends_with_shift(&parts.kernel)
