@@ -3,8 +3,8 @@ use Rattle.std.proofs.Common.{◌≡◌, List, [], ◌∷◌, sym, ◌∙◌, ap
 use Rattle.cg_ending.specs.declared.outcome.Status.TheVariants.{Done}
 use Rattle.cg_ending.specs.Outcome.{Name, File, Outcome}
 use Rattle.cg_command.specs.declared.plans.Command.{Command}
-use Rattle.cg_command.specs.declared.plans.Command.TheVariants.{Turns, TurnsOnImage, Flat, Run, Bound, Check, Emit, Map, Seek, Trial, Verilog}
-use Rattle.cg_sources.proofs.Sound.{IsSound, IsNamed}
+use Rattle.cg_command.specs.declared.plans.Command.TheVariants.{Turns, TurnsOnImage, Flat, Run, Bound, Check, Emit, Map, Search, Trial, Verilog}
+use Rattle.cg_inputs.proofs.Sound.{IsSound, IsNamed}
 use Rattle.cg_run_answers.proofs.TurnsAnswers.{sound_turns, quiet_turns, accepted_turns}
 use Rattle.cg_run_answers.proofs.OnImage.{same_on_image, sound_on_image, accepted_on_image, named_on_image}
 use Rattle.cg_run_answers.proofs.FlatAnswers.{same_flat, sound_flat, accepted_flat, named_flat}
@@ -13,7 +13,7 @@ use Rattle.cg_map_answers.proofs.Bounded.{same_bound, sound_bound, accepted_boun
 use Rattle.cg_map_answers.proofs.Checked.{same_check, sound_check, accepted_check, quiet_check}
 use Rattle.cg_map_answers.proofs.Bitstream.{same_emit, sound_emit, accepted_emit, named_emit}
 use Rattle.cg_map_answers.proofs.Searched.{same_map, sound_map, accepted_map, quiet_map, named_map}
-use Rattle.cg_seek_answers.proofs.Sought.{agree_seek, sound_seek, accepted_seek, quiet_seek, named_seek}
+use Rattle.cg_search_answers.proofs.Searched.{agree_search, sound_search, accepted_search, quiet_search, named_search}
 use Rattle.cg_answers.specs.Commands.{IsAnswer, Accepts, AgreeIn}
 use Rattle.cg_answers.proofs.Trialed.{same_trial, sound_trial, accepted_trial, quiet_trial}
 use Rattle.cg_answers.proofs.Netlisted.{same_verilog, sound_verilog, accepted_verilog, named_verilog}
@@ -28,7 +28,7 @@ agree_in Bound (f ∷ g ∷ []) [] a b p q = same_bound f g a b p q
 agree_in Check (f ∷ g ∷ h ∷ []) [] a b p q = same_check f g h a b p q
 agree_in Emit (f ∷ g ∷ h ∷ []) (out ∷ []) a b p q = same_emit f g h out a b p q
 agree_in (Map s) (f ∷ g ∷ []) outs a b p q = same_map s f g outs a b p q
-agree_in (Seek s) (f ∷ g ∷ []) outs a b p q = agree_seek s f g outs a b p q
+agree_in (Search s) (f ∷ g ∷ []) outs a b p q = agree_search s f g outs a b p q
 agree_in (Trial seed) [] [] a b p q = same_trial seed a b p q
 agree_in Verilog (f ∷ []) (out ∷ []) a b p q = same_verilog f out a b p q
 agree_in _ _ _ a b p q = absurd p
@@ -42,7 +42,7 @@ sound Bound (f ∷ g ∷ []) [] o p = sound_bound f g o p
 sound Check (f ∷ g ∷ h ∷ []) [] o p = sound_check f g h o p
 sound Emit (f ∷ g ∷ h ∷ []) (out ∷ []) o p = sound_emit f g h out o p
 sound (Map s) (f ∷ g ∷ []) outs o p = sound_map s outs f g o p
-sound (Seek s) (f ∷ g ∷ []) outs o p = sound_seek s outs f g o p
+sound (Search s) (f ∷ g ∷ []) outs o p = sound_search s outs f g o p
 sound (Trial seed) [] [] o p = sound_trial seed o p
 sound Verilog (f ∷ []) (out ∷ []) o p = sound_verilog f out o p
 sound _ _ _ o p = absurd p
@@ -57,7 +57,7 @@ accepted Bound (f ∷ g ∷ []) [] o a p = accepted_bound f g o a p
 accepted Check (f ∷ g ∷ h ∷ []) [] o a p = accepted_check f g h o a p
 accepted Emit (f ∷ g ∷ h ∷ []) (out ∷ []) o a p = accepted_emit f g h out o a p
 accepted (Map s) (f ∷ g ∷ []) outs o a p = accepted_map s f g outs o a p
-accepted (Seek s) (f ∷ g ∷ []) outs o a p = accepted_seek s f g outs o a p
+accepted (Search s) (f ∷ g ∷ []) outs o a p = accepted_search s f g outs o a p
 accepted (Trial seed) [] [] o a p = accepted_trial seed o p
 accepted Verilog (f ∷ []) (out ∷ []) o a p = accepted_verilog f out a.0 o a.1 p
 accepted _ _ _ o a p = absurd p
@@ -92,10 +92,10 @@ quiet (Map s) (f ∷ g ∷ []) o p = quiet_map s f g o p
 quiet (Map s) [] o p = absurd p
 quiet (Map s) (f ∷ []) o p = absurd p
 quiet (Map s) (f ∷ g ∷ h ∷ fs) o p = absurd p
-quiet (Seek s) (f ∷ g ∷ []) o p = quiet_seek s f g o p
-quiet (Seek s) [] o p = absurd p
-quiet (Seek s) (f ∷ []) o p = absurd p
-quiet (Seek s) (f ∷ g ∷ h ∷ fs) o p = absurd p
+quiet (Search s) (f ∷ g ∷ []) o p = quiet_search s f g o p
+quiet (Search s) [] o p = absurd p
+quiet (Search s) (f ∷ []) o p = absurd p
+quiet (Search s) (f ∷ g ∷ h ∷ fs) o p = absurd p
 quiet Emit [] o p = absurd p
 quiet Emit (f ∷ []) o p = absurd p
 quiet Emit (f ∷ g ∷ []) o p = absurd p
@@ -117,7 +117,7 @@ named Bound (f ∷ g ∷ []) [] o p = inr (quiet_bound f g o p)
 named Check (f ∷ g ∷ h ∷ []) [] o p = inr (quiet_check f g h o p)
 named Emit (f ∷ g ∷ h ∷ []) (out ∷ []) o p = named_emit f g h out o p
 named (Map s) (f ∷ g ∷ []) outs o p = named_map s outs f g o p
-named (Seek s) (f ∷ g ∷ []) outs o p = named_seek s outs f g o p
+named (Search s) (f ∷ g ∷ []) outs o p = named_search s outs f g o p
 named (Trial seed) [] [] o p = inr (quiet_trial seed o p)
 named Verilog (f ∷ []) (out ∷ []) o p = named_verilog f out o p
 named _ _ _ o p = absurd p

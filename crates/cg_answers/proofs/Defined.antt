@@ -2,7 +2,7 @@
 use Rattle.std.proofs.Common.{List, [], ◌∷◌, length, refl, arith}
 use Rattle.cg_ending.specs.Outcome.{Name, File, Outcome}
 use Rattle.cg_command.specs.declared.plans.Command.{Command}
-use Rattle.cg_command.specs.declared.plans.Command.TheVariants.{Turns, TurnsOnImage, Flat, Run, Bound, Check, Emit, Map, Seek, Trial, Verilog}
+use Rattle.cg_command.specs.declared.plans.Command.TheVariants.{Turns, TurnsOnImage, Flat, Run, Bound, Check, Emit, Map, Search, Trial, Verilog}
 use Rattle.cg_command.specs.Words.{HasShape}
 use Rattle.cg_run_answers.specs.Turns.{turns_of}
 use Rattle.cg_run_answers.proofs.OnImage.{some_on_image}
@@ -12,7 +12,7 @@ use Rattle.cg_map_answers.proofs.Bounded.{some_bounding}
 use Rattle.cg_map_answers.proofs.Checked.{some_check}
 use Rattle.cg_map_answers.proofs.Bitstream.{some_emit}
 use Rattle.cg_map_answers.proofs.Searched.{some_map}
-use Rattle.cg_seek_answers.proofs.Sought.{some_seek_outcome}
+use Rattle.cg_search_answers.proofs.Searched.{some_search_outcome}
 use Rattle.cg_answers.specs.Commands.{IsAnswer}
 use Rattle.cg_answers.proofs.Trialed.{some_trial}
 use Rattle.cg_answers.proofs.Netlisted.{some_verilog}
@@ -63,10 +63,10 @@ some_outcome (Map s) (f ∷ g ∷ []) outputs shape = some_map s f g outputs sha
 some_outcome (Map s) [] outputs shape = absurd (omega (arith, shape.0))
 some_outcome (Map s) (f ∷ []) outputs shape = absurd (omega (arith, shape.0))
 some_outcome (Map s) (f ∷ g ∷ h ∷ fs) outputs shape = absurd (omega (arith, shape.0))
-some_outcome (Seek s) (f ∷ g ∷ []) outputs shape = some_seek_outcome s f g outputs shape.2
-some_outcome (Seek s) [] outputs shape = absurd (omega (arith, shape.0))
-some_outcome (Seek s) (f ∷ []) outputs shape = absurd (omega (arith, shape.0))
-some_outcome (Seek s) (f ∷ g ∷ h ∷ fs) outputs shape = absurd (omega (arith, shape.0))
+some_outcome (Search s) (f ∷ g ∷ []) outputs shape = some_search_outcome s f g outputs shape.2
+some_outcome (Search s) [] outputs shape = absurd (omega (arith, shape.0))
+some_outcome (Search s) (f ∷ []) outputs shape = absurd (omega (arith, shape.0))
+some_outcome (Search s) (f ∷ g ∷ h ∷ fs) outputs shape = absurd (omega (arith, shape.0))
 some_outcome (Trial seed) [] [] shape = some_trial seed
 some_outcome (Trial seed) (f ∷ fs) outputs shape = absurd (omega (arith, shape.0))
 some_outcome (Trial seed) [] (out ∷ outs) shape = absurd (omega (arith, shape.1))

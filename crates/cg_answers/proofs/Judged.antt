@@ -7,12 +7,12 @@ use Rattle.cg_check.specs.Legal.{Mapped}
 use Rattle.cg_check.specs.declared.rule.Violation.{Violation}
 use Rattle.cg_check.specs.Rules.{violation}
 use Rattle.cg_command.specs.declared.plans.Command.{Command}
-use Rattle.cg_command.specs.declared.plans.Command.TheVariants.{Turns, TurnsOnImage, Flat, Run, Bound, Check, Emit, Map, Seek, Trial, Verilog}
+use Rattle.cg_command.specs.declared.plans.Command.TheVariants.{Turns, TurnsOnImage, Flat, Run, Bound, Check, Emit, Map, Search, Trial, Verilog}
 use Rattle.cg_map_answers.specs.Emit.{IsEmittedBy, IsEmission}
 use Rattle.cg_map_answers.proofs.Checked.{quiet_check}
 use Rattle.cg_answers.specs.Commands.{IsAnswer, judges}
-use Rattle.cg_sources.proofs.Refusals.{AreRefused}
-use Rattle.cg_sources.proofs.Mapped.{refused_given}
+use Rattle.cg_inputs.proofs.Refusals.{AreRefused}
+use Rattle.cg_inputs.proofs.Mapped.{refused_given}
 
 not_judging : false ≡ true → ⊥
 not_judging e = cc
@@ -45,6 +45,6 @@ judged Flat files outputs o j p said = absurd (not_judging j)
 judged (Run n) files outputs o j p said = absurd (not_judging j)
 judged Bound files outputs o j p said = absurd (not_judging j)
 judged (Map s) files outputs o j p said = absurd (not_judging j)
-judged (Seek s) files outputs o j p said = absurd (not_judging j)
+judged (Search s) files outputs o j p said = absurd (not_judging j)
 judged (Trial seed) files outputs o j p said = absurd (not_judging j)
 judged Verilog files outputs o j p said = absurd (not_judging j)

@@ -6,8 +6,8 @@ use Rattle.cg_ending.specs.Outcome.{Name, File, Outcome}
 use Rattle.cg_ending.specs.Reads.{AreRead}
 use Rattle.cg_ending.specs.Ends.{Moment, Completed}
 use Rattle.cg_command.specs.declared.plans.Command.{Command}
-use Rattle.cg_command.specs.declared.plans.Command.TheVariants.{Turns, TurnsOnImage, Flat, Run, Bound, Check, Emit, Map, Seek, Trial, Verilog}
-use Rattle.cg_sources.proofs.Wholes.{one_read, first_read, second_read, three_read}
+use Rattle.cg_command.specs.declared.plans.Command.TheVariants.{Turns, TurnsOnImage, Flat, Run, Bound, Check, Emit, Map, Search, Trial, Verilog}
+use Rattle.cg_inputs.proofs.Wholes.{one_read, first_read, second_read, three_read}
 use Rattle.cg_run_answers.proofs.TurnsAnswers.{turned_left}
 use Rattle.cg_run_answers.proofs.OnImage.{ordered_left, unordered_left}
 use Rattle.cg_run_answers.proofs.FlatAnswers.{flattened_left}
@@ -16,7 +16,7 @@ use Rattle.cg_map_answers.proofs.Bounded.{bound_left}
 use Rattle.cg_map_answers.proofs.Checked.{legal_left, illegal_left}
 use Rattle.cg_map_answers.proofs.Bitstream.{emitted_left, unemitted_left}
 use Rattle.cg_map_answers.proofs.Searched.{map_left, impossible_left, spent_left}
-use Rattle.cg_seek_answers.proofs.Sought.{seek_left, seek_impossible_left, seek_spent_left}
+use Rattle.cg_search_answers.proofs.Searched.{search_left, search_impossible_left, search_spent_left}
 use Rattle.cg_answers.specs.Commands.{IsAnswer, Leaves, LeavesDone, LeavesNo, LeavesImpossible, LeavesSpent}
 use Rattle.cg_answers.proofs.Trialed.{trial_left}
 use Rattle.cg_answers.proofs.Netlisted.{netlisted_left}
@@ -85,11 +85,11 @@ left_done (Map s) (arch ∷ kernel ∷ []) outs (f ∷ g ∷ []) o before after 
 left_done (Map s) (arch ∷ kernel ∷ []) outs [] o before after read answer is c = absurd answer
 left_done (Map s) (arch ∷ kernel ∷ []) outs (f ∷ []) o before after read answer is c = absurd answer
 left_done (Map s) (arch ∷ kernel ∷ []) outs (f ∷ g ∷ h ∷ fs) o before after read answer is c = absurd answer
-left_done (Seek s) (arch ∷ kernel ∷ []) outs (f ∷ g ∷ []) o before after read answer is c =
-    seek_left s arch kernel outs f g before after (first_read before.held arch kernel f g read) (second_read before.held arch kernel f g read) o answer is c
-left_done (Seek s) (arch ∷ kernel ∷ []) outs [] o before after read answer is c = absurd answer
-left_done (Seek s) (arch ∷ kernel ∷ []) outs (f ∷ []) o before after read answer is c = absurd answer
-left_done (Seek s) (arch ∷ kernel ∷ []) outs (f ∷ g ∷ h ∷ fs) o before after read answer is c = absurd answer
+left_done (Search s) (arch ∷ kernel ∷ []) outs (f ∷ g ∷ []) o before after read answer is c =
+    search_left s arch kernel outs f g before after (first_read before.held arch kernel f g read) (second_read before.held arch kernel f g read) o answer is c
+left_done (Search s) (arch ∷ kernel ∷ []) outs [] o before after read answer is c = absurd answer
+left_done (Search s) (arch ∷ kernel ∷ []) outs (f ∷ []) o before after read answer is c = absurd answer
+left_done (Search s) (arch ∷ kernel ∷ []) outs (f ∷ g ∷ h ∷ fs) o before after read answer is c = absurd answer
 left_done (Trial seed) [] [] [] o before after read answer is c = trial_left seed o before after answer is c
 left_done (Trial seed) [] [] (f ∷ fs) o before after read answer is c = absurd answer
 left_done Verilog (file ∷ []) (out ∷ []) (f ∷ []) o before after read answer is c = netlisted_left file out f o before after (one_read before.held file f read) answer is c
@@ -127,11 +127,11 @@ left_impossible (Map s) (arch ∷ kernel ∷ []) outs (f ∷ g ∷ []) o before 
 left_impossible (Map s) (arch ∷ kernel ∷ []) outs [] o before after read answer is c = absurd answer
 left_impossible (Map s) (arch ∷ kernel ∷ []) outs (f ∷ []) o before after read answer is c = absurd answer
 left_impossible (Map s) (arch ∷ kernel ∷ []) outs (f ∷ g ∷ h ∷ fs) o before after read answer is c = absurd answer
-left_impossible (Seek s) (arch ∷ kernel ∷ []) outs (f ∷ g ∷ []) o before after read answer is c =
-    seek_impossible_left s arch kernel outs f g before after (first_read before.held arch kernel f g read) (second_read before.held arch kernel f g read) o answer is c
-left_impossible (Seek s) (arch ∷ kernel ∷ []) outs [] o before after read answer is c = absurd answer
-left_impossible (Seek s) (arch ∷ kernel ∷ []) outs (f ∷ []) o before after read answer is c = absurd answer
-left_impossible (Seek s) (arch ∷ kernel ∷ []) outs (f ∷ g ∷ h ∷ fs) o before after read answer is c = absurd answer
+left_impossible (Search s) (arch ∷ kernel ∷ []) outs (f ∷ g ∷ []) o before after read answer is c =
+    search_impossible_left s arch kernel outs f g before after (first_read before.held arch kernel f g read) (second_read before.held arch kernel f g read) o answer is c
+left_impossible (Search s) (arch ∷ kernel ∷ []) outs [] o before after read answer is c = absurd answer
+left_impossible (Search s) (arch ∷ kernel ∷ []) outs (f ∷ []) o before after read answer is c = absurd answer
+left_impossible (Search s) (arch ∷ kernel ∷ []) outs (f ∷ g ∷ h ∷ fs) o before after read answer is c = absurd answer
 left_impossible _ _ _ _ o before after read answer is c = tt
 
 left_spent : (command : Command) (inputs outputs : List Name) (files : List File) (o : Outcome) (before after : Moment)
@@ -141,11 +141,11 @@ left_spent (Map s) (arch ∷ kernel ∷ []) outs (f ∷ g ∷ []) o before after
 left_spent (Map s) (arch ∷ kernel ∷ []) outs [] o before after read answer is c = absurd answer
 left_spent (Map s) (arch ∷ kernel ∷ []) outs (f ∷ []) o before after read answer is c = absurd answer
 left_spent (Map s) (arch ∷ kernel ∷ []) outs (f ∷ g ∷ h ∷ fs) o before after read answer is c = absurd answer
-left_spent (Seek s) (arch ∷ kernel ∷ []) outs (f ∷ g ∷ []) o before after read answer is c =
-    seek_spent_left s arch kernel outs f g before after (first_read before.held arch kernel f g read) (second_read before.held arch kernel f g read) o answer is c
-left_spent (Seek s) (arch ∷ kernel ∷ []) outs [] o before after read answer is c = absurd answer
-left_spent (Seek s) (arch ∷ kernel ∷ []) outs (f ∷ []) o before after read answer is c = absurd answer
-left_spent (Seek s) (arch ∷ kernel ∷ []) outs (f ∷ g ∷ h ∷ fs) o before after read answer is c = absurd answer
+left_spent (Search s) (arch ∷ kernel ∷ []) outs (f ∷ g ∷ []) o before after read answer is c =
+    search_spent_left s arch kernel outs f g before after (first_read before.held arch kernel f g read) (second_read before.held arch kernel f g read) o answer is c
+left_spent (Search s) (arch ∷ kernel ∷ []) outs [] o before after read answer is c = absurd answer
+left_spent (Search s) (arch ∷ kernel ∷ []) outs (f ∷ []) o before after read answer is c = absurd answer
+left_spent (Search s) (arch ∷ kernel ∷ []) outs (f ∷ g ∷ h ∷ fs) o before after read answer is c = absurd answer
 left_spent _ _ _ _ o before after read answer is c = tt
 
 pub left : (command : Command) (inputs outputs : List Name) (files : List File) (o : Outcome) (status : Status) (before after : Moment)

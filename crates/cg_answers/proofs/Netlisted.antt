@@ -12,8 +12,8 @@ use Rattle.cg_tiles.specs.Answer.{AreValidBytes}
 use Rattle.cg_tiles.proofs.NotBoth.{not_both}
 use Rattle.cg_tiles.proofs.Solved.{some_answer}
 use Rattle.cg_netlist.specs.Netlist.{netlist_of}
-use Rattle.cg_sources.proofs.Sound.{IsSound, IsNamed}
-use Rattle.cg_sources.proofs.Wholes.{whole, one_write, differ}
+use Rattle.cg_inputs.proofs.Sound.{IsSound, IsNamed}
+use Rattle.cg_inputs.proofs.Wholes.{whole, one_write, differ}
 use Rattle.cg_answers.specs.Verilog.{IsVerilog, IsNetlisted, verilog_by, verilog_text}
 
 same_by : (file : File) (out : Name) (a b : Outcome) (r q : Result Arch TilesFault) → tiles.IsAnswer file.bytes r → tiles.IsAnswer file.bytes q → r ≢ Err fault.Memory → q ≢ Err fault.Memory

@@ -7,7 +7,7 @@ use Rattle.cg_ending.specs.Outcome.{Name, File, Outcome}
 use Rattle.cg_ending.specs.Ends.{Moment}
 use Rattle.cg_kernel.specs.Answer.{answer_of}
 use Rattle.cg_command.specs.declared.plans.Command.{Command}
-use Rattle.cg_command.specs.declared.plans.Command.TheVariants.{Turns, TurnsOnImage, Flat, Run, Bound, Check, Emit, Map, Seek, Trial, Verilog}
+use Rattle.cg_command.specs.declared.plans.Command.TheVariants.{Turns, TurnsOnImage, Flat, Run, Bound, Check, Emit, Map, Search, Trial, Verilog}
 use Rattle.cg_pad.specs.Bytes as images
 use Rattle.cg_model.specs.Work.{Image}
 use Rattle.cg_model.specs.Array.{Arch}
@@ -22,7 +22,7 @@ use Rattle.cg_map_answers.specs.Check.{IsCheck, IsLegalInput, IsLegalCheck, IsIl
 use Rattle.cg_map_answers.specs.Emit.{IsEmit, IsEmittedRun}
 use Rattle.cg_map_answers.specs.Map.{IsMap, IsMappable, IsMapRun, IsSpentRun}
 use Rattle.cg_map_answers.specs.Searches.{IsImpossibleRun}
-use Rattle.cg_seek_answers.specs.Seek.{IsSeek, IsSeekable, IsSeekRun, IsSeekSpentRun, AreAgreed}
+use Rattle.cg_search_answers.specs.Search.{IsSearch, IsSearchable, IsSearchRun, IsSearchSpentRun, AreAgreed}
 use Rattle.cg_answers.specs.Trial.{IsTrialOf, IsTrialRun}
 use Rattle.cg_answers.specs.Verilog.{IsVerilog, IsNetlisted}
 
@@ -36,7 +36,7 @@ IsAnswer Bound (arch ∷ kernel ∷ []) [] o = IsBoundOf arch kernel o
 IsAnswer Check (arch ∷ kernel ∷ mapping ∷ []) [] o = IsCheck arch kernel mapping o
 IsAnswer Emit (arch ∷ kernel ∷ mapping ∷ []) (out ∷ []) o = IsEmit arch kernel mapping out o
 IsAnswer (Map s) (arch ∷ kernel ∷ []) outs o = IsMap s arch kernel outs o
-IsAnswer (Seek s) (arch ∷ kernel ∷ []) outs o = IsSeek s arch kernel outs o
+IsAnswer (Search s) (arch ∷ kernel ∷ []) outs o = IsSearch s arch kernel outs o
 IsAnswer (Trial seed) [] [] o = IsTrialOf seed o
 IsAnswer Verilog (file ∷ []) (out ∷ []) o = IsVerilog file out o
 IsAnswer _ _ _ o = ⊥
@@ -44,7 +44,7 @@ IsAnswer _ _ _ o = ⊥
 -- how the statuses of two outcomes that the command allows for the same files agree: they are equal; but whether `search` finds
 -- a mapping is left open
 abbrev pub AgreeIn : Command → Status → Status → Type 0
-AgreeIn (Seek s) a b = AreAgreed a b
+AgreeIn (Search s) a b = AreAgreed a b
 AgreeIn _ a b = a ≡ b
 
 -- the bytes spell a kernel
@@ -73,7 +73,7 @@ Accepts Bound (arch ∷ kernel ∷ []) = IsPairInput arch kernel
 Accepts Check (arch ∷ kernel ∷ mapping ∷ []) = IsLegalInput arch kernel mapping
 Accepts Emit (arch ∷ kernel ∷ mapping ∷ []) = IsLegalInput arch kernel mapping
 Accepts (Map s) (arch ∷ kernel ∷ []) = IsMappable s arch kernel
-Accepts (Seek s) (arch ∷ kernel ∷ []) = IsSeekable s arch kernel
+Accepts (Search s) (arch ∷ kernel ∷ []) = IsSearchable s arch kernel
 Accepts (Trial seed) [] = Unit {0}
 Accepts Verilog (file ∷ []) = GivesArch file
 Accepts _ _ = ⊥
@@ -88,7 +88,7 @@ LeavesDone Bound (arch ∷ kernel ∷ []) [] before after = IsBoundRun arch kern
 LeavesDone Check (arch ∷ kernel ∷ mapping ∷ []) [] before after = IsLegalCheck arch kernel mapping before after
 LeavesDone Emit (arch ∷ kernel ∷ mapping ∷ []) (out ∷ []) before after = IsEmittedRun arch kernel mapping out before after
 LeavesDone (Map s) (arch ∷ kernel ∷ []) outs before after = IsMapRun s arch kernel outs before after
-LeavesDone (Seek s) (arch ∷ kernel ∷ []) outs before after = IsSeekRun s arch kernel outs before after
+LeavesDone (Search s) (arch ∷ kernel ∷ []) outs before after = IsSearchRun s arch kernel outs before after
 LeavesDone (Trial seed) [] [] before after = IsTrialRun seed before after
 LeavesDone Verilog (file ∷ []) (out ∷ []) before after = IsNetlisted file out before after
 LeavesDone _ _ _ before after = Unit {0}
@@ -109,13 +109,13 @@ LeavesNo _ _ _ before after = Unit {0}
 -- what it leaves where it ends with Impossible
 abbrev pub LeavesImpossible : Command → List Name → Moment → Moment → Type 0
 LeavesImpossible (Map s) (arch ∷ kernel ∷ []) before after = IsImpossibleRun s arch kernel before after
-LeavesImpossible (Seek s) (arch ∷ kernel ∷ []) before after = IsImpossibleRun s arch kernel before after
+LeavesImpossible (Search s) (arch ∷ kernel ∷ []) before after = IsImpossibleRun s arch kernel before after
 LeavesImpossible _ _ before after = Unit {0}
 
 -- what it leaves where it ends with BudgetSpent
 abbrev pub LeavesSpent : Command → List Name → Moment → Moment → Type 0
 LeavesSpent (Map s) (arch ∷ kernel ∷ []) before after = IsSpentRun s arch kernel before after
-LeavesSpent (Seek s) (arch ∷ kernel ∷ []) before after = IsSeekSpentRun s arch kernel before after
+LeavesSpent (Search s) (arch ∷ kernel ∷ []) before after = IsSearchSpentRun s arch kernel before after
 LeavesSpent _ _ before after = Unit {0}
 
 -- what it leaves by its status: of the statuses that aren't its own the table of statuses speaks

@@ -10,7 +10,7 @@ use cg_command::{Command, Plan};
 use cg_ending::{File, Outcome, Status};
 use cg_map_answers::{bound, check, emit, map};
 use cg_run_answers::{flat, run, turns, turns_on_image};
-use cg_seek_answers::seek;
+use cg_search_answers::search;
 use cg_trial_run::trial;
 use std::alloc::{AllocError, Global};
 
@@ -46,8 +46,20 @@ pub fn answer(alloc: Global, plan: &Plan, files: &[File]) -> Result<Outcome, All
             &files[2],
             plan.outputs[0].as_str(),
         ),
-        Command::Map(search) => map(alloc, search, &files[0], &files[1], plan.outputs.as_slice()),
-        Command::Seek(search) => seek(alloc, search, &files[0], &files[1], plan.outputs.as_slice()),
+        Command::Map(request) => map(
+            alloc,
+            request,
+            &files[0],
+            &files[1],
+            plan.outputs.as_slice(),
+        ),
+        Command::Search(request) => search(
+            alloc,
+            request,
+            &files[0],
+            &files[1],
+            plan.outputs.as_slice(),
+        ),
         Command::Trial { seed } => trial_of(alloc, seed),
         Command::Verilog => verilog(alloc, &files[0], plan.outputs[0].as_str()),
     }

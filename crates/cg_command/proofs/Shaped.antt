@@ -6,9 +6,10 @@ use Rattle.std.specs.Str.Parse.{digits_value}
 use Rattle.std.proofs.lemmas.Bool.{leb-true}
 use Rattle.cg_model.specs.Limits.{most_turns, most_contexts, most_moves}
 use Rattle.cg_command.specs.declared.plans.Command.{Command}
-use Rattle.cg_command.specs.declared.plans.Command.TheVariants.{Turns, TurnsOnImage, Flat, Run, Bound, Check, Emit, Map, Seek, Trial, Verilog}
-use Rattle.cg_command.specs.declared.searches.Search.{Search}
-use Rattle.cg_command.specs.Words.{Text, Given, Arguments, Plan, HasShape, IsInRange, values_said, said_once, asked_interval, named_file, search_of, search_plan, searching_plan, map_plan, seek_plan, usual_moves, usual_responses, positive, seed_of, moves_of, is_number, number_up_to, turns_of, turns_plan, flat_plan, run_plan, bound_plan, check_plan, emit_plan, trial_plan, verilog_plan, is_empty, without_options, command_plan, arguments_of, plan_of}
+use Rattle.cg_command.specs.declared.plans.Command.TheVariants.{Turns, TurnsOnImage, Flat, Run, Bound, Check, Emit, Map, Search, Trial, Verilog}
+use Rattle.cg_model.specs.declared.request.Request.{Request}
+use Rattle.cg_model.specs.Request.{IsInRange}
+use Rattle.cg_command.specs.Words.{Text, Given, Arguments, Plan, HasShape, values_said, said_once, asked_interval, named_file, request_of, written_plan, searching_plan, map_plan, search_plan, usual_moves, usual_responses, positive, seed_of, moves_of, is_number, number_up_to, turns_of, turns_plan, flat_plan, run_plan, bound_plan, check_plan, emit_plan, trial_plan, verilog_plan, is_empty, without_options, command_plan, arguments_of, plan_of}
 
 -- the plan has the shape of its command
 abbrev pub IsShaped : Plan → Type 0
@@ -125,19 +126,19 @@ interval-some : (value : Text) → Each (λ ii. IfSome ii (λ n. 1 ≤ n)) (aske
 interval-some value ii e = asked-some (number_up_to most_contexts value) ii e
 
 -- the numbers of a search
-search-range : (I : Option (Option ℕ)) (S M : Option ℕ) → Each (λ ii. IfSome ii (λ n. 1 ≤ n)) I → Each (λ moves. moves ≤ most_moves) M
+request-range : (I : Option (Option ℕ)) (S M : Option ℕ) → Each (λ ii. IfSome ii (λ n. 1 ≤ n)) I → Each (λ moves. moves ≤ most_moves) M
     → Each IsInRange (option_and_then (λ ii. option_and_then (λ seed. option_map (λ moves. record { ii = ii; seed = seed; moves = moves }) M) S) I)
-search-range None S M some few search e = absurd (cc)
-search-range (Some ii) None M some few search e = absurd (cc)
-search-range (Some ii) (Some seed) None some few search e = absurd (cc)
-search-range (Some ii) (Some seed) (Some moves) some few search e =
-    let made : Search = record { ii = ii; seed = seed; moves = moves } in
-    let same : made ≡ search = cc in
+request-range None S M some few request e = absurd (cc)
+request-range (Some ii) None M some few request e = absurd (cc)
+request-range (Some ii) (Some seed) None some few request e = absurd (cc)
+request-range (Some ii) (Some seed) (Some moves) some few request e =
+    let made : Request = record { ii = ii; seed = seed; moves = moves } in
+    let same : made ≡ request = cc in
     subst IsInRange same (record { some = some ii refl; few = few moves refl })
 
-searched : (usual : ℕ) → usual ≤ most_moves → (given : List Given) → Each IsInRange (search_of usual given)
+searched : (usual : ℕ) → usual ≤ most_moves → (given : List Given) → Each IsInRange (request_of usual given)
 searched usual few given =
-    search-range _ _ _
+    request-range _ _ _
     (once-each (λ ii. IfSome ii (λ n. 1 ≤ n)) None asked_interval (values_said (codes "ii") given) tt interval-some)
     (once-each (λ moves. moves ≤ most_moves) usual moves_of (values_said (codes "moves") given) few (λ value moves e. number_few most_moves value moves e))
 
@@ -149,32 +150,32 @@ outputs-few : (out : Text) (files : List Text) → (length files ≡ 0) ⊎ (len
 outputs-few out files (inl e) = inl (omega (arith, e))
 outputs-few out files (inr e) = inr (omega (arith, e))
 
-search_shaped : (words : List Text) (command : Command) (files : List Text) → ((n : ℕ) → (n ≡ 1) ⊎ (n ≡ 2) → HasShape command 2 n) → (length files ≡ 0) ⊎ (length files ≡ 1) → AreShaped (search_plan words command files)
-search_shaped [] command files shape few = none_shaped
-search_shaped (a ∷ []) command files shape few = none_shaped
-search_shaped (a ∷ b ∷ []) command files shape few = none_shaped
-search_shaped (arch ∷ kernel ∷ out ∷ []) command files shape few =
+written_shaped : (words : List Text) (command : Command) (files : List Text) → ((n : ℕ) → (n ≡ 1) ⊎ (n ≡ 2) → HasShape command 2 n) → (length files ≡ 0) ⊎ (length files ≡ 1) → AreShaped (written_plan words command files)
+written_shaped [] command files shape few = none_shaped
+written_shaped (a ∷ []) command files shape few = none_shaped
+written_shaped (a ∷ b ∷ []) command files shape few = none_shaped
+written_shaped (arch ∷ kernel ∷ out ∷ []) command files shape few =
     one_shaped (record { command = command; inputs = arch ∷ kernel ∷ []; outputs = out ∷ files }) (shape (length (out ∷ files)) (outputs-few out files few))
-search_shaped (a ∷ b ∷ c ∷ d ∷ more) command files shape few = none_shaped
+written_shaped (a ∷ b ∷ c ∷ d ∷ more) command files shape few = none_shaped
 
 searching_shaped : (command : Command) (said : Arguments) → ((n : ℕ) → (n ≡ 1) ⊎ (n ≡ 2) → HasShape command 2 n) → AreShaped (searching_plan command said)
 searching_shaped command said shape = by (said_once [] named_file (values_said (codes "mapping") said.options)) (few-files (values_said (codes "mapping") said.options))
   where
-    by : (files : Option (List Text)) → Each (λ fs. (length fs ≡ 0) ⊎ (length fs ≡ 1)) files → AreShaped (option_and_then (search_plan said.words command) files)
+    by : (files : Option (List Text)) → Each (λ fs. (length fs ≡ 0) ⊎ (length fs ≡ 1)) files → AreShaped (option_and_then (written_plan said.words command) files)
     by None few = none_shaped
-    by (Some files) few = search_shaped said.words command files shape (few files refl)
+    by (Some files) few = written_shaped said.words command files shape (few files refl)
 
-ranged_shaped : (plan : Search → Option Plan) (o : Option Search) → Each IsInRange o → ((search : Search) → IsInRange search → AreShaped (plan search)) → AreShaped (option_and_then plan o)
+ranged_shaped : (plan : Request → Option Plan) (o : Option Request) → Each IsInRange o → ((request : Request) → IsInRange request → AreShaped (plan request)) → AreShaped (option_and_then plan o)
 ranged_shaped plan None range each = none_shaped
-ranged_shaped plan (Some search) range each = each search (range search refl)
+ranged_shaped plan (Some request) range each = each request (range request refl)
 
 map_shaped : (said : Arguments) → AreShaped (map_plan said)
-map_shaped said = ranged_shaped (λ search. searching_plan (Map search) said) (search_of usual_moves said.options) (searched usual_moves (omega arith) said.options)
-    (λ search range. searching_shaped (Map search) said (λ n two. (refl, two, range)))
+map_shaped said = ranged_shaped (λ request. searching_plan (Map request) said) (request_of usual_moves said.options) (searched usual_moves (omega arith) said.options)
+    (λ request range. searching_shaped (Map request) said (λ n two. (refl, two, range)))
 
-seek_shaped : (said : Arguments) → AreShaped (seek_plan said)
-seek_shaped said = ranged_shaped (λ search. searching_plan (Seek search) said) (search_of usual_responses said.options) (searched usual_responses (omega arith) said.options)
-    (λ search range. searching_shaped (Seek search) said (λ n two. (refl, two, range)))
+search_shaped : (said : Arguments) → AreShaped (search_plan said)
+search_shaped said = ranged_shaped (λ request. searching_plan (Search request) said) (request_of usual_responses said.options) (searched usual_responses (omega arith) said.options)
+    (λ request range. searching_shaped (Search request) said (λ n two. (refl, two, range)))
 
 -- ---- all commands
 
@@ -187,7 +188,7 @@ command_shaped name said =
     (either_shaped (bytes_eq name (codes "check")) (without_options check_plan said) _ (without_shaped check_plan said (check_shaped said.words))
     (either_shaped (bytes_eq name (codes "emit")) (without_options emit_plan said) _ (without_shaped emit_plan said (emit_shaped said.words))
     (either_shaped (bytes_eq name (codes "map")) (map_plan said) _ (map_shaped said)
-    (either_shaped (bytes_eq name (codes "search")) (seek_plan said) _ (seek_shaped said)
+    (either_shaped (bytes_eq name (codes "search")) (search_plan said) _ (search_shaped said)
     (either_shaped (bytes_eq name (codes "trial")) (without_options trial_plan said) _ (without_shaped trial_plan said (trial_shaped said.words))
     (either_shaped (bytes_eq name (codes "verilog")) (without_options verilog_plan said) None (without_shaped verilog_plan said (verilog_shaped said.words)) none_shaped)))))))))
 

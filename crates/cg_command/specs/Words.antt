@@ -2,11 +2,12 @@
 use Rattle.std.specs.Prelude.{◌≡◌, ◌≤◌, ◌==◌, ◌⊎◌, ℕ, Bool, true, false, not, List, [], ◌∷◌, ◌++◌, take, drop, find, map, Option, Some, None, option_map, option_and_then, if◌then◌else◌, codes, string_bytes, IfSome}
 use Rattle.std.specs.List.{list_any, before_first, after_first}
 use Rattle.std.specs.Str.{bytes_eq}
-use Rattle.cg_model.specs.Limits.{most_turns, most_moves}
+use Rattle.cg_model.specs.Limits.{most_turns}
+use Rattle.cg_model.specs.Request.{IsInRange}
 pub use Rattle.cg_command.specs.Numbers.{Text, is_number, number_up_to, positive, turns_of, interval_of, seed_of, moves_of, usual_seed, usual_moves, usual_responses}
 use Rattle.cg_command.specs.declared.plans.Command.{Command}
-use Rattle.cg_command.specs.declared.plans.Command.TheVariants.{Turns, TurnsOnImage, Flat, Run, Bound, Check, Emit, Map, Seek, Trial, Verilog}
-use Rattle.cg_command.specs.declared.searches.Search.{Search}
+use Rattle.cg_command.specs.declared.plans.Command.TheVariants.{Turns, TurnsOnImage, Flat, Run, Bound, Check, Emit, Map, Search, Trial, Verilog}
+use Rattle.cg_model.specs.declared.request.Request.{Request}
 use Rattle.cg_command.specs.declared.plans.Plan.{Plan as PlanValue}
 use Rattle.cg_command.specs.declared.arguments.Arguments.{Arguments as ArgumentsValue}
 use Rattle.cg_command.specs.declared.arguments.Given.{Given as GivenValue}
@@ -202,30 +203,30 @@ abbrev pub named_file : Text → Option (List Text)
 named_file value = Some (value ∷ [])
 
 -- what the options of a search say, with so many moves where none are given; without `--ii` no interval is asked
-abbrev pub search_of : ℕ → List Given → Option Search
-search_of usual given =
+abbrev pub request_of : ℕ → List Given → Option Request
+request_of usual given =
     option_and_then (λ ii. option_and_then (λ seed. option_map (λ moves. record { ii = ii; seed = seed; moves = moves })
     (said_once usual moves_of (values_said (codes "moves") given)))
     (said_once usual_seed seed_of (values_said (codes "seed") given)))
     (said_once None asked_interval (values_said (codes "ii") given))
 
 -- the plan of a search that writes the bits, and maybe the mapping
-abbrev pub search_plan : List Text → Command → List Text → Option Plan
-search_plan (arch ∷ kernel ∷ out ∷ []) command mapping =
+abbrev pub written_plan : List Text → Command → List Text → Option Plan
+written_plan (arch ∷ kernel ∷ out ∷ []) command mapping =
     Some (record { command = command; inputs = arch ∷ kernel ∷ []; outputs = out ∷ mapping })
-search_plan _ command mapping = None
+written_plan _ command mapping = None
 
 -- the same, by what was said
 abbrev pub searching_plan : Command → Arguments → Option Plan
-searching_plan command said = option_and_then (search_plan said.words command) (said_once [] named_file (values_said (codes "mapping") said.options))
+searching_plan command said = option_and_then (written_plan said.words command) (said_once [] named_file (values_said (codes "mapping") said.options))
 
 -- map ARCH KERNEL OUT [--ii N] [--seed N] [--moves N] [--mapping FILE]
 abbrev pub map_plan : Arguments → Option Plan
-map_plan said = option_and_then (λ search. searching_plan (Map search) said) (search_of usual_moves said.options)
+map_plan said = option_and_then (λ request. searching_plan (Map request) said) (request_of usual_moves said.options)
 
 -- search ARCH KERNEL OUT [--ii N] [--seed N] [--moves N] [--mapping FILE]
-abbrev pub seek_plan : Arguments → Option Plan
-seek_plan said = option_and_then (λ search. searching_plan (Seek search) said) (search_of usual_responses said.options)
+abbrev pub search_plan : Arguments → Option Plan
+search_plan said = option_and_then (λ request. searching_plan (Search request) said) (request_of usual_responses said.options)
 
 -- no option was given
 abbrev pub is_empty : List Given → Bool
@@ -246,7 +247,7 @@ command_plan name said =
     else (if bytes_eq name (codes "check") then without_options check_plan said
     else (if bytes_eq name (codes "emit") then without_options emit_plan said
     else (if bytes_eq name (codes "map") then map_plan said
-    else (if bytes_eq name (codes "search") then seek_plan said
+    else (if bytes_eq name (codes "search") then search_plan said
     else (if bytes_eq name (codes "trial") then without_options trial_plan said
     else (if bytes_eq name (codes "verilog") then without_options verilog_plan said
     else None)))))))))
@@ -255,11 +256,6 @@ command_plan name said =
 unfoldable pub plan_of : List Text → Option Plan
 plan_of [] = None
 plan_of (name ∷ words) = option_and_then (command_plan name) (arguments_of words)
-
--- the numbers of a search are in their ranges
-pub record IsInRange (search : Search) : Type 0 where
-  pub some : IfSome search.ii (λ ii. 1 ≤ ii)
-  pub few : search.moves ≤ most_moves
 
 -- how many files a command reads and writes, and the ranges of its numbers
 abbrev pub HasShape : Command → ℕ → ℕ → Type 0
@@ -270,7 +266,7 @@ HasShape (Run turns) inputs outputs = (inputs ≡ 3) × (outputs ≡ 1) × (turn
 HasShape Bound inputs outputs = (inputs ≡ 2) × (outputs ≡ 0)
 HasShape Check inputs outputs = (inputs ≡ 3) × (outputs ≡ 0)
 HasShape Emit inputs outputs = (inputs ≡ 3) × (outputs ≡ 1)
-HasShape (Map search) inputs outputs = (inputs ≡ 2) × ((outputs ≡ 1) ⊎ (outputs ≡ 2)) × IsInRange search
-HasShape (Seek search) inputs outputs = (inputs ≡ 2) × ((outputs ≡ 1) ⊎ (outputs ≡ 2)) × IsInRange search
+HasShape (Map request) inputs outputs = (inputs ≡ 2) × ((outputs ≡ 1) ⊎ (outputs ≡ 2)) × IsInRange request
+HasShape (Search request) inputs outputs = (inputs ≡ 2) × ((outputs ≡ 1) ⊎ (outputs ≡ 2)) × IsInRange request
 HasShape (Trial seed) inputs outputs = (inputs ≡ 0) × (outputs ≡ 0)
 HasShape Verilog inputs outputs = (inputs ≡ 1) × (outputs ≡ 1)

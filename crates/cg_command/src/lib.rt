@@ -4,9 +4,9 @@
 mod arguments;
 mod numbers;
 mod plans;
-mod searches;
+mod requests;
 
 pub use arguments::{Arguments, Given, arguments_of};
+pub use cg_model::Request;
 pub use numbers::{interval_of, moves_of, seed_of};
 pub use plans::{Command, Plan, plan_words};
-pub use searches::Search;

@@ -5,7 +5,8 @@ ghost use Rattle.cg_command.specs.Words.{HasShape};
 
 use crate::arguments::{Arguments, arguments_of};
 use crate::numbers::{seed_of, turns_of};
-use crate::searches::{Search, map_plan, seek_plan};
+use crate::requests::{map_plan, search_plan};
+use cg_model::Request;
 use std::alloc::{AllocError, Global};
 
 /// A command, with its numbers.
@@ -26,9 +27,9 @@ pub enum Command {
     /// `emit ARCH KERNEL MAPPING OUT`: the bits of a legal mapping.
     Emit,
     /// `map ARCH KERNEL OUT [--ii N] [--seed N] [--moves N] [--mapping FILE]`: the bits of a mapping that is searched.
-    Map(Search),
+    Map(Request),
     /// `search ARCH KERNEL OUT [--ii N] [--seed N] [--moves N] [--mapping FILE]`: the bits of a mapping near the least interval.
-    Seek(Search),
+    Search(Request),
     /// `trial SEED`: a drawn kernel, mapped over the hub of an architecture made for it, run by the array and by its turns.
     Trial { seed: u64 },
     /// `verilog ARCH OUT`: the netlist of an architecture, as structural Verilog.
@@ -75,7 +76,7 @@ fn command_plan(alloc: Global, name: &str, said: &Arguments) -> Result<Option<Pl
         "check" if has_no_options(said) => check_plan(alloc, said.words.as_slice()),
         "emit" if has_no_options(said) => emit_plan(alloc, said.words.as_slice()),
         "map" => map_plan(alloc, said),
-        "search" => seek_plan(alloc, said),
+        "search" => search_plan(alloc, said),
         "trial" if has_no_options(said) => trial_plan(alloc, said.words.as_slice()),
         "verilog" if has_no_options(said) => verilog_plan(alloc, said.words.as_slice()),
         _ => Ok(None),

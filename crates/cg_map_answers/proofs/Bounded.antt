@@ -13,12 +13,12 @@ use Rattle.cg_bound.specs.Bound.{IsBoundBy, IsForbidden, ShowsUnoffered}
 use Rattle.cg_bound.proofs.Always.{some_bound}
 use Rattle.cg_bound.proofs.Legal.{excluded}
 use Rattle.cg_bound.proofs.Offers.{never_open}
-use Rattle.cg_sources.specs.Sources.{Pair, ArePaired}
+use Rattle.cg_inputs.specs.Sources.{Pair, ArePaired}
 use Rattle.cg_map_answers.specs.Bound.{IsBoundOf, IsBounding, IsBounded, IsPairInput, IsBelow, IsBoundRun, bound_report}
-use Rattle.cg_sources.proofs.Sound.{IsSound}
-use Rattle.cg_sources.proofs.Wholes.{whole}
-use Rattle.cg_sources.proofs.Refusals.{IsRefusal, AreRefused, IsAlike, equal, refusals, sound_refusal}
-use Rattle.cg_sources.proofs.Paired.{refused_pair, given_pair, pair_is, some_paired, alike, valid_pair}
+use Rattle.cg_inputs.proofs.Sound.{IsSound}
+use Rattle.cg_inputs.proofs.Wholes.{whole}
+use Rattle.cg_inputs.proofs.Refusals.{IsRefusal, AreRefused, IsAlike, equal, refusals, sound_refusal}
+use Rattle.cg_inputs.proofs.Paired.{refused_pair, given_pair, pair_is, some_paired, alike, valid_pair}
 
 -- ---- status and writes
 

@@ -10,12 +10,12 @@ use Rattle.cg_check.specs.Legal.{Mapped}
 use Rattle.cg_check.specs.declared.rule.Violation.{Violation}
 use Rattle.cg_check.specs.Rules.{violation}
 use Rattle.cg_check.proofs.Judged.{legal_from, keeps_all, breaks, rules_of}
-use Rattle.cg_sources.specs.Sources.{AreGiven, AreMapped, HoldMapped}
+use Rattle.cg_inputs.specs.Sources.{AreGiven, AreMapped, HoldMapped}
 use Rattle.cg_map_answers.specs.Check.{IsCheck, checked, checked_by, illegal_report, IsLegalInput, IsLegalCheck, IsIllegalCheck}
-use Rattle.cg_sources.proofs.Sound.{IsSound}
-use Rattle.cg_sources.proofs.Wholes.{whole}
-use Rattle.cg_sources.proofs.Refusals.{IsRefusal, AreRefused, IsAlike, equal, refusals, sound_refusal}
-use Rattle.cg_sources.proofs.Mapped.{refused_given, given_of, valid_given, IsValid, mapped_is, some_mapped, alike}
+use Rattle.cg_inputs.proofs.Sound.{IsSound}
+use Rattle.cg_inputs.proofs.Wholes.{whole}
+use Rattle.cg_inputs.proofs.Refusals.{IsRefusal, AreRefused, IsAlike, equal, refusals, sound_refusal}
+use Rattle.cg_inputs.proofs.Mapped.{refused_given, given_of, valid_given, IsValid, mapped_is, some_mapped, alike}
 
 -- ---- status and writes
 

@@ -16,10 +16,10 @@ use Rattle.cg_bound.proofs.Intervals.{certifies}
 use Rattle.cg_bound.proofs.Legal.{excluded}
 use Rattle.cg_map.specs.Tried.{last_tried}
 use Rattle.cg_map.proofs.Intervals.{shown_forbids}
-use Rattle.cg_command.specs.declared.searches.Search.{Search}
-use Rattle.cg_sources.specs.Sources.{Pair, GivesPair, HoldPair}
-use Rattle.cg_sources.proofs.Wholes.{one_write}
-use Rattle.cg_sources.proofs.Paired.{valid_pair}
+use Rattle.cg_model.specs.declared.request.Request.{Request}
+use Rattle.cg_inputs.specs.Sources.{Pair, GivesPair, HoldPair}
+use Rattle.cg_inputs.proofs.Wholes.{one_write}
+use Rattle.cg_inputs.proofs.Paired.{valid_pair}
 use Rattle.cg_map_answers.specs.Searches.{IsImpossibleRun, HoldsMapped, map_writes, mapping_text, impossible_report}
 
 -- after two writes both files are held, but for the first where they have one name
@@ -43,7 +43,7 @@ held_writes (out ∷ []) m bytes before after w = one_write before.held after.he
 held_writes (out ∷ file ∷ []) m bytes before after w = two_writes before.held after.held out file bytes (mapping_text m) w
 held_writes (out ∷ file ∷ other ∷ outs) m bytes before after w = tt
 
-module _ (s : Search) (arch kernel : Name) (f g : File) (before after : Moment) (arch_held : Holds before.held arch f.bytes) (kernel_held : Holds before.held kernel g.bytes) where
+module _ (s : Request) (arch kernel : Name) (f g : File) (before after : Moment) (arch_held : Holds before.held arch f.bytes) (kernel_held : Holds before.held kernel g.bytes) where
   pub hold_pair : (p : Pair) → GivesPair f.bytes g.bytes p → HoldPair arch kernel before p
   hold_pair p given = record { arch_bytes = f.bytes; arch_held = arch_held; kernel_bytes = g.bytes; kernel_held = kernel_held; given = given }
 

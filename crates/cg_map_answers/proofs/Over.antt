@@ -9,24 +9,24 @@ use Rattle.cg_ending.specs.declared.outcome.Status.TheVariants.{Done, Malformed}
 use Rattle.cg_ending.specs.Outcome.{Name, File, Outcome}
 use Rattle.cg_ending.specs.Ends.{Moment, Completed}
 use Rattle.cg_map.specs.Laws.{IsAsked}
-use Rattle.cg_command.specs.declared.searches.Search.{Search}
-use Rattle.cg_command.specs.Words.{IsInRange}
-use Rattle.cg_sources.specs.Sources.{Pair, ArePaired, GivesPair}
-use Rattle.cg_sources.proofs.Sound.{IsSound, IsNamed}
-use Rattle.cg_sources.proofs.Refusals.{IsRefusal, AreRefused, IsAlike, equal, refusals, sound_refusal}
-use Rattle.cg_sources.proofs.Paired as paired
-use Rattle.cg_sources.proofs.Paired.{refused_pair, given_pair, pair_is, some_paired, valid_pair}
+use Rattle.cg_model.specs.declared.request.Request.{Request}
+use Rattle.cg_model.specs.Request.{IsInRange}
+use Rattle.cg_inputs.specs.Sources.{Pair, ArePaired, GivesPair}
+use Rattle.cg_inputs.proofs.Sound.{IsSound, IsNamed}
+use Rattle.cg_inputs.proofs.Refusals.{IsRefusal, AreRefused, IsAlike, equal, refusals, sound_refusal}
+use Rattle.cg_inputs.proofs.Paired as paired
+use Rattle.cg_inputs.proofs.Paired.{refused_pair, given_pair, pair_is, some_paired, valid_pair}
 use Rattle.cg_map_answers.specs.Searches.{IsWithin, IsOverPair, IsSearchOver, is_above, above_contexts}
 
 -- an interval that isn't above the contexts may be searched
-pub asked : (s : Search) (A : Arch) → IsInRange s → is_above s.ii A ≡ false → IsAsked A s.ii
+pub asked : (s : Request) (A : Arch) → IsInRange s → is_above s.ii A ≡ false → IsAsked A s.ii
 asked s A range within = by s.ii range.some within
   where
     by : (o : Option ℕ) → IfSome o (λ ii. 1 ≤ ii) → is_above o A ≡ false → IsAsked A o
     by None some e = tt
     by (Some ii) some e = (omega (arith, some), let l = ltb-false A.contexts ii e in omega (arith, l))
 
-module _ (defines : Pair → Outcome → Type 0) (s : Search) (arch kernel : File) where
+module _ (defines : Pair → Outcome → Type 0) (s : Request) (arch kernel : File) where
   -- ---- status and writes
 
   sound_within : ((p : Pair) (o : Outcome) → defines p o → IsSound o) → (p : Pair) (b : Bool) (o : Outcome) → IsWithin defines arch.name p b o → IsSound o

@@ -21,15 +21,15 @@ use Rattle.cg_map.specs.Laws.{IsMapping as IsMappingOf}
 use Rattle.cg_map.proofs.Alike.{alike, legal, by_hub}
 use Rattle.cg_map.proofs.Always.{some_answer}
 use Rattle.cg_map.proofs.Intervals.{last_positive}
-use Rattle.cg_command.specs.declared.searches.Search.{Search}
-use Rattle.cg_command.specs.Words.{IsInRange}
-use Rattle.cg_sources.specs.Sources.{Pair, GivesPair}
+use Rattle.cg_model.specs.declared.request.Request.{Request}
+use Rattle.cg_model.specs.Request.{IsInRange}
+use Rattle.cg_inputs.specs.Sources.{Pair, GivesPair}
 use Rattle.cg_map_answers.specs.Emit.{config_of}
-use Rattle.cg_map_answers.specs.Map.{IsMap, IsSearch, IsOutcomeOf, IsMappingWritten, IsMappable, IsMapRun, IsSpentRun, map_report, costs_report}
+use Rattle.cg_map_answers.specs.Map.{IsMap, IsWalk, IsOutcomeOf, IsMappingWritten, IsMappable, IsMapRun, IsSpentRun, map_report, costs_report}
 use Rattle.cg_map_answers.specs.Searches.{IsImpossibleRun, is_above, map_writes, impossible_report}
-use Rattle.cg_sources.proofs.Sound.{IsSound, IsNamed}
-use Rattle.cg_sources.proofs.Wholes.{whole}
-use Rattle.cg_sources.proofs.Paired.{valid_pair}
+use Rattle.cg_inputs.proofs.Sound.{IsSound, IsNamed}
+use Rattle.cg_inputs.proofs.Wholes.{whole}
+use Rattle.cg_inputs.proofs.Paired.{valid_pair}
 use Rattle.cg_map_answers.proofs.Bitstream.{runs, some_run}
 use Rattle.cg_map_answers.proofs.Left.{held_writes, hold_pair, put_of, kept_of, quiet_of, left_impossible}
 use Rattle.cg_map_answers.proofs.Over.{asked, sound_over, named_over, agree_over, accepted_over, some_over, left_over}
@@ -45,14 +45,14 @@ named_writes (out ∷ file ∷ other ∷ outs) m bytes = inr refl
 pub named_as : (outs : List Name) (m : Mapped) (bytes : Bytes) (o : Outcome) → o.writes ≡ map_writes outs m bytes → IsNamed outs o
 named_as outs m bytes o e = ⊎_elim (λ n. inl (ap names_of e ∙ n)) (λ n. inr (e ∙ n)) (named_writes outs m bytes)
 
-module _ (s : Search) (outs : List Name) where
+module _ (s : Request) (outs : List Name) where
   sound_of : (p : Pair) (a : MapAnswer) (o : Outcome) → IsOutcomeOf s outs p a o → IsSound o
   sound_of p (answer.Impossible c) o e = subst IsSound (sym e) (record { own = refl; quiet = λ h. refl })
   sound_of p (answer.Mapped m way) o w = subst IsSound (sym w.outcome) (record { own = refl; quiet = λ h. cc })
   sound_of p (answer.Spent first costs) o e = subst IsSound (sym e) (record { own = refl; quiet = λ h. refl })
 
   pub sound_map : (arch kernel : File) (o : Outcome) → IsMap s arch kernel outs o → IsSound o
-  sound_map arch kernel o e = sound_over (IsSearch s outs) s arch kernel (λ p o f. sound_of p f.answer o f.outcome) o e
+  sound_map arch kernel o e = sound_over (IsWalk s outs) s arch kernel (λ p o f. sound_of p f.answer o f.outcome) o e
 
   named_of : (p : Pair) (a : MapAnswer) (o : Outcome) → IsOutcomeOf s outs p a o → IsNamed outs o
   named_of p (answer.Impossible c) o e = inr (ap (λ x. x.writes) e)
@@ -60,10 +60,10 @@ module _ (s : Search) (outs : List Name) where
   named_of p (answer.Spent first costs) o e = inr (ap (λ x. x.writes) e)
 
   pub named_map : (arch kernel : File) (o : Outcome) → IsMap s arch kernel outs o → IsNamed outs o
-  named_map arch kernel o e = named_over (IsSearch s outs) s arch kernel outs (λ p o f. named_of p f.answer o f.outcome) o e
+  named_map arch kernel o e = named_over (IsWalk s outs) s arch kernel outs (λ p o f. named_of p f.answer o f.outcome) o e
 
 -- without output files nothing is written
-pub quiet_map : (s : Search) (arch kernel : File) (o : Outcome) → IsMap s arch kernel [] o → o.writes ≡ []
+pub quiet_map : (s : Request) (arch kernel : File) (o : Outcome) → IsMap s arch kernel [] o → o.writes ≡ []
 quiet_map s arch kernel o e = ⊎_elim (λ n. none o.writes n) (λ n. n) (named_map s [] arch kernel o e)
   where
     none : (files : List File) → names_of files ≡ [] → files ≡ []
@@ -73,7 +73,7 @@ quiet_map s arch kernel o e = ⊎_elim (λ n. none o.writes n) (λ n. n) (named_
 -- ---- one status
 
 -- there are few costs
-pub spent_few : (s : Search) (A : Arch) (K : Kernel) (first : ℕ) (costs : Vec ℕ) → IsArch A → IsInRange s → is_above s.ii A ≡ false → IsAnswer A K s.ii s.seed s.moves (answer.Spent first costs) → first + length costs.items < 2 ^ 32
+pub spent_few : (s : Request) (A : Arch) (K : Kernel) (first : ℕ) (costs : Vec ℕ) → IsArch A → IsInRange s → is_above s.ii A ≡ false → IsAnswer A K s.ii s.seed s.moves (answer.Spent first costs) → first + length costs.items < 2 ^ 32
 spent_few s A K first costs arch range within p =
     let (some, most) = last_positive A K s.ii arch (asked s A range within) in
     let few = arch.small.contexts.1 in
@@ -81,7 +81,7 @@ spent_few s A K first costs arch range within p =
     let all = left.all in
     omega (arith, most, few, e, all)
 
-module _ (s : Search) (outs : List Name) (p : Pair) where
+module _ (s : Request) (outs : List Name) (p : Pair) where
   same_kind : (a b : MapAnswer) (x y : Outcome) → AreAlike a b → IsOutcomeOf s outs p a x → IsOutcomeOf s outs p b y → x.status ≡ y.status
   same_kind (answer.Impossible c) (answer.Impossible d) x y e f g = ap (λ z. z.status) f ∙ sym (ap (λ z. z.status) g)
   same_kind (answer.Mapped m way) (answer.Mapped n by) x y e f g = ap (λ z. z.status) f.outcome ∙ sym (ap (λ z. z.status) g.outcome)
@@ -93,17 +93,17 @@ module _ (s : Search) (outs : List Name) (p : Pair) where
   same_kind (answer.Spent first costs) (answer.Impossible d) x y e f g = absurd e
   same_kind (answer.Spent first costs) (answer.Mapped n by) x y e f g = absurd e
 
-  same_search : IsArch p.arch → IsKernel p.kernel → (x y : Outcome) → IsSearch s outs p x → IsSearch s outs p y → x.status ≡ y.status
+  same_search : IsArch p.arch → IsKernel p.kernel → (x y : Outcome) → IsWalk s outs p x → IsWalk s outs p y → x.status ≡ y.status
   same_search valid good x y f g =
       same_kind f.answer g.answer x y (alike p.arch p.kernel valid good s.ii s.seed s.moves f.answer g.answer f.is_answer g.is_answer) f.outcome g.outcome
 
-pub same_map : (s : Search) (arch kernel : File) (outs : List Name) (x y : Outcome) → IsMap s arch kernel outs x → IsMap s arch kernel outs y → x.status ≡ y.status
+pub same_map : (s : Request) (arch kernel : File) (outs : List Name) (x y : Outcome) → IsMap s arch kernel outs x → IsMap s arch kernel outs y → x.status ≡ y.status
 same_map s arch kernel outs x y f g =
-    agree_over (IsSearch s outs) s arch kernel (λ a b. a ≡ b) (λ a b e. e) (λ p valid good range within x y f g. same_search s outs p valid good x y f g) f.range x y f g
+    agree_over (IsWalk s outs) s arch kernel (λ a b. a ≡ b) (λ a b e. e) (λ p valid good range within x y f g. same_search s outs p valid good x y f g) f.range x y f g
 
 -- ---- what is accepted
 
-mapped_done : (s : Search) (outs : List Name) (p : Pair) (a : MapAnswer) (o : Outcome) → IsMappingOf a → IsOutcomeOf s outs p a o → o.status ≡ Done
+mapped_done : (s : Request) (outs : List Name) (p : Pair) (a : MapAnswer) (o : Outcome) → IsMappingOf a → IsOutcomeOf s outs p a o → o.status ≡ Done
 mapped_done s outs p (answer.Mapped n by) o e f = ap (λ z. z.status) f.outcome
 mapped_done s outs p (answer.Impossible c) o e f = absurd e
 mapped_done s outs p (answer.Spent first costs) o e f = absurd e
@@ -113,9 +113,9 @@ alike_mapping m way (answer.Mapped n by) e = tt
 alike_mapping m way (answer.Impossible c) e = absurd e
 alike_mapping m way (answer.Spent first costs) e = absurd e
 
-pub accepted_map : (s : Search) (arch kernel : File) (outs : List Name) (o : Outcome) → IsMappable s arch kernel → IsMap s arch kernel outs o → o.status ≡ Done
+pub accepted_map : (s : Request) (arch kernel : File) (outs : List Name) (o : Outcome) → IsMappable s arch kernel → IsMap s arch kernel outs o → o.status ≡ Done
 accepted_map s arch kernel outs o a f =
-    accepted_over (IsSearch s outs) s arch kernel a.pair a.given a.within
+    accepted_over (IsWalk s outs) s arch kernel a.pair a.given a.within
     (λ valid good is o f. mapped_done s outs a.pair f.answer o
     (⊎_elim
     (λ enough. by_hub a.pair.arch a.pair.kernel valid good s.ii s.seed s.moves is enough f.answer f.is_answer)
@@ -126,7 +126,7 @@ accepted_map s arch kernel outs o a f =
 
 -- ---- what there is
 
-some_of : (s : Search) (outs : List Name) (p : Pair) → IsArch p.arch → IsKernel p.kernel → IsAsked p.arch s.ii → (a : MapAnswer) → IsAnswer p.arch p.kernel s.ii s.seed s.moves a → (o : Outcome) × IsOutcomeOf s outs p a o
+some_of : (s : Request) (outs : List Name) (p : Pair) → IsArch p.arch → IsKernel p.kernel → IsAsked p.arch s.ii → (a : MapAnswer) → IsAnswer p.arch p.kernel s.ii s.seed s.moves a → (o : Outcome) × IsOutcomeOf s outs p a o
 some_of s outs p valid good is (answer.Impossible c) found = (reports Impossible (impossible_report p s c), refl)
 some_of s outs p valid good is (answer.Spent first costs) found = (reports BudgetSpent (costs_report first costs.items), refl)
 some_of s outs p valid good is (answer.Mapped m way) found =
@@ -136,9 +136,9 @@ some_of s outs p valid good is (answer.Mapped m way) found =
     let (bytes, spelled) = some_run m fine here.shape here in
     (record { status = Done; report = map_report m way; writes = map_writes outs m bytes }, record { bytes = bytes; spelled = spelled; outcome = refl })
 
-pub some_map : (s : Search) (arch kernel : File) (outs : List Name) → IsInRange s → (o : Outcome) × IsMap s arch kernel outs o
+pub some_map : (s : Request) (arch kernel : File) (outs : List Name) → IsInRange s → (o : Outcome) × IsMap s arch kernel outs o
 some_map s arch kernel outs range =
-    some_over (IsSearch s outs) s arch kernel
+    some_over (IsWalk s outs) s arch kernel
     (λ p valid good is.
     let (a, found) = some_answer p.arch p.kernel valid good s.ii s.seed s.moves is in
     let (o, f) = some_of s outs p valid good is a found in
@@ -147,7 +147,7 @@ some_map s arch kernel outs range =
 
 -- ---- what is left
 
-module _ (s : Search) (arch kernel : Name) (outs : List Name) (f g : File) (before after : Moment) (arch_held : Holds before.held arch f.bytes) (kernel_held : Holds before.held kernel g.bytes) where
+module _ (s : Request) (arch kernel : Name) (outs : List Name) (f g : File) (before after : Moment) (arch_held : Holds before.held arch f.bytes) (kernel_held : Holds before.held kernel g.bytes) where
   module _ (p : Pair) (given : GivesPair f.bytes g.bytes p) (is : IsAsked p.arch s.ii) where
     valid : IsArch p.arch
     valid = (valid_pair f.bytes g.bytes p given).0
@@ -213,10 +213,10 @@ module _ (s : Search) (arch kernel : Name) (outs : List Name) (f g : File) (befo
   -- ---- by what the files give
 
   pub map_left : (o : Outcome) → IsMap s f g outs o → o.status ≡ Done → Completed o before after Done → IsMapRun s arch kernel outs before after
-  map_left o is at done = left_over (IsSearch s outs) s f g Done before after (λ e. cc) (λ p given is o d. mapped_of p given is d.answer o d.is_answer d.outcome) o is at done
+  map_left o is at done = left_over (IsWalk s outs) s f g Done before after (λ e. cc) (λ p given is o d. mapped_of p given is d.answer o d.is_answer d.outcome) o is at done
 
   pub impossible_left : (o : Outcome) → IsMap s f g outs o → o.status ≡ Impossible → Completed o before after Impossible → IsImpossibleRun s arch kernel before after
-  impossible_left o is at done = left_over (IsSearch s outs) s f g Impossible before after (λ e. cc) (λ p given is o d. impossible_of p given is d.answer o d.is_answer d.outcome) o is at done
+  impossible_left o is at done = left_over (IsWalk s outs) s f g Impossible before after (λ e. cc) (λ p given is o d. impossible_of p given is d.answer o d.is_answer d.outcome) o is at done
 
   pub spent_left : (o : Outcome) → IsMap s f g outs o → o.status ≡ BudgetSpent → Completed o before after BudgetSpent → IsSpentRun s arch kernel before after
-  spent_left o is at done = left_over (IsSearch s outs) s f g BudgetSpent before after (λ e. cc) (λ p given is o d. spent_of p given is d.answer o d.is_answer d.outcome) o is at done
+  spent_left o is at done = left_over (IsWalk s outs) s f g BudgetSpent before after (λ e. cc) (λ p given is o d. spent_of p given is d.answer o d.is_answer d.outcome) o is at done

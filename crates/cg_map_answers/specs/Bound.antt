@@ -10,7 +10,7 @@ use Rattle.cg_bound.specs.declared.interval.Certificate.{Certificate}
 use Rattle.cg_bound.specs.declared.interval.LeastInterval.{LeastInterval}
 use Rattle.cg_bound.specs.Bound.{IsBound}
 use Rattle.cg_bound.specs.Text.{certificate_text}
-use Rattle.cg_sources.specs.Sources.{Pair, ArePaired, GivesPair, HoldPair}
+use Rattle.cg_inputs.specs.Sources.{Pair, ArePaired, GivesPair, HoldPair}
 
 -- the least interval, if there is one
 abbrev pub first_line : Option ℕ → Bytes

@@ -12,7 +12,7 @@ use Rattle.cg_check.specs.Legal.{Mapped}
 use Rattle.cg_check.specs.declared.rule.Violation.{Violation}
 use Rattle.cg_check.specs.Rules.{violation}
 use Rattle.cg_check.specs.Texts.{rule_text}
-use Rattle.cg_sources.specs.Sources.{AreGiven, AreMapped, HoldMapped}
+use Rattle.cg_inputs.specs.Sources.{AreGiven, AreMapped, HoldMapped}
 
 -- the mapping is legal
 abbrev pub legal_report : Bytes

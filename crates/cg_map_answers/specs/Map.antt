@@ -14,8 +14,8 @@ use Rattle.cg_map.specs.declared.trying.Way.TheVariants.{Hub, Walk}
 use Rattle.cg_map.specs.declared.answering.MapAnswer.{MapAnswer}
 use Rattle.cg_map.specs.declared.answering.MapAnswer.TheVariants as answer
 use Rattle.cg_map.specs.Tried.{last_tried, IsFirst, AreAllLeft, IsAnswer}
-use Rattle.cg_command.specs.declared.searches.Search.{Search}
-use Rattle.cg_sources.specs.Sources.{Pair, GivesPair, HoldPair}
+use Rattle.cg_model.specs.declared.request.Request.{Request}
+use Rattle.cg_inputs.specs.Sources.{Pair, GivesPair, HoldPair}
 use Rattle.cg_map_answers.specs.Emit.{emit_report, RunsMapping}
 use Rattle.cg_map_answers.specs.Searches.{IsWritten, IsSearchOver, HoldsMapped, is_above, impossible_report}
 
@@ -46,26 +46,26 @@ abbrev pub IsMappingWritten : List Name → Mapped → Way → Outcome → Type 
 IsMappingWritten outs m way o = IsWritten outs m (map_report m way) o
 
 -- by the answer of the search
-abbrev pub IsOutcomeOf : Search → List Name → Pair → MapAnswer → Outcome → Type 0
+abbrev pub IsOutcomeOf : Request → List Name → Pair → MapAnswer → Outcome → Type 0
 IsOutcomeOf s outs p (answer.Impossible c) o = o ≡ reports status.Impossible (impossible_report p s c)
 IsOutcomeOf s outs p (answer.Mapped m way) o = IsMappingWritten outs m way o
 IsOutcomeOf s outs p (answer.Spent first costs) o = o ≡ reports status.BudgetSpent (costs_report first costs.items)
 
 -- the search has an answer; which certificate shows that an interval is impossible is left open
-pub record IsSearch (s : Search) (outs : List Name) (p : Pair) (o : Outcome) : Type 0 where
+pub record IsWalk (s : Request) (outs : List Name) (p : Pair) (o : Outcome) : Type 0 where
   pub answer : MapAnswer
   pub is_answer : IsAnswer p.arch p.kernel s.ii s.seed s.moves answer
   pub outcome : IsOutcomeOf s outs p answer o
 
 -- by what the files give
-abbrev pub IsMap : Search → File → File → List Name → Outcome → Type 0
-IsMap s arch kernel outs o = IsSearchOver (IsSearch s outs) s arch kernel o
+abbrev pub IsMap : Request → File → File → List Name → Outcome → Type 0
+IsMap s arch kernel outs o = IsSearchOver (IsWalk s outs) s arch kernel o
 
 -- ---- what is accepted, and what is left
 
 -- the files give an architecture and a kernel, and the hub suffices at the last interval that is tried, or the answer of the
 -- search is a mapping
-pub record IsMappable (s : Search) (arch kernel : File) : Type 0 where
+pub record IsMappable (s : Request) (arch kernel : File) : Type 0 where
   pub pair : Pair
   pub given : GivesPair arch.bytes kernel.bytes pair
   pub within : is_above s.ii pair.arch ≡ false
@@ -76,7 +76,7 @@ pub record IsMappable (s : Search) (arch kernel : File) : Type 0 where
 -- the search finds no other. It is legal; no resource carries two of the turns' values in a cycle, and no unit begins two operations;
 -- and an array that runs the bytes that are written does what the turns of the kernel do one after the other, for every number
 -- of turns and every image on which the kernel's edges order the accesses that matter
-pub record IsMapRun (s : Search) (arch kernel : Name) (outs : List Name) (before after : Moment) : Type 0 where
+pub record IsMapRun (s : Request) (arch kernel : Name) (outs : List Name) (before after : Moment) : Type 0 where
   pub pair : Pair
   pub read : HoldPair arch kernel before pair
   pub free : IsOpen pair.arch pair.kernel (last_tried pair.arch s.ii)
@@ -92,7 +92,7 @@ pub record IsMapRun (s : Search) (arch kernel : Name) (outs : List Name) (before
 
 -- BudgetSpent: nothing forbids the last interval, and at none that was tried a mapping was found. The costs that are left were
 -- put, in part where the put failed. No write was made
-pub record IsSpentRun (s : Search) (arch kernel : Name) (before after : Moment) : Type 0 where
+pub record IsSpentRun (s : Request) (arch kernel : Name) (before after : Moment) : Type 0 where
   pub pair : Pair
   pub read : HoldPair arch kernel before pair
   pub free : IsOpen pair.arch pair.kernel (last_tried pair.arch s.ii)

@@ -15,9 +15,9 @@ use Rattle.cg_bound.specs.declared.interval.Certificate.{Certificate}
 use Rattle.cg_bound.specs.Bound.{IsForbidden, Certifies, Shows}
 use Rattle.cg_bound.specs.Text.{certificate_text}
 use Rattle.cg_map.specs.Tried.{last_tried}
-use Rattle.cg_command.specs.declared.searches.Search.{Search}
-use Rattle.cg_command.specs.Words.{IsInRange}
-use Rattle.cg_sources.specs.Sources.{Pair, ArePaired, HoldPair}
+use Rattle.cg_model.specs.declared.request.Request.{Request}
+use Rattle.cg_model.specs.Request.{IsInRange}
+use Rattle.cg_inputs.specs.Sources.{Pair, ArePaired, HoldPair}
 use Rattle.cg_map_answers.specs.Emit.{config_of}
 
 -- ---- reports
@@ -67,7 +67,7 @@ IsOverPair defines asked arch (Ok p) o = IsWithin defines arch p (is_above asked
 IsOverPair defines asked arch (Err refused) o = o ≡ refused
 
 -- a search over two files
-pub record IsSearchOver (defines : Pair → Outcome → Type 0) (s : Search) (arch kernel : File) (o : Outcome) : Type 0 where
+pub record IsSearchOver (defines : Pair → Outcome → Type 0) (s : Request) (arch kernel : File) (o : Outcome) : Type 0 where
   pub range : IsInRange s
   pub pair : Result Pair Outcome
   pub given : ArePaired arch kernel pair
@@ -83,7 +83,7 @@ HoldsMapped _ m bytes after = Unit {0}
 
 -- Impossible: a recurrence or an overfull set forbids the last interval that would be tried. One was put, in part where the put
 -- failed, and no mapping of that interval is legal. No write was made
-pub record IsImpossibleRun (s : Search) (arch kernel : Name) (before after : Moment) : Type 0 where
+pub record IsImpossibleRun (s : Request) (arch kernel : Name) (before after : Moment) : Type 0 where
   pub pair : Pair
   pub read : HoldPair arch kernel before pair
   pub certificate : Certificate

@@ -7,8 +7,8 @@ ghost use Rattle.cg_map_answers.specs.Bound.{IsBoundOf, IsBounded, bound_report,
 use cg_arch::Arch;
 use cg_bound::{LeastInterval, bound as least_interval, certificate_text};
 use cg_ending::{File, Outcome, Status};
+use cg_inputs::{GivenPair, read_pair};
 use cg_kernel::Kernel;
-use cg_sources::{GivenPair, read_pair};
 use std::alloc::{AllocError, Global};
 
 /// The least interval of the kernel that the second file gives on the architecture of the first.

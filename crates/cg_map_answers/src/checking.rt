@@ -8,7 +8,7 @@ ghost use Rattle.cg_map_answers.specs.Check.{IsCheck, checked_by, illegal_report
 
 use cg_check::{Arch, CheckVerdict, Kernel, Rule, RulePlace, check as check_mapping, rule_text};
 use cg_ending::{File, Outcome, Status};
-use cg_sources::{Given, Sources, read_sources};
+use cg_inputs::{Given, Sources, read_sources};
 use std::alloc::{AllocError, Global};
 
 /// Whether the mapping that the third file gives is legal for the kernel of the second on the architecture of the first.

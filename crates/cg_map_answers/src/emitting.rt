@@ -8,7 +8,7 @@ use crate::checking::illegal;
 use cg_check::{CheckVerdict, LegalMapping, check};
 use cg_emit::{emit as emit_bits, stages};
 use cg_ending::{File, Outcome, Status};
-use cg_sources::{Given, Sources, read_sources};
+use cg_inputs::{Given, Sources, read_sources};
 use std::alloc::{AllocError, Global};
 
 /// The bits of the mapping that the third file gives for the kernel of the second on the architecture of the first, under the

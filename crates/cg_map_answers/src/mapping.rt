@@ -3,8 +3,8 @@ ghost use Rattle.std.specs.Prelude.{◌≡◌, ◌+◌, ◌<◌, ◌^◌, ◌++�
 ghost use Rattle.cg_ending.specs.Outcome.{file_of, outcome_of};
 ghost use Rattle.cg_ending.specs.Refusals.{reports};
 ghost use Rattle.cg_ending.specs.declared.outcome.Status.TheVariants as status;
-ghost use Rattle.cg_command.specs.Words.{IsInRange};
-ghost use Rattle.cg_map_answers.specs.Map.{IsMap, IsSearch, IsMappingWritten, cost_line, costs_report, map_report, way_line};
+ghost use Rattle.cg_model.specs.Request.{IsInRange};
+ghost use Rattle.cg_map_answers.specs.Map.{IsMap, IsWalk, IsMappingWritten, cost_line, costs_report, map_report, way_line};
 ghost use Rattle.cg_map_answers.specs.Searches.{IsWithin, is_above};
 
 use crate::emitting::emit_report;
@@ -12,28 +12,28 @@ use crate::refusing::{above, asks_above, impossible};
 use crate::writing::written;
 use cg_arch::Arch;
 use cg_check::LegalMapping;
-use cg_command::Search;
 use cg_ending::{File, Outcome, Status};
+use cg_inputs::{GivenPair, read_pair};
 use cg_kernel::Kernel;
 use cg_map::{MapAnswer, Way, map_answer};
-use cg_sources::{GivenPair, read_pair};
+use cg_model::Request;
 use std::alloc::{AllocError, Global};
 
 /// The bits of a mapping that is searched for the kernel of the second file on the architecture of the first, under the first
 /// of the names `outputs`; and the mapping, where there is a second one.
 pub fn map(
     alloc: Global,
-    search: Search,
+    request: Request,
     arch: &File,
     kernel: &File,
     outputs: &[String],
 ) -> Result<Outcome, AllocError>
-    requires { IsInRange search }
-    ensures { IfOk result (λ o. IsMap search (file_of arch.now) (file_of kernel.now) (map string_bytes outputs.now) (outcome_of o)) }
+    requires { IsInRange request }
+    ensures { IfOk result (λ o. IsMap request (file_of arch.now) (file_of kernel.now) (map string_bytes outputs.now) (outcome_of o)) }
 {
     match read_pair(alloc, arch, kernel)? {
         GivenPair::Pair(array, kernel) => {
-            searched_within(alloc, search, arch.name.as_str(), &array, &kernel, outputs)
+            searched_within(alloc, request, arch.name.as_str(), &array, &kernel, outputs)
         }
         GivenPair::Refused(outcome) => Ok(outcome),
     }
@@ -42,37 +42,43 @@ pub fn map(
 /// Both files were read.
 fn searched_within(
     alloc: Global,
-    search: Search,
+    request: Request,
     name: &str,
     arch: &Arch,
     kernel: &Kernel,
     outputs: &[String],
 ) -> Result<Outcome, AllocError>
-    requires { IsInRange search }
-    ensures { IfOk result (λ o. IsWithin (IsSearch search (map string_bytes outputs.now)) name.now
-        (record { arch = arch.now; kernel = kernel.now }) (is_above search.ii arch.now) (outcome_of o)) }
+    requires { IsInRange request }
+    ensures { IfOk result (λ o. IsWithin (IsWalk request (map string_bytes outputs.now)) name.now
+        (record { arch = arch.now; kernel = kernel.now }) (is_above request.ii arch.now) (outcome_of o)) }
 {
-    if asks_above(search.ii, arch) {
+    if asks_above(request.ii, arch) {
         return above(alloc, name, arch);
     }
-    searched(alloc, search, arch, kernel, outputs)
+    searched(alloc, request, arch, kernel, outputs)
 }
 
 /// The intervals may be tried.
 fn searched(
     alloc: Global,
-    search: Search,
+    request: Request,
     arch: &Arch,
     kernel: &Kernel,
     outputs: &[String],
 ) -> Result<Outcome, AllocError>
-    requires range { IsInRange search }
-    requires within { is_above search.ii arch.now ≡ false }
-    ensures { IfOk result (λ o. IsSearch search (map string_bytes outputs.now) (record { arch = arch.now; kernel = kernel.now }) (outcome_of o)) }
+    requires range { IsInRange request }
+    requires within { is_above request.ii arch.now ≡ false }
+    ensures { IfOk result (λ o. IsWalk request (map string_bytes outputs.now) (record { arch = arch.now; kernel = kernel.now }) (outcome_of o)) }
 {
     let _valid_arch = arch.units();
-    match map_answer(alloc, arch, kernel, search.ii, search.seed, search.moves)? {
-        MapAnswer::Impossible(certificate) => impossible(alloc, search, arch, kernel, &certificate),
+    match map_answer(alloc, arch, kernel, request.ii, request.seed, request.moves)? {
+        MapAnswer::Impossible(certificate) => impossible(
+            alloc,
+            request,
+            arch,
+            kernel,
+            &certificate,
+        ),
         MapAnswer::Mapped(mapping, way) => found(alloc, &mapping, way, outputs),
         MapAnswer::Spent { first, costs } => spent(alloc, first, costs.as_slice()),
     }

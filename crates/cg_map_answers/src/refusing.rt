@@ -7,10 +7,10 @@ ghost use Rattle.cg_map_answers.specs.Searches.{is_above, above_contexts, imposs
 
 use cg_arch::Arch;
 use cg_bound::{Certificate, certificate_text};
-use cg_command::Search;
 use cg_ending::{Outcome, Status, malformed};
 use cg_kernel::Kernel;
 use cg_map::last_tried;
+use cg_model::Request;
 use std::alloc::{AllocError, Global};
 
 /// Whether an interval is asked that has more cycles than the architecture has contexts.
@@ -35,15 +35,15 @@ pub fn above(alloc: Global, name: &str, arch: &Arch) -> Result<Outcome, AllocErr
 /// The last interval is impossible.
 pub fn impossible(
     alloc: Global,
-    search: Search,
+    request: Request,
     arch: &Arch,
     kernel: &Kernel,
     certificate: &Certificate,
 ) -> Result<Outcome, AllocError>
     ensures { IfOk result (λ o. outcome_of o
-        ≡ reports status.Impossible (impossible_report (record { arch = arch.now; kernel = kernel.now }) search certificate.now)) }
+        ≡ reports status.Impossible (impossible_report (record { arch = arch.now; kernel = kernel.now }) request certificate.now)) }
 {
-    let last = last_tried(arch, search.ii);
+    let last = last_tried(arch, request.ii);
     let mut report = certificate_text(alloc, arch, kernel, Some(last), certificate)?;
     report.push(b'\n')?;
     Ok(Outcome {

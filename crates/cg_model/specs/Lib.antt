@@ -14,3 +14,4 @@ pub mod Machine
 pub mod Equations
 pub mod Overlap
 pub mod Answers
+pub mod Request

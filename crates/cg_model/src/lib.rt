@@ -10,6 +10,7 @@ mod limits;
 mod lists;
 mod mapping;
 mod names;
+mod request;
 
 pub use array::{Kind, Resource, Unit};
 pub use config::{ArgFields, UnitFields};
@@ -22,3 +23,4 @@ pub use limits::{
 pub use lists::{Items, Name, Operands, Words};
 pub use mapping::{Place, Route};
 pub use names::{is_identifier, is_name};
+pub use request::Request;

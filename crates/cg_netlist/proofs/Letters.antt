@@ -7,7 +7,7 @@ use Rattle.std.proofs.lemmas.Bool.{and_parts, and_from, cond_both, eqb-true, eqb
 use Rattle.std.proofs.Common.{length}
 use Rattle.cg_model.specs.Names.{within_name}
 use Rattle.cg_verilog.specs.Words.{is_name, is_name_byte}
-use Rattle.cg_netlist.specs.Forms.{Form, ContextForm, PresetForm, MuxForm, RegisterForm, ZeroForm, UnitForm, form_name, hexadecimal, driver_port, argument_port}
+use Rattle.cg_netlist.specs.Forms.{Form, ContextForm, PreselectForm, MuxForm, RegisterForm, ZeroForm, UnitForm, form_name, hexadecimal, driver_port, argument_port}
 
 -- all bytes go on a name
 abbrev pub IsPlain : List ℕ → Type 0
@@ -77,8 +77,8 @@ select_name name plain = and_true (list_all is_name_byte name) plain
 pub context_name : (name : List ℕ) → IsPlain name → is_name (codes "c_" ++ name) ≡ true
 context_name name plain = and_true (list_all is_name_byte name) plain
 
-pub preset_name : (name : List ℕ) → IsPlain name → is_name (codes "p_" ++ name) ≡ true
-preset_name name plain = and_true (list_all is_name_byte name) plain
+pub preselect_name : (name : List ℕ) → IsPlain name → is_name (codes "p_" ++ name) ≡ true
+preselect_name name plain = and_true (list_all is_name_byte name) plain
 
 pub mux_name : (name : List ℕ) → IsPlain name → is_name (codes "m_" ++ name) ≡ true
 mux_name name plain = and_true (list_all is_name_byte name) plain
@@ -95,7 +95,7 @@ unit_name name plain = and_true (list_all is_name_byte name) plain
 -- the name of a form
 pub form_name_is : (f : Form) → is_name (form_name f) ≡ true
 form_name_is (ContextForm w) = and_true (list_all is_name_byte (decimal w)) (plain_decimal w)
-form_name_is (PresetForm w) = and_true (list_all is_name_byte (decimal w)) (plain_decimal w)
+form_name_is (PreselectForm w) = and_true (list_all is_name_byte (decimal w)) (plain_decimal w)
 form_name_is (MuxForm k) = and_true (list_all is_name_byte (decimal k)) (plain_decimal k)
 form_name_is (RegisterForm k) = and_true (list_all is_name_byte (decimal k)) (plain_decimal k)
 form_name_is ZeroForm = refl

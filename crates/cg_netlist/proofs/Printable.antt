@@ -6,7 +6,7 @@ use Rattle.std.proofs.lemmas.List.{length-map}
 use Rattle.std.proofs.lemmas.List.Elements.{All-nil, All-cons, All-append, All-head, All-tail, All-contains, All-weaker, recursion_from_All}
 use Rattle.cg_verilog.specs.Words.{is_name}
 use Rattle.cg_verilog.specs.Module as text
-use Rattle.cg_netlist.specs.Forms.{Form, ContextForm, PresetForm, MuxForm, RegisterForm, ZeroForm, UnitForm, form_ports, IsForm, driver_port, argument_port}
+use Rattle.cg_netlist.specs.Forms.{Form, ContextForm, PreselectForm, MuxForm, RegisterForm, ZeroForm, UnitForm, form_ports, IsForm, driver_port, argument_port}
 use Rattle.cg_netlist.specs.Netlist.{Net, Pin, Cell, NetGraph}
 use Rattle.cg_netlist.specs.Graph.{names, IsNet, IsConnected, IsCell, IsNetGraph}
 use Rattle.cg_netlist.specs.Built.{HasBits, HasPins}
@@ -42,7 +42,7 @@ chosen k = before (codes "s") (map driver_port (range_with_len 1 k) ++ codes "q"
 
 ports_named : (f : Form) → IsForm f → All IsToken (form_ports f)
 ports_named (ContextForm w) h = clocked (codes "q" ∷ []) (one (codes "q") refl)
-ports_named (PresetForm w) h = clocked (codes "q" ∷ []) (one (codes "q") refl)
+ports_named (PreselectForm w) h = clocked (codes "q" ∷ []) (one (codes "q") refl)
 ports_named (MuxForm k) h = chosen k
 ports_named (RegisterForm k) h = clocked (codes "s" ∷ (map driver_port (range_with_len 1 k) ++ codes "q" ∷ [])) (chosen k)
 ports_named ZeroForm h = one (codes "q") refl
@@ -53,7 +53,7 @@ ports_named (UnitForm p l b) h =
 -- each form has a port
 some_port : (f : Form) → 0 < length (form_ports f)
 some_port (ContextForm w) = omega arith
-some_port (PresetForm w) = omega arith
+some_port (PreselectForm w) = omega arith
 some_port (MuxForm k) = omega arith
 some_port (RegisterForm k) = omega arith
 some_port ZeroForm = omega arith

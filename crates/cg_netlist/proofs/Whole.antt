@@ -13,11 +13,11 @@ use Rattle.cg_model.specs.declared.array.Resource.{Resource}
 use Rattle.cg_model.specs.Array.{Arch, IsArch, resource, unit}
 use Rattle.cg_flat.specs.Slots.{width}
 use Rattle.cg_flat.proofs.Widths.{is_width}
-use Rattle.cg_netlist.specs.Forms.{ContextForm, PresetForm, MuxForm, RegisterForm, ZeroForm}
-use Rattle.cg_netlist.specs.Netlist.{Net, Pin, Cell, NetGraph, pin, nets_of, word_net, select_net, select_width, clock_pins, select_pin, driver_pins, argument_pins, output_pins, choice_pins, context_cell, preset_cell, mux_cell, register_cell, zero_cell, wire_cells, register_cells, cells_by, resource_cells, unit_form, unit_cell, netlist_of}
+use Rattle.cg_netlist.specs.Forms.{ContextForm, PreselectForm, MuxForm, RegisterForm, ZeroForm}
+use Rattle.cg_netlist.specs.Netlist.{Net, Pin, Cell, NetGraph, pin, nets_of, word_net, select_net, select_width, clock_pins, select_pin, driver_pins, argument_pins, output_pins, choice_pins, context_cell, preselect_cell, mux_cell, register_cell, zero_cell, wire_cells, register_cells, cells_by, resource_cells, unit_form, unit_cell, netlist_of}
 use Rattle.cg_netlist.specs.Graph.{IsNet, IsConnected, IsCell, IsNetGraph}
 use Rattle.cg_netlist.specs.Built.{IsDriven}
-use Rattle.cg_netlist.proofs.Letters.{IsPlain, word_name, select_name, context_name, preset_name, mux_name, register_name, zero_name, unit_name}
+use Rattle.cg_netlist.proofs.Letters.{IsPlain, word_name, select_name, context_name, preselect_name, mux_name, register_name, zero_name, unit_name}
 use Rattle.cg_netlist.proofs.Bits.{bits_below, bits_some}
 use Rattle.cg_netlist.proofs.Ports.{choice_ports, unit_ports}
 use Rattle.cg_netlist.proofs.Nets.{net_names, own_names, has_word, has_select, nets_once}
@@ -140,10 +140,10 @@ context_is A r h = record {
   connected = All-append (Joins A) clock_pins (output_pins (select_net r)) (clocks_join A) (output_joins A (select_net r) h.select);
 }
 
-preset_is : (A : Arch) (r : Resource) → IsWired A r → IsCellIn A (preset_cell r)
-preset_is A r h = record {
-  name = preset_name r.name h.plain;
-  form = PresetForm (select_width r);
+preselect_is : (A : Arch) (r : Resource) → IsWired A r → IsCellIn A (preselect_cell r)
+preselect_is A r h = record {
+  name = preselect_name r.name h.plain;
+  form = PreselectForm (select_width r);
   valid = (some_bits (length r.drivers) h.some, few_bits (length r.drivers) h.driven.few);
   called = refl;
   ports = refl;
@@ -207,8 +207,8 @@ wires_are A arch r l =
 registers_are : (A : Arch) → IsArch A → (r : ℕ) → r < length A.resources → All (IsCellIn A) (register_cells A (resource A r))
 registers_are A arch r l =
     let q = resource A r in
-    cond_both (eqb (length q.drivers) 0) (zero_cell q ∷ []) (preset_cell q ∷ register_cell A q ∷ []) (All (IsCellIn A))
-    (λ e. unwired A arch r l) (λ e. let h = wired A arch r l e in two A (preset_cell q) (register_cell A q) (preset_is A q h) (register_is A q h))
+    cond_both (eqb (length q.drivers) 0) (zero_cell q ∷ []) (preselect_cell q ∷ register_cell A q ∷ []) (All (IsCellIn A))
+    (λ e. unwired A arch r l) (λ e. let h = wired A arch r l e in two A (preselect_cell q) (register_cell A q) (preselect_is A q h) (register_is A q h))
 
 cells_are : (A : Arch) → IsArch A → (r : ℕ) → r < length A.resources → (kind : Kind) → All (IsCellIn A) (cells_by kind A (resource A r))
 cells_are A arch r l Wire = wires_are A arch r l

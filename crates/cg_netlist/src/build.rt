@@ -5,7 +5,7 @@ ghost use Rattle.cg_netlist.specs.Netlist as spec;
 ghost use Rattle.cg_netlist.specs.Built.{IsDriven, IsPlaced};
 ghost use Rattle.cg_netlist.specs.Graph.{IsNetGraph};
 
-use crate::cells::{context_cell, mux_cell, preset_cell, register_cell, unit_cell, zero_cell};
+use crate::cells::{context_cell, mux_cell, preselect_cell, register_cell, unit_cell, zero_cell};
 use crate::graph::NetGraph;
 use crate::parts::{Cell, Net};
 use crate::pins::prefixed;
@@ -121,7 +121,7 @@ fn push_register_cells(
         cells.push(zero_cell(alloc, resource)?)?;
         return Ok(());
     }
-    cells.push(preset_cell(alloc, resource)?)?;
+    cells.push(preselect_cell(alloc, resource)?)?;
     cells.push(register_cell(alloc, arch, resource)?)?;
     Ok(())
 }

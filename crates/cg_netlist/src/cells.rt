@@ -30,9 +30,9 @@ pub(crate) fn context_cell(alloc: Global, resource: &Resource) -> Result<Cell, A
 }
 
 /// The cell that gives a register's select of the next slot in each cycle.
-pub(crate) fn preset_cell(alloc: Global, resource: &Resource) -> Result<Cell, AllocError>
+pub(crate) fn preselect_cell(alloc: Global, resource: &Resource) -> Result<Cell, AllocError>
     requires { length resource.now.drivers ≤ 65536 }
-    ensures { IfOk result (λ cell. cell ≡ spec.preset_cell resource.now) }
+    ensures { IfOk result (λ cell. cell ≡ spec.preselect_cell resource.now) }
 {
     let width = select_bits(resource.drivers.as_slice());
     let module = Name::new(format!(in alloc; "cg_pre_{width}")?);

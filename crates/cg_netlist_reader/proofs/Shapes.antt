@@ -5,11 +5,11 @@ use Rattle.std.specs.List.{range_with_len}
 use Rattle.std.proofs.lemmas.Bool.{and_parts, and_from, or_cases, or_left, or_right, lt-ltb, le-leb, ltb-true, leb-true}
 use Rattle.std.proofs.lemmas.List.{length-map, append_cancel_left}
 use Rattle.std.proofs.lemmas.Slice.Eq.{bytes_eq-Decides}
-use Rattle.cg_netlist.specs.Forms.{ContextForm, PresetForm, MuxForm, RegisterForm, ZeroForm, UnitForm, form_name, form_ports, driver_port, argument_port, hexadecimal}
+use Rattle.cg_netlist.specs.Forms.{ContextForm, PreselectForm, MuxForm, RegisterForm, ZeroForm, UnitForm, form_name, form_ports, driver_port, argument_port, hexadecimal}
 use Rattle.cg_netlist.specs.declared.parts.Pin.{Pin}
 use Rattle.cg_netlist.specs.declared.parts.Cell.{Cell}
 use Rattle.cg_netlist_reader.specs.Reading.{ports, IsOf, IsFormed}
-use Rattle.cg_netlist_reader.specs.Formed.{IsContext, IsPreset, IsMux, IsRegister, IsZero, IsUnit, ports_of, unit_ports, IsNumbered, IsOperations, HasLatency, IsUnitName}
+use Rattle.cg_netlist_reader.specs.Formed.{IsContext, IsPreselect, IsMux, IsRegister, IsZero, IsUnit, ports_of, unit_ports, IsNumbered, IsOperations, HasLatency, IsUnitName}
 
 -- ---- of some form
 
@@ -18,11 +18,11 @@ or_iff a b P Q p q =
     (λ e. ⊎_elim (λ x. inl (p.0 x)) (λ y. inr (q.0 y)) (or_cases a b e), λ h. ⊎_elim (λ x. or_left a b (p.1 x)) (λ y. or_right a b (q.1 y)) h)
 
 abbrev Some6 : Cell → Type 0
-Some6 c = (((((IsContext c ⊎ IsPreset c) ⊎ IsMux c) ⊎ IsRegister c) ⊎ IsZero c) ⊎ IsUnit c)
+Some6 c = (((((IsContext c ⊎ IsPreselect c) ⊎ IsMux c) ⊎ IsRegister c) ⊎ IsZero c) ⊎ IsUnit c)
 
 to_some : (c : Cell) → IsFormed c → Some6 c
 to_some c (ContextForm w, h) = inl (inl (inl (inl (inl (w, h)))))
-to_some c (PresetForm w, h) = inl (inl (inl (inl (inr (w, h)))))
+to_some c (PreselectForm w, h) = inl (inl (inl (inl (inr (w, h)))))
 to_some c (MuxForm k, h) = inl (inl (inl (inr (k, h))))
 to_some c (RegisterForm k, h) = inl (inl (inr (k, h)))
 to_some c (ZeroForm, h) = inl (inr h)
@@ -34,19 +34,19 @@ from_some c h =
     (λ a. ⊎_elim
     (λ b. ⊎_elim
     (λ d. ⊎_elim
-    (λ e. ⊎_elim (λ f. (ContextForm f.0, f.1)) (λ f. (PresetForm f.0, f.1)) e)
+    (λ e. ⊎_elim (λ f. (ContextForm f.0, f.1)) (λ f. (PreselectForm f.0, f.1)) e)
     (λ e. (MuxForm e.0, e.1)) d)
     (λ d. (RegisterForm d.0, d.1)) b)
     (λ b. (ZeroForm, b)) a)
     (λ a. (UnitForm a.0 a.1 a.2, a.3)) h
 
-pub any_form : (c : Cell) (a b d e f g : Bool) → (IsTrue a ↔ IsContext c) → (IsTrue b ↔ IsPreset c) → (IsTrue d ↔ IsMux c) → (IsTrue e ↔ IsRegister c) → (IsTrue f ↔ IsZero c) → (IsTrue g ↔ IsUnit c)
+pub any_form : (c : Cell) (a b d e f g : Bool) → (IsTrue a ↔ IsContext c) → (IsTrue b ↔ IsPreselect c) → (IsTrue d ↔ IsMux c) → (IsTrue e ↔ IsRegister c) → (IsTrue f ↔ IsZero c) → (IsTrue g ↔ IsUnit c)
     → (IsTrue (((((a || b) || d) || e) || f) || g) ↔ IsFormed c)
 any_form c a b d e f g ha hb hd he hf hg =
-    let all = or_iff ((((a || b) || d) || e) || f) g ((((IsContext c ⊎ IsPreset c) ⊎ IsMux c) ⊎ IsRegister c) ⊎ IsZero c) (IsUnit c)
-    (or_iff (((a || b) || d) || e) f (((IsContext c ⊎ IsPreset c) ⊎ IsMux c) ⊎ IsRegister c) (IsZero c)
-    (or_iff ((a || b) || d) e ((IsContext c ⊎ IsPreset c) ⊎ IsMux c) (IsRegister c)
-    (or_iff (a || b) d (IsContext c ⊎ IsPreset c) (IsMux c) (or_iff a b (IsContext c) (IsPreset c) ha hb) hd) he) hf) hg in
+    let all = or_iff ((((a || b) || d) || e) || f) g ((((IsContext c ⊎ IsPreselect c) ⊎ IsMux c) ⊎ IsRegister c) ⊎ IsZero c) (IsUnit c)
+    (or_iff (((a || b) || d) || e) f (((IsContext c ⊎ IsPreselect c) ⊎ IsMux c) ⊎ IsRegister c) (IsZero c)
+    (or_iff ((a || b) || d) e ((IsContext c ⊎ IsPreselect c) ⊎ IsMux c) (IsRegister c)
+    (or_iff (a || b) d (IsContext c ⊎ IsPreselect c) (IsMux c) (or_iff a b (IsContext c) (IsPreselect c) ha hb) hd) he) hf) hg in
     (λ t. from_some c (all.0 t), λ h. all.1 (to_some c h))
 
 -- ---- each form
@@ -58,9 +58,9 @@ context_iff c ps named fits is name port = (
   λ h. and_from named fits (name.1 (h.0, h.1.valid.0, h.1.valid.1, h.1.called)) (port.1 (h.1.ports ∙ sym is)),
 )
 
-pub preset_iff : (c : Cell) (ps : List (List ℕ)) (named fits : Bool) → ps ≡ codes "clk" ∷ codes "rst" ∷ codes "q" ∷ [] → (IsTrue named ↔ IsNumbered (codes "cg_pre_") c.«module»)
-    → (IsTrue fits ↔ (ports_of c.pins ≡ ps)) → (IsTrue (named && fits) ↔ IsPreset c)
-preset_iff c ps named fits is name port = (
+pub preselect_iff : (c : Cell) (ps : List (List ℕ)) (named fits : Bool) → ps ≡ codes "clk" ∷ codes "rst" ∷ codes "q" ∷ [] → (IsTrue named ↔ IsNumbered (codes "cg_pre_") c.«module»)
+    → (IsTrue fits ↔ (ports_of c.pins ≡ ps)) → (IsTrue (named && fits) ↔ IsPreselect c)
+preselect_iff c ps named fits is name port = (
   λ e. let both = and_parts named fits e in let w = name.0 both.0 in (w.0, record { valid = (w.1, w.2); called = w.3; ports = port.0 both.1 ∙ is }),
   λ h. and_from named fits (name.1 (h.0, h.1.valid.0, h.1.valid.1, h.1.called)) (port.1 (h.1.ports ∙ sym is)),
 )
@@ -164,9 +164,9 @@ pub context_found : (c : Cell) (pins : List Pin) (ps : List (List ℕ)) (b named
     → (IsTrue named ↔ IsNumbered (codes "cg_ctx_") c.«module») → (IsTrue fits ↔ (ports_of pins ≡ ps)) → (IsTrue b ↔ IsContext c)
 context_found c pins ps b named fits is same ports name port = along_bool (IsContext c) b (named && fits) is (context_iff c ps named fits ports name (with_pins c pins ps fits same port))
 
-pub preset_found : (c : Cell) (pins : List Pin) (ps : List (List ℕ)) (b named fits : Bool) → b ≡ (named && fits) → pins ≡ c.pins → ps ≡ codes "clk" ∷ codes "rst" ∷ codes "q" ∷ []
-    → (IsTrue named ↔ IsNumbered (codes "cg_pre_") c.«module») → (IsTrue fits ↔ (ports_of pins ≡ ps)) → (IsTrue b ↔ IsPreset c)
-preset_found c pins ps b named fits is same ports name port = along_bool (IsPreset c) b (named && fits) is (preset_iff c ps named fits ports name (with_pins c pins ps fits same port))
+pub preselect_found : (c : Cell) (pins : List Pin) (ps : List (List ℕ)) (b named fits : Bool) → b ≡ (named && fits) → pins ≡ c.pins → ps ≡ codes "clk" ∷ codes "rst" ∷ codes "q" ∷ []
+    → (IsTrue named ↔ IsNumbered (codes "cg_pre_") c.«module») → (IsTrue fits ↔ (ports_of pins ≡ ps)) → (IsTrue b ↔ IsPreselect c)
+preselect_found c pins ps b named fits is same ports name port = along_bool (IsPreselect c) b (named && fits) is (preselect_iff c ps named fits ports name (with_pins c pins ps fits same port))
 
 pub mux_found : (c : Cell) (pins : List Pin) (ps : List (List ℕ)) (n : ℕ) (b shaped counted named fits : Bool) → b ≡ (shaped && counted) → shaped ≡ (named && fits) → counted ≡ (nat_lt 0 n && nat_le n 65536)
     → pins ≡ c.pins → n ≡ length pins - 2 → ps ≡ form_ports (MuxForm n) → named ≡ bytes_eq c.«module» (codes "cg_mux_" ++ decimal n) → (IsTrue fits ↔ (ports_of pins ≡ ps)) → (IsTrue b ↔ IsMux c)
@@ -193,12 +193,12 @@ pub unit_missed : (c : Cell) (pins : List Pin) (n : ℕ) → pins ≡ c.pins →
 unit_missed c pins n same many more =
     (λ e. let bad : false ≡ true = e in absurd (cc), λ h. absurd (no_unit c n (many ∙ ap (λ (ys : List Pin). length ys - 3) same) more h))
 
-pub form_found : (c : Cell) (x one two three four context preset mux register nought unit : Bool) → x ≡ (four || unit) → four ≡ (three || nought) → three ≡ (two || register) → two ≡ (one || mux) → one ≡ (context || preset)
-    → (IsTrue context ↔ IsContext c) → (IsTrue preset ↔ IsPreset c) → (IsTrue mux ↔ IsMux c) → (IsTrue register ↔ IsRegister c) → (IsTrue nought ↔ IsZero c) → (IsTrue unit ↔ IsUnit c) → (IsTrue x ↔ IsFormed c)
-form_found c x one two three four context preset mux register nought unit e5 e4 e3 e2 e1 hc hp hm hr hz hu =
-    along_bool (IsFormed c) x (((((context || preset) || mux) || register) || nought) || unit)
+pub form_found : (c : Cell) (x one two three four context preselect mux register nought unit : Bool) → x ≡ (four || unit) → four ≡ (three || nought) → three ≡ (two || register) → two ≡ (one || mux) → one ≡ (context || preselect)
+    → (IsTrue context ↔ IsContext c) → (IsTrue preselect ↔ IsPreselect c) → (IsTrue mux ↔ IsMux c) → (IsTrue register ↔ IsRegister c) → (IsTrue nought ↔ IsZero c) → (IsTrue unit ↔ IsUnit c) → (IsTrue x ↔ IsFormed c)
+form_found c x one two three four context preselect mux register nought unit e5 e4 e3 e2 e1 hc hp hm hr hz hu =
+    along_bool (IsFormed c) x (((((context || preselect) || mux) || register) || nought) || unit)
     (e5 ∙ ap (λ y. y || unit) (e4 ∙ ap (λ y. y || nought) (e3 ∙ ap (λ y. y || register) (e2 ∙ ap (λ y. y || mux) e1))))
-    (any_form c context preset mux register nought unit hc hp hm hr hz hu)
+    (any_form c context preselect mux register nought unit hc hp hm hr hz hu)
 
 -- ---- names of units
 

@@ -1,7 +1,7 @@
 -- Each form of cells by itself, and what is found where cells are compared with forms.
 use Rattle.std.specs.Prelude.{◌≡◌, ℕ, ◌^◌, ◌<◌, ◌≤◌, List, [], ◌∷◌, ◌++◌, map, codes, decimal, Option, Some, None}
 use Rattle.std.specs.List.{range_with_len}
-use Rattle.cg_netlist.specs.Forms.{ContextForm, PresetForm, MuxForm, RegisterForm, ZeroForm, UnitForm, form_name, argument_port, hexadecimal}
+use Rattle.cg_netlist.specs.Forms.{ContextForm, PreselectForm, MuxForm, RegisterForm, ZeroForm, UnitForm, form_name, argument_port, hexadecimal}
 use Rattle.cg_netlist.specs.declared.parts.Pin.{Pin}
 use Rattle.cg_netlist.specs.declared.parts.Cell.{Cell}
 use Rattle.cg_netlist_reader.specs.Reading.{IsOf}
@@ -9,8 +9,8 @@ use Rattle.cg_netlist_reader.specs.Reading.{IsOf}
 abbrev pub IsContext : Cell → Type 0
 IsContext c = (w : ℕ) × IsOf c (ContextForm w)
 
-abbrev pub IsPreset : Cell → Type 0
-IsPreset c = (w : ℕ) × IsOf c (PresetForm w)
+abbrev pub IsPreselect : Cell → Type 0
+IsPreselect c = (w : ℕ) × IsOf c (PreselectForm w)
 
 abbrev pub IsMux : Cell → Type 0
 IsMux c = (k : ℕ) × IsOf c (MuxForm k)

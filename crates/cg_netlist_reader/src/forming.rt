@@ -31,12 +31,12 @@ fn is_formed(alloc: Global, cell: &Cell) -> Result<bool, AllocError>
     ensures { IfOk result (λ b. IsTrue b ↔ spec.IsFormed cell.now) }
 {
     let context = is_context(alloc, cell)?;
-    let preset = is_preset(alloc, cell)?;
+    let preselect = is_preselect(alloc, cell)?;
     let mux = is_mux(alloc, cell)?;
     let register = is_register(alloc, cell)?;
     let zero = is_zero(alloc, cell)?;
     let unit = is_unit(alloc, cell)?;
-    let one = either(context, preset);
+    let one = either(context, preselect);
     let two = either(one, mux);
     let three = either(two, register);
     let four = either(three, zero);
@@ -55,9 +55,9 @@ fn is_context(alloc: Global, cell: &Cell) -> Result<bool, AllocError>
 }
 
 /// Whether it gives the selects of the next contexts.
-#[tactic(auto, using(crate::proofs::Shapes::preset_found))]
-fn is_preset(alloc: Global, cell: &Cell) -> Result<bool, AllocError>
-    ensures { IfOk result (λ b. IsTrue b ↔ formed.IsPreset cell.now) }
+#[tactic(auto, using(crate::proofs::Shapes::preselect_found))]
+fn is_preselect(alloc: Global, cell: &Cell) -> Result<bool, AllocError>
+    ensures { IfOk result (λ b. IsTrue b ↔ formed.IsPreselect cell.now) }
 {
     let named = has_width(alloc, cell.module.as_str(), "cg_pre_")?;
     let ports = context_ports(alloc)?;

@@ -12,8 +12,8 @@ use Rattle.cg_tiles.specs.Answer as tiles
 use Rattle.cg_tiles.specs.Answer.{AreValidBytes}
 use Rattle.cg_tiles.proofs.NotBoth.{not_both}
 use Rattle.cg_tiles.proofs.Solved.{some_answer}
-use Rattle.cg_sources.proofs.Sound.{IsSound, IsNamed}
-use Rattle.cg_sources.proofs.Wholes.{whole, one_write, differ}
+use Rattle.cg_inputs.proofs.Sound.{IsSound, IsNamed}
+use Rattle.cg_inputs.proofs.Wholes.{whole, one_write, differ}
 use Rattle.cg_run_answers.specs.Flat.{IsFlat, IsFlattened, flat_by}
 
 -- what a file gives decides between an architecture and a fault

@@ -20,8 +20,8 @@ use Rattle.cg_pad.specs.Texts.{image_fault_text}
 use Rattle.cg_turns.specs.declared.pair.UnorderedPair.{UnorderedPair}
 use Rattle.cg_turns.specs.Pairs.{IsPairOf}
 use Rattle.cg_turns.proofs.Decided.{some_pair}
-use Rattle.cg_sources.proofs.Sound.{IsSound, IsNamed}
-use Rattle.cg_sources.proofs.Wholes.{whole, one_write, differ}
+use Rattle.cg_inputs.proofs.Sound.{IsSound, IsNamed}
+use Rattle.cg_inputs.proofs.Wholes.{whole, one_write, differ}
 use Rattle.cg_run_answers.specs.TurnsOnImage.{IsTurnsOnImage, IsOnKernel, IsOnImage, IsRunOnImage, IsOrderedRun, IsUnorderedRun, imaged, pair_status}
 
 -- the definition, opened once

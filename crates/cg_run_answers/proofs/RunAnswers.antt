@@ -24,9 +24,9 @@ use Rattle.cg_bits.specs.Spelling.{AreBits}
 use Rattle.cg_bits.proofs.Answered.{bits_of, config_is, none_answered}
 use Rattle.cg_pad.specs.declared.fault.ImageFault.{ImageFault}
 use Rattle.cg_pad.specs.Bytes as images
-use Rattle.cg_sources.proofs.Sound.{IsSound, IsNamed}
-use Rattle.cg_sources.proofs.Arrays.{same_array, sized, valid_array}
-use Rattle.cg_sources.proofs.Wholes.{whole, one_write, differ}
+use Rattle.cg_inputs.proofs.Sound.{IsSound, IsNamed}
+use Rattle.cg_inputs.proofs.Arrays.{same_array, sized, valid_array}
+use Rattle.cg_inputs.proofs.Wholes.{whole, one_write, differ}
 use Rattle.cg_run_answers.specs.Run.{IsRun, IsRunnable, IsArrayRun, LeavesTurns, run_by, run_by_bits, run_by_image, ran, too_large}
 
 -- ---- the configuration

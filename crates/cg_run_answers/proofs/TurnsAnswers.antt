@@ -7,8 +7,8 @@ use Rattle.cg_ending.specs.Outcome.{Name, File, Outcome}
 use Rattle.cg_ending.specs.Ends.{Moment, Completed}
 use Rattle.cg_kernel.specs.declared.fault.KernelFault.{KernelFault}
 use Rattle.cg_kernel.specs.Answer.{answer_of}
-use Rattle.cg_sources.proofs.Sound.{IsSound}
-use Rattle.cg_sources.proofs.Wholes.{whole, differ}
+use Rattle.cg_inputs.proofs.Sound.{IsSound}
+use Rattle.cg_inputs.proofs.Wholes.{whole, differ}
 use Rattle.cg_run_answers.specs.Turns.{turns_by, turns_of, IsTurned}
 
 -- ---- status and writes

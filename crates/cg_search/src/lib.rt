@@ -1,17 +1,6 @@
-//! A mapper by best responses. Each node stands on a unit at a time and each data edge has a route; what stands twice
-//! in one place is a fault, and a dearer place the longer it lasts. A move lifts one node with its routes and puts it
-//! where it and its routes cost least. The search ends when there are no faults.
+//! What a search by best responses answers: the intervals that are tried, and what comes of them.
 #![tactic(auto)]
 
-mod candidates;
-mod draws;
-mod estimates;
-mod faults;
-mod mapping;
-mod opening;
-mod searching;
-mod settling;
-mod sweeps;
-mod windows;
+mod answering;
 
-pub use searching::{Sought, search};
+pub use answering::{FoundBy, SearchAnswer, search_answer};

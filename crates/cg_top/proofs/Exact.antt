@@ -9,7 +9,7 @@ use Rattle.cg_ending.specs.Ends.{Moment, Finished}
 use Rattle.cg_ending.proofs.Reading.{Reading, all, missing, longer, reading, reads_all, stops}
 use Rattle.cg_command.specs.Words.{Plan, plan_of}
 use Rattle.cg_command.specs.declared.plans.Command.{Command}
-use Rattle.cg_command.specs.declared.plans.Command.TheVariants.{Turns, TurnsOnImage, Flat, Run, Bound, Check, Emit, Map, Seek, Trial, Verilog}
+use Rattle.cg_command.specs.declared.plans.Command.TheVariants.{Turns, TurnsOnImage, Flat, Run, Bound, Check, Emit, Map, Search, Trial, Verilog}
 use Rattle.cg_answers.specs.Commands.{IsAnswer, AgreeIn}
 use Rattle.cg_top.specs.TopCall.{IsPlanned, Ends, Agrees, IsExact}
 use Rattle.cg_answers.proofs.Commands.{agree_in}
@@ -30,7 +30,7 @@ equal Bound a b e = e
 equal Check a b e = e
 equal Emit a b e = e
 equal (Map s) a b e = e
-equal (Seek s) a b e = inl e
+equal (Search s) a b e = inl e
 equal (Trial seed) a b e = e
 equal Verilog a b e = e
 

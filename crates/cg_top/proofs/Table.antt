@@ -15,7 +15,7 @@ use Rattle.cg_ending.specs.Refusals.{usage_outcome}
 use Rattle.cg_top.specs.TopCall.{IsPlanned, Ends, IsAnswered, IsStopped, IsByTable}
 use Rattle.cg_top.proofs.Kept.{no_part}
 use Rattle.cg_answers.proofs.Commands.{sound}
-use Rattle.cg_sources.proofs.Sound.{is_own}
+use Rattle.cg_inputs.proofs.Sound.{is_own}
 
 -- ---- where an outcome comes from
 

@@ -16,7 +16,7 @@ use Rattle.cg_bits.proofs.Packed.{some_bits}
 use Rattle.cg_check.specs.Legal.{Mapped}
 use Rattle.cg_hub.specs.Hub.{hub_map}
 use Rattle.cg_hub.proofs.Legal.{hub_legal}
-use Rattle.cg_sources.proofs.Arrays.{valid_parts}
+use Rattle.cg_inputs.proofs.Arrays.{valid_parts}
 use Rattle.cg_trial.specs.Drawn.{trial_kernel}
 use Rattle.cg_trial.specs.Trial.{parts_with, trial_arch, trial_image}
 use Rattle.cg_trial.proofs.Faultless.{no_early, no_late, no_loop}

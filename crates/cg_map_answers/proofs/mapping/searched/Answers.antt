@@ -8,6 +8,6 @@ pub spent-requires : goal.spent-requires
 spent-requires c =
     let A = c.args.arch.now in
     let K = c.args.kernel.now in
-    let s = c.args.search in
+    let s = c.args.request in
     let p : IsAnswer A K s.ii s.seed s.moves (Spent c.in-Spent.first c.in-Spent.costs) = subst (λ a. IsAnswer A K s.ii s.seed s.moves a) c.in-Spent.is c.in_ok-certificate.ensures in
     subst (λ costs. c.in-Spent.first + length costs < 2 ^ 32) (sym c.as_slice.ensures.value) (spent_few s A K c.in-Spent.first c.in-Spent.costs c.units-valid_arch.ensures.valid c.requires.range c.requires.within p)

@@ -1,0 +1,202 @@
+//! The words of `map` and `search`: their files, and the options of what is searched.
+ghost use Rattle.std.specs.Prelude.{◌≡◌, ◌≤◌, [], ◌∷◌, None, IfOk, IfSome, map, option_and_then, option_map, vec_len};
+ghost use Rattle.cg_model.specs.Limits.{most_moves};
+ghost use Rattle.cg_command.specs.Words as spec;
+ghost use Rattle.cg_model.specs.Request.{IsInRange};
+ghost use Rattle.cg_command.specs.Words.{HasShape, heard_option, said_once};
+
+use crate::arguments::{Arguments, Given};
+use crate::numbers::{USUAL_MOVES, USUAL_RESPONSES, USUAL_SEED, interval_of, moves_of, seed_of};
+use crate::plans::{Command, Plan};
+use cg_model::Request;
+use std::alloc::{AllocError, Global};
+
+/// `map ARCH KERNEL OUT [--ii N] [--seed N] [--moves N] [--mapping FILE]`.
+pub(crate) fn map_plan(alloc: Global, said: &Arguments) -> Result<Option<Plan>, AllocError>
+    ensures plan { IfOk result
+        (λ p. option_map spec.planned p ≡ spec.map_plan (spec.heard said.now)) }
+    ensures shape { IfOk result (λ p. IfSome p
+        (λ plan. HasShape plan.command (vec_len plan.inputs) (vec_len plan.outputs))) }
+{
+    match request_of(alloc, USUAL_MOVES, said.options.as_slice())? {
+        Some(request) => searching_plan(alloc, Command::Map(request), said),
+        None => Ok(None),
+    }
+}
+
+/// `search ARCH KERNEL OUT [--ii N] [--seed N] [--moves N] [--mapping FILE]`.
+pub(crate) fn search_plan(alloc: Global, said: &Arguments) -> Result<Option<Plan>, AllocError>
+    ensures plan { IfOk result
+        (λ p. option_map spec.planned p ≡ spec.search_plan (spec.heard said.now)) }
+    ensures shape { IfOk result (λ p. IfSome p
+        (λ plan. HasShape plan.command (vec_len plan.inputs) (vec_len plan.outputs))) }
+{
+    match request_of(alloc, USUAL_RESPONSES, said.options.as_slice())? {
+        Some(request) => searching_plan(alloc, Command::Search(request), said),
+        None => Ok(None),
+    }
+}
+
+/// The plan of a command that searches, with what is said of its files.
+fn searching_plan(
+    alloc: Global,
+    command: Command,
+    said: &Arguments,
+) -> Result<Option<Plan>, AllocError>
+    requires one { HasShape command 2 1 }
+    requires two { HasShape command 2 2 }
+    ensures plan { IfOk result
+        (λ p. option_map spec.planned p ≡ spec.searching_plan command (spec.heard said.now)) }
+    ensures shape { IfOk result (λ p. IfSome p
+        (λ plan. HasShape plan.command (vec_len plan.inputs) (vec_len plan.outputs))) }
+{
+    let files = values_said(alloc, said.options.as_slice(), "mapping")?;
+    plan_with_files(alloc, said.words.as_slice(), command, files.as_slice())
+}
+
+/// The same, with the files that are named for the mapping.
+fn plan_with_files(
+    alloc: Global,
+    words: &[&str],
+    command: Command,
+    files: &[&str],
+) -> Result<Option<Plan>, AllocError>
+    requires one { HasShape command 2 1 }
+    requires two { HasShape command 2 2 }
+    ensures plan { IfOk result
+        (λ p. option_map spec.planned p ≡ option_and_then (spec.written_plan (map (λ word. word.now) words.now) command)
+        (said_once [] spec.named_file (map (λ file. file.now) files.now))) }
+    ensures shape { IfOk result (λ p. IfSome p
+        (λ plan. HasShape plan.command (vec_len plan.inputs) (vec_len plan.outputs))) }
+{
+    match files {
+        [] => written_plan(alloc, words, command),
+        [file] => plan_with_mapping(alloc, words, command, file),
+        _ => Ok(None),
+    }
+}
+
+/// The plan of a search that writes the bits.
+fn written_plan(alloc: Global, words: &[&str], command: Command) -> Result<Option<Plan>, AllocError>
+    requires { HasShape command 2 1 }
+    ensures plan { IfOk result
+        (λ p. option_map spec.planned p ≡ spec.written_plan (map (λ word. word.now) words.now) command []) }
+    ensures shape { IfOk result (λ p. IfSome p
+        (λ plan. HasShape plan.command (vec_len plan.inputs) (vec_len plan.outputs))) }
+{
+    match words {
+        [arch, kernel, out] => Ok(Some(Plan {
+            command,
+            inputs: vec![in alloc;
+                String::from_str(alloc, arch)?,
+                String::from_str(alloc, kernel)?,
+            ]?,
+            outputs: vec![in alloc; String::from_str(alloc, out)?]?,
+        })),
+        _ => Ok(None),
+    }
+}
+
+/// The plan of a search that writes the bits and the mapping.
+fn plan_with_mapping(
+    alloc: Global,
+    words: &[&str],
+    command: Command,
+    mapping: &str,
+) -> Result<Option<Plan>, AllocError>
+    requires { HasShape command 2 2 }
+    ensures plan { IfOk result
+        (λ p. option_map spec.planned p ≡ spec.written_plan (map (λ word. word.now) words.now) command (mapping.now ∷ [])) }
+    ensures shape { IfOk result (λ p. IfSome p
+        (λ plan. HasShape plan.command (vec_len plan.inputs) (vec_len plan.outputs))) }
+{
+    match words {
+        [arch, kernel, out] => Ok(Some(Plan {
+            command,
+            inputs: vec![in alloc;
+                String::from_str(alloc, arch)?,
+                String::from_str(alloc, kernel)?,
+            ]?,
+            outputs: vec![in alloc;
+                String::from_str(alloc, out)?,
+                String::from_str(alloc, mapping)?,
+            ]?,
+        })),
+        _ => Ok(None),
+    }
+}
+
+/// What the options of a search say, with so many moves where none are given.
+fn request_of(alloc: Global, usual: u32, options: &[Given]) -> Result<Option<Request>, AllocError>
+    requires { usual ≤ most_moves }
+    ensures value { IfOk result (λ s. s ≡ spec.request_of usual (map heard_option options.now)) }
+    ensures range { IfOk result (λ s. IfSome s IsInRange) }
+{
+    let Some(ii) = interval_said(values_said(alloc, options, "ii")?.as_slice()) else {
+        return Ok(None);
+    };
+    let Some(seed) = seed_said(values_said(alloc, options, "seed")?.as_slice()) else {
+        return Ok(None);
+    };
+    let Some(moves) = moves_said(usual, values_said(alloc, options, "moves")?.as_slice()) else {
+        return Ok(None);
+    };
+    Ok(Some(Request { ii, seed, moves }))
+}
+
+/// The values of an option, in order.
+fn values_said<'a>(
+    alloc: Global,
+    options: &[Given<'a>],
+    name: &str,
+) -> Result<Vec<&'a str>, AllocError>
+    ensures { IfOk result (λ v. map (λ value. value.now) v.items
+        ≡ spec.values_said name.now (map heard_option options.now)) }
+{
+    let mut values = Vec::new(alloc);
+    for option in options {
+        if option.name == name {
+            values.push(option.value)?;
+        }
+    }
+    Ok(values)
+}
+
+/// The interval that is asked, if one is; None where the values can't be read.
+fn interval_said(values: &[&str]) -> Option<Option<u32>>
+    ensures value { result ≡ said_once None spec.asked_interval (map (λ value. value.now) values.now) }
+    ensures some { IfSome result (λ ii. IfSome ii (λ n. 1 ≤ n)) }
+{
+    match values {
+        [] => Some(None),
+        [value] => match interval_of(value) {
+            Some(ii) => Some(Some(ii)),
+            None => None,
+        },
+        _ => None,
+    }
+}
+
+/// The seed; None where the values can't be read.
+fn seed_said(values: &[&str]) -> Option<u64>
+    ensures { result ≡ said_once spec.usual_seed spec.seed_of (map (λ value. value.now) values.now) }
+{
+    match values {
+        [] => Some(USUAL_SEED),
+        [value] => seed_of(value),
+        _ => None,
+    }
+}
+
+/// The most moves at an interval; None where the values can't be read.
+fn moves_said(usual: u32, values: &[&str]) -> Option<u32>
+    requires { usual ≤ most_moves }
+    ensures value { result ≡ said_once usual spec.moves_of (map (λ value. value.now) values.now) }
+    ensures few { IfSome result (λ moves. moves ≤ most_moves) }
+{
+    match values {
+        [] => Some(usual),
+        [value] => moves_of(value),
+        _ => None,
+    }
+}

@@ -1,0 +1,24 @@
+-- Refusals of files.
+use Rattle.std.proofs.Common.{◌≡◌, [], Result, Ok, Err, refl}
+use Rattle.cg_ending.specs.declared.outcome.Status.TheVariants.{Malformed}
+use Rattle.cg_ending.specs.Outcome.{Outcome}
+use Rattle.cg_inputs.proofs.Sound.{IsSound}
+
+-- a refusal of a file
+pub record IsRefusal (o : Outcome) : Type 0 where
+  pub status : o.status ≡ Malformed
+  pub quiet : o.writes ≡ []
+
+-- it is an outcome of a command
+pub sound_refusal : (o : Outcome) → IsRefusal o → IsSound o
+sound_refusal o r = record { own = rw r.status refl; quiet = λ h. r.quiet }
+
+-- what isn't given is refused
+abbrev pub AreRefused : {X : Type 0} → Result X Outcome → Type 0
+AreRefused (Ok x) = Unit {0}
+AreRefused (Err o) = IsRefusal o
+
+-- two give the same, or are refused alike
+pub data IsAlike {X : Type 0} (a b : Result X Outcome) : Type 0 where
+  equal : a ≡ b → IsAlike a b
+  refusals : (o p : Outcome) → a ≡ Err o → b ≡ Err p → IsAlike a b

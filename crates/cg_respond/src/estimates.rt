@@ -1,0 +1,335 @@
+//! What it is to cost to put a node somewhere, before any route is tried.
+
+use crate::windows::Window;
+use cg_model::{OrderEdge, Place};
+use cg_respond_state::{
+    DataEdge, Host, Places, Problem, Routes, State, count, is_before, number_at, raise,
+};
+use std::alloc::{AllocError, Global};
+
+/// What a cycle costs by which a value comes too late.
+const LATE: u32 = 2;
+
+/// The part of eight that each route counts which may share its beginning with a dearer one.
+const SHARE: u32 = 4;
+
+/// What the routes to several consumers cost, which may share their beginnings.
+#[derive(Clone, Copy, Drop)]
+struct Fan {
+    sum: u32,
+    most: u32,
+}
+
+/// The costs of a node's candidates: a row of times for each unit that offers its operation.
+#[derive(Drop)]
+pub(crate) struct Estimates {
+    /// The times of each row.
+    pub(crate) window: Window,
+    width: usize,
+    costs: Vec<u32>,
+    fans: Vec<Fan>,
+}
+
+/// A data edge of the node, seen from its other end.
+#[derive(Clone, Copy, Drop)]
+struct Link {
+    /// The time at the other end: when the value leaves there, or is to be there.
+    time: u32,
+    /// The last layer that was searched, in cycles from there.
+    last: u32,
+    /// What it costs to have no route.
+    penalty: u32,
+}
+
+impl Estimates {
+    /// The costs of standing on each unit at each time.
+    pub(crate) fn of_places(
+        alloc: Global,
+        problem: &Problem,
+        places: &Places,
+        node: u32,
+        window: Window,
+    ) -> Result<Estimates, AllocError> {
+        let width = window.width() as usize;
+        let offers = problem.offers.of(node);
+        let entries = offers.len().saturating_mul(width);
+        let mut costs = Vec::with_capacity(alloc, entries)?;
+        for unit in offers {
+            add_prices(&mut costs, places, *unit, window)?;
+        }
+        Ok(Estimates {
+            window,
+            width,
+            costs,
+            fans: vec![in alloc; Fan { sum: 0, most: 0 }; entries]?,
+        })
+    }
+
+    /// The cost of a unit, by its place among those that offer the operation, at a time, by its place in the window.
+    pub(crate) fn cost(&self, row: u32, column: u32) -> u32 {
+        number_at(self.costs.as_slice(), self.entry(row, column))
+    }
+
+    /// The number of a candidate.
+    fn entry(&self, row: u32, column: u32) -> usize {
+        (row as usize)
+            .saturating_mul(self.width)
+            .saturating_add(column as usize)
+    }
+
+    /// Makes a candidate dearer.
+    fn add(&mut self, row: u32, column: u32, cost: u32) {
+        let entry = self.entry(row, column);
+        raise(&mut self.costs, entry, cost);
+    }
+
+    /// Adds a route to a consumer.
+    fn add_to_fan(&mut self, row: u32, column: u32, cost: u32) {
+        let entry = self.entry(row, column);
+        if let Some(fan) = self.fans.get_mut(entry) {
+            fan.sum = fan.sum.saturating_add(cost);
+            fan.most = fan.most.max(cost);
+        }
+    }
+
+    /// Adds the route of an edge into the node, to a port of a unit.
+    fn add_in(&mut self, routes: &Routes, link: Link, row: u32, port: u32, turns: u32) {
+        for column in 0..self.window.width() {
+            let begin = self
+                .window
+                .first
+                .saturating_add(column)
+                .saturating_add(turns);
+            let layer = begin.saturating_sub(link.time);
+            let cost = if begin < link.time {
+                too_late(link.penalty, link.time - begin)
+            } else if layer > link.last {
+                link.penalty
+            } else {
+                routes.price(layer, port).min(link.penalty)
+            };
+            self.add(row, column, cost);
+        }
+    }
+
+    /// Adds the route of an edge out of the node, from the out of a unit.
+    fn add_out(&mut self, routes: &Routes, link: Link, row: u32, host: Host) {
+        for column in 0..self.window.width() {
+            let begin = self.window.first.saturating_add(column);
+            let leaves = begin.saturating_add(host.latency);
+            let layer = link.time.saturating_sub(leaves);
+            if link.time < leaves {
+                self.add(row, column, too_late(link.penalty, leaves - link.time));
+            } else if layer > link.last {
+                self.add(row, column, link.penalty);
+            } else {
+                let price = routes.price(layer, host.out);
+                self.add_route_out(row, column, price, link.penalty);
+            }
+        }
+    }
+
+    /// Adds a route to a consumer by its price, or what it costs to have none.
+    fn add_route_out(&mut self, row: u32, column: u32, price: u32, penalty: u32) {
+        if price >= penalty {
+            self.add(row, column, penalty);
+        } else {
+            self.add_to_fan(row, column, price);
+        }
+    }
+
+    /// Adds the routes to consumers: the dearest in full, of the others a part.
+    pub(crate) fn add_fans(&mut self) {
+        for entry in 0..self.costs.len() {
+            self.add_fan(entry);
+        }
+    }
+
+    /// Adds the routes of a candidate to consumers.
+    fn add_fan(&mut self, entry: usize) {
+        if let Some(fan) = self.fans.get(entry).copied() {
+            let others = fan.sum.saturating_sub(fan.most).saturating_mul(SHARE) / 8;
+            raise(&mut self.costs, entry, fan.most.saturating_add(others));
+        }
+    }
+
+    /// Makes a time dearer on each of so many units.
+    fn add_column(&mut self, rows: u32, column: u32, cost: u32) {
+        for row in 0..rows {
+            self.add(row, column, cost);
+        }
+    }
+}
+
+/// Adds what a unit costs at each time.
+fn add_prices(
+    costs: &mut Vec<u32>,
+    places: &Places,
+    unit: u32,
+    window: Window,
+) -> Result<(), AllocError> {
+    for column in 0..window.width() {
+        let time = window.first.saturating_add(column);
+        costs.push(places.price(Place { unit, time }))?;
+    }
+    Ok(())
+}
+
+/// What a value costs that comes so many cycles too late.
+fn too_late(penalty: u32, cycles: u32) -> u32 {
+    penalty.saturating_add(cycles.saturating_mul(LATE))
+}
+
+/// The costs of all candidates of a node that is lifted.
+pub(crate) fn estimate(
+    alloc: Global,
+    problem: &Problem,
+    state: &mut State,
+    node: u32,
+    window: Window,
+) -> Result<Estimates, AllocError> {
+    let mut estimates = Estimates::of_places(alloc, problem, &state.places, node, window)?;
+    for edge in problem.ins.of(node) {
+        estimate_in(problem, state, &mut estimates, node, *edge)?;
+    }
+    for edge in problem.outs.of(node) {
+        estimate_out(problem, state, &mut estimates, node, *edge)?;
+    }
+    estimates.add_fans();
+    for tie in problem.ties.of(node) {
+        estimate_tie(problem, state, &mut estimates, node, *tie);
+    }
+    Ok(estimates)
+}
+
+/// Adds the routes of an edge into a node, where its source is placed.
+fn estimate_in(
+    problem: &Problem,
+    state: &mut State,
+    estimates: &mut Estimates,
+    node: u32,
+    edge: u32,
+) -> Result<(), AllocError> {
+    if let Some(facts) = problem.edge(edge) {
+        if let Some(place) = state.places.at(facts.source) {
+            if let Some(host) = problem.host(place.unit) {
+                let start = place.time.saturating_add(host.latency);
+                return estimate_from(
+                    problem, state, estimates, node, edge, facts, host.out, start,
+                );
+            }
+        }
+    }
+    Ok(())
+}
+
+/// Adds the routes of an edge whose value leaves an out at a time.
+fn estimate_from(
+    problem: &Problem,
+    state: &mut State,
+    estimates: &mut Estimates,
+    node: u32,
+    edge: u32,
+    facts: DataEdge,
+    out: u32,
+    start: u32,
+) -> Result<(), AllocError> {
+    let turns = problem.turns(facts.distance);
+    let end = estimates.window.last.saturating_add(turns);
+    let last = end.saturating_sub(start).min(problem.reach());
+    if end >= start {
+        state
+            .routes
+            .forward(problem, facts.source, out, start, last, None)?;
+    }
+    let link = Link {
+        time: start,
+        last,
+        penalty: state.routes.penalty(edge),
+    };
+    let mut row: u32 = 0;
+    for unit in problem.offers.of(node) {
+        if let Some(host) = problem.host(*unit) {
+            estimates.add_in(&state.routes, link, row, host.port(facts.arg), turns);
+        }
+        row = row.saturating_add(1);
+    }
+    Ok(())
+}
+
+/// Adds the routes of an edge out of a node, where its target is placed.
+fn estimate_out(
+    problem: &Problem,
+    state: &mut State,
+    estimates: &mut Estimates,
+    node: u32,
+    edge: u32,
+) -> Result<(), AllocError> {
+    if let Some(facts) = problem.edge(edge) {
+        if let Some(place) = state.places.at(facts.target) {
+            if let Some(host) = problem.host(place.unit) {
+                let end = place.time.saturating_add(problem.turns(facts.distance));
+                let port = host.port(facts.arg);
+                return estimate_to(problem, state, estimates, node, edge, port, end);
+            }
+        }
+    }
+    Ok(())
+}
+
+/// Adds the routes of an edge whose value is to be on a port at a time.
+fn estimate_to(
+    problem: &Problem,
+    state: &mut State,
+    estimates: &mut Estimates,
+    node: u32,
+    edge: u32,
+    port: u32,
+    end: u32,
+) -> Result<(), AllocError> {
+    let leaves = estimates
+        .window
+        .first
+        .saturating_add(problem.least_latency(node));
+    let last = end.saturating_sub(leaves).min(problem.reach());
+    if end >= leaves {
+        state.routes.backward(problem, port, end, last)?;
+    }
+    let link = Link {
+        time: end,
+        last,
+        penalty: state.routes.penalty(edge),
+    };
+    let mut row: u32 = 0;
+    for unit in problem.offers.of(node) {
+        if let Some(host) = problem.host(*unit) {
+            estimates.add_out(&state.routes, link, row, host);
+        }
+        row = row.saturating_add(1);
+    }
+    Ok(())
+}
+
+/// Adds what an order edge costs where it is violated.
+fn estimate_tie(problem: &Problem, state: &State, estimates: &mut Estimates, node: u32, tie: u32) {
+    let rows = count(problem.offers.of(node));
+    let penalty = state.tie_penalty(tie);
+    if let Some(edge) = problem.order.get(tie as usize).copied() {
+        for column in 0..estimates.window.width() {
+            let time = estimates.window.first.saturating_add(column);
+            if breaks(problem, &state.places, edge, node, time) {
+                estimates.add_column(rows, column, penalty);
+            }
+        }
+    }
+}
+
+/// Whether an order edge is violated where one of its nodes, which is lifted, begins at a time.
+fn breaks(problem: &Problem, places: &Places, edge: OrderEdge, node: u32, time: u32) -> bool {
+    let turns = problem.turns(edge.distance);
+    match (places.at(edge.from), places.at(edge.to)) {
+        (Some(before), None) => edge.to == node && is_before(time, turns, before.time),
+        (None, Some(after)) => edge.from == node && is_before(after.time, turns, time),
+        _ => false,
+    }
+}

@@ -1,0 +1,111 @@
+//! The mapping that a state stands for.
+ghost use Rattle.std.specs.Prelude.{◌≡◌, ◌<◌, ◌++◌, ◌∷◌, [], ◌^◌, IfOk, OnOk, length, map};
+ghost use Rattle.cg_model.specs.Kernel.{size};
+ghost use Rattle.cg_model.specs.Mapping.{IsShaped, end_of, ends_of, ends_from};
+
+use cg_kernel::Kernel;
+use cg_mapping::Mapping;
+use cg_model::{Items, Operand, Place, Route, Words};
+use cg_respond_state::{Places, Routes, State, count};
+use std::alloc::{AllocError, Global};
+
+/// The mapping of a state at an interval: times from the least one on, and an empty path for an edge without a route.
+pub(crate) fn mapping(
+    alloc: Global,
+    kernel: &Kernel,
+    ii: u32,
+    state: &State,
+) -> Result<Mapping, AllocError>
+    ensures ii { IfOk result (λ m. m.ii ≡ ii) }
+    ensures shape { IfOk result (IsShaped kernel.now) }
+{
+    let places = places_of(alloc, kernel, &state.places)?;
+    let routes = routes_of(alloc, kernel, &state.routes)?;
+    Ok(Mapping::new(ii, places, routes))
+}
+
+/// Where each node stands, with times from the least one on.
+fn places_of(alloc: Global, kernel: &Kernel, standing: &Places) -> Result<Vec<Place>, AllocError>
+    ensures { IfOk result (λ v. length v.items ≡ size kernel.now) }
+{
+    let least = standing.least_time();
+    let mut places = Vec::new(alloc);
+    for node in 0..kernel.nodes().len() {
+        places.push(place_from(standing.at(node as u32), least))?;
+    }
+    Ok(places)
+}
+
+/// A place with its time from another one on.
+fn place_from(place: Option<Place>, least: u32) -> Place {
+    match place {
+        Some(place) => Place {
+            unit: place.unit,
+            time: place.time.saturating_sub(least),
+        },
+        None => Place { unit: 0, time: 0 },
+    }
+}
+
+/// The route of each edge operand.
+fn routes_of(alloc: Global, kernel: &Kernel, standing: &Routes) -> Result<Vec<Route>, AllocError>
+    ensures { IfOk result (λ v. map end_of v.items ≡ ends_from 0 kernel.now.nodes) }
+{
+    let nodes = kernel.nodes();
+    let mut routes = Vec::new(alloc);
+    for node in 0..nodes.len() {
+        let operands = nodes[node].operands.as_slice();
+        add_routes(alloc, &mut routes, node as u32, operands, standing)?;
+    }
+    Ok(routes)
+}
+
+/// Adds the routes to a node's operands.
+fn add_routes(
+    alloc: Global,
+    routes: &mut Vec<Route>,
+    node: u32,
+    operands: &[Operand],
+    standing: &Routes,
+) -> Result<(), AllocError>
+    requires { length operands.now < 2 ^ 32 }
+    ensures { OnOk result (map end_of routes.new.items ≡ map end_of routes.old.items ++ ends_of node 0 operands.now) }
+{
+    for arg in 0..operands.len() {
+        add_route(alloc, routes, node, arg as u32, &operands[arg], standing)?;
+    }
+    Ok(())
+}
+
+/// Adds the route to an operand that is an edge. Edges go by number as their routes do.
+fn add_route(
+    alloc: Global,
+    routes: &mut Vec<Route>,
+    node: u32,
+    arg: u32,
+    operand: &Operand,
+    standing: &Routes,
+) -> Result<(), AllocError>
+    ensures { OnOk result (map end_of routes.new.items ≡ map end_of routes.old.items ++ ends_of node arg (operand.now ∷ [])) }
+{
+    match operand {
+        Operand::Const(_) => Ok(()),
+        Operand::Edge { .. } => {
+            let edge = count(routes.as_slice());
+            let path = path_of(alloc, standing, edge)?;
+            routes.push(Route { node, arg, path })?;
+            Ok(())
+        }
+    }
+}
+
+/// The resources on the route of an edge.
+fn path_of(alloc: Global, standing: &Routes, edge: u32) -> Result<Words, AllocError> {
+    let mut path = Vec::new(alloc);
+    if let Some(route) = standing.route(edge) {
+        for stand in route {
+            path.push(stand.resource)?;
+        }
+    }
+    Ok(Items::new(path))
+}

@@ -1,0 +1,157 @@
+//! When a node may begin, by the nodes that are placed.
+
+use cg_respond_state::{Places, Problem};
+
+/// How many cycles more than one route may take a node may begin after the first one that its sources allow, where its
+/// consumers are placed too.
+const SLACK: u32 = 8;
+
+/// Times one after another.
+#[derive(Clone, Copy, Drop)]
+pub(crate) struct Window {
+    /// The first one.
+    pub(crate) first: u32,
+    /// The last one.
+    pub(crate) last: u32,
+}
+
+impl Window {
+    /// How many there are, at least one.
+    pub(crate) fn width(&self) -> u32 {
+        self.last.saturating_sub(self.first).saturating_add(1)
+    }
+}
+
+/// The times at which a node that is lifted is tried.
+pub(crate) fn window_of(problem: &Problem, places: &Places, node: u32) -> Window {
+    let earliest = later(
+        earliest_by_edges(problem, places, node),
+        earliest_by_ties(problem, places, node),
+    );
+    let latest = sooner(
+        latest_by_edges(problem, places, node),
+        latest_by_ties(problem, places, node),
+    );
+    between(problem, node, earliest, latest)
+}
+
+/// The times by the earliest and the latest one.
+fn between(problem: &Problem, node: u32, earliest: Option<u32>, latest: Option<u32>) -> Window {
+    let span = problem.ii.saturating_add(problem.wiring.diameter());
+    match (earliest, latest) {
+        (None, None) => {
+            let first = problem.earliest(node);
+            times(first, first.saturating_add(problem.ii).saturating_sub(1))
+        }
+        (Some(first), None) => times(first, first.saturating_add(span)),
+        (None, Some(last)) => times(last.saturating_sub(span), last),
+        (Some(first), Some(last)) => within(first, last, span.saturating_add(SLACK)),
+    }
+}
+
+/// The times about an earliest and a latest one, which may be in the wrong order.
+fn within(first: u32, last: u32, span: u32) -> Window {
+    if first <= last {
+        let after = last.saturating_add(1);
+        return times(
+            first.saturating_sub(1),
+            after.min(first.saturating_add(span)),
+        );
+    }
+    times(last.saturating_sub(1), first.saturating_add(1))
+}
+
+/// The times from a first to a last one.
+fn times(first: u32, last: u32) -> Window {
+    Window { first, last }
+}
+
+/// The later of two times, where there are both.
+fn later(one: Option<u32>, other: Option<u32>) -> Option<u32> {
+    match (one, other) {
+        (Some(one), Some(other)) => Some(one.max(other)),
+        (None, other) => other,
+        (one, None) => one,
+    }
+}
+
+/// The sooner of two times, where there are both.
+fn sooner(one: Option<u32>, other: Option<u32>) -> Option<u32> {
+    match (one, other) {
+        (Some(one), Some(other)) => Some(one.min(other)),
+        (None, other) => other,
+        (one, None) => one,
+    }
+}
+
+/// When the last value of the sources that are placed is there.
+fn earliest_by_edges(problem: &Problem, places: &Places, node: u32) -> Option<u32> {
+    let mut earliest = None;
+    for edge in problem.ins.of(node) {
+        earliest = later(earliest, bound_by_source(problem, places, *edge));
+    }
+    earliest
+}
+
+/// When the value of an edge's source leaves its unit, in the turn of the target.
+fn bound_by_source(problem: &Problem, places: &Places, edge: u32) -> Option<u32> {
+    let facts = problem.edge(edge)?;
+    let leaves = problem.leaves(places, facts)?;
+    Some(leaves.saturating_sub(problem.turns(facts.distance)))
+}
+
+/// When a node is to begin at the latest, so that its value is there in time for the consumers that are placed.
+fn latest_by_edges(problem: &Problem, places: &Places, node: u32) -> Option<u32> {
+    let mut latest = None;
+    for edge in problem.outs.of(node) {
+        latest = sooner(latest, bound_by_target(problem, places, *edge, node));
+    }
+    latest
+}
+
+/// When the source of an edge is to begin for its target.
+fn bound_by_target(problem: &Problem, places: &Places, edge: u32, node: u32) -> Option<u32> {
+    let facts = problem.edge(edge)?;
+    let arrives = problem.arrives(places, facts)?;
+    Some(arrives.saturating_sub(problem.least_latency(node)))
+}
+
+/// When the nodes that come before a node have begun.
+fn earliest_by_ties(problem: &Problem, places: &Places, node: u32) -> Option<u32> {
+    let mut earliest = None;
+    for tie in problem.ties.of(node) {
+        earliest = later(earliest, bound_before(problem, places, *tie, node));
+    }
+    earliest
+}
+
+/// When the target of an order edge may begin.
+fn bound_before(problem: &Problem, places: &Places, tie: u32, node: u32) -> Option<u32> {
+    let edge = problem.order.get(tie as usize)?;
+    if edge.to != node {
+        return None;
+    }
+    let place = places.at(edge.from)?;
+    let after = place.time.saturating_add(1);
+    Some(after.saturating_sub(problem.turns(edge.distance)))
+}
+
+/// When a node is to begin at the latest for the nodes that come after it.
+fn latest_by_ties(problem: &Problem, places: &Places, node: u32) -> Option<u32> {
+    let mut latest = None;
+    for tie in problem.ties.of(node) {
+        latest = sooner(latest, bound_after(problem, places, *tie, node));
+    }
+    latest
+}
+
+/// When the source of an order edge is to begin.
+fn bound_after(problem: &Problem, places: &Places, tie: u32, node: u32) -> Option<u32> {
+    let edge = problem.order.get(tie as usize)?;
+    if edge.from != node {
+        return None;
+    }
+    let place = places.at(edge.to)?;
+    let end = place.time.saturating_add(problem.turns(edge.distance));
+    Some(end.saturating_sub(1))
+}

@@ -1,0 +1,12 @@
+//! Least prices of routes in layers of time, forward from where a value begins and backward from where it is read.
+#![tactic(auto)]
+
+mod backward;
+mod buffers;
+mod forward;
+mod stand;
+mod steps;
+
+pub use buffers::{Layers, UNREACHED};
+pub use cg_respond_prices::{Occupancy, Wiring};
+pub use stand::Stand;

@@ -1,0 +1,14 @@
+//! An architecture as a search for routes reads it, and what its resources cost in each slot.
+#![tactic(auto)]
+
+mod array;
+mod flow;
+mod hops;
+mod pricing;
+mod rows;
+mod spot;
+
+pub use array::Wiring;
+pub use cg_arch::Arch;
+pub use hops::NO_WAY;
+pub use pricing::Occupancy;

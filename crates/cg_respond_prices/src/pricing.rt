@@ -1,0 +1,161 @@
+//! Who stands where in which slot, and what it costs to stand there too.
+ghost use Rattle.std.specs.Prelude.{◌<◌};
+
+use crate::array::Wiring;
+use crate::spot::Spot;
+use std::alloc::{AllocError, Global};
+
+/// Who stands where in which slot, and what it costs to stand there too: first 4 for a register and 1 for another
+/// resource, to which all excess so far is added, and that once and thrice more for each claim. It takes some 40 bytes
+/// for each resource and slot, and 12 for each claim.
+#[derive(Drop)]
+pub struct Occupancy {
+    spots: Vec<Spot>,
+    prices: Vec<u32>,
+    resources: u32,
+    interval: u32,
+    ghost some: { 0 < interval },
+}
+
+impl Occupancy {
+    /// No claims, at an interval.
+    pub fn new(alloc: Global, wiring: &Wiring, ii: u32) -> Result<Occupancy, AllocError>
+        requires { 0 < ii }
+    {
+        let mut occupancy = Occupancy {
+            spots: Vec::new(alloc),
+            prices: Vec::new(alloc),
+            resources: wiring.resources() as u32,
+            interval: ii,
+        };
+        for _ in 0..ii {
+            occupancy.push_slot(alloc, wiring)?;
+        }
+        Ok(occupancy)
+    }
+
+    /// The interval, in cycles.
+    #[inline]
+    pub fn interval(&self) -> u32
+        ensures { 0 < result }
+    {
+        self.interval
+    }
+
+    /// The value of a source stands on a resource at a time, once more. After an error all is as before.
+    pub fn claim(&mut self, source: u32, resource: u32, time: u32) -> Result<(), AllocError> {
+        let place = self.place(resource, time);
+        if let Some(spot) = self.spots.get_mut(place) {
+            spot.claim(source, time)?;
+            self.reprice(place);
+        }
+        Ok(())
+    }
+
+    /// It stands there once less; nothing where there is no such claim.
+    pub fn release(&mut self, source: u32, resource: u32, time: u32) {
+        let place = self.place(resource, time);
+        if let Some(spot) = self.spots.get_mut(place) {
+            spot.release(source, time);
+            self.reprice(place);
+        }
+    }
+
+    /// What a claim more costs on each resource in a slot; empty past the last slot.
+    #[inline]
+    pub fn prices(&self, slot: u32) -> &[u32] {
+        let start = slot as usize * self.resources as usize;
+        match self.prices.get(start..start + self.resources as usize) {
+            Some(prices) => prices,
+            None => &[],
+        }
+    }
+
+    /// Whether more than one claim stands on a resource in the slot of a time.
+    #[inline]
+    pub fn is_shared(&self, resource: u32, time: u32) -> bool {
+        match self.spots.get(self.place(resource, time)) {
+            Some(spot) => spot.excess() > 0,
+            None => false,
+        }
+    }
+
+    /// The claims above one, over all resources and slots.
+    pub fn excess(&self) -> u32 {
+        let mut excess = 0u32;
+        for spot in &self.spots {
+            excess = excess.saturating_add(spot.excess());
+        }
+        excess
+    }
+
+    /// Adds the excess of each resource in each slot to its history, so that it is dearer from now on.
+    pub fn age(&mut self) {
+        for place in 0..self.spots.len() {
+            self.age_at(place);
+        }
+    }
+
+    /// Takes all claims and histories away.
+    pub fn clear(&mut self) {
+        for place in 0..self.spots.len() {
+            self.clear_at(place);
+        }
+    }
+
+    /// The number of a resource in the slot of a time; that of none past the last resource.
+    #[inline]
+    fn place(&self, resource: u32, time: u32) -> usize {
+        if resource < self.resources {
+            let slot = time % self.interval;
+            slot as usize * self.resources as usize + resource as usize
+        } else {
+            self.spots.len()
+        }
+    }
+
+    /// Adds a slot.
+    fn push_slot(&mut self, alloc: Global, wiring: &Wiring) -> Result<(), AllocError> {
+        for resource in 0..self.resources {
+            let spot = Spot::new(alloc, wiring.is_register(resource));
+            self.prices.push(spot.price())?;
+            self.spots.push(spot)?;
+        }
+        Ok(())
+    }
+
+    /// Writes the price of a place down.
+    #[inline]
+    fn reprice(&mut self, place: usize) {
+        if let Some(spot) = self.spots.get(place) {
+            let price = spot.price();
+            set(&mut self.prices, place, price);
+        }
+    }
+
+    /// Ages a place.
+    fn age_at(&mut self, place: usize) {
+        if let Some(spot) = self.spots.get_mut(place) {
+            if spot.excess() > 0 {
+                spot.age();
+                self.reprice(place);
+            }
+        }
+    }
+
+    /// Takes all claims and the history of a place away.
+    fn clear_at(&mut self, place: usize) {
+        if let Some(spot) = self.spots.get_mut(place) {
+            spot.clear();
+            self.reprice(place);
+        }
+    }
+}
+
+/// Writes a number at a place, if there is one.
+#[inline]
+fn set(numbers: &mut [u32], place: usize, number: u32) {
+    if let Some(old) = numbers.get_mut(place) {
+        *old = number;
+    }
+}

@@ -1,0 +1,232 @@
+//! What is to be mapped: the kernel as lists of edges, and the array as the search reads it.
+ghost use Rattle.std.specs.Prelude.{◌≡◌, IfOk};
+
+use crate::hosts::{Host, hosts, offers};
+use crate::late::latest;
+use crate::lists::{Lists, count, number_at};
+use crate::places::Places;
+use cg_arch::Arch;
+use cg_edges::latency;
+use cg_kernel::Kernel;
+use cg_model::{Node, Operand, OrderEdge};
+use cg_respond_prices::Wiring;
+use std::alloc::{AllocError, Global};
+
+/// Intervals from time 0 to the origin, from which the times of an opening count: so many may a node go back.
+const ORIGIN: u32 = 1 << 20;
+
+/// A data edge: a value of `source` is operand number `arg` of `target`, `distance` turns later.
+#[derive(Clone, Copy, Drop)]
+pub struct DataEdge {
+    /// The node whose value it is.
+    pub source: u32,
+    /// The node that takes it.
+    pub target: u32,
+    /// The number of the operand.
+    pub arg: u32,
+    /// How many turns later.
+    pub distance: u32,
+}
+
+/// A kernel on an array at an interval of `ii` cycles. Nodes, edges, order edges and units go by number.
+#[derive(Drop)]
+pub struct Problem {
+    /// The interval in cycles.
+    pub ii: u32,
+    /// The number of nodes.
+    pub nodes: u32,
+    /// The data edges, by node and operand.
+    pub edges: Vec<DataEdge>,
+    /// The data edges into each node.
+    pub ins: Lists,
+    /// Those out of each node.
+    pub outs: Lists,
+    /// The order edges.
+    pub order: Vec<OrderEdge>,
+    /// The order edges that begin or end in each node.
+    pub ties: Lists,
+    /// The units that offer each node's operation.
+    pub offers: Lists,
+    /// The units.
+    pub hosts: Vec<Host>,
+    /// The least latency of each node's operation.
+    pub quickest: Vec<u32>,
+    /// The earliest time of each node.
+    pub early: Vec<u32>,
+    /// The latest time of each node at which none is later than the last of the earliest times.
+    pub late: Vec<u32>,
+    /// The array's resources.
+    pub wiring: Wiring,
+}
+
+impl Problem {
+    /// A kernel on an array at an interval, where its nodes have these earliest times.
+    pub fn new(
+        alloc: Global,
+        arch: &Arch,
+        kernel: &Kernel,
+        ii: u32,
+        early: Vec<u32>,
+    ) -> Result<Problem, AllocError>
+        ensures { IfOk result (λ p. p.ii ≡ ii) }
+    {
+        let edges = data_edges(alloc, kernel)?;
+        let nodes = count(kernel.nodes());
+        let ins = ends_by(alloc, nodes, &edges, End::Target)?;
+        let outs = ends_by(alloc, nodes, &edges, End::Source)?;
+        let order = Vec::from_slice(alloc, kernel.order())?;
+        let ties = ties(alloc, nodes, &order)?;
+        let quickest = quickest(alloc, arch, kernel)?;
+        let late = latest(alloc, ii, &edges, &order, &quickest, &early)?;
+        Ok(Problem {
+            ii,
+            nodes,
+            edges,
+            ins,
+            outs,
+            order,
+            ties,
+            offers: offers(alloc, arch, kernel)?,
+            hosts: hosts(alloc, arch)?,
+            quickest,
+            early,
+            late,
+            wiring: Wiring::new(alloc, arch)?,
+        })
+    }
+
+    /// The slot of a time.
+    pub fn slot(&self, time: u32) -> u32 {
+        slot(self.ii, time)
+    }
+
+    /// The cycles of some turns.
+    pub fn turns(&self, distance: u32) -> u32 {
+        self.ii.saturating_mul(distance)
+    }
+
+    /// The greatest number of cycles that a route may take.
+    pub fn reach(&self) -> u32 {
+        let long = self.ii.saturating_mul(6).saturating_add(32);
+        let wide = self.ii.saturating_mul(4).saturating_add(24);
+        long.min(wide.saturating_add(self.wiring.diameter()))
+    }
+
+    /// The time from which a node may begin at the earliest, counted from the origin.
+    pub fn earliest(&self, node: u32) -> u32 {
+        let early = number_at(self.early.as_slice(), node as usize);
+        early.saturating_add(self.ii.saturating_mul(ORIGIN))
+    }
+
+    /// The least latency of a node's operation.
+    pub fn least_latency(&self, node: u32) -> u32 {
+        number_at(self.quickest.as_slice(), node as usize)
+    }
+
+    /// A data edge.
+    pub fn edge(&self, edge: u32) -> Option<DataEdge> {
+        self.edges.get(edge as usize).copied()
+    }
+
+    /// A unit.
+    pub fn host(&self, unit: u32) -> Option<Host> {
+        self.hosts.get(unit as usize).copied()
+    }
+
+    /// When the value of a data edge leaves the unit of its source. None where that isn't placed.
+    pub fn leaves(&self, places: &Places, edge: DataEdge) -> Option<u32> {
+        let place = places.at(edge.source)?;
+        let host = self.host(place.unit)?;
+        Some(place.time.saturating_add(host.latency))
+    }
+
+    /// When it is to be at its target, in the source's turn. None where the target isn't placed.
+    pub fn arrives(&self, places: &Places, edge: DataEdge) -> Option<u32> {
+        let place = places.at(edge.target)?;
+        Some(place.time.saturating_add(self.turns(edge.distance)))
+    }
+}
+
+/// The slot of a time at an interval.
+pub fn slot(ii: u32, time: u32) -> u32 {
+    time.checked_rem(ii).unwrap_or(0)
+}
+
+/// An end of an edge.
+#[derive(Clone, Copy, PartialEq, Eq, Drop)]
+enum End {
+    Source,
+    Target,
+}
+
+/// All data edges.
+fn data_edges(alloc: Global, kernel: &Kernel) -> Result<Vec<DataEdge>, AllocError> {
+    let mut edges = Vec::new(alloc);
+    let mut number: u32 = 0;
+    for node in kernel.nodes() {
+        add_edges(&mut edges, node, number)?;
+        number = number.saturating_add(1);
+    }
+    Ok(edges)
+}
+
+/// Adds the data edges into a node.
+fn add_edges(edges: &mut Vec<DataEdge>, node: &Node, number: u32) -> Result<(), AllocError> {
+    let mut arg: u32 = 0;
+    for operand in node.operands.as_slice() {
+        if let Operand::Edge { from, distance, .. } = operand {
+            edges.push(DataEdge {
+                source: *from,
+                target: number,
+                arg,
+                distance: *distance,
+            })?;
+        }
+        arg = arg.saturating_add(1);
+    }
+    Ok(())
+}
+
+/// The data edges that have each node for that end.
+fn ends_by(
+    alloc: Global,
+    nodes: u32,
+    edges: &Vec<DataEdge>,
+    end: End,
+) -> Result<Lists, AllocError> {
+    let mut lists = Lists::new(alloc, nodes)?;
+    let mut number: u32 = 0;
+    for edge in edges {
+        let node = if end == End::Source {
+            edge.source
+        } else {
+            edge.target
+        };
+        lists.add(node, number)?;
+        number = number.saturating_add(1);
+    }
+    Ok(lists)
+}
+
+/// The order edges of each node; one from a node to itself stands there once.
+fn ties(alloc: Global, nodes: u32, order: &Vec<OrderEdge>) -> Result<Lists, AllocError> {
+    let mut ties = Lists::new(alloc, nodes)?;
+    let mut number: u32 = 0;
+    for edge in order {
+        ties.add(edge.from, number)?;
+        if edge.from != edge.to {
+            ties.add(edge.to, number)?;
+        }
+        number = number.saturating_add(1);
+    }
+    Ok(ties)
+}
+
+/// The least latency of each node's operation.
+fn quickest(alloc: Global, arch: &Arch, kernel: &Kernel) -> Result<Vec<u32>, AllocError> {
+    let mut quickest = Vec::new(alloc);
+    for node in kernel.nodes() {
+        quickest.push(latency(arch, node.op))?;
+    }
+    Ok(quickest)
+}

@@ -1,0 +1,289 @@
+//! Routes of data edges, and the router.
+
+use crate::lists::{number_at, raise};
+use crate::places::Places;
+use crate::problem::{DataEdge, Problem};
+use cg_respond_layers::{Layers, Stand, UNREACHED};
+use cg_respond_prices::Occupancy;
+use std::alloc::{AllocError, Global};
+
+/// What an edge without a route costs at first.
+pub const PENALTY: u32 = 100;
+
+/// By how much it grows dearer in each sweep.
+pub const PENALTY_AGE: u32 = 30;
+
+/// The routes of data edges by number, with what their places cost.
+#[derive(Drop)]
+pub struct Routes {
+    routes: Vec<Option<Vec<Stand>>>,
+    histories: Vec<u32>,
+    occupancy: Occupancy,
+    layers: Layers,
+}
+
+/// Where and when a route begins and ends.
+#[derive(Clone, Copy, Drop)]
+struct Ends {
+    out: u32,
+    start: u32,
+    port: u32,
+    end: u32,
+}
+
+impl Routes {
+    ghost use Rattle.std.specs.Prelude.{◌<◌};
+
+    /// No routes.
+    pub fn new(alloc: Global, problem: &Problem) -> Result<Routes, AllocError>
+        requires { 0 < problem.now.ii }
+    {
+        let count = problem.edges.len();
+        Ok(Routes {
+            routes: unrouted(alloc, count)?,
+            histories: vec![in alloc; 0u32; count]?,
+            occupancy: Occupancy::new(alloc, &problem.wiring, problem.ii)?,
+            layers: Layers::new(alloc),
+        })
+    }
+
+    /// The route of an edge, if it has one.
+    pub fn route(&self, edge: u32) -> Option<&[Stand]> {
+        route_in(&self.routes, edge)
+    }
+
+    /// What an edge costs that has no route.
+    pub fn penalty(&self, edge: u32) -> u32 {
+        number_at(self.histories.as_slice(), edge as usize).saturating_add(PENALTY)
+    }
+
+    /// Takes the route of an edge away, if it has one.
+    pub fn rip(&mut self, problem: &Problem, edge: u32) {
+        if let Some(facts) = problem.edge(edge) {
+            self.release(facts.source, edge);
+        }
+    }
+
+    /// Takes the route of an edge away with its claims.
+    fn release(&mut self, source: u32, edge: u32) {
+        if let Some(route) = self.take(edge) {
+            for stand in &route {
+                self.occupancy.release(source, stand.resource, stand.time);
+            }
+        }
+    }
+
+    /// Takes the route of an edge out.
+    fn take(&mut self, edge: u32) -> Option<Vec<Stand>> {
+        match self.routes.get_mut(edge as usize) {
+            Some(route) => route.take(),
+            None => None,
+        }
+    }
+
+    /// Gives a route to an edge without one.
+    fn put(&mut self, source: u32, edge: u32, route: Vec<Stand>) -> Result<(), AllocError> {
+        for stand in &route {
+            self.occupancy.claim(source, stand.resource, stand.time)?;
+        }
+        if let Some(standing) = self.routes.get_mut(edge as usize) {
+            *standing = Some(route);
+        }
+        Ok(())
+    }
+
+    /// Finds the least prices from where a node's value is, from the time on at which it leaves the unit; with a target
+    /// only for what can reach that port in the last layer.
+    pub fn forward(
+        &mut self,
+        problem: &Problem,
+        source: u32,
+        out: u32,
+        start: u32,
+        last: u32,
+        target: Option<u32>,
+    ) -> Result<(), AllocError> {
+        self.layers.begin(&problem.wiring, out, last)?;
+        for edge in problem.outs.of(source) {
+            self.lay(*edge, start, last);
+        }
+        self.layers
+            .forward(&self.occupancy, &problem.wiring, start, last, target);
+        Ok(())
+    }
+
+    /// Makes the route of an edge free.
+    fn lay(&mut self, edge: u32, start: u32, last: u32) {
+        if let Some(route) = route_in(&self.routes, edge) {
+            self.layers.lay(&self.occupancy, start, last, route);
+        }
+    }
+
+    /// Finds the least prices to a port at a time.
+    pub fn backward(
+        &mut self,
+        problem: &Problem,
+        port: u32,
+        end: u32,
+        last: u32,
+    ) -> Result<(), AllocError> {
+        self.layers
+            .backward(&self.occupancy, &problem.wiring, port, end, last)
+    }
+
+    /// The least price that was found for a resource in a layer.
+    pub fn price(&self, layer: u32, resource: u32) -> u32 {
+        self.layers.price(layer, resource)
+    }
+
+    /// Routes an edge without a route, and gives what the route costs; none where there is no route.
+    pub fn connect(
+        &mut self,
+        alloc: Global,
+        problem: &Problem,
+        places: &Places,
+        edge: u32,
+    ) -> Result<Option<u32>, AllocError> {
+        match (problem.edge(edge), ends_of(problem, places, edge)) {
+            (Some(facts), Some(ends)) => self.connect_ends(
+                alloc,
+                problem,
+                edge,
+                facts.source,
+                ends,
+            ),
+            _ => Ok(None),
+        }
+    }
+
+    /// Routes an edge between its ends.
+    fn connect_ends(
+        &mut self,
+        alloc: Global,
+        problem: &Problem,
+        edge: u32,
+        source: u32,
+        ends: Ends,
+    ) -> Result<Option<u32>, AllocError> {
+        let last = ends.end.saturating_sub(ends.start);
+        if ends.end < ends.start || last > problem.reach() {
+            return Ok(None);
+        }
+        if problem.wiring.hops(ends.out, ends.port) > last {
+            return Ok(None);
+        }
+        self.forward(problem, source, ends.out, ends.start, last, Some(ends.port))?;
+        let price = self.price(last, ends.port);
+        if price >= UNREACHED {
+            return Ok(None);
+        }
+        let route = self
+            .layers
+            .path(alloc, &problem.wiring, ends.port, ends.start, last)?;
+        self.put(source, edge, route)?;
+        Ok(Some(price))
+    }
+
+    /// Whether an edge has no route, or one of which a place is claimed twice.
+    pub fn is_bad(&self, edge: u32) -> bool {
+        match self.route(edge) {
+            Some(route) => is_crossed(&self.occupancy, route),
+            None => true,
+        }
+    }
+
+    /// The claims above one, over all places.
+    pub fn excess(&self) -> u32 {
+        self.occupancy.excess()
+    }
+
+    /// How many edges have no route.
+    pub fn missing(&self) -> u32 {
+        let mut sum: u32 = 0;
+        for route in &self.routes {
+            if route.is_none() {
+                sum = sum.saturating_add(1);
+            }
+        }
+        sum
+    }
+
+    /// Makes places that are claimed twice dearer, and edges without a route.
+    pub fn age(&mut self) {
+        self.occupancy.age();
+        for edge in 0..self.routes.len() {
+            self.age_at(edge);
+        }
+    }
+
+    /// Makes an edge without a route dearer.
+    fn age_at(&mut self, edge: usize) {
+        if is_missing(&self.routes, edge) {
+            raise(&mut self.histories, edge, PENALTY_AGE);
+        }
+    }
+
+    /// Takes all routes away, and forgets what places and edges cost.
+    pub fn clear(&mut self) {
+        for edge in 0..self.routes.len() {
+            self.drop_at(edge);
+        }
+        self.histories.fill(0);
+        self.occupancy.clear();
+    }
+
+    /// Drops a route whose claims go too.
+    fn drop_at(&mut self, edge: usize) {
+        if let Some(route) = self.routes.get_mut(edge) {
+            *route = None;
+        }
+    }
+}
+
+/// The route of an edge, if it has one.
+fn route_in(routes: &Vec<Option<Vec<Stand>>>, edge: u32) -> Option<&[Stand]> {
+    match routes.get(edge as usize) {
+        Some(Some(route)) => Some(route.as_slice()),
+        _ => None,
+    }
+}
+
+/// Whether an edge has no route.
+fn is_missing(routes: &Vec<Option<Vec<Stand>>>, edge: usize) -> bool {
+    match routes.get(edge) {
+        Some(route) => route.is_none(),
+        None => false,
+    }
+}
+
+/// Whether a place of a route is claimed twice.
+fn is_crossed(occupancy: &Occupancy, route: &[Stand]) -> bool {
+    for stand in route {
+        if occupancy.is_shared(stand.resource, stand.time) {
+            return true;
+        }
+    }
+    false
+}
+
+/// No route for each of so many edges.
+fn unrouted(alloc: Global, edges: usize) -> Result<Vec<Option<Vec<Stand>>>, AllocError> {
+    let mut routes = Vec::new(alloc);
+    for _ in 0..edges {
+        routes.push(None)?;
+    }
+    Ok(routes)
+}
+
+/// The ends of an edge whose nodes are placed.
+fn ends_of(problem: &Problem, places: &Places, edge: u32) -> Option<Ends> {
+    let facts = problem.edge(edge)?;
+    let from = problem.host(places.at(facts.source)?.unit)?;
+    let to = problem.host(places.at(facts.target)?.unit)?;
+    Some(Ends {
+        out: from.out,
+        start: problem.leaves(places, facts)?,
+        port: to.port(facts.arg),
+        end: problem.arrives(places, facts)?,
+    })
+}

@@ -1,0 +1,40 @@
+use Rattle.std.proofs.Common.{rules, ◌≡◌, ◌≤◌, refl, sym, subst, arith}
+use Rattle.cg_model.specs.Mapping.{IsLegal}
+use Rattle.cg_hub.specs.Hub.{HubEnough, hub_map}
+use Rattle.cg_map.specs.Tried.{last_tried}
+use Rattle.cg_map.proofs.Hubs.{hub_interval}
+use Rattle.cg_search.specs.declared.answering.FoundBy.TheVariants.{Hub}
+use Rattle.cg_search.specs.Search.{HasNoHub, IsFound}
+use Rattle.cg_search.proofs.answering.over_hub.Goals as goal
+
+pub returns-then-hub_enough : goal.returns-then-hub_enough
+returns-then-hub_enough c =
+    let A = c.args.arch.now in
+    let K = c.args.kernel.now in
+    let asked = c.args.asked in
+    let moves = c.args.moves in
+    let first = c.args.first in
+    let ii = c.loop-ii.ii in
+    let is = c.in_ok-mapping.ensures in
+    let same = sym (hub_interval A K ii) in
+    let enough : HubEnough A K ii = search rules in
+    let after : first ≤ ii = omega (arith, c.loop-ii.auto) in
+    subst (λ m. IsFound A K asked moves first m Hub) (sym is)
+    (record {
+      arch = refl;
+      kernel = refl;
+      legal = subst (λ m. IsLegal m.arch m.kernel m.mapping) is c.mapping.ensures.legal;
+      from = subst (λ z. first ≤ z) same after;
+      to = subst (λ z. z ≤ last_tried A asked) same (omega (arith, c.loop-ii-test.true, c.last_tried-ii-end.ensures));
+      by = (subst (HubEnough A K) same enough, subst (HasNoHub A K asked moves first) same c.loop-ii.invariant, subst (λ z. hub_map A K ii ≡ hub_map A K z) same refl);
+    })
+
+pub returns : goal.returns
+returns c = (
+  refl,
+  record {
+    each = c.requires.each;
+    all = c.requires.all;
+    no_hub = λ j from less enough. c.loop-ii.invariant j from (omega (arith, less, c.loop-ii-test.false, c.last_tried-ii-end.ensures)) enough;
+  },
+)

@@ -1,0 +1,57 @@
+-- What a search by best responses answers. How it finds a mapping is left to it: whatever it finds is legal.
+use Rattle.std.specs.Prelude.{◌≡◌, ℕ, ◌+◌, ◌<◌, ◌≤◌, List, length, All, Option}
+use Rattle.cg_model.specs.Kernel.{Kernel}
+use Rattle.cg_model.specs.Array.{Arch}
+use Rattle.cg_model.specs.Mapping.{IsLegal}
+use Rattle.cg_check.specs.Legal.{Mapped as MappedValue}
+use Rattle.cg_bound.specs.Bound.{IsOpen, Shows}
+use Rattle.cg_hub.specs.Hub.{HubEnough, hub_map}
+use Rattle.cg_map.specs.Tried.{last_tried, IsFirst}
+use Rattle.cg_search.specs.declared.answering.FoundBy.{FoundBy}
+use Rattle.cg_search.specs.declared.answering.FoundBy.TheVariants.{Hub, Responses}
+use Rattle.cg_search.specs.declared.answering.SearchAnswer.{SearchAnswer}
+use Rattle.cg_search.specs.declared.answering.SearchAnswer.TheVariants.{Impossible, Mapped, Spent}
+
+module _ (A : Arch) (K : Kernel) (asked : Option ℕ) (moves : ℕ) where
+  -- the hub suffices at no interval from the first one on that is less than this one
+  abbrev pub HasNoHub : ℕ → ℕ → Type 0
+  HasNoHub first ii = (j : ℕ) → first ≤ j → j < ii → HubEnough A K j → ⊥
+
+  -- how a mapping was found: by no more best responses than there are; or over the hub, at the first interval where it suffices
+  abbrev pub IsBy : ℕ → MappedValue → FoundBy → Type 0
+  IsBy first m (Responses count) = count ≤ moves
+  IsBy first m Hub = HubEnough A K m.mapping.ii × HasNoHub first m.mapping.ii × (m.mapping ≡ hub_map A K m.mapping.ii)
+
+  -- a legal mapping of the kernel, at an interval that is tried
+  pub record IsFound (first : ℕ) (m : MappedValue) (found_by : FoundBy) : Type 0 where
+    pub arch : m.arch ≡ A
+    pub kernel : m.kernel ≡ K
+    pub legal : IsLegal A K m.mapping
+    pub from : first ≤ m.mapping.ii
+    pub to : m.mapping.ii ≤ last_tried A asked
+    pub by : IsBy first m found_by
+
+  -- none is found at any: some faults are left at each, and the hub suffices at none
+  pub record AreAllFaulty (first : ℕ) (faults : List ℕ) : Type 0 where
+    pub each : All (λ n. 0 < n) faults
+    pub all : first + length faults ≡ last_tried A asked + 1
+    pub no_hub : HasNoHub first (last_tried A asked + 1)
+
+  -- what may come of the intervals from the first one on
+  abbrev pub IsTried : ℕ → SearchAnswer → Type 0
+  IsTried first (Impossible certificate) = ⊥
+  IsTried first (Mapped m found_by) = IsFound first m found_by
+  IsTried first (Spent f faults) = (f ≡ first) × AreAllFaulty first faults.items
+
+  -- nothing forbids the last interval, and this comes of those that are tried
+  pub record IsSearched (answer : SearchAnswer) : Type 0 where
+    pub free : IsOpen A K (last_tried A asked)
+    pub first : ℕ
+    pub is_first : IsFirst A K asked first
+    pub tried : IsTried first answer
+
+  -- why the last interval is impossible, where a recurrence or an overfull set forbids it; what comes of the intervals else
+  abbrev pub IsAnswer : SearchAnswer → Type 0
+  IsAnswer (Impossible certificate) = Shows A K (last_tried A asked) certificate
+  IsAnswer (Mapped m found_by) = IsSearched (Mapped m found_by)
+  IsAnswer (Spent first faults) = IsSearched (Spent first faults)

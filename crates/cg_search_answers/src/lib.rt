@@ -1,0 +1,6 @@
+//! What the command `search` answers: from the bytes of its input files to an outcome.
+#![tactic(auto)]
+
+mod searching;
+
+pub use searching::search;

@@ -1,5 +1,0 @@
-use Rattle.cg_seek.specs.Seek.{HasNoHub}
-use Rattle.cg_seek.proofs.answering.over_hub.Given as goal
-
-abbrev pub invariant-loop-ii : goal.invariant-loop-ii
-invariant-loop-ii l = HasNoHub l.arch l.kernel l.fn.asked l.moves l.first l.ii

@@ -1,6 +1,0 @@
-use Rattle.std.proofs.Common.{◌≡◌, ◌+◌, ◌<◌, length}
-use Rattle.std.specs.Prelude.{All}
-use Rattle.cg_seek.proofs.answering.sought.Given as goal
-
-abbrev pub invariant-loop-ii : goal.invariant-loop-ii
-invariant-loop-ii l = All (λ n. 0 < n) l.faults.items × (l.first + length l.faults.items ≡ l.ii)

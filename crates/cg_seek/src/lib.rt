@@ -1,6 +1,0 @@
-//! What a search by best responses answers: the intervals that are tried, and what comes of them.
-#![tactic(auto)]
-
-mod answering;
-
-pub use answering::{Means, SeekAnswer, seek_answer};

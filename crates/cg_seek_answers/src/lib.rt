@@ -1,6 +1,0 @@
-//! What the command `search` answers: from the bytes of its input files to an outcome.
-#![tactic(auto)]
-
-mod seeking;
-
-pub use seeking::seek;
