@@ -9,9 +9,9 @@ use Rattle.cg_run_answers.proofs.TurnsAnswers.{sound_turns, quiet_turns, accepte
 use Rattle.cg_run_answers.proofs.OnImage.{same_on_image, sound_on_image, accepted_on_image, named_on_image}
 use Rattle.cg_run_answers.proofs.FlatAnswers.{same_flat, sound_flat, accepted_flat, named_flat}
 use Rattle.cg_run_answers.proofs.RunAnswers.{same_run, sound_run, accepted_run, named_run}
-use Rattle.cg_map_answers.proofs.Bounded.{same_bound, sound_bound, accepted_bound, quiet_bound}
-use Rattle.cg_map_answers.proofs.Checked.{same_check, sound_check, accepted_check, quiet_check}
-use Rattle.cg_map_answers.proofs.Bitstream.{same_emit, sound_emit, accepted_emit, named_emit}
+use Rattle.cg_mapping_answers.proofs.Bounded.{same_bound, sound_bound, accepted_bound, quiet_bound}
+use Rattle.cg_mapping_answers.proofs.Checked.{same_check, sound_check, accepted_check, quiet_check}
+use Rattle.cg_mapping_answers.proofs.Bitstream.{same_emit, sound_emit, accepted_emit, named_emit}
 use Rattle.cg_map_answers.proofs.Searched.{same_map, sound_map, accepted_map, quiet_map, named_map}
 use Rattle.cg_search_answers.proofs.Searched.{agree_search, sound_search, accepted_search, quiet_search, named_search}
 use Rattle.cg_answers.specs.Commands.{IsAnswer, Accepts, AgreeIn}

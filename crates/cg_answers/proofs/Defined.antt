@@ -8,9 +8,9 @@ use Rattle.cg_run_answers.specs.Turns.{turns_of}
 use Rattle.cg_run_answers.proofs.OnImage.{some_on_image}
 use Rattle.cg_run_answers.proofs.FlatAnswers.{some_flat}
 use Rattle.cg_run_answers.proofs.RunAnswers.{some_run}
-use Rattle.cg_map_answers.proofs.Bounded.{some_bounding}
-use Rattle.cg_map_answers.proofs.Checked.{some_check}
-use Rattle.cg_map_answers.proofs.Bitstream.{some_emit}
+use Rattle.cg_mapping_answers.proofs.Bounded.{some_bounding}
+use Rattle.cg_mapping_answers.proofs.Checked.{some_check}
+use Rattle.cg_mapping_answers.proofs.Bitstream.{some_emit}
 use Rattle.cg_map_answers.proofs.Searched.{some_map}
 use Rattle.cg_search_answers.proofs.Searched.{some_search_outcome}
 use Rattle.cg_answers.specs.Commands.{IsAnswer}

@@ -8,8 +8,8 @@ use Rattle.cg_check.specs.declared.rule.Violation.{Violation}
 use Rattle.cg_check.specs.Rules.{violation}
 use Rattle.cg_command.specs.declared.plans.Command.{Command}
 use Rattle.cg_command.specs.declared.plans.Command.TheVariants.{Turns, TurnsOnImage, Flat, Run, Bound, Check, Emit, Map, Search, Trial, Verilog}
-use Rattle.cg_map_answers.specs.Emit.{IsEmittedBy, IsEmission}
-use Rattle.cg_map_answers.proofs.Checked.{quiet_check}
+use Rattle.cg_mapping_answers.specs.Emit.{IsEmittedBy, IsEmission}
+use Rattle.cg_mapping_answers.proofs.Checked.{quiet_check}
 use Rattle.cg_answers.specs.Commands.{IsAnswer, judges}
 use Rattle.cg_inputs.proofs.Refusals.{AreRefused}
 use Rattle.cg_inputs.proofs.Mapped.{refused_given}

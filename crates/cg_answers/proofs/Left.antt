@@ -12,9 +12,9 @@ use Rattle.cg_run_answers.proofs.TurnsAnswers.{turned_left}
 use Rattle.cg_run_answers.proofs.OnImage.{ordered_left, unordered_left}
 use Rattle.cg_run_answers.proofs.FlatAnswers.{flattened_left}
 use Rattle.cg_run_answers.proofs.RunAnswers.{run_left}
-use Rattle.cg_map_answers.proofs.Bounded.{bound_left}
-use Rattle.cg_map_answers.proofs.Checked.{legal_left, illegal_left}
-use Rattle.cg_map_answers.proofs.Bitstream.{emitted_left, unemitted_left}
+use Rattle.cg_mapping_answers.proofs.Bounded.{bound_left}
+use Rattle.cg_mapping_answers.proofs.Checked.{legal_left, illegal_left}
+use Rattle.cg_mapping_answers.proofs.Bitstream.{emitted_left, unemitted_left}
 use Rattle.cg_map_answers.proofs.Searched.{map_left, impossible_left, spent_left}
 use Rattle.cg_search_answers.proofs.Searched.{search_left, search_impossible_left, search_spent_left}
 use Rattle.cg_answers.specs.Commands.{IsAnswer, Leaves, LeavesDone, LeavesNo, LeavesImpossible, LeavesSpent}

@@ -7,7 +7,7 @@ use Rattle.cg_ending.specs.Refusals.{reports}
 use Rattle.cg_files.specs.Held.{Appends}
 use Rattle.cg_inputs.proofs.Sound.{IsSound}
 use Rattle.cg_inputs.proofs.Wholes.{whole}
-use Rattle.cg_map_answers.proofs.Bitstream.{runs}
+use Rattle.cg_mapping_answers.proofs.Bitstream.{runs}
 use Rattle.cg_trial.proofs.Sound.{trial_sound}
 use Rattle.cg_trial_run.specs.Report.{trial_mapped, trial_report}
 use Rattle.cg_trial_run.proofs.Trials.{valid_arch, legal, same_image, some_trial_bits}

@@ -17,11 +17,11 @@ use Rattle.cg_run_answers.specs.Turns.{turns_of, IsTurned}
 use Rattle.cg_run_answers.specs.TurnsOnImage.{IsTurnsOnImage, IsOrderedRun, IsUnorderedRun}
 use Rattle.cg_run_answers.specs.Flat.{IsFlat, IsFlattened}
 use Rattle.cg_run_answers.specs.Run.{IsRun, IsRunnable, IsArrayRun}
-use Rattle.cg_map_answers.specs.Bound.{IsBoundOf, IsPairInput, IsBoundRun}
-use Rattle.cg_map_answers.specs.Check.{IsCheck, IsLegalInput, IsLegalCheck, IsIllegalCheck}
-use Rattle.cg_map_answers.specs.Emit.{IsEmit, IsEmittedRun}
+use Rattle.cg_mapping_answers.specs.Bound.{IsBoundOf, IsPairInput, IsBoundRun}
+use Rattle.cg_mapping_answers.specs.Check.{IsCheck, IsLegalInput, IsLegalCheck, IsIllegalCheck}
+use Rattle.cg_mapping_answers.specs.Emit.{IsEmit, IsEmittedRun}
 use Rattle.cg_map_answers.specs.Map.{IsMap, IsMappable, IsMapRun, IsSpentRun}
-use Rattle.cg_map_answers.specs.Searches.{IsImpossibleRun}
+use Rattle.cg_task_answers.specs.Searches.{IsImpossibleRun}
 use Rattle.cg_search_answers.specs.Search.{IsSearch, IsSearchable, IsSearchRun, IsSearchSpentRun, AreAgreed}
 use Rattle.cg_answers.specs.Trial.{IsTrialOf, IsTrialRun}
 use Rattle.cg_answers.specs.Verilog.{IsVerilog, IsNetlisted}

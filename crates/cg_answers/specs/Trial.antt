@@ -5,7 +5,7 @@ use Rattle.cg_files.specs.Held.{Appends}
 use Rattle.cg_ending.specs.Outcome.{Bytes, Outcome}
 use Rattle.cg_ending.specs.Ends.{Moment}
 use Rattle.cg_ending.specs.Refusals.{reports}
-use Rattle.cg_map_answers.specs.Emit.{RunsMapping}
+use Rattle.cg_mapping_answers.specs.Emit.{RunsMapping}
 use Rattle.cg_trial_run.specs.Report.{IsTrial, trial_mapped, trial_report}
 use Rattle.cg_trial_run.specs.Laws.{LeavesSame}
 

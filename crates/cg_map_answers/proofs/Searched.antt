@@ -24,15 +24,15 @@ use Rattle.cg_map.proofs.Intervals.{last_positive}
 use Rattle.cg_model.specs.declared.request.Request.{Request}
 use Rattle.cg_model.specs.Request.{IsInRange}
 use Rattle.cg_inputs.specs.Sources.{Pair, GivesPair}
-use Rattle.cg_map_answers.specs.Emit.{config_of}
+use Rattle.cg_mapping_answers.specs.Emit.{config_of}
 use Rattle.cg_map_answers.specs.Map.{IsMap, IsWalk, IsOutcomeOf, IsMappingWritten, IsMappable, IsMapRun, IsSpentRun, map_report, costs_report}
-use Rattle.cg_map_answers.specs.Searches.{IsImpossibleRun, is_above, map_writes, impossible_report}
+use Rattle.cg_task_answers.specs.Searches.{IsImpossibleRun, is_above, map_writes, impossible_report}
 use Rattle.cg_inputs.proofs.Sound.{IsSound, IsNamed}
 use Rattle.cg_inputs.proofs.Wholes.{whole}
 use Rattle.cg_inputs.proofs.Paired.{valid_pair}
-use Rattle.cg_map_answers.proofs.Bitstream.{runs, some_run}
-use Rattle.cg_map_answers.proofs.Left.{held_writes, hold_pair, put_of, kept_of, quiet_of, left_impossible}
-use Rattle.cg_map_answers.proofs.Over.{asked, sound_over, named_over, agree_over, accepted_over, some_over, left_over}
+use Rattle.cg_mapping_answers.proofs.Bitstream.{runs, some_run}
+use Rattle.cg_task_answers.proofs.Left.{held_writes, hold_pair, put_of, kept_of, quiet_of, left_impossible}
+use Rattle.cg_task_answers.proofs.Over.{asked, sound_over, named_over, agree_over, accepted_over, some_over, left_over}
 
 -- ---- status and writes
 

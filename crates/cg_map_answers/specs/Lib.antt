@@ -1,5 +1,1 @@
-pub mod Bound
-pub mod Check
-pub mod Emit
-pub mod Searches
 pub mod Map

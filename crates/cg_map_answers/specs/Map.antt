@@ -16,8 +16,8 @@ use Rattle.cg_map.specs.declared.answering.MapAnswer.TheVariants as answer
 use Rattle.cg_map.specs.Tried.{last_tried, IsFirst, AreAllLeft, IsAnswer}
 use Rattle.cg_model.specs.declared.request.Request.{Request}
 use Rattle.cg_inputs.specs.Sources.{Pair, GivesPair, HoldPair}
-use Rattle.cg_map_answers.specs.Emit.{emit_report, RunsMapping}
-use Rattle.cg_map_answers.specs.Searches.{IsWritten, IsSearchOver, HoldsMapped, is_above, impossible_report}
+use Rattle.cg_mapping_answers.specs.Emit.{emit_report, RunsMapping}
+use Rattle.cg_task_answers.specs.Searches.{IsWritten, IsSearchOver, HoldsMapped, is_above, impossible_report}
 
 -- ---- reports
 

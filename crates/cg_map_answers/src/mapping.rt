@@ -5,18 +5,17 @@ ghost use Rattle.cg_ending.specs.Refusals.{reports};
 ghost use Rattle.cg_ending.specs.declared.outcome.Status.TheVariants as status;
 ghost use Rattle.cg_model.specs.Request.{IsInRange};
 ghost use Rattle.cg_map_answers.specs.Map.{IsMap, IsWalk, IsMappingWritten, cost_line, costs_report, map_report, way_line};
-ghost use Rattle.cg_map_answers.specs.Searches.{IsWithin, is_above};
+ghost use Rattle.cg_task_answers.specs.Searches.{IsWithin, is_above};
 
-use crate::emitting::emit_report;
-use crate::refusing::{above, asks_above, impossible};
-use crate::writing::written;
 use cg_arch::Arch;
 use cg_check::LegalMapping;
 use cg_ending::{File, Outcome, Status};
 use cg_inputs::{GivenPair, read_pair};
 use cg_kernel::Kernel;
 use cg_map::{MapAnswer, Way, map_answer};
+use cg_mapping_answers::emit_report;
 use cg_model::Request;
+use cg_task_answers::{above, asks_above, impossible, written};
 use std::alloc::{AllocError, Global};
 
 /// The bits of a mapping that is searched for the kernel of the second file on the architecture of the first, under the first

@@ -13,8 +13,8 @@ use Rattle.cg_hub.specs.Hub.{HubEnough}
 use Rattle.cg_map.specs.Tried.{last_tried, IsFirst}
 use Rattle.cg_model.specs.declared.request.Request.{Request}
 use Rattle.cg_inputs.specs.Sources.{Pair, GivesPair, HoldPair}
-use Rattle.cg_map_answers.specs.Emit.{emit_report, RunsMapping}
-use Rattle.cg_map_answers.specs.Searches.{IsWritten, IsSearchOver, HoldsMapped, is_above, impossible_report}
+use Rattle.cg_mapping_answers.specs.Emit.{emit_report, RunsMapping}
+use Rattle.cg_task_answers.specs.Searches.{IsWritten, IsSearchOver, HoldsMapped, is_above, impossible_report}
 use Rattle.cg_search.specs.declared.answering.FoundBy.{FoundBy}
 use Rattle.cg_search.specs.declared.answering.FoundBy.TheVariants.{Hub, Responses}
 use Rattle.cg_search.specs.declared.answering.SearchAnswer.{SearchAnswer}

@@ -4,7 +4,7 @@ ghost use Rattle.cg_ending.specs.Outcome.{file_of, outcome_of};
 ghost use Rattle.cg_ending.specs.Refusals.{reports};
 ghost use Rattle.cg_ending.specs.declared.outcome.Status.TheVariants as status;
 ghost use Rattle.cg_model.specs.Request.{IsInRange};
-ghost use Rattle.cg_map_answers.specs.Searches.{IsWithin, is_above};
+ghost use Rattle.cg_task_answers.specs.Searches.{IsWithin, is_above};
 ghost use Rattle.cg_search_answers.specs.Search.{IsSearch, IsSearched, IsFoundWritten, faults_line, faults_report, found_by_line, search_report};
 
 use cg_arch::Arch;
@@ -12,9 +12,10 @@ use cg_check::LegalMapping;
 use cg_ending::{File, Outcome, Status};
 use cg_inputs::{GivenPair, read_pair};
 use cg_kernel::Kernel;
-use cg_map_answers::{above, asks_above, emit_report, impossible, written};
+use cg_mapping_answers::emit_report;
 use cg_model::Request;
 use cg_search::{FoundBy, SearchAnswer, search_answer};
+use cg_task_answers::{above, asks_above, impossible, written};
 use std::alloc::{AllocError, Global};
 
 /// The bits of a mapping that is searched by best responses for the kernel of the second file on the architecture of the

@@ -2,8 +2,8 @@ use Rattle.std.proofs.Common.{subst, sym}
 use Rattle.cg_model.specs.Array.{IsArch}
 use Rattle.cg_model.specs.Kernel.{IsKernel}
 use Rattle.cg_mapping.specs.Sound.{NamesParts}
-use Rattle.cg_map_answers.proofs.Named.{names_parts}
-use Rattle.cg_map_answers.proofs.writing.mapping_text.Goals as goal
+use Rattle.cg_task_answers.proofs.Named.{names_parts}
+use Rattle.cg_task_answers.proofs.writing.mapping_text.Goals as goal
 
 pub print_mapping-requires-clause-named : goal.print_mapping-requires-clause-named
 print_mapping-requires-clause-named c =

@@ -11,7 +11,7 @@ use Rattle.cg_check.specs.declared.rule.Violation.{Violation}
 use Rattle.cg_check.specs.Rules.{violation}
 use Rattle.cg_check.proofs.Judged.{legal_from, keeps_all, breaks, rules_of}
 use Rattle.cg_inputs.specs.Sources.{AreGiven, AreMapped, HoldMapped}
-use Rattle.cg_map_answers.specs.Check.{IsCheck, checked, checked_by, illegal_report, IsLegalInput, IsLegalCheck, IsIllegalCheck}
+use Rattle.cg_mapping_answers.specs.Check.{IsCheck, checked, checked_by, illegal_report, IsLegalInput, IsLegalCheck, IsIllegalCheck}
 use Rattle.cg_inputs.proofs.Sound.{IsSound}
 use Rattle.cg_inputs.proofs.Wholes.{whole}
 use Rattle.cg_inputs.proofs.Refusals.{IsRefusal, AreRefused, IsAlike, equal, refusals, sound_refusal}

@@ -1,8 +1,8 @@
 //! What is written where a mapping was found.
 ghost use Rattle.std.specs.Prelude.{◌≡◌, IfOk, map, string_bytes};
 ghost use Rattle.cg_ending.specs.Outcome.{file_of, outcome_of};
-ghost use Rattle.cg_map_answers.specs.Searches as spec;
-ghost use Rattle.cg_map_answers.specs.Searches.{IsWritten, map_writes};
+ghost use Rattle.cg_task_answers.specs.Searches as spec;
+ghost use Rattle.cg_task_answers.specs.Searches.{IsWritten, map_writes};
 
 use cg_check::LegalMapping;
 use cg_emit::emit as emit_bits;

@@ -2,7 +2,7 @@
 ghost use Rattle.std.specs.Prelude.{◌≡◌, IfOk};
 ghost use Rattle.cg_ending.specs.Outcome.{file_of, outcome_of};
 ghost use Rattle.cg_check.specs.Rules.{violation};
-ghost use Rattle.cg_map_answers.specs.Emit.{IsEmit, IsEmitted, IsEmittedBy, emit_report};
+ghost use Rattle.cg_mapping_answers.specs.Emit.{IsEmit, IsEmitted, IsEmittedBy, emit_report};
 
 use crate::checking::illegal;
 use cg_check::{CheckVerdict, LegalMapping, check};

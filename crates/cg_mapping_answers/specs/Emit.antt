@@ -15,7 +15,7 @@ use Rattle.cg_check.specs.declared.rule.Violation.{Violation}
 use Rattle.cg_check.specs.Rules.{violation}
 use Rattle.cg_emit.specs.Emitted.{RunLikeTurns, RunLikeTurnsAlone}
 use Rattle.cg_inputs.specs.Sources.{AreMapped, HoldMapped}
-use Rattle.cg_map_answers.specs.Check.{illegal_report}
+use Rattle.cg_mapping_answers.specs.Check.{illegal_report}
 
 -- the configuration of a mapping with what it maps
 abbrev pub config_of : Mapped → Config

@@ -4,7 +4,7 @@ ghost use Rattle.cg_ending.specs.Outcome.{file_of, outcome_of};
 ghost use Rattle.cg_ending.specs.Refusals.{reports};
 ghost use Rattle.cg_ending.specs.declared.outcome.Status.TheVariants.{Done, No};
 ghost use Rattle.cg_check.specs.Rules.{violation};
-ghost use Rattle.cg_map_answers.specs.Check.{IsCheck, checked_by, illegal_report, legal_report};
+ghost use Rattle.cg_mapping_answers.specs.Check.{IsCheck, checked_by, illegal_report, legal_report};
 
 use cg_check::{Arch, CheckVerdict, Kernel, Rule, RulePlace, check as check_mapping, rule_text};
 use cg_ending::{File, Outcome, Status};

@@ -1,8 +1,8 @@
 //! `bound ARCH KERNEL`.
 ghost use Rattle.std.specs.Prelude.{◌≡◌, ◌∷◌, ◌++◌, [], IfOk};
 ghost use Rattle.cg_ending.specs.Outcome.{file_of, line_of, outcome_of};
-ghost use Rattle.cg_map_answers.specs.Bound as spec;
-ghost use Rattle.cg_map_answers.specs.Bound.{IsBoundOf, IsBounded, bound_report, first_line};
+ghost use Rattle.cg_mapping_answers.specs.Bound as spec;
+ghost use Rattle.cg_mapping_answers.specs.Bound.{IsBoundOf, IsBounded, bound_report, first_line};
 
 use cg_arch::Arch;
 use cg_bound::{LeastInterval, bound as least_interval, certificate_text};

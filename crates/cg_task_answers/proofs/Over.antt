@@ -16,7 +16,7 @@ use Rattle.cg_inputs.proofs.Sound.{IsSound, IsNamed}
 use Rattle.cg_inputs.proofs.Refusals.{IsRefusal, AreRefused, IsAlike, equal, refusals, sound_refusal}
 use Rattle.cg_inputs.proofs.Paired as paired
 use Rattle.cg_inputs.proofs.Paired.{refused_pair, given_pair, pair_is, some_paired, valid_pair}
-use Rattle.cg_map_answers.specs.Searches.{IsWithin, IsOverPair, IsSearchOver, is_above, above_contexts}
+use Rattle.cg_task_answers.specs.Searches.{IsWithin, IsOverPair, IsSearchOver, is_above, above_contexts}
 
 -- an interval that isn't above the contexts may be searched
 pub asked : (s : Request) (A : Arch) → IsInRange s → is_above s.ii A ≡ false → IsAsked A s.ii

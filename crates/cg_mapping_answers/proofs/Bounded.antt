@@ -14,7 +14,7 @@ use Rattle.cg_bound.proofs.Always.{some_bound}
 use Rattle.cg_bound.proofs.Legal.{excluded}
 use Rattle.cg_bound.proofs.Offers.{never_open}
 use Rattle.cg_inputs.specs.Sources.{Pair, ArePaired}
-use Rattle.cg_map_answers.specs.Bound.{IsBoundOf, IsBounding, IsBounded, IsPairInput, IsBelow, IsBoundRun, bound_report}
+use Rattle.cg_mapping_answers.specs.Bound.{IsBoundOf, IsBounding, IsBounded, IsPairInput, IsBelow, IsBoundRun, bound_report}
 use Rattle.cg_inputs.proofs.Sound.{IsSound}
 use Rattle.cg_inputs.proofs.Wholes.{whole}
 use Rattle.cg_inputs.proofs.Refusals.{IsRefusal, AreRefused, IsAlike, equal, refusals, sound_refusal}

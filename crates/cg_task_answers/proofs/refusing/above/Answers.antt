@@ -2,8 +2,8 @@ use Rattle.std.proofs.Common.{rules, ◌≡◌, ◌++◌, codes, decimal, ap, �
 use Rattle.std.proofs.lemmas.Result.{IfOk-weaker}
 use Rattle.cg_ending.specs.Outcome.{outcome_of}
 use Rattle.cg_ending.specs.Refusals.{malformed_of}
-use Rattle.cg_map_answers.specs.Searches.{above_contexts}
-use Rattle.cg_map_answers.proofs.refusing.above.Goals as goal
+use Rattle.cg_task_answers.specs.Searches.{above_contexts}
+use Rattle.cg_task_answers.proofs.refusing.above.Goals as goal
 
 pub returns : goal.returns
 returns c =

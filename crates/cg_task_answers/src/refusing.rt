@@ -3,7 +3,7 @@ ghost use Rattle.std.specs.Prelude.{◌≡◌, IfOk};
 ghost use Rattle.cg_ending.specs.Outcome.{outcome_of};
 ghost use Rattle.cg_ending.specs.Refusals.{reports};
 ghost use Rattle.cg_ending.specs.declared.outcome.Status.TheVariants as status;
-ghost use Rattle.cg_map_answers.specs.Searches.{is_above, above_contexts, impossible_report};
+ghost use Rattle.cg_task_answers.specs.Searches.{is_above, above_contexts, impossible_report};
 
 use cg_arch::Arch;
 use cg_bound::{Certificate, certificate_text};

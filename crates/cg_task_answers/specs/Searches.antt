@@ -18,7 +18,7 @@ use Rattle.cg_map.specs.Tried.{last_tried}
 use Rattle.cg_model.specs.declared.request.Request.{Request}
 use Rattle.cg_model.specs.Request.{IsInRange}
 use Rattle.cg_inputs.specs.Sources.{Pair, ArePaired, HoldPair}
-use Rattle.cg_map_answers.specs.Emit.{config_of}
+use Rattle.cg_mapping_answers.specs.Emit.{config_of}
 
 -- ---- reports
 

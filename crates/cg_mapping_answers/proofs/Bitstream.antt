@@ -20,14 +20,14 @@ use Rattle.cg_check.specs.Rules.{violation}
 use Rattle.cg_emit.specs.Emitted.{RunLikeTurns, RunLikeTurnsAlone}
 use Rattle.cg_emit.proofs.Overlapped.{one_config, does_turns}
 use Rattle.cg_inputs.specs.Sources.{AreGiven, AreMapped}
-use Rattle.cg_map_answers.specs.Check.{illegal_report, IsLegalInput, IsIllegalCheck}
-use Rattle.cg_map_answers.specs.Emit.{IsEmit, IsEmittedBy, IsEmission, RunsMapping, IsEmittedRun, config_of, emit_report}
+use Rattle.cg_mapping_answers.specs.Check.{illegal_report, IsLegalInput, IsIllegalCheck}
+use Rattle.cg_mapping_answers.specs.Emit.{IsEmit, IsEmittedBy, IsEmission, RunsMapping, IsEmittedRun, config_of, emit_report}
 use Rattle.cg_inputs.proofs.Sound.{IsSound, IsNamed}
 use Rattle.cg_inputs.proofs.Wholes.{whole, one_write}
 use Rattle.cg_inputs.proofs.Arrays.{sized}
 use Rattle.cg_inputs.proofs.Refusals.{IsRefusal, AreRefused, IsAlike, equal, refusals, sound_refusal}
 use Rattle.cg_inputs.proofs.Mapped.{refused_given, given_of, valid_given, IsValid, some_mapped, alike}
-use Rattle.cg_map_answers.proofs.Checked.{given_legal, no_violation, legal_without, hold_mapped, illegal_by}
+use Rattle.cg_mapping_answers.proofs.Checked.{given_legal, no_violation, legal_without, hold_mapped, illegal_by}
 
 -- ---- what the bytes do
 

@@ -20,7 +20,7 @@ use Rattle.cg_model.specs.declared.request.Request.{Request}
 use Rattle.cg_inputs.specs.Sources.{Pair, GivesPair, HoldPair}
 use Rattle.cg_inputs.proofs.Wholes.{one_write}
 use Rattle.cg_inputs.proofs.Paired.{valid_pair}
-use Rattle.cg_map_answers.specs.Searches.{IsImpossibleRun, HoldsMapped, map_writes, mapping_text, impossible_report}
+use Rattle.cg_task_answers.specs.Searches.{IsImpossibleRun, HoldsMapped, map_writes, mapping_text, impossible_report}
 
 -- after two writes both files are held, but for the first where they have one name
 two_writes : (old new : Held) (a b : Name) (x y : Bytes) → Wrote old (record { name = a; bytes = x } ∷ record { name = b; bytes = y } ∷ []) new → (a ≢ b → Holds new a x) × Holds new b y

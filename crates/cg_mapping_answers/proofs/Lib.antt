@@ -1,0 +1,3 @@
+pub mod Checked
+pub mod Bitstream
+pub mod Bounded

@@ -1,0 +1,10 @@
+//! What the commands answer that judge: `bound`, `check` and `emit`. From the bytes of input files to an outcome.
+#![tactic(auto)]
+
+mod bounding;
+mod checking;
+mod emitting;
+
+pub use bounding::bound;
+pub use checking::check;
+pub use emitting::{emit, emit_report};
