@@ -11,14 +11,11 @@ use Rattle.cg_claims.proofs.Plain.{excess_le}
 use Rattle.cg_place.specs.Counts.{excess_at, excess_on, unit_excess, is_broken}
 use Rattle.cg_walk.specs.State.{State, edges_from, edges, is_missing, missing, positions_of_all, state_positions, cost}
 use Rattle.cg_walk.specs.Good.{IsGood}
+use Rattle.cg_model.proofs.Ranges.{sum_zero}
 
 nil_of : {X : Type 0} (xs : List X) → length xs ≡ 0 → xs ≡ []
 nil_of [] h = refl
 nil_of (x ∷ xs) h = absurd (omega (arith, h))
-
-sum_zero : (f : ℕ → ℕ) (xs : List ℕ) → ((x : ℕ) → f x ≡ 0) → sum_by f xs ≡ 0
-sum_zero f [] h = refl
-sum_zero f (x ∷ xs) h = let a = sum_by-cons f x xs in let b = h x in let r = sum_zero f xs h in omega (arith, a, b, r)
 
 excess_none : (ii x : ℕ) → excess_on ii [] x ≡ 0
 excess_none ii x = sum_zero (excess_at ii [] x) (range_with_len 0 ii) (λ s. refl)

@@ -10,6 +10,7 @@ use Rattle.cg_model.specs.declared.kernel.Operand.{Operand}
 use Rattle.cg_model.specs.declared.kernel.Operand.TheVariants.{Const as Constant, Edge}
 use Rattle.cg_walk.specs.State.{edges_among, edges_from}
 use Rattle.cg_anneal.specs.Edges.{operand_edge}
+use Rattle.cg_model.proofs.Ranges.{range_more}
 
 among_append : (v p : ℕ) (xs ys : List Operand) → edges_among v p (xs ++ ys) ≡ edges_among v p xs ++ edges_among v (p + length xs) ys
 among_append v p [] ys = ap (λ q. edges_among v q ys) (omega arith)
@@ -49,13 +50,6 @@ from_more ns k n l =
     ∙ ap (λ es. edges_from 0 (take k ns) ++ es) (ap (λ q. edges_from q (get_or ns k n ∷ [])) z ∙ append-nil (edges_among k 0 (get_or ns k n).operands))
 
 -- ---- numbers
-
-range_more : (a n : ℕ) → range_with_len a (n + 1) ≡ range_with_len a n ++ (a + n) ∷ []
-range_more a zero = let z : a ≡ a + 0 = omega arith in ap (λ x. x ∷ []) z
-range_more a (suc n) =
-    let z : suc n + 1 ≡ suc (n + 1) = omega arith in
-    let y : a + 1 + n ≡ a + suc n = omega arith in
-    ap (λ k. range_with_len a k) z ∙ ap (λ xs. a ∷ xs) (range_more (a + 1) n ∙ ap (λ k. range_with_len (a + 1) n ++ k ∷ []) y)
 
 -- one number more
 pub numbers_more : (n : ℕ) → range_with_len 0 (n + 1) ≡ range_with_len 0 n ++ n ∷ []

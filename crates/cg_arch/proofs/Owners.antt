@@ -21,6 +21,7 @@ use Rattle.cg_arch.proofs.Places.{start, same_place}
 use Rattle.cg_arch.proofs.Units.{unit_at, units_before, unit_place, unit_get}
 use Rattle.cg_arch.proofs.Roles.{port_entry, port_of_unit, out_of_unit, own_role, unit_role, IsPortOf, IsOutOf}
 use Rattle.cg_arch.proofs.Resources.{built, resource_at, entry_at, shown_at, past}
+use Rattle.cg_arch.proofs.Valid.{eqb_same}
 
 -- ---- units by number
 
@@ -167,9 +168,6 @@ port_owned parts r k =
     (units_before parts.elements z.i, z.j, u.0, omega (arith, inside, long, long'), ap (λ w. get_or w.ports z.j 0) u.1 ∙ get_or-range_with_len first (length role.ports) z.j 0 inside ∙ sym z.is)
 
 -- ---- the unit of an out
-
-eqb_same : (n : ℕ) → eqb n n ≡ true
-eqb_same n = grind (arith, nat_tests)
 
 -- the first unit with that out is number x, where no other has it
 first_owner : (r n x : ℕ) (us : List Unit) (k : ℕ) (u : Unit) → slice_get us k ≡ Some u → u.out ≡ r → ((m : ℕ) (w : Unit) → slice_get us m ≡ Some w → w.out ≡ r → m ≡ k) → n ≡ x + k → owner_from r us x ≡ n

@@ -38,13 +38,6 @@ pub unit_get : (A : Arch) (x : ℕ) → x < length A.units + 1 → get_or (all_u
 unfolding all_unit_at
 unit_get A x h = get_or-map-range_with_len (unit_at A) 0 (length A.units + 1) x x 0 h (omega arith)
 
-pub range_more : (a n : ℕ) → range_with_len a (n + 1) ≡ range_with_len a n ++ (a + n) ∷ []
-range_more a zero = let same : a ≡ a + 0 = omega arith in ap (λ k. k ∷ []) same
-range_more a (suc n) =
-    let more : suc n + 1 ≡ suc (n + 1) = omega arith in
-    let last : a + 1 + n ≡ a + suc n = omega arith in
-    ap (range_with_len a) more ∙ ap (λ xs. a ∷ xs) (range_more (a + 1) n) ∙ ap (λ k. a ∷ (range_with_len (a + 1) n ++ k ∷ [])) last
-
 -- ---- links into targets one behind the other
 
 or_assoc : {X : Type 0} (o p q : Option X) → option_or o (option_or p q) ≡ option_or (option_or o p) q

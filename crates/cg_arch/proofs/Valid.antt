@@ -92,7 +92,7 @@ among_later : (b : Bool) (c : Bool) → c ≡ true → (if b then true else c) �
 among_later true c e = refl
 among_later false c e = e
 
-eqb_same : (n : ℕ) → eqb n n ≡ true
+pub eqb_same : (n : ℕ) → eqb n n ≡ true
 eqb_same n = grind (arith, nat_tests)
 
 among_get : (ops : List Op) (k : ℕ) (op : Op) → slice_get ops k ≡ Some op → among ops op ≡ true

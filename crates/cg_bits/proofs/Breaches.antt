@@ -34,7 +34,3 @@ below_none f = refl
 pub skip : {X : Type 0} (xs ys : List X) (r : Option X) → xs ≡ [] → first ys ≡ r → first (xs ++ ys) ≡ r
 skip [] ys r e h = h
 skip (x ∷ xs) ys r e h = absurd cc
-
-pub here : {X : Type 0} (xs ys : List X) (x : X) → first xs ≡ Some x → first (xs ++ ys) ≡ Some x
-here [] ys x h = absurd cc
-here (y ∷ xs) ys x h = h

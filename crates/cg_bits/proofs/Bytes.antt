@@ -14,8 +14,9 @@ use Rattle.cg_bits.specs.Spelling.{slots, header, Spells}
 use Rattle.cg_bits.specs.Reading.{config_in, config_at, ii_in, stages_in}
 use Rattle.cg_model.specs.Canonical.{IsCanonical, stage_of, greatest_of, last_stage, is_on}
 use Rattle.cg_bits.proofs.Numbers.{length-bits_of, number-bits}
-use Rattle.cg_config.proofs.Canonical.{stage_fits, greatest_below}
+use Rattle.cg_config.proofs.Canonical.{stage_fits}
 use Rattle.cg_bits.proofs.Slots.{slots_read}
+use Rattle.cg_model.proofs.Canonical.{greatest_below}
 
 pub length-bits_of_bytes : (bytes : List ℕ) → length (bits_of_bytes bytes) ≡ 8 * length bytes
 length-bits_of_bytes [] = refl

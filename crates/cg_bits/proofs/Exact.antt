@@ -3,7 +3,7 @@ use Rattle.std.proofs.Common.{◌≡◌, ℕ, zero, suc, ◌+◌, ◌-◌, ◌*�
 use Rattle.std.specs.List.{range_with_len}
 use Rattle.std.specs.Int.{w16, to_be_bytes, from_be_bytes}
 use Rattle.std.specs.Prelude.{slice_index_or}
-use Rattle.std.proofs.lemmas.Bool.{cases_lt, le-ltb, leb-true, le-leb, ltb-false, eqb-true, eq-eqb, eqb-false, or_parts, or_from, ne_eqb}
+use Rattle.std.proofs.lemmas.Bool.{cases_lt, le-ltb, leb-true, le-leb, ltb-false, eqb-true, eq-eqb, eqb-false, or_parts, or_from, ne_eqb, not-true}
 use Rattle.std.proofs.lemmas.List.{take_at, drop_at, take-append-drop, get_or-drop, get_or-take, get_or_past, take_all, drop-drop, length-replicate, get_or-replicate}
 use Rattle.std.proofs.lemmas.List.FromFn.{get_or-map-range_with_len, length-map-range_with_len}
 use Rattle.std.proofs.lemmas.Nat.{be_bytes_2, row_fits}
@@ -75,10 +75,6 @@ parts_none F A digest bytes e =
 past : (xs : List ℕ) (i : ℕ) → length xs ≤ i → get_or xs i 0 ≡ 0
 past xs i le = get_or_past xs i 0 le
 
-not_true : (b : Bool) → not b ≡ true → b ≡ false
-not_true true e = absurd cc
-not_true false e = refl
-
 from_zero : (n : ℕ) → (n ≡ 0 → ⊥) → 0 < n
 from_zero zero h = absurd (h refl)
 from_zero (suc n) h = omega arith
@@ -144,7 +140,7 @@ module _ (F : Format) (is : IsFormat F) (A : Arch) (room : HasRoom A) (digest : 
 
   header_parts : ((C.ii ≡ 0 → ⊥) × (C.ii ≤ A.contexts))
   header_parts =
-      let off = or_parts _ _ (not_true _ (none_unless _ _ none.header_right)) in
+      let off = or_parts _ _ (not-true _ (none_unless _ _ none.header_right)) in
       let rest = or_parts _ _ off.1 in
       (eqb-false _ _ off.0, ltb-false _ _ rest.0)
 
@@ -174,7 +170,7 @@ module _ (F : Format) (is : IsFormat F) (A : Arch) (room : HasRoom A) (digest : 
   padding_zero =
       all_false padding (length padding) refl (λ i lt.
       let below : i < (Faults.size F A digest bytes - 40) * 8 - len = omega (arith, padding_long) in
-      get_or-drop len bits i false ∙ not_true _ (none_unless _ _ (none_joined (λ j. Faults.unless (not (slice_index_or bits (len + j) false)) (320 + (len + j))) ((Faults.size F A digest bytes - 40) * 8 - len) none.padding_right i below)))
+      get_or-drop len bits i false ∙ not-true _ (none_unless _ _ (none_joined (λ j. Faults.unless (not (slice_index_or bits (len + j) false)) (320 + (len + j))) ((Faults.size F A digest bytes - 40) * 8 - len) none.padding_right i below)))
 
   known_in : (x slot : ℕ) → number_at bits (unit_place F A x slot) F.op_bits ≤ F.greatest → code_of (unit_in F (ports A x) bits (unit_place F A x slot)).op ≤ F.greatest
   unfolding unit_in

@@ -10,8 +10,9 @@ use Rattle.cg_flat.specs.Slots.{total}
 use Rattle.cg_bits.specs.Format.{arg_len}
 use Rattle.cg_bits.specs.Spelling.{arg_bits}
 use Rattle.cg_bits.specs.Reading.{arg_in}
-use Rattle.cg_bits.proofs.Numbers.{length-bits_of, number-bits, number_below, bits_of-number}
+use Rattle.cg_bits.proofs.Numbers.{length-bits_of, number-bits, number_below, bits_of-number, digit_is}
 use Rattle.cg_bits.proofs.Parts.{Holds-left, Holds-right, Holds-both, Holds-part, Holds-joined, length-joined}
+use Rattle.cg_bits.proofs.Bitwise.{number_at_below}
 
 -- ---- numbers
 
@@ -28,9 +29,6 @@ Holds-read bits at w le =
     let long : length part ≡ w = length-part bits at w le in
     let same : bits_of w (number part) ≡ part = subst (λ k. bits_of k (number part) ≡ part) long (bits_of-number part) in
     (drop w (drop at bits), sym (take-append-drop w (drop at bits)) ∙ ap (λ z. z ++ drop w (drop at bits)) (sym same))
-
-pub number_at-below : (bits : List Bool) (at w : ℕ) → at + w ≤ length bits → number_at bits at w < 2 ^ w
-number_at-below bits at w le = subst (λ k. number (take w (drop at bits)) < 2 ^ k) (length-part bits at w le) (number_below (take w (drop at bits)))
 
 pub Holds-at : (bits : List Bool) (p q : ℕ) (part : List Bool) → p ≡ q → Holds bits p part → Holds bits q part
 Holds-at bits p q part e h = subst (λ z. Holds bits z part) e h
@@ -49,11 +47,6 @@ digit_one false = refl
 digit_below : (b : Bool) → digit b < 2 ^ 1
 digit_below true = omega arith
 digit_below false = omega arith
-
-digit_eqb : (n : ℕ) → n < 2 → digit (eqb n 1) ≡ n
-digit_eqb zero lt = refl
-digit_eqb (suc zero) lt = refl
-digit_eqb (suc (suc n)) lt = absurd (omega arith)
 
 abbrev word_bits : ArgFields → ℕ → List Bool
 word_bits a k = bits_of 32 (slice_index a.init k)
@@ -98,7 +91,7 @@ unfolding arg_in
 arg_stands bits at le =
     let a = arg_in bits at in
     let mode : Holds bits at (bits_of 1 (digit a.fixed)) =
-    subst (λ z. Holds bits at (bits_of 1 z)) (sym (digit_eqb (number_at bits at 1) (number_at-below bits at 1 (omega arith)))) (Holds-read bits at 1 (omega arith)) in
+    subst (λ z. Holds bits at (bits_of 1 z)) (sym (digit_is (number_at bits at 1) (number_at_below bits at 1 (omega arith)))) (Holds-read bits at 1 (omega arith)) in
     let count : Holds bits (at + 1) (bits_of 3 a.count) = Holds-read bits (at + 1) 3 (omega arith) in
     let word : (k : ℕ) → k < 4 → Holds bits (at + 1 + 3 + total (λ z. 32) k) (word_bits a k) =
     λ k lt. Holds-at bits (at + 4 + k * 32) (at + 1 + 3 + total (λ z. 32) k) (word_bits a k) (omega (arith, total-constant 32 k))

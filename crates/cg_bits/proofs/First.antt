@@ -34,10 +34,6 @@ pub joined_none_more : {X : Type 0} (f : ℕ → List X) (n : ℕ) → joined f 
 unfolding joined
 joined_none_more f n e h = ap (joined f) (add-one n) ∙ both_none (joined f n) (f n) e h
 
-pub total_more : (f : ℕ → ℕ) (n : ℕ) → total f (n + 1) ≡ total f n + f n
-unfolding total
-total_more f n = ap (total f) (add-one n)
-
 pub total_zero : (f : ℕ → ℕ) → total f 0 ≡ 0
 unfolding total
 total_zero f = refl

@@ -7,7 +7,6 @@ use Rattle.std.proofs.lemmas.List.FromFn.{get_or-map-range_with_len}
 use Rattle.cg_word.specs.declared.op.Op.{Op}
 use Rattle.cg_model.specs.declared.config.UnitFields.{UnitFields}
 use Rattle.cg_model.specs.Config.{no_arg, arg}
-use Rattle.cg_config.proofs.Canonical.{zero_mode, zero_count, zero_word}
 use Rattle.cg_bits.specs.Numbers.{number_at}
 use Rattle.cg_bits.specs.Ranges.{IsFormat}
 use Rattle.cg_bits.specs.declared.format.Format.{Format}
@@ -15,8 +14,9 @@ use Rattle.cg_bits.specs.Format.{arg_len, args_at}
 use Rattle.cg_bits.specs.Reading.{arg_in, unit_in}
 use Rattle.cg_model.specs.Canonical.{AreFields, mode_right, count_right, word_right, stage_right, port_right, immediate_right, offered}
 use Rattle.cg_bits.specs.Faults.{unless, arg_breaches, unit_breaches}
-use Rattle.cg_bits.proofs.Fields.{number_at-below}
 use Rattle.cg_bits.proofs.None.{none_both, both_none, none_unless, unless_none, none_joined, joined_none}
+use Rattle.cg_model.proofs.Canonical.{zero_mode, zero_count, zero_word}
+use Rattle.cg_bits.proofs.Bitwise.{number_at_below}
 
 module _ (F : Format) (is : IsFormat F) (n : ℕ) (few : n ≤ 3) (bits : List Bool) (at : ℕ) (room : at + (args_at F + n * arg_len) ≤ length bits) where
   abbrev f : UnitFields
@@ -39,7 +39,7 @@ module _ (F : Format) (is : IsFormat F) (n : ℕ) (few : n ≤ 3) (bits : List B
   unfolding arg_in
   read_word p k lt l =
       subst (λ z. z < 2 ^ 32) (sym (get_or-map-range_with_len (λ j. number_at bits (place p + 4 + j * 32) 32) 0 4 k k 0 l (omega arith)))
-      (number_at-below bits (place p + 4 + k * 32) 32 (omega arith))
+      (number_at_below bits (place p + 4 + k * 32) 32 (omega arith))
 
   read_four : (p : ℕ) → length (arg_in bits (place p)).init ≡ 4
   unfolding arg_in
@@ -62,8 +62,8 @@ module _ (F : Format) (is : IsFormat F) (n : ℕ) (few : n ≤ 3) (bits : List B
       record {
         args = refl;
         inits = λ p lt. ⊎_elim (λ l. ap (λ a. length a.init) (arg_read p l) ∙ read_four p) (λ l. ap (λ a. length a.init) (arg_zero p lt l)) (cases_lt p n);
-        ports = number_at-below bits (at + F.op_bits + 16) 4 (omega arith);
-        immediates = number_at-below bits (at + F.op_bits + 20) 32 (omega arith);
+        ports = number_at_below bits (at + F.op_bits + 16) 4 (omega arith);
+        immediates = number_at_below bits (at + F.op_bits + 20) 32 (omega arith);
         init_words = λ p k lt kl. ⊎_elim (λ l. subst (λ a. slice_index a.init k < 2 ^ 32) (sym (arg_read p l)) (read_word p k l kl))
             (λ l. subst (λ a. slice_index a.init k < 2 ^ 32) (sym (arg_zero p lt l)) (subst (λ z. z < 2 ^ 32) (sym (get_or-replicate 4 k 0 0 kl)) (omega arith))) (cases_lt p n);
         offer = offer;

@@ -14,9 +14,10 @@ use Rattle.cg_bits.specs.Reading.{select_place, unit_place, ii_in, stages_in, bo
 use Rattle.cg_bits.specs.Faults as Faults
 use Rattle.cg_bits.specs.Faults.{unless, unit_breaches}
 use Rattle.cg_bits.specs.Checks.{fields_there, select_faults, slot_faults, slot_stage, padding_faults, port_at, repeated_faults, used_before, uses, gives_to, field_faults, end_faults, start_faults}
-use Rattle.cg_config.proofs.Canonical.{greatest_same}
 use Rattle.cg_bits.proofs.Slots.{select_read, fields_read}
 use Rattle.cg_bits.proofs.Outputs.{joined_same}
+use Rattle.cg_model.proofs.Bools.{and_false}
+use Rattle.cg_model.proofs.Canonical.{greatest_same}
 
 pub any_same : (f g : ℕ → Bool) (n : ℕ) → ((i : ℕ) → i < n → f i ≡ g i) → any_below f n ≡ any_below g n
 unfolding any_below
@@ -27,10 +28,6 @@ any_false : (f : ℕ → Bool) (n : ℕ) → ((i : ℕ) → f i ≡ false) → a
 unfolding any_below
 any_false f zero h = refl
 any_false f (suc n) h = ap (λ z. z || f n) (any_false f n h) ∙ h n
-
-and_false : (b : Bool) → (b && false) ≡ false
-and_false true = refl
-and_false false = refl
 
 -- a field gives no output, or clashes with those that give output to its port
 clash_in : (b : Bool) (g : UnitFields) (f : ℕ → UnitFields) (n : ℕ) → b ≡ gives_output g.op → any_below (λ y. clash (f y) g) n ≡ (b && uses f n g.port)

@@ -7,7 +7,7 @@ use Rattle.cg_bits.specs.Numbers.{digit, bits_of, number_after, number}
 
 -- ---- digits
 
-digit_is : (r : ℕ) → r < 2 → digit (eqb r 1) ≡ r
+pub digit_is : (r : ℕ) → r < 2 → digit (eqb r 1) ≡ r
 digit_is zero lt = refl
 digit_is (suc zero) lt = refl
 digit_is (suc (suc r)) lt = absurd (omega arith)

@@ -11,8 +11,8 @@ use Rattle.cg_bits.specs.Format.{op_of, slot_len}
 use Rattle.cg_bits.specs.Reading.{unit_in, unit_place}
 use Rattle.cg_bits.specs.Faults.{unless}
 use Rattle.cg_bits.specs.Checks.{gives_to, uses, port_fault, fields_there}
-use Rattle.cg_bits.proofs.Fields.{number_at-below}
 use Rattle.cg_bits.proofs.Places.{unit_inside}
+use Rattle.cg_bits.proofs.Bitwise.{number_at_below}
 
 pub fields_op : (F : Format) (n : ℕ) (bits : List Bool) (at : ℕ) → (unit_in F n bits at).op ≡ op_of F (number_at bits at F.op_bits)
 unfolding unit_in
@@ -27,7 +27,7 @@ pub port_below : (F : Format) (A : Arch) (bits : List Bool) (slot ii x : ℕ) �
 unfolding unit_in
 port_below F A bits slot ii x lt in_time long =
     let inside = unit_inside F A x slot ii lt in_time in
-    number_at-below bits (unit_place F A x slot + F.op_bits + 16) 4 (omega arith)
+    number_at_below bits (unit_place F A x slot + F.op_bits + 16) 4 (omega arith)
 
 pub any_none : (p : ℕ → Bool) → any_below p 0 ≡ false
 unfolding any_below
@@ -36,10 +36,6 @@ any_none p = refl
 pub any_more : (p : ℕ → Bool) (n : ℕ) → any_below p (n + 1) ≡ (any_below p n || p n)
 unfolding any_below
 any_more p n = ap (any_below p) (add-one n)
-
-pub or_none : (b : Bool) → (b || false) ≡ b
-or_none true = refl
-or_none false = refl
 
 pub or_assoc : (a b c : Bool) → ((a || b) || c) ≡ (a || (b || c))
 or_assoc true b c = refl

@@ -1,7 +1,7 @@
 -- The faults of the header, and what holds where there are none.
 use Rattle.std.proofs.Common.{◌≡◌, ℕ, zero, suc, ◌+◌, ◌*◌, ◌/◌, ◌<◌, ◌≤◌, not, ◌||◌, eqb, ltb, leb, cond, Bool, true, false, List, [], ◌∷◌, ◌++◌, length, Some, Result, Ok, Err, refl, sym, ap, ◌∙◌, arith}
 use Rattle.std.proofs.Math.Dec.{eqb-suc-zero}
-use Rattle.std.proofs.lemmas.Bool.{ltb-false, leb-true, or_parts}
+use Rattle.std.proofs.lemmas.Bool.{ltb-false, leb-true, or_parts, not-true}
 use Rattle.cg_model.specs.Array.{Arch}
 use Rattle.cg_bits.specs.declared.format.Format.{Format}
 use Rattle.cg_bits.specs.declared.fault.BitsFault.{BitsFault}
@@ -65,10 +65,6 @@ pub record IsStarted (F : Format) (A : Arch) (bytes : List ℕ) : Type 0 where
   pub contexts : ii_in bytes ≤ A.contexts
   pub whole : 40 + (ii_in bytes * slot_len F A + 7) / 8 ≤ length bytes
 
-not_right : (b : Bool) → not b ≡ true → b ≡ false
-not_right true e = absurd cc
-not_right false e = refl
-
 some_of : (n : ℕ) → (eqb n 0 ≡ false) → 0 < n
 some_of zero e = absurd cc
 some_of (suc n) e = omega arith
@@ -87,7 +83,7 @@ started F A digest bytes e =
     let d = none_both D H b.1 in
     let s = unless (leb (Faults.size F A digest bytes) (length bytes)) (Truncated (length bytes)) in
     let long = none_guard (ltb (length bytes) 40) (Truncated (length bytes)) (cond (eqb (length (D ++ H)) 0) s []) b.0 in
-    let right = or_parts (eqb (ii_in bytes) 0) (ltb A.contexts (ii_in bytes) || eqb (stages_in bytes) 0) (not_right _ (none_unless _ (BadHeader (ii_in bytes) (stages_in bytes)) d.1)) in
+    let right = or_parts (eqb (ii_in bytes) 0) (ltb A.contexts (ii_in bytes) || eqb (stages_in bytes) 0) (not-true _ (none_unless _ (BadHeader (ii_in bytes) (stages_in bytes)) d.1)) in
     let few = or_parts (ltb A.contexts (ii_in bytes)) (eqb (stages_in bytes) 0) right.1 in
     let empty : eqb (length (D ++ H)) 0 ≡ true = ap (λ (xs : List BitsFault). eqb (length xs) 0) b.1 in
     record {

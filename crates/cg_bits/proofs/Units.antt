@@ -1,7 +1,7 @@
 -- The fields of a unit that stand in the bits are read, and what is read stands there.
 use Rattle.std.proofs.Common.{◌≡◌, ℕ, ◌+◌, ◌*◌, ◌^◌, ◌<◌, ◌≤◌, Bool, true, false, cond, not, ◌&&◌, ◌||◌, ltb, eqb, List, ◌++◌, length, Option, refl, sym, ap, subst, ◌∙◌, arith, length-append, ⊎_elim}
 use Rattle.std.specs.Prelude.{slice_index}
-use Rattle.std.proofs.lemmas.Bool.{cases_lt, lt-ltb, le-ltb, leb-true, eqb-true, and_parts, or_cases}
+use Rattle.std.proofs.lemmas.Bool.{cases_lt, lt-ltb, le-ltb, leb-true, eqb-true, and_parts, or_cases, not-true}
 use Rattle.std.proofs.lemmas.List.FromFn.{fill_by_all, get_or-map-range_with_len}
 use Rattle.cg_word.specs.declared.op.Op.{Op}
 use Rattle.cg_model.specs.declared.config.ArgFields.{ArgFields}
@@ -24,10 +24,6 @@ use Rattle.cg_bits.proofs.Fields.{Holds-number, Holds-read, Holds-at, total-cons
 
 -- ---- rules
 
-not_true : (b : Bool) → not b ≡ true → b ≡ false
-not_true true e = absurd cc
-not_true false e = refl
-
 false_true : (b : Bool) → b ≡ false → b ≡ true → ⊥
 false_true b e f = absurd cc
 
@@ -40,7 +36,7 @@ idle ops f p are lt le =
     let past : ltb p (arity_of f.op) ≡ false = le-ltb p (arity_of f.op) le in
     let no : (b c : Bool) → (b || (ltb p (arity_of f.op) && c)) ≡ true → b ≡ true =
     λ b c e. ⊎_elim (λ l. l) (λ l. absurd (false_true (ltb p (arity_of f.op)) past (and_parts (ltb p (arity_of f.op)) c l).0)) (or_cases b (ltb p (arity_of f.op) && c) e) in
-    let mode = not_true (arg f p).fixed (no (not (arg f p).fixed) (not (fixed_below f p)) (are.mode p lt)) in
+    let mode = not-true (arg f p).fixed (no (not (arg f p).fixed) (not (fixed_below f p)) (are.mode p lt)) in
     let count = eqb-true (arg f p).count 0 (no (eqb (arg f p).count 0) (not (arg f p).fixed) (and_parts _ _ (are.count p lt)).1) in
     let word : (k : ℕ) → k < 4 → slice_index (arg f p).init k ≡ 0 =
     λ k l. eqb-true (slice_index (arg f p).init k) 0 (⊎_elim (λ e. e)

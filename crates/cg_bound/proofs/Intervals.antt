@@ -19,14 +19,15 @@ use Rattle.cg_edges.specs.Chain.{IsTight}
 use Rattle.cg_recur.proofs.Chains.{none_from_tight, fades}
 use Rattle.cg_class.specs.Class.{IsOverfull, offers_one, units_for}
 use Rattle.cg_class.specs.Search.{op_at, ops_at, no_unit}
-use Rattle.cg_class.proofs.Totals.{total, total_more, sum_by_total}
+use Rattle.cg_class.proofs.Totals.{total_more, sum_by_total}
 use Rattle.cg_class.proofs.Balance.{one_if}
 use Rattle.cg_class.proofs.Sets.{offers_from}
 use Rattle.cg_bound.specs.declared.interval.Certificate.{Certificate}
 use Rattle.cg_bound.specs.declared.interval.Certificate.TheVariants.{Cycle, Class}
 use Rattle.cg_bound.specs.Bound.{HasNoRecurrence, HasNoOverfull, IsForbidden, IsOpen, IsMii, IsFirstUnoffered, AllOffered, Certifies, ShowsUnoffered, ShowsForbidden, Shows, IsShownBelow}
-use Rattle.cg_bound.proofs.Legal.{operand_within}
 use Rattle.cg_bound.proofs.Offers.{unit_for, never_open, one_of_nodes}
+use Rattle.cg_model.proofs.Sums.{total}
+use Rattle.cg_model.proofs.Mappings.{operand_within}
 
 -- a count above 0 counts one
 some_one : (n : ℕ) (p : ℕ → Bool) → 0 < total n (λ v. one_if (p v)) → (v : ℕ) × (v < n) × (p v ≡ true)

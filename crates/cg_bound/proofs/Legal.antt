@@ -23,20 +23,19 @@ use Rattle.cg_recur.specs.Recurrences.{IsRecurrence}
 use Rattle.cg_recur.proofs.Chains.{none_from_tight}
 use Rattle.cg_class.specs.Class.{IsOverfull, offers_one}
 use Rattle.cg_class.specs.Search.{op_at, ops_at, no_unit}
-use Rattle.cg_class.proofs.Totals.{total, total_le, total_zero, by_place, sum_by_total}
+use Rattle.cg_class.proofs.Totals.{total_le, by_place, sum_by_total}
 use Rattle.cg_class.proofs.Balance.{one_if, on, at_most}
 use Rattle.cg_class.proofs.Sets.{offers_from}
 use Rattle.cg_overlap.proofs.Shape.{routed}
 use Rattle.cg_bound.specs.Bound.{IsForbidden}
+use Rattle.cg_model.proofs.Sums.{total, total_zero}
+use Rattle.cg_model.proofs.Mappings.{operand_within}
+use Rattle.cg_edges.proofs.Latencies.{lesser_below}
 
 -- time does not fall along a path
 goes_up : (A : Arch) (path : List ℕ) (q t r s : ℕ) → Goes A q t path r s → t ≤ s
 goes_up A [] q t r s (e, f) = omega arith
 goes_up A (x ∷ path) q t r s (c, g) = let h = goes_up A path x (t + delay A x) r s g in omega arith
-
-lesser_below : (l : ℕ) (o : Option ℕ) → lesser l o ≤ l
-lesser_below l None = omega arith
-lesser_below l (Some m) = omega arith
 
 lesser_rest : (l m : ℕ) (o : Option ℕ) → (x : ℕ) × (o ≡ Some x) × (x ≤ m) → lesser l o ≤ m
 lesser_rest l m None (x, e, h) = absurd (cc)
@@ -55,13 +54,6 @@ least_below op (u ∷ us) (suc x) d l h =
     (λ t. (lesser u.latency rest, ap (λ b. cond b (Some (lesser u.latency rest)) rest) t, lesser_rest u.latency (slice_index_or us x d).latency rest (y, e, m)))
     (λ t. (y, ap (λ b. cond b (Some (lesser u.latency rest)) rest) t ∙ e, m))
     (cases_Bool (among u.ops op))
-
--- no operand stands past the last node
-pub operand_within : (K : Kernel) (v p : ℕ) (o : Operand) → HasOperand K v p o → v < size K
-operand_within K v p o h =
-    ⊎_elim (λ l. l)
-    (λ l. let e : node K v ≡ no_node = get_or_past K.nodes v no_node l in let g = ap (λ (z : Node). slice_get z.operands p) (sym e) ∙ h in absurd (cc))
-    (cases_lt v (size K))
 
 -- a sum of which at most one part is not 0, and none above 1
 at_most_one : (n : ℕ) (f : ℕ → ℕ) → ((k : ℕ) → k < n → f k ≤ 1) → ((j k : ℕ) → j < n → k < n → (f j ≡ 0 → ⊥) → (f k ≡ 0 → ⊥) → j ≡ k) → total n f ≤ 1

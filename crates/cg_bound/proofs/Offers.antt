@@ -2,7 +2,7 @@
 use Rattle.std.proofs.Common.{◌≡◌, ℕ, suc, ◌+◌, ◌*◌, ◌<◌, ◌≤◌, List, [], ◌∷◌, length, find, cond, eqb, Bool, true, false, Option, Some, None, refl, sym, ap, ◌∙◌, arith, ⊎_elim, eqb-true, eq-eqb, rules}
 use Rattle.std.specs.Prelude.{slice_index_or, not, ◌||◌, MatchOption, ⊤}
 use Rattle.std.specs.List.{list_any}
-use Rattle.std.proofs.lemmas.Bool.{cases_Bool, cond-true, cond-false, and_from, and_parts, true≢false}
+use Rattle.std.proofs.lemmas.Bool.{cases_Bool, cond-true, cond-false, and_from, and_parts, true≢false, not-true}
 use Rattle.std.proofs.lemmas.List.Folds.{list_any_at}
 use Rattle.cg_word.specs.declared.op.Op.{Op}
 use Rattle.cg_word.specs.declared.op.Op.TheVariants.{Const, Iter, Input, Add, Sub, Mul, And, Or, Xor, Shl, Shr, Sar, Eq, Ne, Lts, Ltu, Mins, Maxs, Select, Load, Store, Output, LoadIf, StoreIf, OutputIf}
@@ -15,11 +15,13 @@ use Rattle.cg_model.specs.Kernel.{Kernel, node, no_node, size}
 use Rattle.cg_model.specs.Array.{Arch}
 use Rattle.cg_class.specs.Class.{IsOverfull, AreOfNodes, offers_one}
 use Rattle.cg_class.specs.Search.{op_at, ops_at, no_unit}
-use Rattle.cg_class.proofs.Totals.{total, total_zero, total_more, sum_by_total}
+use Rattle.cg_class.proofs.Totals.{total_more, sum_by_total}
 use Rattle.cg_class.proofs.Balance.{one_if}
 use Rattle.cg_class.proofs.Sets.{offers_to}
 use Rattle.cg_bound.specs.Bound.{IsUnoffered, IsFirstUnoffered, AllOffered}
 use Rattle.cg_bound.specs.Search.{has_op, offers, is_unoffered}
+use Rattle.cg_model.proofs.Sums.{total, total_zero}
+use Rattle.cg_word.proofs.Arity.{all_among}
 
 -- an item that passes, and none that does
 any_some : {X : Type 0} (p : X → Bool) (xs : List X) (d : X) → list_any p xs ≡ true → (i : ℕ) × (i < length xs) × (p (slice_index_or xs i d) ≡ true)
@@ -29,10 +31,6 @@ any_some p (x ∷ xs) d h =
 
 any_none : {X : Type 0} (p : X → Bool) (xs : List X) (i : ℕ) (d : X) → list_any p xs ≡ false → i < length xs → p (slice_index_or xs i d) ≡ false
 any_none p xs i d h l = ⊎_elim (λ t. absurd (true≢false (sym (list_any_at p xs i d l t) ∙ h))) (λ t. t) (cases_Bool (p (slice_index_or xs i d)))
-
-not_true : (b : Bool) → not b ≡ true → b ≡ false
-not_true true h = absurd (cc)
-not_true false h = refl
 
 -- ---- the test
 
@@ -49,7 +47,7 @@ module _ (A : Arch) (K : Kernel) where
       let (a, b) = and_parts (list_any (has_op op) K.nodes) (not (list_any (offers op) A.units)) h in
       record {
         own = (let (v, l, e) = any_some (has_op op) K.nodes no_node a in (v, l, same_code _ _ (eqb-true _ _ e)));
-        none = λ x l. any_none (offers op) A.units x no_unit (not_true _ b) l;
+        none = λ x l. any_none (offers op) A.units x no_unit (not-true _ b) l;
       }
 
   -- where all are offered, each node has a unit for it
@@ -61,17 +59,6 @@ module _ (A : Arch) (K : Kernel) where
       (cases_Bool (list_any (offers op) A.units))
 
 -- ---- the first one
-
-all_among : (op : Op) → among all_ops op ≡ true
-unfolding op_of
-all_among op = among_found all_ops (op_again op)
-  where
-    among_found : (ops : List Op) → find (λ o. eqb (code o) (code op)) ops ≡ Some op → among ops op ≡ true
-    among_found [] h = absurd (cc)
-    among_found (o ∷ os) h =
-        ⊎_elim (λ t. ap (λ b. cond b true (among os op)) t)
-        (λ t. ap (λ b. cond b true (among os op)) t ∙ among_found os (sym (ap (λ b. cond b (Some o) (find (λ z. eqb (code z) (code op)) os)) t) ∙ h))
-        (cases_Bool (eqb (code o) (code op)))
 
 -- operations in the order of their codes, from k on
 abbrev Ascend : ℕ → List Op → Type 0

@@ -15,8 +15,9 @@ use Rattle.cg_model.proofs.Elements.{any_true, take_get}
 use Rattle.cg_check.specs.Edges.{data_edge}
 use Rattle.cg_check.specs.declared.rule.RulePlace.TheVariants as at
 use Rattle.cg_check.specs.Rules.{L1, L2, L3, L4, L5, Keeps, StandsWell, violated, is_interval, stands_well, is_shared, is_after, is_brought, brings, end_place}
-use Rattle.cg_check.proofs.Lists.{any_of, Contains-get, taken_get, first_from_clear, first_such_clear, first_such_not}
+use Rattle.cg_check.proofs.Lists.{any_of, taken_get, first_such_clear, first_such_not}
 use Rattle.cg_check.proofs.Links.{arrives_it, brings_of}
+use Rattle.cg_model.proofs.Lookups.{Contains-get, first_from-none}
 
 -- ---- L1
 
@@ -57,7 +58,7 @@ well A K M v s = and_from _ _ (lt-ltb _ _ s.known) (and_from _ _ (among_it _ _ s
 pub units_none : (A : Arch) (K : Kernel) (M : Mapping) → length M.places ≡ size K → Keeps L2 A K M → violated L2 A K M ≡ None
 unfolding violated
 units_none A K M long k =
-    ap (option_map at.Node) (first_from_clear (λ v p. not (stands_well A K v p)) 0 M.places (λ i j p e same.
+    ap (option_map at.Node) (first_from-none (λ v p. not (stands_well A K v p)) 0 M.places (λ i j p e same.
     let here : i ≡ j = omega arith in
     let within = slice_get_within M.places i p e in
     let inside : i < size K = omega arith in
@@ -90,7 +91,7 @@ apart_kept A K M long none v w l m e f =
 pub apart_none : (A : Arch) (K : Kernel) (M : Mapping) → length M.places ≡ size K → Keeps L3 A K M → violated L3 A K M ≡ None
 unfolding violated
 apart_none A K M long k =
-    ap (option_map at.Node) (first_from_clear (λ v p. is_shared M.ii (take v M.places) p) 0 M.places (λ i j p e same.
+    ap (option_map at.Node) (first_from-none (λ v p. is_shared M.ii (take v M.places) p) 0 M.places (λ i j p e same.
     let here : i ≡ j = omega arith in
     subst (λ z. is_shared M.ii (take z M.places) p ≡ false) here (false_from_ne_true _ (λ h. never i p e (any_true (λ q. eqb q.unit p.unit && eqb (q.time % M.ii) (p.time % M.ii)) (take i M.places) h)))))
   where
@@ -116,7 +117,7 @@ order_kept A K M none e u v d has =
 pub order_none : (A : Arch) (K : Kernel) (M : Mapping) → Keeps L4 A K M → violated L4 A K M ≡ None
 unfolding violated
 order_none A K M k =
-    ap (option_map at.Order) (first_from_clear (λ e edge. not (is_after M edge)) 0 K.order (λ i j edge e same. not_from_true _ (le-leb _ _ (k i edge.from edge.to edge.distance e))))
+    ap (option_map at.Order) (first_from-none (λ e edge. not (is_after M edge)) 0 K.order (λ i j edge e same. not_from_true _ (le-leb _ _ (k i edge.from edge.to edge.distance e))))
 
 -- ---- L5
 

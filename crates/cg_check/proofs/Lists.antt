@@ -5,8 +5,10 @@ use Rattle.std.specs.Option.{option_or, is_some}
 use Rattle.std.specs.List.{list_any}
 use Rattle.std.proofs.lemmas.Bool.{cases_lt, or_parts, or_cases, or_left, or_right, cond-false}
 use Rattle.cg_model.specs.First.{first_from, first_such}
-use Rattle.cg_overlap.proofs.Facts.{Contains-first, Contains-later, Contains-cases, Contains-nil}
+use Rattle.cg_overlap.proofs.Facts.{Contains-first, Contains-later, Contains-cases}
 use Rattle.cg_check.specs.Rules.{first_below}
+use Rattle.cg_model.proofs.Lookups.{Contains-nil}
+use Rattle.cg_model.proofs.Options.{or_none}
 
 -- ---- tests of some element
 
@@ -27,17 +29,7 @@ pub any_none : {X : Type 0} (t : X → Bool) (xs : List X) → ((x : X) → Cont
 any_none t [] h = refl
 any_none t (y ∷ ys) h = ap (λ b. b || list_any t ys) (h y (Contains-first y ys)) ∙ any_none t ys (λ x m. h x (Contains-later x y ys m))
 
--- where a is false, so are a and b
-pub and_not : (a b : Bool) → (a ≡ true → b ≡ false) → (a && b) ≡ false
-and_not true b h = h refl
-and_not false b h = refl
-
 -- ---- elements by number
-
-pub Contains-get : {X : Type 0} (xs : List X) (k : ℕ) (x : X) → slice_get xs k ≡ Some x → Contains xs x
-Contains-get [] k x e = let bad : None ≡ Some x = e in absurd (cc)
-Contains-get (y ∷ ys) zero x e = let same : y ≡ x = cc in subst (λ z. Contains (y ∷ ys) z) same (Contains-first y ys)
-Contains-get (y ∷ ys) (suc k) x e = Contains-later x y ys (Contains-get ys k x e)
 
 -- an element of the first n is one of all, before n
 pub taken_get : {X : Type 0} (xs : List X) (n i : ℕ) (x : X) → slice_get (take n xs) i ≡ Some x → (slice_get xs i ≡ Some x) × (i < n)
@@ -47,13 +39,6 @@ taken_get (y ∷ ys) (suc n) zero x e = (e, omega arith)
 taken_get (y ∷ ys) (suc n) (suc i) x e = let (a, b) = taken_get ys n i x e in (a, omega arith)
 
 -- ---- first places
-
--- where a test holds nowhere, there is no first place
-pub first_from_clear : {X : Type 0} (t : ℕ → X → Bool) (i : ℕ) (xs : List X) → ((k j : ℕ) (x : X) → slice_get xs k ≡ Some x → j ≡ i + k → t j x ≡ false) → first_from t i xs ≡ None
-first_from_clear t i [] h = refl
-first_from_clear t i (x ∷ xs) h =
-    cond-false (t i x) (Some i) (first_from t (i + 1) xs) (h 0 i x refl (omega arith))
-    ∙ first_from_clear t (i + 1) xs (λ k j y at e. h (suc k) j y at (omega arith))
 
 pub first_such_clear : {X : Type 0} (t : X → Bool) (xs : List X) → ((x : X) → Contains xs x → t x ≡ false) → first_such t xs ≡ None
 first_such_clear t [] h = refl
@@ -71,15 +56,11 @@ first_such_not t (y ∷ ys) x none m =
 
 -- ---- numbers below n
 
-none_parts : {X : Type 0} (o p : Option X) → option_or o p ≡ None → (o ≡ None) × (p ≡ None)
-none_parts (Some x) p e = let bad : Some x ≡ None = e in ((cc), (cc))
-none_parts None p e = (refl, e)
-
 pub first_below_none : {X : Type 0} (f : ℕ → Option X) (n k : ℕ) → first_below f n ≡ None → k < n → f k ≡ None
 unfolding first_below
 first_below_none f zero k none l = absurd (omega arith)
 first_below_none f (suc n) k none l =
-    let parts = none_parts (first_below f n) (f n) none in
+    let parts = or_none (first_below f n) (f n) none in
     ⊎_elim (λ (h : k < n). first_below_none f n k parts.0 h) (λ (h : n ≤ k). let e : n ≡ k = omega arith in subst (λ z. f z ≡ None) e parts.1) (cases_lt k n)
 
 pub first_below_clear : {X : Type 0} (f : ℕ → Option X) (n : ℕ) → ((k : ℕ) → k < n → f k ≡ None) → first_below f n ≡ None

@@ -11,7 +11,7 @@ use Rattle.cg_model.specs.declared.mapping.Place.{Place}
 use Rattle.cg_check.specs.Slots.{takes, place_in, mark_of, AreMarks, first_shared, IsScanned}
 use Rattle.cg_check.specs.Rules.{is_shared}
 use Rattle.cg_model.specs.First.{first_from}
-use Rattle.cg_check.proofs.Tables.{places_apart}
+use Rattle.cg_model.proofs.Mappings.{places_apart}
 
 or_false : (a b : Bool) → b ≡ false → (a || b) ≡ a
 or_false true b e = refl

@@ -11,10 +11,14 @@ use Rattle.cg_model.specs.declared.array.Kind.TheVariants.{Wire, Out}
 use Rattle.cg_model.specs.Kernel.{Kernel, IsKernel, HasOperand, size, node}
 use Rattle.cg_model.specs.Array.{Arch, IsArch, resource, unit, delay}
 use Rattle.cg_model.specs.Mapping.{Mapping, Position, Goes, Brings, place, positions, positions_after, positions_on, of_operand, of_route, leaves}
-use Rattle.cg_overlap.proofs.Facts.{Contains-cases, Contains-nil, Contains-flat_map_from}
+use Rattle.cg_overlap.proofs.Facts.{Contains-cases, Contains-flat_map_from}
 use Rattle.cg_check.specs.declared.rule.RulePlace.TheVariants as at
-use Rattle.cg_check.specs.Rules.{L2, L5, L6, L7, Keeps, AreAlike, violated, same_value, same_from, same_way, is_on, clashes, first_below, first_clash}
-use Rattle.cg_check.proofs.Lists.{any_not, any_none, and_not, first_below_none, first_below_clear}
+use Rattle.cg_check.specs.Rules.{L2, L5, L6, L7, Keeps, AreAlike, violated, same_value, same_way, is_on, clashes, first_below, first_clash}
+use Rattle.cg_model.specs.Mapping.{same_from}
+use Rattle.cg_check.proofs.Lists.{any_not, any_none, first_below_none, first_below_clear}
+use Rattle.cg_model.proofs.Bools.{and_not}
+use Rattle.cg_model.proofs.Lookups.{Contains-nil}
+use Rattle.cg_model.proofs.Mappings.{same_from_is, same_from_itself, operand_within}
 
 -- ---- what the tests of two positions say
 
@@ -24,21 +28,11 @@ values_same p q h = let (a, b) = and_parts _ _ h in (eqb-true _ _ a, eqb-true _ 
 pub same_values : (p q : Position) → (p.source ≡ q.source) × (p.time ≡ q.time) → same_value p q ≡ true
 same_values p q h = and_from _ _ (eq-eqb _ _ h.0) (eq-eqb _ _ h.1)
 
-from_is : (a b : Option ℕ) → same_from a b ≡ true → a ≡ b
-from_is None None h = refl
-from_is (Some a) (Some b) h = ap Some (eqb-true _ _ h)
-from_is None (Some b) h = let bad : false ≡ true = h in absurd (cc)
-from_is (Some a) None h = let bad : false ≡ true = h in absurd (cc)
-
-from_itself : (a : Option ℕ) → same_from a a ≡ true
-from_itself None = refl
-from_itself (Some q) = eq-eqb q q refl
-
 pub ways_same : (p q : Position) → same_way p q ≡ true → p.from ≡ q.from
-ways_same p q h = from_is p.from q.from h
+ways_same p q h = same_from_is p.from q.from h
 
 pub same_ways : (p q : Position) → p.from ≡ q.from → same_way p q ≡ true
-same_ways p q e = subst (λ z. same_from p.from z ≡ true) e (from_itself p.from)
+same_ways p q e = subst (λ z. same_from p.from z ≡ true) e (same_from_itself p.from)
 
 -- ---- positions are on resources
 
@@ -69,20 +63,13 @@ on_in_range A M u path r s p arch l (rest, e, h) m =
     ⊎_elim (λ f. subst (λ z. z.resource < length A.resources) f (out_in_range A (place M u).unit arch l)) (λ k. after_in_range A u out (leaves A M u) rest r s p arch h k)
     (Contains-cases p _ _ (subst (λ z. Contains (positions_on A u (leaves A M u) z) p) e m))
 
--- a node with an operand is one of the kernel's
-known_node : (K : Kernel) (v a : ℕ) (o : Operand) → HasOperand K v a o → v < size K
-known_node K v a o e =
-    ⊎_elim (λ (l : v < size K). l)
-    (λ (l : size K ≤ v). let bad : None ≡ Some o = sym (ap (λ z. slice_get z.operands a) (get_or_past K.nodes v _ l)) ∙ e in absurd (cc))
-    (cases_lt v (size K))
-
 operand_in_range : (A : Arch) (K : Kernel) (M : Mapping) (route : Route) (p : Position) (o : Option Operand) → IsArch A → IsKernel K → Keeps L2 A K M → Keeps L5 A K M →
     Contains M.routes route → slice_get (node K route.node).operands route.arg ≡ o → Contains (of_operand A M route.path o) p → p.resource < length A.resources
 operand_in_range A K M route p None arch kernel two five m e h = absurd (Contains-nil p h)
 operand_in_range A K M route p (Some (Constant w)) arch kernel two five m e h = absurd (Contains-nil p h)
 operand_in_range A K M route p (Some (Edge u d init)) arch kernel two five m e h =
     let (port, at_port, b) = five route u d init m e in
-    let source = kernel.wired.sources route.node route.arg u d init (known_node K route.node route.arg _ e) e in
+    let source = kernel.wired.sources route.node route.arg u d init (operand_within K route.node route.arg _ e) e in
     on_in_range A M u route.path port _ p arch (two u source).known b h
 
 pub positions_in_range : (A : Arch) (K : Kernel) (M : Mapping) (p : Position) → IsArch A → IsKernel K → Keeps L2 A K M → Keeps L5 A K M → Contains (positions A K M) p → p.resource < length A.resources

@@ -13,7 +13,6 @@ use Rattle.cg_model.specs.declared.kernel.Operand.TheVariants.{Const as Constant
 use Rattle.cg_model.specs.declared.mapping.Route.{Route}
 use Rattle.cg_model.specs.Mapping.{Mapping, Position, positions, positions_on, of_operand, leaves}
 use Rattle.cg_check.specs.Edges.{DataEdge, data_edge}
-use Rattle.cg_overlap.proofs.Facts.{Contains-nil}
 use Rattle.cg_check.specs.declared.rule.RulePlace.TheVariants as at
 use Rattle.cg_check.specs.declared.stop.Stop.{Stop}
 use Rattle.cg_check.specs.declared.stop.Sharing.{Sharing}
@@ -22,8 +21,11 @@ use Rattle.cg_check.specs.declared.stop.Cell.{Cell}
 use Rattle.cg_check.specs.declared.stop.Cell.TheVariants.{Free, Held, Clash}
 use Rattle.cg_check.specs.Rules.{is_on, clashes, first_clash, violated}
 use Rattle.cg_check.specs.Claims.{position_of, alike, rule_of, with_claim, cell, index_of, claimed, claims, is_clash, clash_in}
-use Rattle.cg_check.proofs.Lists.{any_of, any_none, and_not, first_below_same}
+use Rattle.cg_check.proofs.Lists.{any_of, any_none, first_below_same}
 use Rattle.cg_check.proofs.Meeting.{values_same, same_values, ways_same, same_ways}
+use Rattle.cg_model.proofs.Bools.{and_not}
+use Rattle.cg_model.proofs.Lookups.{Contains-nil}
+use Rattle.cg_model.proofs.Mappings.{places_apart}
 
 -- ---- to be alike is an equivalence
 
@@ -93,11 +95,6 @@ begun sharing ii resources = record {
   where
     in_table : (r s ii n : ℕ) → r < n → s < ii → r * ii + s < n * ii
     in_table r s ii n lr ls = let h = mul-add-lt r ii s n lr ls in omega (arith, h)
-
--- a row and a column tell the place
-pub places_apart : (ii r s q t : ℕ) → s < ii → t < ii → r * ii + s ≡ q * ii + t → (r ≡ q) × (s ≡ t)
-places_apart ii r s q t ls lt e =
-    (sym (div-mul-add r ii s ls) ∙ ap (λ z. z / ii) e ∙ div-mul-add q ii t lt, sym (mod-mul-add r ii s ls) ∙ ap (λ z. z % ii) e ∙ mod-mul-add q ii t lt)
 
 one_cell : (sharing : Sharing) (ii resources : ℕ) (ps : List Position) (table : List Cell) (p : Position) (r s : ℕ) → 0 < ii → IsTable sharing ii resources ps table → r < resources → s < ii →
     IsCell sharing (is_on ii r s) (ps ++ p ∷ []) (cell (claimed sharing ii table p) (r * ii + s))

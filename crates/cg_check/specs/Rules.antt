@@ -11,7 +11,7 @@ use Rattle.cg_model.specs.Kernel.{Kernel, HasOperand, HasOrder, size, node}
 use Rattle.cg_model.specs.Array.{Arch, resource, unit, delay}
 use Rattle.cg_model.specs.declared.mapping.Place.{Place}
 use Rattle.cg_model.specs.declared.mapping.Route.{Route}
-use Rattle.cg_model.specs.Mapping.{Mapping, Position, Brings, place, leaves, positions}
+use Rattle.cg_model.specs.Mapping.{Mapping, Position, Brings, place, leaves, positions, same_from}
 use Rattle.cg_check.specs.Edges.{DataEdge, data_edge}
 use Rattle.cg_check.specs.declared.rule.RulePlace.TheVariants as at
 pub use Rattle.cg_check.specs.declared.rule.Rule.{Rule}
@@ -99,11 +99,6 @@ abbrev pub same_value : Position → Position → Bool
 same_value p q = eqb p.source q.source && eqb p.time q.time
 
 -- L7, of two positions: they come from one resource, or both begin their paths
-abbrev pub same_from : Option ℕ → Option ℕ → Bool
-same_from None None = true
-same_from (Some q) (Some r) = eqb q r
-same_from _ _ = false
-
 abbrev pub same_way : Position → Position → Bool
 same_way p q = same_from p.from q.from
 

@@ -2,7 +2,7 @@
 ghost use Rattle.std.specs.Prelude.{◌≡◌, ◌∷◌, ◌^◌, ◌<◌};
 ghost use Rattle.cg_model.specs.Mapping as mappings;
 ghost use Rattle.cg_check.specs.Claims as spec;
-ghost use Rattle.cg_check.specs.Rules as rules;
+ghost use Rattle.cg_model.specs.Mapping as mappings;
 
 use crate::edge::edge_into;
 use crate::model::{delay, leaves};
@@ -11,7 +11,7 @@ use cg_mapping::{Arch, Kernel, Mapping, Route};
 
 /// Whether two values come from one resource, or both begin their paths.
 fn same_from(first: Option<u32>, second: Option<u32>) -> bool
-    ensures { result ≡ rules.same_from first second }
+    ensures { result ≡ mappings.same_from first second }
 {
     match (first, second) {
         (None, None) => true,

@@ -6,7 +6,8 @@ use Rattle.std.proofs.lemmas.Bool.{cases_Bool, or_cases}
 use Rattle.cg_model.specs.Mapping.{Position}
 use Rattle.cg_mrrg.specs.declared.links.MNode.{MNode}
 use Rattle.cg_claims.specs.Claims.{same, uses, is_at, different, claims_at}
-use Rattle.cg_claims.proofs.Uses.{same_is, same_refl, differ, or_true, In, Out, in_from_uses, uses_from_in}
+use Rattle.cg_claims.proofs.Uses.{same_is, same_refl, differ, In, Out, in_from_uses, uses_from_in}
+use Rattle.cg_model.proofs.Bools.{or_true}
 
 abbrev pub number : List Position → ℕ
 number ps = length (different ps)

@@ -4,7 +4,8 @@ use Rattle.std.specs.Prelude.{◌&&◌, ◌||◌}
 use Rattle.std.specs.List.{list_any}
 use Rattle.std.proofs.lemmas.Bool.{and_parts, eqb-true, eq-eqb}
 use Rattle.cg_model.specs.Mapping.{Position}
-use Rattle.cg_claims.specs.Claims.{same, same_from}
+use Rattle.cg_claims.specs.Claims.{same}
+use Rattle.cg_model.specs.Mapping.{same_from}
 use Rattle.cg_claims.specs.Kept.{ClaimUse, expand_all}
 use Rattle.cg_claims.specs.Nodes.{AreLists}
 use Rattle.cg_claims.proofs.Nodes.{any_at}

@@ -19,6 +19,7 @@ use Rattle.cg_claims.specs.Table.{toll}
 use Rattle.cg_claims.proofs.Uses.{same_is}
 use Rattle.cg_claims.proofs.Nodes.{place_of}
 use Rattle.cg_claims.proofs.Tables.{slot_is}
+use Rattle.cg_model.proofs.Ranges.{sum_zero}
 
 pub any_map : {X Y : Type 0} (q : Y → Bool) (f : X → Y) (xs : List X) → list_any (λ x. q (f x)) xs ≡ list_any q (map f xs)
 any_map q f [] = refl
@@ -110,10 +111,6 @@ sum_add : (f g : ℕ → ℕ) (xs : List ℕ) → sum_by (λ i. f i + g i) xs �
 sum_add f g [] = refl
 sum_add f g (x ∷ xs) = let a = sum_by-cons f x xs in let b = sum_by-cons g x xs in let e = sum_by-cons (λ i. f i + g i) x xs in let c = sum_add f g xs in omega (arith, a, b, c, e)
 
-sum_zero : (f : ℕ → ℕ) (xs : List ℕ) → ((i : ℕ) → f i ≡ 0) → sum_by f xs ≡ 0
-sum_zero f [] h = refl
-sum_zero f (x ∷ xs) h = let a = sum_by-cons f x xs in let c = sum_zero f xs h in let d = h x in omega (arith, a, c, d)
-
 sum_suc : (f : ℕ → ℕ) (a n : ℕ) → sum_by f (range_with_len a (suc n)) ≡ sum_by f (range_with_len a n) + f (a + n)
 sum_suc f a zero = let z : a + 0 ≡ a = omega arith in rw z refl
 sum_suc f a (suc n) =
@@ -122,9 +119,6 @@ sum_suc f a (suc n) =
     let d = sum_by-cons f a (range_with_len (a + 1) n) in
     let e = sum_suc f (a + 1) n ∙ ap (λ i. sum_by f (range_with_len (a + 1) n) + f i) z in
     c ∙ ap (λ y. f a + y) e ∙ omega (arith, d)
-
-pub sum_more : (f : ℕ → ℕ) (n : ℕ) → sum_by f (range_with_len 0 (n + 1)) ≡ sum_by f (range_with_len 0 n) + f n
-sum_more f n = let z : 0 + n ≡ n = omega arith in rw add-one (sum_suc f 0 n ∙ ap (λ i. sum_by f (range_with_len 0 n) + f i) z)
 
 none_below : (x a n : ℕ) → x < a → sum_by (λ i. cond (eqb x i) 1 0) (range_with_len a n) ≡ 0
 none_below x a zero l = refl

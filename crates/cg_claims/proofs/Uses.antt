@@ -5,13 +5,10 @@ use Rattle.std.specs.List.{list_any}
 use Rattle.std.proofs.lemmas.Bool.{cases_Bool, and_parts, and_from, eqb-true, eq-eqb}
 use Rattle.std.proofs.lemmas.List.Sums.{sum_by-cons, sum_by-append}
 use Rattle.cg_model.specs.Mapping.{Position}
-use Rattle.cg_claims.specs.Claims.{same, same_from, uses}
-
-same_from_is : (a b : Option ℕ) → same_from a b ≡ true → a ≡ b
-same_from_is None None h = refl
-same_from_is None (Some b) h = absurd (cc)
-same_from_is (Some a) None h = absurd (cc)
-same_from_is (Some a) (Some b) h = ap Some (eqb-true a b h)
+use Rattle.cg_claims.specs.Claims.{same, uses}
+use Rattle.cg_model.specs.Mapping.{same_from}
+use Rattle.cg_model.proofs.Bools.{or_true}
+use Rattle.cg_model.proofs.Mappings.{same_from_is, same_from_itself}
 
 -- the same claim on the same resource is the same position
 pub same_is : (p q : Position) → same p q ≡ true → p ≡ q
@@ -26,15 +23,11 @@ same_is p q h =
     ap (λ x. record p { source = x }) s ∙ ap (λ x. record p { source = q.source; resource = x }) r ∙ ap (λ x. record p { source = q.source; resource = q.resource; time = x }) t
     ∙ ap (λ x. record q { from = x }) f
 
-same_from_refl : (a : Option ℕ) → same_from a a ≡ true
-same_from_refl None = refl
-same_from_refl (Some a) = eq-eqb a a refl
-
 pub same_refl : (p : Position) → same p p ≡ true
 same_refl p =
     and_from (eqb p.source p.source && eqb p.resource p.resource && eqb p.time p.time) _
     (and_from (eqb p.source p.source && eqb p.resource p.resource) _ (and_from (eqb p.source p.source) _ (eq-eqb p.source p.source refl) (eq-eqb p.resource p.resource refl)) (eq-eqb p.time p.time refl))
-    (same_from_refl p.from)
+    (same_from_itself p.from)
 
 pub differ : (p q : Position) → same p q ≡ false → same q p ≡ false
 differ p q h = ⊎_elim (λ (a : same q p ≡ true). let z : same p q ≡ true = subst (λ x. same p x ≡ true) (sym (same_is q p a)) (same_refl p) in absurd (cc)) (λ a. a) (cases_Bool (same q p))
@@ -50,10 +43,6 @@ In p ps = list_any (same p) ps ≡ true
 
 abbrev pub Out : Position → List Position → Type 0
 Out p ps = list_any (same p) ps ≡ false
-
-pub or_true : (b : Bool) → (b || true) ≡ true
-or_true true = refl
-or_true false = refl
 
 pub in_from_uses : (p : Position) (ps : List Position) → 0 < uses ps p → In p ps
 in_from_uses p [] h = absurd (omega arith)

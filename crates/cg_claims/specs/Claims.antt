@@ -4,16 +4,9 @@
 -- than once; claims that differ are in each other's way.
 use Rattle.std.specs.Prelude.{ℕ, ◌-◌, ◌*◌, ◌%◌, eqb, ◌&&◌, if◌then◌else◌, Bool, true, false, List, [], ◌∷◌, length, Option, Some, None, filter, count_by, sum_by}
 use Rattle.std.specs.List.{range_with_len, list_any}
-use Rattle.cg_model.specs.Mapping.{Position}
+use Rattle.cg_model.specs.Mapping.{Position, same_from}
 use Rattle.cg_mrrg.specs.declared.links.MNode.{MNode}
 use Rattle.cg_mrrg.specs.Nodes.{node_at}
-
--- the same predecessor, or none for both
-abbrev pub same_from : Option ℕ → Option ℕ → Bool
-same_from None None = true
-same_from None (Some b) = false
-same_from (Some a) None = false
-same_from (Some a) (Some b) = eqb a b
 
 -- the same claim on the same resource
 abbrev pub same : Position → Position → Bool

@@ -4,6 +4,7 @@ ghost use Rattle.std.specs.List.{list_any, range_with_len};
 ghost use Rattle.cg_model.specs.Mapping.{Position, positions_on};
 ghost use Rattle.cg_mrrg.specs.Nodes.{node_at};
 ghost use Rattle.cg_claims.specs.Claims as claims;
+ghost use Rattle.cg_model.specs.Mapping as mappings;
 ghost use Rattle.cg_claims.specs.Plain.{plain, plains};
 
 use crate::usage::{arrives, comes_from, place};
@@ -258,7 +259,7 @@ fn is_same(a: PlainPosition, b: PlainPosition) -> bool
 
 /// Whether two predecessors are the same.
 fn same_from(a: Option<u32>, b: Option<u32>) -> bool
-    ensures { result ≡ claims.same_from a b }
+    ensures { result ≡ mappings.same_from a b }
 {
     match a {
         Some(resource) => comes_from(resource, b),

@@ -3,7 +3,8 @@ ghost use Rattle.std.specs.Prelude.{◌≡◌, ℕ, ◌+◌, ◌-◌, ◌*◌, �
 ghost use Rattle.std.specs.List.{list_any, range_with_len};
 ghost use Rattle.cg_model.specs.Mapping.{Position, positions_on};
 ghost use Rattle.cg_mrrg.specs.Graph as graphs;
-ghost use Rattle.cg_claims.specs.Claims.{same, same_from, uses};
+ghost use Rattle.cg_claims.specs.Claims.{same, uses};
+ghost use Rattle.cg_model.specs.Mapping.{same_from};
 ghost use Rattle.cg_claims.specs.Table.{IsMore, aged};
 ghost use Rattle.cg_claims.specs.Table as tables;
 ghost use Rattle.cg_claims.specs.Kept.{AreClaims, position_of};

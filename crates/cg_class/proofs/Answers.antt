@@ -9,9 +9,10 @@ use Rattle.cg_model.specs.declared.array.Unit.{Unit}
 use Rattle.cg_model.specs.Array.{Arch}
 use Rattle.cg_class.specs.Class.{offers_one, IsOverfull, IsAssignment}
 use Rattle.cg_class.specs.Search.{op_at, ops_at, no_unit, IsPlaced}
-use Rattle.cg_class.proofs.Totals.{total, sum_by_total}
+use Rattle.cg_class.proofs.Totals.{sum_by_total}
 use Rattle.cg_class.proofs.Balance.{one_if, at_most}
 use Rattle.cg_class.proofs.Sets.{offers_from}
+use Rattle.cg_model.proofs.Sums.{total}
 
 pub assigned : (A : Arch) (K : Kernel) (ii : ℕ) (places : List ℕ) → IsPlaced K.nodes A.units ii places → length places ≡ size K → IsAssignment A K ii places
 assigned A K ii places p e = record { each = e; known = λ v l. p.known v (omega arith); offered = λ v l. p.offered v (omega arith); room = p.room }

@@ -2,7 +2,8 @@
 use Rattle.std.proofs.Common.{◌≡◌, ℕ, ◌*◌, ◌<◌, ◌≤◌, cond, eqb, Bool, true, false, refl, sym, ap, ◌∙◌, subst, arith, ⊎_elim, eqb-true}
 use Rattle.std.specs.Prelude.{◌⊎◌}
 use Rattle.std.proofs.lemmas.Bool.{cond-true, cond-false, cases_Bool}
-use Rattle.cg_class.proofs.Totals.{total, total_same, total_le, total_zero, total_times, by_place}
+use Rattle.cg_class.proofs.Totals.{total_le, total_times, by_place}
+use Rattle.cg_model.proofs.Sums.{total, total_same, total_zero}
 
 abbrev pub one_if : Bool → ℕ
 one_if b = cond b 1 0

@@ -2,7 +2,7 @@
 use Rattle.std.proofs.Common.{◌≡◌, ◌≢◌, Bool, true, false, List, [], ◌∷◌, Some, find, cond, eqb, refl, sym, ap, ◌∙◌, subst, ◌<◌, length, get_or, ap₂, ℕ, inl, inr, ⊎_elim, eqb-true, eq-eqb}
 use Rattle.std.specs.List.{list_any}
 use Rattle.std.specs.Prelude.{◌⊎◌, ◌&&◌, ◌||◌}
-use Rattle.std.proofs.lemmas.Bool.{and_from, and_parts, cases_Bool, true≢false}
+use Rattle.std.proofs.lemmas.Bool.{and_from, and_parts, cases_Bool, true≢false, or_right}
 use Rattle.cg_word.specs.declared.op.Op.{Op}
 use Rattle.cg_word.specs.Word.{code, all_ops, op_of}
 use Rattle.cg_word.specs.Sets.{among}
@@ -24,10 +24,6 @@ with_new s op t w = w op ∙ ap (λ b. b || among s op) (eq-eqb (code op) (code 
 pub with_other : (s : List Op) (op : Op) (t : List Op) → IsWith s op t → (o : Op) → o ≢ op → among t o ≡ among s o
 with_other s op t w o ne =
     w o ∙ ⊎_elim (λ h. absurd (ne (sym (same_code op o (eqb-true (code op) (code o) h))))) (λ h. ap (λ b. b || among s o) h) (cases_Bool (eqb (code op) (code o)))
-
-or_right : (a b : Bool) → b ≡ true → (a || b) ≡ true
-or_right true b h = refl
-or_right false b h = h
 
 any_from : (p q : Op → Bool) (ops : List Op) (op : Op) → find q ops ≡ Some op → p op ≡ true → list_any p ops ≡ true
 any_from p q [] op f h = absurd (cc)

@@ -13,9 +13,10 @@ use Rattle.cg_model.specs.Kernel.{Kernel, no_node}
 use Rattle.cg_model.specs.Array.{Arch}
 use Rattle.cg_class.specs.Class.{IsOverfull, AreOfNodes, nodes_in, units_for, offers_one}
 use Rattle.cg_class.specs.Search.{op_at, ops_at, no_unit}
-use Rattle.cg_class.proofs.Totals.{total, total_le, sum_by_total}
+use Rattle.cg_class.proofs.Totals.{total_le, sum_by_total}
 use Rattle.cg_class.proofs.Balance.{one_if}
 use Rattle.cg_class.proofs.Sets.{offers_from, offers_to}
+use Rattle.cg_model.proofs.Sums.{total}
 
 -- ---- the operations of nodes
 

@@ -15,16 +15,11 @@ use Rattle.cg_model.specs.declared.array.Unit.{Unit}
 use Rattle.cg_class.specs.declared.search.Move.{Move}
 use Rattle.cg_class.specs.Class.{load, offers_one, units_for}
 use Rattle.cg_class.specs.Search.{op_at, ops_at, no_unit, no_move, move, is_seen, IsPlaced, IsLogged, IsSpread, IsSearch, IsVisit, IsFullSet, IsWith}
-use Rattle.cg_class.proofs.Totals.{total, total_le, total_more, sum_by_total}
+use Rattle.cg_class.proofs.Totals.{total_le, total_more, sum_by_total}
 use Rattle.cg_class.proofs.Balance.{one_if, at_least}
 use Rattle.cg_class.proofs.Sets.{offers_to, cases_op, with_new, with_other}
-
--- numbers below n of which no two are equal are at most n
-pigeons : (n : ℕ) (xs : List ℕ) → ((i : ℕ) → i < length xs → slice_index xs i < n) → ((i j : ℕ) → i < j → j < length xs → slice_index xs i ≡ slice_index xs j → ⊥) → length xs ≤ n
-pigeons n xs below apart =
-    length-le_from_distinct_below xs n
-    (IsDistinct-from_apart eqb xs (λ i j d l m. ⊎_elim (λ t. absurd (apart i j l m (get_or_default xs i 0 d (omega arith) ∙ eqb-true _ _ t ∙ get_or_default xs j d 0 m))) (λ t. t) (cases_Bool (eqb (get_or xs i d) (get_or xs j d)))))
-    (λ q t. let (i, l, e) = Contains-from_any (λ x y. eqb-true x y) q xs t in let a = below i l in let b = get_or_default xs i q 0 l in omega arith)
+use Rattle.cg_model.proofs.Sums.{total}
+use Rattle.cg_model.proofs.Ranges.{pigeons}
 
 -- what a slice of a whole vector leaves of it
 pub written : {X : Type 0} (n : ℕ) (a b : List X) → length a ≡ n → take n (a ++ b) ≡ a

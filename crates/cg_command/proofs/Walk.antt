@@ -27,6 +27,7 @@ use Rattle.clap.specs.Faults.{bundle_fault, bundle_step_fault, flags_fault, shor
 use Rattle.cg_command.specs.Words.{Part, plain, named, text_of}
 use Rattle.cg_command.specs.Matches.{words_rule, named_rule, asked_app, row_texts}
 use Rattle.cg_command.proofs.Uses.{before, is_dashes, known, option_said, word_said, value_said, uses}
+use Rattle.cg_model.proofs.Bools.{or_true, and_false}
 
 abbrev pub words' : Rule
 words' = with_index 1 (filled words_rule)
@@ -46,14 +47,6 @@ filled-named (o ∷ os) = ap (λ rs. named' o ∷ rs) (filled-named os)
 
 built-asked : (os : List Text) → built (asked_app os) ≡ (let a : App = record { top = shape os; subs = [] } in a)
 built-asked os = ap (λ rs. let a : App = record { top = record (shape os) { rules = words' ∷ rs }; subs = [] } in a) (filled-named os)
-
-or_false : (b : Bool) → (b || false) ≡ b
-or_false true = refl
-or_false false = refl
-
-and_false : (b : Bool) → (b && false) ≡ false
-and_false true = refl
-and_false false = refl
 
 find-long : (os : List Text) (name : Text) → arg_by_long (rules os) name ≡ option_map named' (known os name)
 find-long os name = go os
@@ -455,10 +448,6 @@ rest-is s w (word ∷ ws) =
     ap (λ (ks : Kinds). unless ks o) (or_else_assoc (turn_fault s [] w word) (walk_fault s [] w' ws) sf)
     ∙ unless_or (turn_fault s [] w word) (or_else (walk_fault s [] w' ws) sf) o
     ∙ ap (unless (turn_fault s [] w word)) (rest-is s w' ws)
-
-or_true : (b : Bool) → (b || true) ≡ true
-or_true true = refl
-or_true false = refl
 
 cond_same : {X : Type 0} (b : Bool) (x : X) → cond b x x ≡ x
 cond_same true x = refl

@@ -1,7 +1,7 @@
 -- A configuration that is changed in one place stays canonical.
 use Rattle.std.proofs.Common.{◌≡◌, ℕ, zero, suc, ◌+◌, ◌^◌, ◌<◌, ◌≤◌, ◌⊎◌, ⊎_elim, inl, inr, max, cond, not, ◌&&◌, ◌||◌, Bool, true, false, eqb, List, [], length, get_or, replicate, Option, None, refl, sym, ap, subst, ◌∙◌, arith}
 use Rattle.std.specs.Prelude.{slice_set, slice_index_or}
-use Rattle.std.proofs.lemmas.Bool.{cases_lt, cases_eq, eqb-false, ne_eqb}
+use Rattle.std.proofs.lemmas.Bool.{cases_lt, cases_eq, eqb-false, ne_eqb, not-true, or_parts}
 use Rattle.std.proofs.lemmas.List.{get_or-set_same, get_or-set_other, length-set, get_or-replicate, length-replicate}
 use Rattle.cg_word.specs.declared.op.Op.{Op}
 use Rattle.cg_model.specs.declared.config.ArgFields.{ArgFields}
@@ -10,24 +10,15 @@ use Rattle.cg_model.specs.Array.{Arch, resource, unit}
 use Rattle.cg_model.specs.Config.{Config, select, fields, arg, no_arg, off}
 use Rattle.cg_model.specs.Canonical.{IsCanonical, AreFields, is_on, gives_output, clash, port_free, any_below, stage_of, greatest_of, last_stage}
 use Rattle.cg_config.specs.Changes.{all_off, with_select, with_fields, LeavesPortsFree}
-use Rattle.cg_config.proofs.Canonical.{greatest_below, greatest_same, zero_mode, zero_count, zero_word}
+use Rattle.cg_model.proofs.Canonical.{zero_mode, zero_count, zero_word, greatest_below, greatest_same, any_none}
 
 -- ---- tests of all numbers below one
-
-any_none_of : (p : ℕ → Bool) (n : ℕ) → ((i : ℕ) → i < n → p i ≡ false) → any_below p n ≡ false
-unfolding any_below
-any_none_of p zero h = refl
-any_none_of p (suc n) h = ap (λ z. z || p n) (any_none_of p n (λ i lt. h i (omega arith))) ∙ h n (omega arith)
-
-either_false : (a b : Bool) → (a || b) ≡ false → (a ≡ false) × (b ≡ false)
-either_false true b e = absurd cc
-either_false false b e = (refl, e)
 
 any_at : (p : ℕ → Bool) (n i : ℕ) → any_below p n ≡ false → i < n → p i ≡ false
 unfolding any_below
 any_at p zero i e lt = absurd (omega arith)
 any_at p (suc n) i e lt =
-    let parts = either_false (any_below p n) (p n) e in
+    let parts = or_parts (any_below p n) (p n) e in
     ⊎_elim (λ l. any_at p n i parts.0 l) (λ l. let same : n ≡ i = omega arith in subst (λ j. p j ≡ false) same parts.1) (cases_lt i n)
 
 greatest_with : (f g : ℕ → ℕ) (n i v : ℕ) → i < n → g i ≡ max (f i) v → ((j : ℕ) → j < n → (j ≡ i → ⊥) → g j ≡ f j) → greatest_of g n ≡ max (greatest_of f n) v
@@ -42,10 +33,6 @@ greatest_with f g (suc n) i v lt e h =
     omega arith) (cases_lt i n)
 
 -- ---- outputs
-
-not_true : (b : Bool) → not b ≡ true → b ≡ false
-not_true true e = absurd cc
-not_true false e = refl
 
 eqb-turned : (a b : ℕ) → eqb a b ≡ false → eqb b a ≡ false
 eqb-turned a b e = ne_eqb b a (λ same. eqb-false a b e (sym same))
@@ -62,14 +49,14 @@ clash-turned f g e = turned (gives_output f.op) (gives_output g.op) f.port g.por
 free_of : (A : Arch) (C : Config) (x slot : ℕ) → ((y s : ℕ) → y < length A.units → s < slot → clash (fields C y s) (fields C x slot) ≡ false) →
     ((y : ℕ) → y < x → clash (fields C y slot) (fields C x slot) ≡ false) → port_free A C x slot ≡ true
 free_of A C x slot before within =
-    let a = any_none_of (λ s. any_below (λ y. clash (fields C y s) (fields C x slot)) (length A.units)) slot (λ s l. any_none_of (λ y. clash (fields C y s) (fields C x slot)) (length A.units) (λ y k. before y s k l)) in
-    let b = any_none_of (λ y. clash (fields C y slot) (fields C x slot)) x within in
+    let a = any_none (λ s. any_below (λ y. clash (fields C y s) (fields C x slot)) (length A.units)) slot (λ s l. any_none (λ y. clash (fields C y s) (fields C x slot)) (length A.units) (λ y k. before y s k l)) in
+    let b = any_none (λ y. clash (fields C y slot) (fields C x slot)) x within in
     ap (λ z. not (z || any_below (λ y. clash (fields C y slot) (fields C x slot)) x)) a ∙ ap not b
 
 parts_of : (A : Arch) (C : Config) (x slot : ℕ) → port_free A C x slot ≡ true →
     ((y s : ℕ) → y < length A.units → s < slot → clash (fields C y s) (fields C x slot) ≡ false) × ((y : ℕ) → y < x → clash (fields C y slot) (fields C x slot) ≡ false)
 parts_of A C x slot e =
-    let h = either_false _ _ (not_true _ e) in (
+    let h = or_parts _ _ (not-true _ e) in (
       λ y s k l. any_at (λ z. clash (fields C z s) (fields C x slot)) (length A.units) y (any_at (λ t. any_below (λ z. clash (fields C z t) (fields C x slot)) (length A.units)) slot s h.0 l) k,
       λ y k. any_at (λ z. clash (fields C z slot) (fields C x slot)) x y h.1 k,
     )

@@ -12,6 +12,7 @@ use Rattle.cg_model.specs.Canonical.{arity_of}
 use Rattle.cg_model.specs.Machine.{argument}
 use Rattle.cg_contexts.specs.declared.head.UnitHead.{UnitHead}
 use Rattle.cg_contexts.specs.Told.{told}
+use Rattle.cg_word.proofs.Arity.{arity_few}
 
 chosen : (b c : Bool) (x y w : ℕ) → cond b x (cond c y w) ≡ unwrap_or (cond b (Some x) (cond c (Some y) None)) w
 chosen true c x y w = refl
@@ -37,11 +38,6 @@ told_initial f p turn e l =
 pub told_none : (f : UnitFields) (p turn : ℕ) → (arg f p).fixed ≡ false → (arg f p).count ≤ turn → told f p turn ≡ None
 told_none f p turn e l =
     not_fixed f p turn e ∙ ap (λ b. cond b (Some (slice_index (arg f p).init turn)) None) (le-ltb turn (arg f p).count l)
-
--- an operation has at most three arguments
-arity_few : (op : Op) → arity op ≤ 3
-arity_few Const = lit≤ tt
-arity_few _ = lit≤ tt
 
 pub few_arguments : (o : Option Op) → arity_of o ≤ 3
 few_arguments None = lit≤ tt

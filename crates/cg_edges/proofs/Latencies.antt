@@ -41,7 +41,7 @@ least_more op (u ∷ us) (suc i) d l =
     ∙ ap (with_unit op u) (least_more op us i d (omega arith))
     ∙ swap op u (get_or us i d) (least_latency op (take i us)) (among u.ops op) (among (get_or us i d).ops op) refl refl
 
-lesser_below : (l : ℕ) (o : Option ℕ) → lesser l o ≤ l
+pub lesser_below : (l : ℕ) (o : Option ℕ) → lesser l o ≤ l
 lesser_below l None = omega arith
 lesser_below l (Some n) = omega arith
 

@@ -4,8 +4,9 @@ use Rattle.cg_model.specs.declared.kernel.Operand.{Operand}
 use Rattle.cg_model.specs.declared.kernel.Operand.TheVariants.{Const as Constant, Edge}
 use Rattle.cg_model.specs.Kernel.{Kernel, IsKernel, node, size}
 use Rattle.cg_model.specs.Configured.{padded}
-use Rattle.cg_overlap.proofs.Emitted.{IsOperand, arity_few, node_is}
+use Rattle.cg_overlap.proofs.Emitted.{IsOperand, node_is}
 use Rattle.cg_emit.specs.Building.{HasFewWords, HasFewOperands}
+use Rattle.cg_word.proofs.Arity.{arity_few}
 
 pub four_words : (ws : List ℕ) → length ws ≤ 4 → get_or ws 0 0 ∷ get_or ws 1 0 ∷ get_or ws 2 0 ∷ get_or ws 3 0 ∷ [] ≡ padded 4 0 ws
 four_words [] le = refl

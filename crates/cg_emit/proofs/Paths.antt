@@ -11,22 +11,14 @@ use Rattle.cg_model.specs.Config.{Config}
 use Rattle.cg_model.specs.Configured.{place_of}
 use Rattle.cg_flat.proofs.Lists.{links_of, item_at}
 use Rattle.cg_config.specs.Changes.{with_select}
-use Rattle.cg_overlap.proofs.Facts.{Contains-nil, Contains-cases}
+use Rattle.cg_overlap.proofs.Facts.{Contains-cases}
 use Rattle.cg_emit.specs.Building.{GoesInTime, with_positions}
-
--- what has a driver is a resource
-pub driven_known : (A : Arch) (r q : ℕ) → Contains (resource A r).drivers q → r < length A.resources
-driven_known A r q h =
-    ⊎_elim (λ lt. lt) (λ le. absurd (Contains-nil q (subst (λ (z : Resource). Contains z.drivers q) (get_or_past A.resources r _ le) h))) (cases_lt r (length A.resources))
+use Rattle.cg_model.proofs.Lookups.{Contains-nil}
+use Rattle.cg_model.proofs.Mappings.{driven_known, goes_on}
 
 -- a driver list is short
 pub few_drivers : (A : Arch) → IsArch A → (r : ℕ) → r < length A.resources → length (resource A r).drivers ≤ 65536
 few_drivers A valid r lt = let all = valid.small.links in let these = links_of A.resources r (record { name = []; kind = Wire; drivers = [] }) lt in omega arith
-
--- time goes on
-pub goes_on : (A : Arch) (q t : ℕ) (path : List ℕ) (r s : ℕ) → Goes A q t path r s → t ≤ s
-goes_on A q t [] r s g = let e = g.1 in omega arith
-goes_on A q t (x ∷ path) r s g = let h = goes_on A x (t + delay A x) path r s g.1 in omega arith
 
 -- what remains of a list is its next item and what remains then
 pub drop_next : {X : Type 0} (xs : List X) (i : ℕ) (x : X) → i < length xs → x ≡ get_or xs i x → drop i xs ≡ x ∷ drop (i + 1) xs

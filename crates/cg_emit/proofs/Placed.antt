@@ -20,6 +20,7 @@ use Rattle.cg_config.specs.Changes.{with_fields, LeavesPortsFree}
 use Rattle.cg_overlap.proofs.Emitted.{node_is, node_keeps}
 use Rattle.cg_overlap.proofs.Selects.{node_found}
 use Rattle.cg_emit.specs.Building.{HasNodes}
+use Rattle.cg_model.proofs.Bools.{no_clash}
 
 -- ---- fields that are set
 
@@ -46,12 +47,6 @@ module _ (A : Arch) (C : Config) (right : IsCanonical A C) (x slot : ℕ) (f : U
       (λ other. ap (λ xs. get_or xs y off) (get_or-set_other C.units slot s (slice_set row x f) [] other)) (cases_eq s slot)
 
 -- ---- the next node
-
-clash_none : (a b c : Bool) → (a ≡ true → b ≡ true → c ≡ true → ⊥) → (a && (b && c)) ≡ false
-clash_none true true true h = absurd (h refl refl refl)
-clash_none true true false h = refl
-clash_none true false c h = refl
-clash_none false b c h = refl
 
 module _ (A : Arch) (K : Kernel) (M : Mapping) (good : IsKernel K) (legal : IsLegal A K M) (C : Config) (v : ℕ) (lt : v < size K) (has : HasNodes A K M C v) where
   abbrev x : ℕ
@@ -91,7 +86,7 @@ module _ (A : Arch) (K : Kernel) (M : Mapping) (good : IsKernel K) (legal : IsLe
   apart_by y s None e = refl
   apart_by y s (Some w) e =
       let before = (node_found M y s v w e).0 in
-      clash_none (gives_output (fields_by K M (Some w)).op) (gives_output f.op) (eqb (fields_by K M (Some w)).port f.port)
+      no_clash (gives_output (fields_by K M (Some w)).op) (gives_output f.op) (eqb (fields_by K M (Some w)).port f.port)
       (λ p q r. let same : w ≡ v = good.one_output w v (omega arith) lt p q (eqb-true _ _ r) in omega arith)
 
   pub ports_free : LeavesPortsFree A C f

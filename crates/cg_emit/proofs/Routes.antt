@@ -15,8 +15,9 @@ use Rattle.cg_model.specs.Kernel.{Kernel, IsKernel, no_node, node, size}
 use Rattle.cg_model.specs.Array.{Arch, IsArch, unit}
 use Rattle.cg_model.specs.Mapping.{Mapping, End, IsLegal, IsShaped, Brings, Goes, end_of, ends_of, ends_from, leaves, place, of_route, of_operand, positions_on, positions_after}
 use Rattle.cg_model.specs.Config.{Config}
-use Rattle.cg_overlap.proofs.Facts.{Contains-nil, Contains-first, Contains-later, Contains-cases}
+use Rattle.cg_overlap.proofs.Facts.{Contains-first, Contains-later, Contains-cases}
 use Rattle.cg_emit.specs.Building.{GoesInTime, IsSource, with_positions}
+use Rattle.cg_model.proofs.Lookups.{Contains-nil}
 
 -- operand p of the list is an edge
 pub record IsEdge (os : List Operand) (p : ℕ) : Type 0 where

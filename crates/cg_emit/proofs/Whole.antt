@@ -5,11 +5,7 @@ use Rattle.cg_model.specs.declared.config.UnitFields.{UnitFields}
 use Rattle.cg_model.specs.Array.{Arch}
 use Rattle.cg_model.specs.Config.{Config, select, fields, off}
 use Rattle.cg_model.specs.Canonical.{IsCanonical, greatest_of, last_stage, stage_of}
-
-greatest_same : (f g : ℕ → ℕ) (n : ℕ) → ((i : ℕ) → i < n → f i ≡ g i) → greatest_of f n ≡ greatest_of g n
-unfolding greatest_of
-greatest_same f g zero h = refl
-greatest_same f g (suc n) h = let before = greatest_same f g n (λ i lt. h i (omega arith)) in let last = h n (omega arith) in omega arith
+use Rattle.cg_model.proofs.Canonical.{greatest_same}
 
 -- tables of the same sizes with the same entries
 tables_same : {X : Type 0} (d : X) (m n : ℕ) (S T : List (List X)) → length S ≡ m → length T ≡ m →

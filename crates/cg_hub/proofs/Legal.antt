@@ -14,18 +14,16 @@ use Rattle.cg_model.specs.declared.array.Kind.TheVariants.{Out, Register, Port}
 use Rattle.cg_model.specs.Array.{Arch, IsArch, resource, unit, port, owner, delay, delay_by}
 use Rattle.cg_model.specs.declared.mapping.Route.{Route}
 use Rattle.cg_model.specs.Mapping.{Position, IsLegal, Goes, Brings, place, positions, positions_on, positions_after, of_operand, of_route, leaves}
-use Rattle.cg_overlap.proofs.Facts.{slot_of, Contains-nil, Contains-cases, Contains-flat_map_from}
-use Rattle.cg_overlap.proofs.Sequence.{operand_within}
+use Rattle.cg_overlap.proofs.Facts.{slot_of, Contains-cases, Contains-flat_map_from}
 use Rattle.cg_hub.specs.Hub.{HubEnough, registers, registers_before, host, start, hub_leaves, hub_at, hub_path, hub_route, hub_routes_to, hub_routes, hub_place, hub_map}
 use Rattle.cg_hub.proofs.Numbers.{one_slot, one_run}
 use Rattle.cg_hub.proofs.Owned.{registers_once}
 use Rattle.cg_hub.proofs.Times.{start_rises, start_once, host_within, host_offers, soon, register_within, source_within, in_time, held, has_port}
 use Rattle.cg_hub.proofs.Shape.{shaped}
 use Rattle.cg_hub.proofs.Ways.{goes, stays, staying, ending}
-
-Contains-range_from : (n v : ℕ) → Contains (range_with_len 0 n) v → v < n
-Contains-range_from n v h =
-    let l : h.0 < n = omega (arith, length-range_with_len 0 n, h.1) in omega (arith, get_or-range_with_len 0 n h.0 v l, h.2)
+use Rattle.cg_model.proofs.Ranges.{Contains-range}
+use Rattle.cg_model.proofs.Lookups.{Contains-nil}
+use Rattle.cg_model.proofs.Mappings.{operand_within}
 
 -- the routes of a node's operands
 abbrev Serves : Arch → Kernel → ℕ → ℕ → ℕ → List Operand → Route → Type 0
@@ -61,7 +59,7 @@ module _ (A : Arch) (K : Kernel) (ii : ℕ) where
       let (v, l, h) = Contains-flat_map_from (hub_routes A K ii) (range_with_len 0 (size K)) r m in
       let (p, u, d, init, e, f) = route_from A K ii v 0 (node K v).operands r h in
       let z : 0 + p ≡ p = omega arith in
-      (v, p, u, d, init, Contains-range_from (size K) v l, e, rw z at f)
+      (v, p, u, d, init, Contains-range (size K) v l, e, rw z at f)
 
   leaves_is : (u : ℕ) → u < size K → leaves A (hub_map A K ii) u ≡ hub_leaves A K u
   leaves_is u l = rw (placed u l) refl

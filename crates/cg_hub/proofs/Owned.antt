@@ -7,8 +7,8 @@ use Rattle.cg_model.specs.declared.kernel.Node.{Node}
 use Rattle.cg_model.specs.declared.kernel.Operand.{Operand}
 use Rattle.cg_model.specs.declared.kernel.Operand.TheVariants.{Const as Constant, Edge}
 use Rattle.cg_model.specs.Kernel.{Kernel, IsKernel, HasOperand, no_node, node}
-use Rattle.cg_overlap.proofs.Sequence.{operand_within}
 use Rattle.cg_hub.specs.Hub.{needs, most_of, most, registers, registers_before}
+use Rattle.cg_model.proofs.Mappings.{operand_within}
 
 pub registers_rise : (K : Kernel) (u m : ℕ) → u < m → registers_before K u + registers K u ≤ registers_before K m
 registers_rise K u zero l = absurd (omega arith)

@@ -11,11 +11,11 @@ use Rattle.cg_model.specs.declared.kernel.Operand.TheVariants.{Edge}
 use Rattle.cg_model.specs.Kernel.{Kernel, IsKernel, HasOperand, no_node, size, node}
 use Rattle.cg_model.specs.Array.{Arch, IsArch, unit}
 use Rattle.cg_model.proofs.Elements.{all_true}
-use Rattle.cg_overlap.proofs.Sequence.{operand_within}
 use Rattle.cg_place.specs.Placed.{offering, IsOffered}
 use Rattle.cg_place.proofs.Offering.{member}
 use Rattle.cg_hub.specs.Hub.{HubEnough, registers, registers_before, host, start, is_served, serial, hub_leaves}
 use Rattle.cg_hub.proofs.Owned.{registers_rise, far_enough}
+use Rattle.cg_model.proofs.Mappings.{operand_within}
 
 -- ---- units
 

@@ -4,7 +4,8 @@ use Rattle.std.specs.Prelude.{◌⊎◌, map}
 use Rattle.std.specs.List.{range_with_len}
 use Rattle.cg_model.specs.Array.{Arch, resource, delay}
 use Rattle.cg_model.specs.Mapping.{Position, Goes, positions_after}
-use Rattle.cg_overlap.proofs.Facts.{Contains-nil, Contains-cases}
+use Rattle.cg_overlap.proofs.Facts.{Contains-cases}
+use Rattle.cg_model.proofs.Lookups.{Contains-nil}
 
 -- through f k, .., f (k + n - 1) to a port
 module _ (A : Arch) (f : ℕ → ℕ) (to : ℕ) where

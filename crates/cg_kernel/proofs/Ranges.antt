@@ -17,7 +17,7 @@ use Rattle.cg_kernel.specs.Words.{HasWords, HasAllWords}
 
 -- ---- each item of a list was read
 
-read_item : {T : Type 0} (o : Option T) (rest : Option (List T)) (xs : List T) → option_and_then (λ x. option_map (λ ys. x ∷ ys) rest) o ≡ Some xs
+pub read_item : {T : Type 0} (o : Option T) (rest : Option (List T)) (xs : List T) → option_and_then (λ x. option_map (λ ys. x ∷ ys) rest) o ≡ Some xs
     → (x : T) × ((ys : List T) × ((o ≡ Some x) × (rest ≡ Some ys) × (x ∷ ys ≡ xs)))
 read_item None rest xs e = let bad : None ≡ Some xs = e in absurd (cc)
 read_item (Some x) None xs e = let bad : None ≡ Some xs = e in absurd (cc)

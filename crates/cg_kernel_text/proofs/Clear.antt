@@ -31,24 +31,17 @@ use Rattle.cg_kernel.specs.Answer.{node_number, operand_of, node_of, edge_of, ke
 use Rattle.serde_json.specs.Read.{read}
 use Rattle.cg_json.proofs.Reading.{value_of-read}
 use Rattle.cg_kernel_text.specs.Printed.{name_at, data_of}
-use Rattle.cg_kernel_text.proofs.Elements.{list_any-none, first_from-none, take_get-back, map-back}
+use Rattle.cg_kernel_text.proofs.Elements.{list_any-none, take_get-back, map-back}
 use Rattle.cg_kernel_text.proofs.Back.{written_arg, written_node, written_edge, written, node_is, has, below, written_of-data_of}
+use Rattle.cg_model.proofs.Bools.{and_not}
+use Rattle.cg_model.proofs.Lookups.{get_map, first_from-none}
 
 -- ---- tests
-
-and_false : (a b : Bool) → (a ≡ true → b ≡ false) → (a && b) ≡ false
-and_false true b h = h refl
-and_false false b h = refl
 
 -- ---- names and operations
 
 named_at : (K : Kernel) (v : ℕ) (n : Node) → slice_get K.nodes v ≡ Some n → name_at K.nodes v ≡ n.name
 named_at K v n at = ap (λ m. m.name) (node_is K v n at)
-
-get_map : {X Y : Type 0} (f : X → Y) (xs : List X) (i : ℕ) (x : X) → slice_get xs i ≡ Some x → slice_get (map f xs) i ≡ Some (f x)
-get_map f [] i x at = let bad : None ≡ Some x = at in absurd (cc)
-get_map f (y ∷ ys) zero x at = let same : y ≡ x = cc in ap (λ z. Some (f z)) same
-get_map f (y ∷ ys) (suc i) x at = get_map f ys i x at
 
 -- node v is the first of its name
 number_back : (K : Kernel) → IsKernel K → (v : ℕ) (n : Node) → slice_get K.nodes v ≡ Some n → number_of (map (written_node K.nodes) K.nodes) n.name ≡ Some v
@@ -108,7 +101,7 @@ before_back o u v e h = ap (λ x. not (is_before x v)) e ∙ not_from_true _ (lt
 
 back_edge_arg : (K : Kernel) → IsKernel K → (v p : ℕ) (n : Node) (o : Operand) → slice_get K.nodes v ≡ Some n → slice_get n.operands p ≡ Some o → applies_to_arg BackEdgeWithoutDistance (written K) v (written_arg K.nodes o) ≡ false
 back_edge_arg K valid v p n (Const c) at arg = refl
-back_edge_arg K valid v p n (Edge u d init) at arg = and_false (d == 0) _
+back_edge_arg K valid v p n (Edge u d init) at arg = and_not (d == 0) _
     (λ none. before_back _ u v (number_of_node K valid u (source_there K valid v p n u d init at arg))
     (valid.wired.forward v p u init (below K v n at) (ap (λ m. slice_get m.operands p) (node_is K v n at) ∙ arg ∙ ap (λ x. Some (Edge u x init)) (eqb-true d 0 none))))
 
@@ -206,7 +199,7 @@ edge_clear K valid UnknownNode i e at =
     ∙ ap is_none (number_of_node K valid e.to known.1)
 edge_clear K valid BackEdgeWithoutDistance i e at =
     let known = valid.order.known i e.from e.to e.distance at in
-    and_false (e.distance == 0) _ (λ none.
+    and_not (e.distance == 0) _ (λ none.
     ap (λ o. option_map_or (λ v. not (is_before (number_of (map (written_node K.nodes) K.nodes) (name_at K.nodes e.from)) v)) o false) (number_of_node K valid e.to known.1)
     ∙ before_back _ e.from e.to (number_of_node K valid e.from known.0)
     (valid.order.forward i e.from e.to (at ∙ ap (λ d. Some (record { from = e.from; to = e.to; distance = d })) (eqb-true e.distance 0 none))))

@@ -33,12 +33,6 @@ pub list_any-none : {X : Type 0} (t : X → Bool) (xs : List X) → ((i : ℕ) (
 list_any-none t [] h = refl
 list_any-none t (x ∷ xs) h = ap (λ b. b || list_any t xs) (h 0 x refl) ∙ list_any-none t xs (λ i y at. h (suc i) y at)
 
-pub first_from-none : {X : Type 0} (t : ℕ → X → Bool) (i : ℕ) (xs : List X) → ((k j : ℕ) (x : X) → slice_get xs k ≡ Some x → j ≡ i + k → t j x ≡ false) → first_from t i xs ≡ None
-first_from-none t i [] h = refl
-first_from-none t i (x ∷ xs) h =
-    ap (λ b. cond b (Some i) (first_from t (i + 1) xs)) (h 0 i x refl (omega arith))
-    ∙ first_from-none t (i + 1) xs (λ k j y at here. h (suc k) j y at (omega arith))
-
 -- an element of the first n stands before n
 pub take_get-back : {X : Type 0} (xs : List X) (n i : ℕ) (x : X) → slice_get (take n xs) i ≡ Some x → (i < n) × (slice_get xs i ≡ Some x)
 take_get-back [] zero i x at = let bad : None ≡ Some x = at in absurd (cc)

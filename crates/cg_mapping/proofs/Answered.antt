@@ -31,14 +31,9 @@ use Rattle.cg_mapping.specs.Sound.{NamesParts, IsWithinLimits}
 use Rattle.cg_mapping.specs.Ends.{AreShort}
 use Rattle.cg_mapping.specs.declared.fault.MappingPlace.TheVariants as at
 use Rattle.cg_mapping.specs.declared.fault.MappingFault.TheVariants as fault
+use Rattle.cg_kernel.proofs.Ranges.{read_item}
 
 -- ---- each item of a list was read
-
-read_item : {T : Type 0} (o : Option T) (rest : Option (List T)) (xs : List T) → option_and_then (λ x. option_map (λ ys. x ∷ ys) rest) o ≡ Some xs
-    → (x : T) × ((ys : List T) × ((o ≡ Some x) × (rest ≡ Some ys) × (x ∷ ys ≡ xs)))
-read_item None rest xs e = let bad : None ≡ Some xs = e in absurd (cc)
-read_item (Some x) None xs e = let bad : None ≡ Some xs = e in absurd (cc)
-read_item (Some x) (Some ys) xs e = (x, (ys, (refl, refl, (cc))))
 
 pub all_of-item : {D T : Type 0} (read : D → Option T) (ds : List D) (xs : List T) (i : ℕ) (x : T) → items.all_of read ds ≡ Some xs → slice_get xs i ≡ Some x → (d : D) × (read d ≡ Some x)
 all_of-item read [] xs i x all at =

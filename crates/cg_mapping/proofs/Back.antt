@@ -34,6 +34,8 @@ use Rattle.cg_mapping.specs.Sound.{NamesParts, IsWithinLimits}
 use Rattle.cg_mapping.specs.Printed.{word_data, unit_name, resource_name, places_data, step_data, route_data, data_of}
 use Rattle.cg_mapping.proofs.Answered.{edge_few}
 use Rattle.cg_mapping.proofs.Once.{number_back, only_back, each_back, edge_from, ends_once}
+use Rattle.cg_model.proofs.Lookups.{get_map}
+use Rattle.cg_kernel_text.proofs.Back.{word_back}
 
 -- ---- what is written of a mapping
 
@@ -57,11 +59,6 @@ pub record IsKept (A : Arch) (K : Kernel) (M : Mapping) : Type 0 where
   pub parts : NamesParts A M
   pub limits : IsWithinLimits M
 
-get_map : {X Y : Type 0} (f : X → Y) (xs : List X) (i : ℕ) (x : X) → slice_get xs i ≡ Some x → slice_get (map f xs) i ≡ Some (f x)
-get_map f [] i x at = let bad : None ≡ Some x = at in absurd (cc)
-get_map f (y ∷ ys) zero x at = let same : y ≡ x = cc in ap (λ z. Some (f z)) same
-get_map f (y ∷ ys) (suc i) x at = get_map f ys i x at
-
 -- a route goes to an edge operand
 record GoesToEdge (K : Kernel) (r : Route) : Type 0 where
   node : r.node < size K
@@ -83,9 +80,6 @@ few_args : (A : Arch) (K : Kernel) (M : Mapping) → IsKept A K M → (i : ℕ) 
 few_args A K M kept i r here = edge_few K kept.kernel r.node r.arg (to_edge A K M kept i r here).edge
 
 -- ---- each part is written as it was
-
-word_back : (w : ℕ) → w < 2 ^ 32 → word_in (word_data w) ≡ Some w
-word_back w h = ap (λ b. cond b (Some w) None) (lt-ltb w (2 ^ 32) h)
 
 small : (n m : ℕ) → n ≤ m → m < 2 ^ 32 → n < 2 ^ 32
 small n m h k = omega (arith, h, k)

@@ -12,10 +12,7 @@ use Rattle.cg_model.specs.declared.kernel.Node.{Node}
 use Rattle.cg_model.specs.declared.mapping.Place.{Place}
 use Rattle.cg_model.specs.declared.mapping.Route.{Route}
 use Rattle.cg_mapping.specs.Printed.{step_data, places_data, route_data, data_of}
-
-items_no_float : {X : Type 0} (f : X → Data) (xs : List X) → ((x : X) → has_float (f x) ≡ false) → items_have_float (items_of (map f xs)) ≡ false
-items_no_float f [] h = refl
-items_no_float f (x ∷ xs) h = ap (λ b. b || items_have_float (items_of (map f xs))) (h x) ∙ items_no_float f xs h
+use Rattle.cg_kernel_text.proofs.Depths.{items_no_float, items_depth-at_most}
 
 places_no_float : (nodes : List Node) (units : List Unit) (v : ℕ) (ps : List Place) → items_have_float (items_of (places_data nodes units v ps)) ≡ false
 places_no_float nodes units v [] = refl
@@ -29,10 +26,6 @@ unfolding data_of
 data_of-no_float A K M =
     ap (λ b. b || (items_have_float (items_of (map (route_data K.nodes A.resources) M.routes)) || false)) (places_no_float K.nodes A.units 0 M.places)
     ∙ ap (λ b. b || false) (items_no_float (route_data K.nodes A.resources) M.routes (route_no_float K.nodes A.resources))
-
-items_depth-at_most : {X : Type 0} (f : X → Data) (m : ℕ) (xs : List X) → ((x : X) → depth (f x) ≤ m) → items_depth (items_of (map f xs)) ≤ m
-items_depth-at_most f m [] h = omega arith
-items_depth-at_most f m (x ∷ xs) h = let here = h x in let rest = items_depth-at_most f m xs h in omega (arith, here, rest)
 
 places_depth : (nodes : List Node) (units : List Unit) (v : ℕ) (ps : List Place) → items_depth (items_of (places_data nodes units v ps)) ≤ 1
 places_depth nodes units v [] = omega arith

@@ -12,6 +12,8 @@ use Rattle.cg_model.specs.declared.kernel.Operand.TheVariants.{Const as Constant
 use Rattle.cg_model.specs.Mapping.{End, ends_of, ends_from}
 use Rattle.cg_mapping.specs.Ends.{EdgeOperand, as_end, AreWithin}
 use Rattle.cg_mapping.proofs.Steps.{Has}
+use Rattle.cg_model.proofs.Lookups.{get_map}
+use Rattle.cg_word.proofs.Arity.{arity_few}
 
 -- an item of two lists is one of them
 pub get_either : {X : Type 0} (xs ys : List X) (i : ℕ) (x : X) → slice_get (xs ++ ys) i ≡ Some x → (slice_get xs i ≡ Some x) ⊎ ((j : ℕ) × (slice_get ys j ≡ Some x))
@@ -40,44 +42,12 @@ ends_from_bound v m (n ∷ ns) i e few at = ⊎_elim
 
 -- ---- of a kernel
 
-few_operands : (op : Op) → arity op ≤ 3
-few_operands Const = omega arith
-few_operands Iter = omega arith
-few_operands Input = omega arith
-few_operands Add = omega arith
-few_operands Sub = omega arith
-few_operands Mul = omega arith
-few_operands And = omega arith
-few_operands Or = omega arith
-few_operands Xor = omega arith
-few_operands Shl = omega arith
-few_operands Shr = omega arith
-few_operands Sar = omega arith
-few_operands Eq = omega arith
-few_operands Ne = omega arith
-few_operands Lts = omega arith
-few_operands Ltu = omega arith
-few_operands Mins = omega arith
-few_operands Maxs = omega arith
-few_operands Select = omega arith
-few_operands Load = omega arith
-few_operands Store = omega arith
-few_operands Output = omega arith
-few_operands LoadIf = omega arith
-few_operands StoreIf = omega arith
-few_operands OutputIf = omega arith
-
 pub operands_few : (K : Kernel) → IsKernel K → (v : ℕ) (n : Node) → slice_get K.nodes v ≡ Some n → length n.operands ≤ 3
 operands_few K valid v n at =
     let is = ap (λ m. length m.operands) (get_or_from_slice_get K.nodes v n no_node at) in
     let exact = valid.arities v (slice_get_within K.nodes v n at) in
-    let most = few_operands (node K v).op in
+    let most = arity_few (node K v).op in
     omega (arith, is, exact, most)
-
-get_map : {X Y : Type 0} (f : X → Y) (xs : List X) (i : ℕ) (x : X) → slice_get xs i ≡ Some x → slice_get (map f xs) i ≡ Some (f x)
-get_map f [] i x at = let bad : None ≡ Some x = at in absurd (cc)
-get_map f (y ∷ ys) zero x at = let same : y ≡ x = cc in ap (λ z. Some (f z)) same
-get_map f (y ∷ ys) (suc i) x at = get_map f ys i x at
 
 end_bound : (K : Kernel) → IsKernel K → (nodes : List Node) (ends : List EdgeOperand) → nodes ≡ K.nodes → map as_end ends ≡ ends_from 0 nodes → (i : ℕ) (e : EdgeOperand) → slice_get ends i ≡ Some e → Bounds 0 (0 + length nodes) 3 (as_end e)
 end_bound K valid nodes ends same is i e at =

@@ -9,7 +9,7 @@ use Rattle.cg_model.specs.declared.kernel.Node.{Node}
 use Rattle.cg_model.specs.declared.kernel.Operand.{Operand}
 use Rattle.cg_model.specs.declared.kernel.Operand.TheVariants.{Const as Constant, Edge}
 use Rattle.cg_model.specs.Mapping.{End, ends_of, ends_from}
-use Rattle.cg_model.proofs.Counts.{count_by-one}
+use Rattle.cg_model.proofs.Counts.{count_by-one, one_counted}
 use Rattle.cg_model.proofs.Positions.{position_from-reached, position_from-found}
 use Rattle.cg_names.specs.Numbers.{number_of, has_name}
 use Rattle.cg_mapping.specs.Names.{is_edge}
@@ -39,11 +39,6 @@ counted_more false n h = h
 counted_here : (b : Bool) (n : ℕ) → b ≡ true → 1 ≤ cond b (1 + n) n
 counted_here true n e = omega arith
 counted_here false n e = let bad : false ≡ true = e in absurd (cc)
-
-one_counted : {X : Type 0} (t : X → Bool) (xs : List X) (i : ℕ) (x : X) → slice_get xs i ≡ Some x → t x ≡ true → 1 ≤ count t xs
-one_counted t [] i x at passes = let bad : None ≡ Some x = at in absurd (cc)
-one_counted t (y ∷ ys) zero x at passes = let same : y ≡ x = cc in counted_here (t y) (count t ys) (ap t same ∙ passes)
-one_counted t (y ∷ ys) (suc i) x at passes = counted_more (t y) (count t ys) (one_counted t ys i x at passes)
 
 skip : {X : Type 0} (b : Bool) (x y : X) (o : Option X) → b ≡ false → o ≡ Some y → cond b (Some x) o ≡ Some y
 skip true x y o e h = let bad : true ≡ false = e in absurd (cc)

@@ -18,7 +18,7 @@ counted_true : (b : Bool) (n m : ℕ) → b ≡ true → m ≤ n → 1 + m ≤ c
 counted_true true n m e h = omega arith
 counted_true false n m e h = let bad : false ≡ true = e in absurd (cc)
 
-one_counted : {X : Type 0} (t : X → Bool) (xs : List X) (p : ℕ) (x : X) → slice_get xs p ≡ Some x → t x ≡ true → 1 ≤ count t xs
+pub one_counted : {X : Type 0} (t : X → Bool) (xs : List X) (p : ℕ) (x : X) → slice_get xs p ≡ Some x → t x ≡ true → 1 ≤ count t xs
 one_counted t [] p x at passes = let bad : None ≡ Some x = at in absurd (cc)
 one_counted t (y ∷ ys) zero x at passes = let same : y ≡ x = cc in counted_true (t y) (count t ys) 0 (ap t same ∙ passes) (omega arith)
 one_counted t (y ∷ ys) (suc p) x at passes = counted (t y) (count t ys) 1 (one_counted t ys p x at passes)

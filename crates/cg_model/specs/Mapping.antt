@@ -1,6 +1,6 @@
 -- Mappings, and when one is legal: a modulo schedule (Rau 1994) with a route for each data edge
 -- (Mei 2002). Times and routes alone make a mapping legal or not; nothing is reserved in a table.
-use Rattle.std.specs.Prelude.{◌≡◌, ℕ, suc, ◌+◌, ◌*◌, ◌%◌, ◌<◌, ◌≤◌, List, [], ◌∷◌, ◌++◌, length, map, Contains, Option, Some, None, slice_get, slice_index_or, flat_map}
+use Rattle.std.specs.Prelude.{◌≡◌, ℕ, suc, ◌+◌, ◌*◌, ◌%◌, ◌<◌, ◌≤◌, Bool, true, false, eqb, List, [], ◌∷◌, ◌++◌, length, map, Contains, Option, Some, None, slice_get, slice_index_or, flat_map}
 use Rattle.cg_model.specs.Kernel.{Kernel, Node, Operand, Constant, Edge, HasOperand, HasOrder, size, node}
 pub use Rattle.cg_model.specs.declared.mapping.Place.{Place}
 pub use Rattle.cg_model.specs.declared.mapping.Route.{Route}
@@ -134,3 +134,10 @@ Carries A K M r c v i =
 -- by the mapping, unit x begins node v of turn i in cycle c
 abbrev pub Begins : Kernel → Mapping → ℕ → ℕ → ℕ → ℕ → Type 0
 Begins K M x c v i = (v < size K) × ((place M v).unit ≡ x) × (c ≡ (place M v).time + i * M.ii)
+
+-- two positions are entered from one resource, or both begin their paths
+abbrev pub same_from : Option ℕ → Option ℕ → Bool
+same_from None None = true
+same_from (Some a) (Some b) = eqb a b
+same_from None (Some b) = false
+same_from (Some a) None = false

@@ -2,19 +2,16 @@
 use Rattle.std.proofs.Common.{◌≡◌, ℕ, zero, suc, ◌<◌, ◌≤◌, eqb, Bool, true, false, if◌then◌else◌, List, [], ◌∷◌, ◌++◌, length, get_or, append-nil, refl, sym, subst, arith, ⊎_elim, eqb-true}
 use Rattle.std.specs.Prelude.{◌||◌, AllPairs, Contains, filter}
 use Rattle.std.specs.List.{list_any}
-use Rattle.std.proofs.lemmas.Bool.{cases_lt, cases_Bool, eq-eqb}
+use Rattle.std.proofs.lemmas.Bool.{cases_lt, cases_Bool, eq-eqb, or_right}
 use Rattle.std.proofs.lemmas.List.Elements.{filter-append, Contains-get_or, Contains-append_left, Contains-append_right, Contains-append_cases}
 use Rattle.std.proofs.lemmas.List.Kept.{AllPairs-filter}
 use Rattle.std.proofs.lemmas.List.Quantifiers.{all_pairs_push}
 use Rattle.std.proofs.lemmas.Map.Views.{Contains-from_any}
 use Rattle.cg_model.specs.Array.{Arch, resource, delay}
 use Rattle.cg_mrrg.specs.Graph.{users_below, users, registers_after}
+use Rattle.cg_model.proofs.Lookups.{Contains-nil}
 
-or_right : (a b : Bool) → b ≡ true → (a || b) ≡ true
-or_right true b h = refl
-or_right false b h = h
-
-any_at : (ds : List ℕ) (i q d : ℕ) → i < length ds → get_or ds i d ≡ q → list_any (eqb q) ds ≡ true
+pub any_at : (ds : List ℕ) (i q d : ℕ) → i < length ds → get_or ds i d ≡ q → list_any (eqb q) ds ≡ true
 any_at [] i q d h e = absurd (omega arith)
 any_at (x ∷ ds) zero q d h e = rw (eq-eqb q x (sym e)) refl
 any_at (x ∷ ds) (suc i) q d h e = or_right (eqb q x) _ (any_at ds i q d (omega arith) e)
@@ -26,16 +23,13 @@ any_driver ds q m = any_at ds m.0 q q m.1 m.2
 pub is_driver : (ds : List ℕ) (q : ℕ) → list_any (eqb q) ds ≡ true → Contains ds q
 is_driver ds q t = Contains-from_any (λ x y. eqb-true x y) q ds t
 
-none_in : {X : Type 0} (x : X) → Contains [] x → ⊥
-none_in x m = let l = m.1 in omega arith
-
 one_in : (r x : ℕ) → Contains (r ∷ []) x → r ≡ x
 one_in r x (zero, l, e) = e
 one_in r x (suc i, l, e) = absurd (omega arith)
 
 one_if : (b : Bool) (r x : ℕ) → Contains (if b then r ∷ [] else []) x → r ≡ x
 one_if true r x m = one_in r x m
-one_if false r x m = absurd (none_in x m)
+one_if false r x m = absurd (Contains-nil x m)
 
 push_if : (b : Bool) (r : ℕ) (xs : List ℕ) → AllPairs (λ x y. x < y) xs → ((x : ℕ) → Contains xs x → x < r) → AllPairs (λ x y. x < y) (xs ++ (if b then r ∷ [] else []))
 push_if true r xs h less = all_pairs_push (λ x y. x < y) xs r h (λ i d l. less (get_or xs i d) (Contains-get_or xs i d l))
@@ -62,9 +56,9 @@ module _ (A : Arch) (q : ℕ) where
       (λ (a : list_any (eqb q) (resource A r).drivers ≡ true).
       ⊎_elim
       (λ (b : eqb (delay A r) 1 ≡ true). (one_in r x (rw (a, b) at m), is_driver (resource A r).drivers q a, eqb-true (delay A r) 1 b))
-      (λ (b : eqb (delay A r) 1 ≡ false). absurd (none_in x (rw (a, b) at m)))
+      (λ (b : eqb (delay A r) 1 ≡ false). absurd (Contains-nil x (rw (a, b) at m)))
       (cases_Bool (eqb (delay A r) 1)))
-      (λ (a : list_any (eqb q) (resource A r).drivers ≡ false). absurd (none_in x (rw a at m)))
+      (λ (a : list_any (eqb q) (resource A r).drivers ≡ false). absurd (Contains-nil x (rw a at m)))
       (cases_Bool (list_any (eqb q) (resource A r).drivers))
 
   in_below : (n x : ℕ) → x < n → Contains (resource A x).drivers q → delay A x ≡ 1 → Contains (registers_below n) x
@@ -79,7 +73,7 @@ module _ (A : Arch) (q : ℕ) where
 
   of_below : (n x : ℕ) → Contains (registers_below n) x → Contains (resource A x).drivers q × (delay A x ≡ 1)
   unfolding users_below
-  of_below zero x m = absurd (none_in x m)
+  of_below zero x m = absurd (Contains-nil x m)
   of_below (suc n) x m =
       ⊎_elim (λ a. of_below n x a)
       (λ a. let p = last_of n x a in subst (λ y. Contains (resource A y).drivers q × (delay A y ≡ 1)) p.0 (p.1, p.2))
@@ -94,7 +88,7 @@ module _ (A : Arch) (q : ℕ) where
 
   users_less : (n x : ℕ) → Contains (users_below A q n) x → x < n
   unfolding users_below
-  users_less zero x m = absurd (none_in x m)
+  users_less zero x m = absurd (Contains-nil x m)
   users_less (suc n) x m =
       ⊎_elim (λ a. let l = users_less n x a in omega (arith, l)) (λ a. let e = one_if (list_any (eqb q) (resource A n).drivers) n x a in omega (arith, e))
       (Contains-append_cases (users_below A q n) (if list_any (eqb q) (resource A n).drivers then n ∷ [] else []) x m)

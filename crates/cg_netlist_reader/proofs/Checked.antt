@@ -16,12 +16,9 @@ use Rattle.cg_netlist.specs.Graph.{names, IsNet, IsConnected, IsCell, IsNetGraph
 use Rattle.cg_netlist.specs.Text.{wire_of, pin_of, cell_with, cell_of, module_of}
 use Rattle.cg_netlist_reader.specs.Reading.{IsFormed, given, has, repeated, unknown, pin_net, pin_nets, unknown_net}
 use Rattle.cg_netlist_reader.proofs.Known.{IsFresh, IsKnown, none_repeated, never_repeated, none_unknown, never_unknown, connected, known_pin}
+use Rattle.cg_model.proofs.Options.{or_none}
 
 -- ---- parts of an answer
-
-none_first : {X : Type 0} (a b : Option X) → option_or a b ≡ None → (a ≡ None) × (b ≡ None)
-none_first None b e = (refl, e)
-none_first (Some x) b e = let bad : Some x ≡ None = e in absurd (cc)
 
 none_both : {X : Type 0} (a b : Option X) → a ≡ None → b ≡ None → option_or a b ≡ None
 none_both a b p q = ap (λ o. option_or o b) p ∙ q
@@ -95,7 +92,7 @@ cells_are nets (c ∷ cells) texts formed known =
 
 pub graph_of : (G : NetGraph) → text.IsModule (module_of G) → All IsFormed G.cells → unknown_net G ≡ None → IsNetGraph G
 graph_of G valid formed none =
-    let both = none_first (repeated given (names G.nets)) (unknown (given ++ names G.nets) (flat_map pin_nets G.cells)) none in
+    let both = or_none (repeated given (names G.nets)) (unknown (given ++ names G.nets) (flat_map pin_nets G.cells)) none in
     let once = none_repeated given (names G.nets) both.0 in
     let known = none_unknown (given ++ names G.nets) (flat_map pin_nets G.cells) both.1 in
     record {

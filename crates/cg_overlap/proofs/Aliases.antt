@@ -15,7 +15,7 @@ use Rattle.cg_overlap.proofs.Unaliased.{unaliased_from}
 
 -- ---- a load and a store of one word, ordered both ways
 
-swap_is : IsKernel swap
+pub swap_is : IsKernel swap
 unfolding all_true every all_below
 swap_is = kernel_by swap refl
 
@@ -97,7 +97,7 @@ load_before_store_is_aliased unaliased =
 
 -- ---- a guarded store alone
 
-odd_inside_is : IsKernel odd_inside
+pub odd_inside_is : IsKernel odd_inside
 unfolding all_true every all_below
 odd_inside_is = kernel_by odd_inside refl
 

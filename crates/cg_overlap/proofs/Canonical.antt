@@ -10,7 +10,7 @@ use Rattle.std.proofs.Math.Nat.{div-le_self}
 use Rattle.cg_word.specs.declared.op.Op.{Op}
 use Rattle.cg_model.specs.Canonical.{AreFields, IsCanonical, gives_output, clash, any_below, stage_of, greatest_of, last_stage}
 use Rattle.cg_word.proofs.Marks.{among_it}
-use Rattle.cg_overlap.proofs.Emitted.{zero_mode, zero_count, zero_word, node_is, node_keeps}
+use Rattle.cg_overlap.proofs.Emitted.{node_is, node_keeps}
 use Rattle.cg_model.specs.declared.kernel.Operand.{Operand}
 use Rattle.cg_model.specs.declared.kernel.Operand.TheVariants.{Const as Constant, Edge}
 use Rattle.cg_model.specs.declared.mapping.Place.{Place}
@@ -20,26 +20,13 @@ use Rattle.cg_model.specs.Array.{Arch, unit, resource, delay}
 use Rattle.cg_model.specs.Mapping.{Mapping, Position, IsLegal, place, positions, positions_on, positions_after, of_route, of_operand, leaves, Goes}
 use Rattle.cg_model.specs.Config.{Config, arg, select, fields, off, no_arg}
 use Rattle.cg_model.specs.Configured.{node_on, node_fields, fields_by, configuration_of, select_in, selected, place_of, stages_of}
-use Rattle.cg_overlap.proofs.Facts.{Contains-nil, Contains-cases, Contains-first, Contains-later, Contains-flat_map_from}
+use Rattle.cg_overlap.proofs.Facts.{Contains-cases, Contains-first, Contains-later, Contains-flat_map_from}
 use Rattle.cg_overlap.proofs.Selects.{node_found, fields_right}
+use Rattle.cg_model.proofs.Bools.{no_clash}
+use Rattle.cg_model.proofs.Lookups.{Contains-nil}
+use Rattle.cg_model.proofs.Canonical.{zero_mode, zero_count, zero_word, greatest_below, any_none}
 
 -- ---- tests on lists
-
-pub greatest_below : (f : ℕ → ℕ) (n b : ℕ) → ((i : ℕ) → i < n → f i ≤ b) → greatest_of f n ≤ b
-unfolding greatest_of
-greatest_below f zero b h = omega arith
-greatest_below f (suc n) b h = let before = greatest_below f n b (λ i lt. h i (omega arith)) in let last = h n (omega arith) in omega arith
-
-pub any_none : (f : ℕ → Bool) (n : ℕ) → ((i : ℕ) → i < n → f i ≡ false) → any_below f n ≡ false
-unfolding any_below
-any_none f zero h = refl
-any_none f (suc n) h = or_from (any_below f n) (f n) (any_none f n (λ i lt. h i (omega arith))) (h n (omega arith))
-
-no_clash : (a b c : Bool) → (a ≡ true → b ≡ true → c ≡ true → ⊥) → (a && (b && c)) ≡ false
-no_clash true true true h = absurd (h refl refl refl)
-no_clash true true false h = refl
-no_clash true false c h = refl
-no_clash false b c h = refl
 
 pub greatest_has : (f : ℕ → ℕ) (n i : ℕ) → i < n → f i ≤ greatest_of f n
 unfolding greatest_of

@@ -18,16 +18,8 @@ use Rattle.cg_model.specs.Configured.{constant, padded, arg_fields, node_fields}
 use Rattle.cg_model.specs.Canonical.{AreFields, fixed_below, immediate_right, mode_right, count_right, word_right}
 use Rattle.cg_model.specs.Kernel.{Kernel, IsKernel, HasOperand, node, size}
 use Rattle.cg_overlap.proofs.Starts.{get_or-padded, get_or-map_at}
-
--- an argument that is all zero keeps the rules
-pub zero_mode : (f : UnitFields) (p : ℕ) → arg f p ≡ no_arg → mode_right f p ≡ true
-zero_mode f p e = or_left _ _ (ap (λ a. not a.fixed) e)
-
-pub zero_count : (f : UnitFields) (p : ℕ) → arg f p ≡ no_arg → count_right f p ≡ true
-zero_count f p e = and_from _ _ (ap (λ a. leb a.count 4) e) (or_left _ _ (ap (λ a. eqb a.count 0) e))
-
-pub zero_word : (f : UnitFields) (p k : ℕ) → k < 4 → arg f p ≡ no_arg → word_right f p k ≡ true
-zero_word f p k lt e = or_left _ _ (ap (λ a. eqb (slice_index a.init k) 0) e ∙ ap (λ z. eqb z 0) (get_or-replicate 4 k 0 0 lt))
+use Rattle.cg_model.proofs.Canonical.{zero_mode, zero_count, zero_word}
+use Rattle.cg_word.proofs.Arity.{arity_few}
 
 -- what an operand of a valid kernel keeps
 abbrev pub IsOperand : Operand → Type 0
@@ -41,16 +33,6 @@ pub record IsNode (v : Node) : Type 0 where
   pub port : (has_port v.op || eqb v.port 0) ≡ true
   pub each : (p : ℕ) (o : Operand) → slice_get v.operands p ≡ Some o → IsOperand o
   pub one_constant : (p q a b : ℕ) → slice_get v.operands p ≡ Some (Constant a) → slice_get v.operands q ≡ Some (Constant b) → p ≡ q
-
-pub arity_few : (op : Op) → arity op ≤ 3
-arity_few Const = omega arith
-arity_few Iter = omega arith
-arity_few Input = omega arith
-arity_few Select = omega arith
-arity_few Load = omega arith
-arity_few Output = omega arith
-arity_few StoreIf = omega arith
-arity_few _ = omega arith
 
 get_case : (os : List Operand) (p : ℕ) → ((o : Operand) × (slice_get os p ≡ Some o) × (p < length os)) ⊎ (length os ≤ p)
 get_case [] p = inr (omega arith)

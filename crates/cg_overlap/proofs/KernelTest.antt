@@ -12,6 +12,7 @@ use Rattle.cg_model.specs.Kernel.{Kernel, HasOperand, IsKernel, IsWired, IsOrder
 use Rattle.cg_model.specs.Names.{is_name}
 use Rattle.cg_model.proofs.Identifiers.{is_name-IsName}
 use Rattle.cg_overlap.proofs.Tests.{all_true, part, every, every_it, every_at, all_below, all_below_it, given, given_it}
+use Rattle.cg_model.proofs.Lookups.{Contains-get}
 
 abbrev each_node : Kernel → (ℕ → Bool) → Bool
 each_node K f = all_below f (size K)
@@ -49,16 +50,13 @@ kernel_tests K =
 abbrev pub is_kernel : Kernel → Bool
 is_kernel K = all_true (kernel_tests K)
 
-pub member : {X : Type 0} (xs : List X) (k : ℕ) (x : X) → slice_get xs k ≡ Some x → Contains xs x
-member xs k x e = (k, slice_get_within xs k x e, get_or_from_slice_get xs k x x e)
-
 below_past : (f : ℕ → Bool) (k : ℕ) (xs : List ℕ) → f 0 ≡ true → every f xs ≡ true → f (slice_index xs k) ≡ true
 below_past f k xs z h =
     ⊎_elim (λ l. every_at f xs k h l) (λ l. subst (λ w. f w ≡ true) (sym (get_or_past xs k 0 l)) z) (cases_lt k (length xs))
 
 module _ (K : Kernel) (h : is_kernel K ≡ true) where
   of_operand : (v p : ℕ) (o : Operand) → v < size K → HasOperand K v p o → all_true (operand_tests K v o) ≡ true
-  of_operand v p o l e = every_it (λ o. all_true (operand_tests K v o)) _ o (all_below_it _ _ v (part _ 3 h) l) (member _ p o e)
+  of_operand v p o l e = every_it (λ o. all_true (operand_tests K v o)) _ o (all_below_it _ _ v (part _ 3 h) l) (Contains-get _ p o e)
 
   wired : IsWired K
   wired =
@@ -72,9 +70,9 @@ module _ (K : Kernel) (h : is_kernel K ≡ true) where
   order =
       record {
         few = leb-true _ _ (part _ 9 h);
-        known = λ e u v d m. let (a, b) = and_parts _ _ (every_it _ _ (record { from = u; to = v; distance = d }) (part _ 10 h) (member _ e _ m)) in (ltb-true _ _ a, ltb-true _ _ b);
-        forward = λ e u v m. ltb-true _ _ (every_it _ _ (record { from = u; to = v; distance = 0 }) (part _ 11 h) (member _ e _ m));
-        near = λ e u v d m. leb-true _ _ (every_it _ _ (record { from = u; to = v; distance = d }) (part _ 12 h) (member _ e _ m));
+        known = λ e u v d m. let (a, b) = and_parts _ _ (every_it _ _ (record { from = u; to = v; distance = d }) (part _ 10 h) (Contains-get _ e _ m)) in (ltb-true _ _ a, ltb-true _ _ b);
+        forward = λ e u v m. ltb-true _ _ (every_it _ _ (record { from = u; to = v; distance = 0 }) (part _ 11 h) (Contains-get _ e _ m));
+        near = λ e u v d m. leb-true _ _ (every_it _ _ (record { from = u; to = v; distance = d }) (part _ 12 h) (Contains-get _ e _ m));
       }
 
   named : IsNamed K

@@ -11,8 +11,10 @@ use Rattle.cg_model.specs.Kernel.{Kernel, node, size}
 use Rattle.cg_model.specs.Array.{Arch, resource, unit, delay}
 use Rattle.cg_model.specs.Mapping.{Mapping, Position, Goes, Brings, IsLegal, IsShaped, place, positions, leaves}
 use Rattle.cg_overlap.proofs.Facts.{Contains-first, Contains-later}
-use Rattle.cg_overlap.proofs.Tests.{all_true, part, every, every_it, has, has_it, has_of, all_below, all_below_it, given, given_it, same_from, from_is}
-use Rattle.cg_overlap.proofs.KernelTest.{member}
+use Rattle.cg_overlap.proofs.Tests.{all_true, part, every, every_it, has, has_it, has_of, all_below, all_below_it, given, given_it}
+use Rattle.cg_model.specs.Mapping.{same_from}
+use Rattle.cg_model.proofs.Lookups.{Contains-get}
+use Rattle.cg_model.proofs.Mappings.{same_from_is, same_from_itself}
 
 abbrev each_node : Kernel → (ℕ → Bool) → Bool
 each_node K f = all_below f (size K)
@@ -97,13 +99,13 @@ legal_by A K M shaped h =
       offered = λ v l. among_from _ _ (and_parts _ _ (and_parts _ _ (all_below_it _ _ v (part _ 1 h) l)).1).0;
       soon = λ v l. leb-true _ _ (and_parts _ _ (and_parts _ _ (all_below_it _ _ v (part _ 1 h) l)).1).1;
       apart = λ v w lv lw e f. eqb-true _ _ (given_it _ _ (all_below_it _ _ w (all_below_it _ _ v (part _ 2 h) lv) lw) (and_from _ _ (eq-eqb _ _ e) (eq-eqb _ _ f)));
-      ordered = λ e u v d m. leb-true _ _ (every_it _ _ (record { from = u; to = v; distance = d }) (part _ 3 h) (member _ e _ m));
+      ordered = λ e u v d m. leb-true _ _ (every_it _ _ (record { from = u; to = v; distance = d }) (part _ 3 h) (Contains-get _ e _ m));
       brings = λ route u d init m e.
           arrives_it A M u route.path _ _ (subst (λ o. brought_for A M route o ≡ true) e (every_it _ _ route (part _ 4 h) m));
       alone = λ p q mp mq e f.
           let (a, b) = and_parts _ _ (given_it _ _ (every_it _ _ q (every_it _ _ p (part _ 5 h) mp) mq) (and_from _ _ (eq-eqb _ _ e) (eq-eqb _ _ f))) in
           (eqb-true _ _ a, eqb-true _ _ b);
-      one_way = λ p q mp mq e f. from_is _ _ (given_it _ _ (every_it _ _ q (every_it _ _ p (part _ 6 h) mp) mq) (and_from _ _ (eq-eqb _ _ e) (eq-eqb _ _ f)));
+      one_way = λ p q mp mq e f. same_from_is _ _ (given_it _ _ (every_it _ _ q (every_it _ _ p (part _ 6 h) mp) mq) (and_from _ _ (eq-eqb _ _ e) (eq-eqb _ _ f)));
     }
 
 -- ---- L5, L6 and L7 hold of a legal mapping
@@ -138,10 +140,6 @@ brought_of A K M legal = every_from _ _ (λ route m. brought_by A K M legal rout
 given_from : (a b : Bool) → (a ≡ true → b ≡ true) → given a b ≡ true
 given_from true b h = h refl
 given_from false b h = refl
-
-same_from_itself : (a : Option ℕ) → same_from a a ≡ true
-same_from_itself None = refl
-same_from_itself (Some q) = eq-eqb q q refl
 
 pub alone_of : (A : Arch) (K : Kernel) (M : Mapping) → IsLegal A K M → keeps_alone A K M ≡ true
 alone_of A K M legal =

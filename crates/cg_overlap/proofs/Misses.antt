@@ -18,7 +18,8 @@ use Rattle.cg_overlap.proofs.Starts.{started}
 use Rattle.cg_overlap.proofs.Memory.{length-at_cycle}
 use Rattle.cg_overlap.proofs.Induction.{begin, begin_at, right, begun_step}
 use Rattle.cg_overlap.proofs.Ends.{within_run}
-use Rattle.cg_overlap.proofs.Sums.{total, recounted}
+use Rattle.cg_overlap.proofs.Sums.{recounted}
+use Rattle.cg_model.proofs.Sums.{total}
 
 missed_turns : (K : Kernel) (image : Image) (k : ℕ) → (before K image k).outside ≡ total k (λ j. missed (length image.memory) (work K image j))
 unfolding before

@@ -7,10 +7,7 @@ use Rattle.cg_model.specs.Order.{Links, by_data, by_order, Chain, one, more, IsO
 use Rattle.cg_model.specs.Array.{Arch, IsArch, unit, delay}
 use Rattle.cg_model.specs.Mapping.{Mapping, place, leaves, Goes, IsLegal}
 use Rattle.cg_overlap.proofs.Shape.{routed}
-
-goes_up : (A : Arch) (q t : ℕ) (path : List ℕ) (r s : ℕ) → Goes A q t path r s → t ≤ s
-goes_up A q t [] r s (a, b) = omega (arith, b)
-goes_up A q t (x ∷ path) r s (d, on) = omega (arith, goes_up A x (t + delay A x) path r s on)
+use Rattle.cg_model.proofs.Mappings.{goes_on}
 
 rises_by : (s t ii d i e : ℕ) → s + 1 ≤ t + ii * d → s + i * ii < t + (i + d + e) * ii
 rises_by s t ii d i e h = omega arith
@@ -20,7 +17,7 @@ module _ (A : Arch) (K : Kernel) (M : Mapping) (is : IsArch A) (good : IsKernel 
   data_rises v p u d init l o =
       let (path, m) = routed K M legal.shape v p u d init l o in
       let (port, at, (rest, e, on)) = legal.brings (record { node = v; arg = p; path = path }) u d init m o in
-      let up : leaves A M u ≤ (place M v).time + M.ii * d = goes_up A (unit A (place M u).unit).out (leaves A M u) rest _ _ on in
+      let up : leaves A M u ≤ (place M v).time + M.ii * d = goes_on A (unit A (place M u).unit).out (leaves A M u) rest _ _ on in
       let lat = (is.latencies (place M u).unit (legal.units u (good.wired.sources v p u d init l o))).0 in
       omega arith
 

@@ -14,13 +14,14 @@ use Rattle.cg_model.specs.Mapping.{Mapping, Begins, place, IsLegal}
 use Rattle.cg_model.specs.Configured.{configuration_of}
 use Rattle.cg_model.specs.Machine.{begins, result, machine}
 use Rattle.cg_model.specs.Overlap.{Follows, LeavesTheSame}
-use Rattle.cg_overlap.proofs.Sequence.{operand_within, positive_from}
+use Rattle.cg_overlap.proofs.Sequence.{positive_from}
 use Rattle.cg_overlap.proofs.Travel.{carried}
 use Rattle.cg_overlap.proofs.Starts.{started}
 use Rattle.cg_overlap.proofs.Induction.{right, begun_right}
 use Rattle.cg_overlap.proofs.Ends.{memory_left}
 use Rattle.cg_overlap.proofs.Streams.{stream_left}
 use Rattle.cg_overlap.proofs.Misses.{outside_left}
+use Rattle.cg_model.proofs.Mappings.{operand_within}
 
 module _ (A : Arch) (K : Kernel) (M : Mapping) (n : ℕ) (image : Image) (is : IsArch A) (good : IsKernel K) (legal : IsLegal A K M) (unaliased : IsUnaliased K n image) where
   value_of : (v i : ℕ) → v < size K → i < n → result A (configuration_of A K M) n image (place M v).unit ((place M v).time + i * M.ii) ≡ val K image v i

@@ -15,7 +15,7 @@ use Rattle.cg_overlap.proofs.Tests.{all_true, every, has, all_below}
 use Rattle.cg_overlap.proofs.ArchTest.{arch_by}
 use Rattle.cg_overlap.proofs.KernelTest.{kernel_by}
 use Rattle.cg_overlap.proofs.LegalTest.{goes, legal_by}
-use Rattle.cg_overlap.proofs.Aliases.{swap_unaliased, odd_inside_unaliased}
+use Rattle.cg_overlap.proofs.Aliases.{swap_unaliased, odd_inside_unaliased, swap_is, odd_inside_is}
 use Rattle.cg_overlap.proofs.Rows.{t1, t2, t3, t4, t4g, t4l, pair, sum_on_t1, sum_in_two_stages, growing, growing_on_t3, late, held_shortly, double, doubled_by, apart, apart_on_t1, swap_on_t4, astray_on_t4, swap_on_pair, odd_on_t4g, odd_on_t4l}
 
 -- ---- architectures, each with a level for each resource: ports stand above what drives them, a wire above its drivers
@@ -78,10 +78,6 @@ pub astray_is : IsKernel astray
 unfolding all_true every all_below
 astray_is = kernel_by astray refl
 
-pub swap_is : IsKernel swap
-unfolding all_true every all_below
-swap_is = kernel_by swap refl
-
 pub swap_unordered_is : IsKernel swap_unordered
 unfolding all_true every all_below
 swap_unordered_is = kernel_by swap_unordered refl
@@ -89,10 +85,6 @@ swap_unordered_is = kernel_by swap_unordered refl
 pub odd_is : IsKernel odd
 unfolding all_true every all_below
 odd_is = kernel_by odd refl
-
-pub odd_inside_is : IsKernel odd_inside
-unfolding all_true every all_below
-odd_inside_is = kernel_by odd_inside refl
 
 pub idle_is : IsKernel idle
 unfolding all_true every all_below

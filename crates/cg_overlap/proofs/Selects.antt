@@ -12,7 +12,8 @@ use Rattle.std.specs.List.{range_with_len}
 use Rattle.std.specs.Prelude.{map, slice_index_or, length}
 use Rattle.std.proofs.lemmas.List.FromFn.{get_or-map-range_with_len}
 use Rattle.std.proofs.lemmas.Nat.{mod_below}
-use Rattle.cg_overlap.proofs.Facts.{Contains-nil, Contains-first, Contains-later, Contains-cases}
+use Rattle.cg_overlap.proofs.Facts.{Contains-first, Contains-later, Contains-cases}
+use Rattle.cg_model.proofs.Lookups.{Contains-nil}
 
 -- the place of a driver names it
 driver_placed : (q : ℕ) (ds : List ℕ) → Contains ds q → slice_get ds (place_of q ds) ≡ Some q

@@ -38,11 +38,6 @@ earlier_step : (j d m u v : ℕ) → u < m → (d ≡ 0 → u < v) → j * m + u
 earlier_step j zero m u v l h = let h' : u < v = h refl in omega arith
 earlier_step j (suc d) m u v l h = omega arith
 
--- no operand stands past the last node
-pub operand_within : (K : Kernel) (v p : ℕ) (o : Operand) → HasOperand K v p o → v < size K
-operand_within K v p o h =
-    ⊎_elim (λ l. l) (λ l. let e : node K v ≡ no_node = get_or_past K.nodes v no_node l in let h' = rw e at h in absurd (cc)) (cases_lt v (size K))
-
 -- an operand of node v that the turns before know
 abbrev pub IsSound : ℕ → ℕ → Operand → Type 0
 IsSound m v (Constant w) = Unit {0}

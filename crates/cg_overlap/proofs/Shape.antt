@@ -7,7 +7,8 @@ use Rattle.cg_model.specs.declared.kernel.Operand.{Operand}
 use Rattle.cg_model.specs.declared.kernel.Operand.TheVariants.{Const as Constant, Edge}
 use Rattle.cg_model.specs.Kernel.{Kernel, HasOperand, no_node, size}
 use Rattle.cg_model.specs.Mapping.{Mapping, End, end_of, ends_of, ends_from, IsShaped}
-use Rattle.cg_overlap.proofs.Facts.{Contains-nil, Contains-first, Contains-later, Contains-cases}
+use Rattle.cg_overlap.proofs.Facts.{Contains-first, Contains-later, Contains-cases}
+use Rattle.cg_model.proofs.Lookups.{Contains-nil}
 
 Contains-map_from : {X Y : Type 0} (f : X → Y) (xs : List X) (y : Y) → Contains (map f xs) y → (x : X) × Contains xs x × (f x ≡ y)
 Contains-map_from f [] y h = absurd (Contains-nil y h)

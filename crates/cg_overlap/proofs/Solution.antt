@@ -12,7 +12,7 @@ use Rattle.cg_model.specs.Array.{Arch, IsArch, resource, unit, owner, delay_by}
 use Rattle.cg_model.specs.Config.{Config, select, fields}
 use Rattle.cg_model.specs.Machine.{ago, driver, driven, at_cycle, word, begins, result, begun, memory_by, memory_after, sent_by_units, sent_after, missed_by_units, missed_after, result_of}
 use Rattle.cg_model.specs.Equations.{IsRun, AreSame}
-use Rattle.cg_overlap.proofs.Wires.{unrolled, given, out_within, Contains-driver}
+use Rattle.cg_overlap.proofs.Wires.{unrolled, given, out_within, Contains-driver, same_driven}
 
 module _ (A : Arch) (C : Config) (n : ℕ) (image : Image) (is : IsArch A) where
   length-past : (c : ℕ) → length (at_cycle A C n image c).past ≡ c
@@ -52,10 +52,6 @@ module _ (A : Arch) (C : Config) (n : ℕ) (image : Image) (is : IsArch A) where
         outside_first = refl;
         outside_next = λ c. refl;
       }
-
-same_driven : (a b : ℕ → ℕ) (o : Option ℕ) → ((q : ℕ) → o ≡ Some q → a q ≡ b q) → driven a o ≡ driven b o
-same_driven a b None h = refl
-same_driven a b (Some q) h = h q refl
 
 same_memory_by : (a b : ℕ → Option Work) (memory : List ℕ) (x : ℕ) → ((y : ℕ) → y < x → a y ≡ b y) → memory_by a memory x ≡ memory_by b memory x
 unfolding memory_by

@@ -5,6 +5,7 @@ use Rattle.std.proofs.lemmas.Bool.{and_parts, cond-true, cases_lt, or_cases, or_
 use Rattle.cg_model.specs.Canonical.{any_below}
 use Rattle.cg_model.specs.declared.array.Kind.{Kind}
 use Rattle.cg_model.specs.declared.array.Kind.TheVariants.{Wire, Register, Port, Out}
+use Rattle.cg_model.specs.Mapping.{same_from}
 
 -- ---- lists
 
@@ -102,18 +103,6 @@ kind_is Out Wire h = absurd (cc)
 kind_is Out Register h = absurd (cc)
 kind_is Out Port h = absurd (cc)
 kind_is Out Out h = refl
-
-abbrev pub same_from : Option ℕ → Option ℕ → Bool
-same_from None None = true
-same_from (Some a) (Some b) = eqb a b
-same_from None (Some b) = false
-same_from (Some a) None = false
-
-pub from_is : (a b : Option ℕ) → same_from a b ≡ true → a ≡ b
-from_is None None h = refl
-from_is (Some a) (Some b) h = ap Some (eqb-true _ _ h)
-from_is None (Some b) h = absurd (cc)
-from_is (Some a) None h = absurd (cc)
 
 -- what isn't found isn't there
 pub has_of : (xs : List ℕ) (q : ℕ) → Contains xs q → has xs q ≡ true

@@ -11,10 +11,11 @@ use Rattle.cg_model.specs.Mapping.{Mapping, Position, place, positions, position
 use Rattle.cg_model.specs.Config.{select}
 use Rattle.cg_model.specs.Configured.{configuration_of}
 use Rattle.cg_model.specs.Machine.{driver, driven, word, result}
-use Rattle.cg_overlap.proofs.Facts.{Contains-nil, Contains-first, Contains-later, Contains-cases, Contains-flat_map, Contains-flat_map_from, slot_of}
+use Rattle.cg_overlap.proofs.Facts.{Contains-first, Contains-later, Contains-cases, Contains-flat_map, Contains-flat_map_from, slot_of}
 use Rattle.cg_overlap.proofs.Wires.{hop, given, driven_within}
 use Rattle.cg_overlap.proofs.Selects.{select_right, chosen}
 use Rattle.cg_overlap.proofs.Shape.{routed}
+use Rattle.cg_model.proofs.Lookups.{Contains-nil}
 
 pub config_ii : (A : Arch) (K : Kernel) (M : Mapping) → (configuration_of A K M).ii ≡ M.ii
 unfolding configuration_of

@@ -11,7 +11,7 @@ use Rattle.cg_model.specs.declared.array.Kind.TheVariants.{Wire, Register, Port,
 use Rattle.cg_model.specs.Array.{Arch, IsArch, resource, unit, owner, delay, delay_by}
 use Rattle.cg_model.specs.Config.{Config, select}
 use Rattle.cg_model.specs.Machine.{Cycle, ago, driver, driven, by_kind, word_by, at_cycle, word, result}
-use Rattle.cg_overlap.proofs.Facts.{Contains-nil}
+use Rattle.cg_model.proofs.Lookups.{Contains-nil}
 
 Contains-get : (xs : List ℕ) (k x : ℕ) → slice_get xs k ≡ Some x → Contains xs x
 Contains-get xs k x e = (k, slice_get_within xs k x e, get_or_from_slice_get xs k x x e)
@@ -37,7 +37,7 @@ same_by_kind Port a b before given h = h refl
 same_by_kind Register a b before given h = refl
 same_by_kind Out a b before given h = refl
 
-same_driven : (a b : ℕ → ℕ) (o : Option ℕ) → ((q : ℕ) → o ≡ Some q → a q ≡ b q) → driven a o ≡ driven b o
+pub same_driven : (a b : ℕ → ℕ) (o : Option ℕ) → ((q : ℕ) → o ≡ Some q → a q ≡ b q) → driven a o ≡ driven b o
 same_driven a b None h = refl
 same_driven a b (Some q) h = h q refl
 

@@ -4,7 +4,7 @@ use Rattle.std.specs.Prelude.{slice_index, slice_index_or}
 use Rattle.std.specs.List.{starts_with}
 use Rattle.std.specs.Int.{to_be_bytes, from_be_bytes, w32}
 use Rattle.std.proofs.lemmas.Nat.{from_be_bytes-to_be_bytes_4, be_bytes_4}
-use Rattle.std.proofs.lemmas.Bool.{le-ltb}
+use Rattle.std.proofs.lemmas.Bool.{le-ltb, and_parts}
 use Rattle.cg_model.specs.Work.{Image, IsImage}
 use Rattle.cg_model.specs.Limits.{most_memory, most_stream}
 use Rattle.cg_pad.specs.declared.fault.ImageFault.{ImageFault}
@@ -182,10 +182,6 @@ module _ (size : ℕ) (bytes : List ℕ) (image : Image) where
 blocks_read : (size : ℕ) (bytes : List ℕ) (image : Image) → AreBytes bytes → read_blocks size bytes ≡ Ok image → block_bytes image.memory ++ flat_map block_bytes image.streams ≡ bytes
 blocks_read size bytes image h e = by_memory size bytes image h (read_block most_memory memory_too_large size bytes) refl e
 
-both : (a b : Bool) → (a && b) ≡ true → (a ≡ true) × (b ≡ true)
-both true b h = (refl, h)
-both false b h = cc
-
 -- the letters, and what follows them
 letters : (bytes : List ℕ) → starts_with nat_eq magic (take 4 bytes) ≡ true → nat_lt (length bytes) 4 ≡ false → magic ++ drop 4 bytes ≡ bytes
 letters [] m l = cc
@@ -193,10 +189,10 @@ letters (a ∷ []) m l = cc
 letters (a ∷ b ∷ []) m l = cc
 letters (a ∷ b ∷ c ∷ []) m l = cc
 letters (a ∷ b ∷ c ∷ d ∷ rest) m l =
-    let first = both (nat_eq a 67) (nat_eq b 71 && (nat_eq c 73 && (nat_eq d 49 && true))) m in
-    let second = both (nat_eq b 71) (nat_eq c 73 && (nat_eq d 49 && true)) first.1 in
-    let third = both (nat_eq c 73) (nat_eq d 49 && true) second.1 in
-    let fourth = both (nat_eq d 49) true third.1 in
+    let first = and_parts (nat_eq a 67) (nat_eq b 71 && (nat_eq c 73 && (nat_eq d 49 && true))) m in
+    let second = and_parts (nat_eq b 71) (nat_eq c 73 && (nat_eq d 49 && true)) first.1 in
+    let third = and_parts (nat_eq c 73) (nat_eq d 49 && true) second.1 in
+    let fourth = and_parts (nat_eq d 49) true third.1 in
     let ea : a ≡ 67 = eqb-true a 67 first.0 in
     let eb : b ≡ 71 = eqb-true b 71 second.0 in
     let ec : c ≡ 73 = eqb-true c 73 third.0 in

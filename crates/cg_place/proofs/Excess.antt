@@ -9,7 +9,8 @@ use Rattle.cg_model.specs.declared.mapping.Place.{Place}
 use Rattle.cg_model.specs.Array.{Arch}
 use Rattle.cg_place.specs.Counts.{excess_at, unit_excess}
 use Rattle.cg_place.specs.Reservations.{over, IsTable}
-use Rattle.cg_place.proofs.Offering.{range_append, range_more}
+use Rattle.cg_place.proofs.Offering.{range_append}
+use Rattle.cg_model.proofs.Ranges.{range_more}
 
 -- sums over ranges of which each number gives the same
 pub same_sums : (g h : ℕ → ℕ) (a b n : ℕ) → ((k : ℕ) → k < n → g (a + k) ≡ h (b + k)) → sum_by g (range_with_len a n) ≡ sum_by h (range_with_len b n)
@@ -48,9 +49,3 @@ table_excess A ii places counts t =
     ap over (fill_by_all (slice_index counts) counts (length A.units * ii) 0 t.each (λ k l. refl))
     ∙ summed f (slice_index counts) (range_with_len 0 (length A.units * ii))
     ∙ row_sums (excess_at ii places) (λ k. slice_index counts k - 1) ii (length A.units) (λ x s lx ls. ap f (t.right x s lx ls))
-
--- a number more
-pub sum_more : (f : ℕ → ℕ) (n : ℕ) → sum_by f (range_with_len 0 (n + 1)) ≡ sum_by f (range_with_len 0 n) + f n
-sum_more f n =
-    let z : 0 + n ≡ n = omega arith in
-    ap (sum_by f) (range_more 0 n) ∙ sum_by_push f (range_with_len 0 n) (0 + n) ∙ ap (λ k. sum_by f (range_with_len 0 n) + f k) z

@@ -9,6 +9,7 @@ use Rattle.cg_word.specs.declared.op.Op.{Op}
 use Rattle.cg_word.specs.Sets.{among}
 use Rattle.cg_model.specs.Array.{Arch, unit}
 use Rattle.cg_place.specs.Placed.{offering}
+use Rattle.cg_model.proofs.Ranges.{range_more}
 
 -- those below n
 abbrev pub offering_below : Arch → Op → ℕ → List ℕ
@@ -24,10 +25,6 @@ range_append a (suc m) n =
     let z : suc m + n ≡ suc (m + n) = omega arith in
     let w : a + 1 + m ≡ a + suc m = omega arith in
     ap (range_with_len a) z ∙ ap (λ ks. a ∷ ks) (range_append (a + 1) m n ∙ ap (λ k. range_with_len (a + 1) m ++ range_with_len k n) w)
-
--- a range and one number more
-pub range_more : (a n : ℕ) → range_with_len a (n + 1) ≡ range_with_len a n ++ (a + n) ∷ []
-range_more a n = range_append a n 1
 
 pub offering_more : (A : Arch) (op : Op) (n : ℕ) → offering_below A op (n + 1) ≡ offering_below A op n ++ cond (among (unit A n).ops op) (n ∷ []) []
 offering_more A op n =

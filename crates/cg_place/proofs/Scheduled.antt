@@ -21,7 +21,7 @@ abbrev no_place : Place
 no_place = record { unit = 0; time = 0 }
 
 -- a sum over a range is 0 exactly where each term is
-terms_zero : (f : ℕ → ℕ) (n x : ℕ) → x < n → sum_by f (range_with_len 0 n) ≡ 0 → f x ≡ 0
+pub terms_zero : (f : ℕ → ℕ) (n x : ℕ) → x < n → sum_by f (range_with_len 0 n) ≡ 0 → f x ≡ 0
 terms_zero f n x l e =
     let long : length (range_with_len 0 n) ≡ n = length-range_with_len 0 n in
     let a : f (get_or (range_with_len 0 n) x 0) ≤ sum_by f (range_with_len 0 n) = get_or-le-sum_by f (range_with_len 0 n) x 0 (omega arith) in

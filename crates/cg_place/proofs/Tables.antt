@@ -11,11 +11,7 @@ use Rattle.cg_model.specs.declared.mapping.Place.{Place}
 use Rattle.cg_place.specs.Placed.{place_in}
 use Rattle.cg_place.specs.Counts.{stands_at}
 use Rattle.cg_place.specs.Reservations.{entry, over, raised, lowered, IsTable}
-
--- entries of units and slots that differ are apart
-entries_apart : (ii x s y t : ℕ) → s < ii → t < ii → x * ii + s ≡ y * ii + t → (x ≡ y) × (s ≡ t)
-entries_apart ii x s y t ls lt e =
-    (sym (div-mul-add x ii s ls) ∙ ap (λ z. z / ii) e ∙ div-mul-add y ii t lt, sym (mod-mul-add x ii s ls) ∙ ap (λ z. z % ii) e ∙ mod-mul-add y ii t lt)
+use Rattle.cg_model.proofs.Mappings.{places_apart}
 
 within : (units ii x s : ℕ) (counts : List ℕ) → length counts ≡ units * ii → x < units → s < ii → x * ii + s < length counts
 within units ii x s counts long lx ls = let bound = mul-add-lt x ii s units lx ls in let c : ii * units ≡ units * ii = mul_comm ii units in omega arith
@@ -32,7 +28,7 @@ written_there : (ii x s w : ℕ) (counts : List ℕ) (p : Place) → 0 < ii → 
     slice_index (set counts (entry ii p) w) (x * ii + s) ≡ slice_index counts (x * ii + s)
 written_there ii x s w counts p some ls off =
     let apart : x * ii + s ≢ entry ii p =
-    λ e. let (a, b) = entries_apart ii x s p.unit (p.time % ii) ls (mod_below p.time ii some) e in both_ways _ off (and_from _ _ (eq-eqb _ _ (sym a)) (eq-eqb _ _ (sym b))) in
+    λ e. let (a, b) = places_apart ii x s p.unit (p.time % ii) ls (mod_below p.time ii some) e in both_ways _ off (and_from _ _ (eq-eqb _ _ (sym a)) (eq-eqb _ _ (sym b))) in
     get_or-set_other counts (entry ii p) (x * ii + s) w 0 apart
 
 here_is : (ii x s : ℕ) (counts : List ℕ) (p : Place) → stands_at ii x s p ≡ true → slice_index counts (entry ii p) ≡ slice_index counts (x * ii + s)

@@ -18,10 +18,10 @@ use Rattle.cg_recur.specs.Log.{IsWithin}
 use Rattle.cg_recur.specs.Recurrences.{IsRecurrence, name_at}
 use Rattle.cg_recur.proofs.Chains.{none_from_tight}
 use Rattle.cg_recur.proofs.Names.{named}
-use Rattle.cg_recur.proofs.Paths.{pigeons}
 use Rattle.cg_recur.proofs.Named.{within, cycle_named}
 use Rattle.cg_recur.proofs.Visits.{tight_or_deep}
 use Rattle.cg_recur.proofs.Closing.{closed_chain}
+use Rattle.cg_model.proofs.Ranges.{pigeons}
 
 -- ---- the list of all edges
 

@@ -11,6 +11,7 @@ use Rattle.cg_edges.specs.declared.edge.Edge.{Edge}
 use Rattle.cg_recur.specs.declared.moments.Step.{Step}
 use Rattle.cg_recur.specs.Log.{step, Follows, IsLog}
 use Rattle.cg_recur.specs.Path.{moment, IsPath}
+use Rattle.cg_model.proofs.Ranges.{pigeons}
 
 module _ (es : List Edge) (ii n : ℕ) (log : List Step) (last : List ℕ) (good : IsLog es ii n log last) where
   -- a moment that more than no edges lead to goes on from an earlier one
@@ -55,13 +56,6 @@ module _ (es : List Edge) (ii n : ℕ) (log : List Step) (last : List ℕ) (good
         omega arith,
         omega arith,
       )
-
--- numbers below n of which no two are equal are at most n
-pub pigeons : (n : ℕ) (xs : List ℕ) → ((i : ℕ) → i < length xs → slice_index xs i < n) → ((i j : ℕ) → i < j → j < length xs → slice_index xs i ≡ slice_index xs j → ⊥) → length xs ≤ n
-pigeons n xs below apart =
-    length-le_from_distinct_below xs n
-    (IsDistinct-from_apart eqb xs (λ i j d l m. ⊎_elim (λ t. absurd (apart i j l m (get_or_default xs i 0 d (omega arith) ∙ eqb-true _ _ t ∙ get_or_default xs j d 0 m))) (λ t. t) (cases_Bool (eqb (get_or xs i d) (get_or xs j d)))))
-    (λ q t. let (i, l, e) = Contains-from_any (λ x y. eqb-true x y) q xs t in let a = below i l in let b = get_or_default xs i q 0 l in omega arith)
 
 pub comes_again : (es : List Edge) (ii n : ℕ) (log : List Step) (path : List ℕ) → IsPath es ii n log path → length path ≡ n + 1 →
     ((i j : ℕ) → i < j → j < length path → (moment log path i).node ≡ (moment log path j).node → ⊥) → ⊥

@@ -9,9 +9,10 @@ use Rattle.cg_model.specs.Array.{delay_by}
 use Rattle.cg_model.specs.declared.array.Kind.{Kind}
 use Rattle.cg_model.specs.declared.array.Kind.TheVariants.{Wire, Register, Port, Out}
 use Rattle.cg_route.specs.Layers.{Step, Sought, Layer, size, at, onward, Drives, delay_into, link, cost, IsBest, IsBegun, IsBelow, entered}
+use Rattle.cg_mrrg.proofs.After.{any_at}
 
 -- a link takes one cycle, or none
-kind_delay : (k : Kind) → (delay_by k ≡ 0) ⊎ (delay_by k ≡ 1)
+pub kind_delay : (k : Kind) → (delay_by k ≡ 0) ⊎ (delay_by k ≡ 1)
 kind_delay Register = inr refl
 kind_delay Wire = inl refl
 kind_delay Port = inl refl
@@ -25,19 +26,6 @@ onward_now S here later r e = rw (eq-eqb (delay_into S r) 0 e) refl
 
 pub onward_later : (S : Sought) (here later : Layer) (r : ℕ) → delay_into S r ≡ 1 → onward S here later r ≡ at later r
 onward_later S here later r e = rw (ne_eqb (delay_into S r) 0 (λ z. omega (arith, e, z))) refl
-
--- the test for a driver
-pub is_driver : (ds : List ℕ) (q : ℕ) → list_any (eqb q) ds ≡ true → Contains ds q
-is_driver ds q t = Contains-from_any (λ x y. eqb-true x y) q ds t
-
-any_at : (ds : List ℕ) (i q d : ℕ) → i < length ds → get_or ds i d ≡ q → list_any (eqb q) ds ≡ true
-any_at [] i q d h e = absurd (omega arith)
-any_at (x ∷ ds) zero q d h e = rw (eq-eqb q x (sym e)) refl
-any_at (x ∷ ds) (suc i) q d h e = or_right (eqb q x) _ (any_at ds i q d (omega arith) e)
-  where
-    or_right : (a b : Bool) → b ≡ true → (a || b) ≡ true
-    or_right true b h = refl
-    or_right false b h = h
 
 pub no_driver : (ds : List ℕ) (q : ℕ) → list_any (eqb q) ds ≡ false → Contains ds q → ⊥
 no_driver ds q f m = false≢true (sym f ∙ any_at ds m.0 q q m.1 m.2)

@@ -2,7 +2,7 @@
 use Rattle.std.proofs.Common.{◌≡◌, ℕ, suc, ◌+◌, ◌<◌, ◌≤◌, ◌≢◌, eqb, Bool, true, false, List, [], ◌∷◌, length, get_or, set, take, Option, Some, None, refl, sym, ap, ◌∙◌, subst, arith, ⊎_elim, inl, inr, length-set, eqb-true}
 use Rattle.std.specs.Prelude.{◌⊎◌, nat_lt, ◌&&◌, ◌||◌, if◌then◌else◌}
 use Rattle.std.specs.List.{list_any}
-use Rattle.std.proofs.lemmas.Bool.{cases_eq, cases_Bool, eq-eqb, and_parts, false≢true}
+use Rattle.std.proofs.lemmas.Bool.{cases_eq, cases_Bool, eq-eqb, and_parts, false≢true, or_right}
 use Rattle.std.proofs.lemmas.List.{get_or-set_same, get_or-set_other, get_or-map}
 use Rattle.std.proofs.Math.ListN.{length-map}
 use Rattle.cg_model.specs.Mapping.{Position}
@@ -12,13 +12,10 @@ use Rattle.cg_mrrg.specs.declared.links.MNode.{MNode}
 use Rattle.cg_mrrg.specs.declared.links.Link.{Link}
 use Rattle.cg_mrrg.specs.Graph.{Graph, links_into, link_from}
 use Rattle.cg_mrrg.proofs.Drivers.{any_other, any_here, none_before}
-use Rattle.cg_claims.specs.Claims.{same, same_from, node_of}
+use Rattle.cg_claims.specs.Claims.{same, node_of}
+use Rattle.cg_model.specs.Mapping.{same_from}
 use Rattle.cg_claims.specs.Table.{Table, toll, link_price}
 use Rattle.cg_route.specs.Layers.{Step, Sought, Layer, IsSearch, size, at, drivers, link, better, AreOffered, IsBelow}
-
-or_right : (a b : Bool) → b ≡ true → (a || b) ≡ true
-or_right true b h = refl
-or_right false b h = h
 
 -- a claim there is the value's there
 any_value : (p : Position) (ps : List Position) → list_any (same p) ps ≡ true → list_any (λ (q : Position). eqb q.source p.source && eqb q.resource p.resource && eqb q.time p.time) ps ≡ true

@@ -13,13 +13,7 @@ use Rattle.cg_model.specs.declared.array.Resource.{Resource}
 use Rattle.cg_model.specs.declared.array.Kind.TheVariants.{Wire}
 use Rattle.cg_level.specs.Topological.{Passes}
 use Rattle.cg_route.specs.Layers.{Sought, IsSearch, size, rank, place_of, Drives, IsOpen, drivers, delay_into}
-
--- numbers below n of which no two are equal are at most n
-pigeons : (n : ℕ) (xs : List ℕ) → ((i : ℕ) → i < length xs → slice_index xs i < n) → ((i j : ℕ) → i < j → j < length xs → slice_index xs i ≡ slice_index xs j → ⊥) → length xs ≤ n
-pigeons n xs below apart =
-    length-le_from_distinct_below xs n
-    (IsDistinct-from_apart eqb xs (λ i j d l m. ⊎_elim (λ t. absurd (apart i j l m (get_or_default xs i 0 d (omega arith) ∙ eqb-true _ _ t ∙ get_or_default xs j d 0 m))) (λ t. t) (cases_Bool (eqb (get_or xs i d) (get_or xs j d)))))
-    (λ q t. let (i, l, e) = Contains-from_any (λ x y. eqb-true x y) q xs t in let a = below i l in let b = get_or_default xs i q 0 l in omega arith)
+use Rattle.cg_model.proofs.Ranges.{pigeons}
 
 -- the first place of what stands at place i
 place_first : (xs : List ℕ) (i q : ℕ) → i < length xs → get_or xs i 0 ≡ q → (place_of q xs ≤ i) × (get_or xs (place_of q xs) 0 ≡ q)

@@ -8,7 +8,8 @@ use Rattle.std.proofs.lemmas.List.{get_or-set_same, get_or-set_other}
 use Rattle.cg_route.specs.Layers.{Step, Sought, Layer, size, rank, at, onward, drivers, Drives, IsOpen, delay_into, link, cost, better, entered, IsBest, IsEntry, IsLayer, IsOffered, IsPassed, IsVisited, IsBegun, IsSettled}
 use Rattle.cg_route.proofs.Ranks.{IsRanked, driven}
 use Rattle.cg_route.proofs.Best.{best_same, best_skip, best_more}
-use Rattle.cg_route.proofs.Begins.{one_or_none, onward_now, onward_later, is_driver, no_driver, cost_now}
+use Rattle.cg_route.proofs.Begins.{one_or_none, onward_now, onward_later, no_driver, cost_now}
+use Rattle.cg_mrrg.proofs.After.{is_driver}
 
 module _ (S : Sought) (ranked : IsRanked S) (k t : ℕ) (later : Layer) where
   -- through q's users of no delay, and those after place p of the order

@@ -14,7 +14,7 @@ use Rattle.cg_model.specs.Config.{Config, select, fields}
 use Rattle.cg_model.specs.Canonical.{IsCanonical, gives_output}
 use Rattle.cg_model.specs.Work.{Image, Work}
 use Rattle.cg_model.specs.Machine.{Cycle, ago, driver, driven, by_kind, word_by, words_in, at_cycle, begun, begins, word, result_of, memory_by, sent_by_units, missed_by_units}
-use Rattle.cg_overlap.proofs.Wires.{unrolled, Contains-driver, out_within}
+use Rattle.cg_overlap.proofs.Wires.{unrolled, Contains-driver, out_within, same_driven}
 use Rattle.cg_sim.specs.Plan.{link, is_register, is_net, IsPlan}
 use Rattle.cg_sim.specs.Settle.{terminals, delayed, chosen, Keeps, AreOutsRight, AreRight, Settles, IsSettled}
 use Rattle.cg_sim.specs.Reserved.{Reserved, stream}
@@ -40,10 +40,6 @@ net_now Wire a b g h = refl
 net_now Port a b g h = refl
 net_now Register a b g h = absurd (true≢false (sym h))
 net_now Out a b g h = absurd (true≢false (sym h))
-
-same_driven : (a b : ℕ → ℕ) (o : Option ℕ) → ((q : ℕ) → o ≡ Some q → a q ≡ b q) → driven a o ≡ driven b o
-same_driven a b None h = refl
-same_driven a b (Some q) h = h q refl
 
 driven_nothing : (f : ℕ → ℕ) (j : ℕ) → driven f (driver [] j) ≡ 0
 driven_nothing f zero = refl

@@ -1,20 +1,13 @@
 -- What a run rests on of a canonical configuration.
 use Rattle.std.proofs.Common.{◌≡◌, ℕ, zero, suc, ◌<◌, ◌≤◌, Bool, true, false, ◌&&◌, ◌||◌, [], length, refl, sym, subst, ◌∙◌, arith, ⊎_elim}
 use Rattle.std.specs.Prelude.{slice_index_or}
-use Rattle.std.proofs.lemmas.Bool.{cases_lt, eq-eqb, leb-true, and_parts, cond_both, not-true, true≢false}
+use Rattle.std.proofs.lemmas.Bool.{cases_lt, eq-eqb, leb-true, and_parts, cond_both, not-true, true≢false, or_right, or_left}
 use Rattle.std.proofs.lemmas.List.{get_or_past}
 use Rattle.cg_model.specs.declared.config.UnitFields.{UnitFields}
 use Rattle.cg_model.specs.Array.{Arch}
 use Rattle.cg_model.specs.Config.{Config, fields, off}
 use Rattle.cg_model.specs.Canonical.{IsCanonical, is_on, gives_output, stage_of, last_stage, any_below, clash}
-use Rattle.cg_overlap.proofs.Canonical.{greatest_below}
-
-or_left : (a b : Bool) → a ≡ true → (a || b) ≡ true
-or_left a b e = rw e refl
-
-or_right : (a b : Bool) → b ≡ true → (a || b) ≡ true
-or_right true b e = refl
-or_right false b e = e
+use Rattle.cg_model.proofs.Canonical.{greatest_below}
 
 all_three : (a b c : Bool) → a ≡ true → b ≡ true → c ≡ true → (a && (b && c)) ≡ true
 all_three a b c ea eb ec = rw (ea, eb, ec) refl

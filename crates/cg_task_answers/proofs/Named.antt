@@ -13,8 +13,8 @@ use Rattle.cg_model.specs.Mapping.{Mapping, Goes, IsLegal, place, leaves, end_of
 use Rattle.cg_mapping.specs.Names.{is_edge}
 use Rattle.cg_mapping.specs.Sound.{NamesParts}
 use Rattle.cg_mapping.proofs.Once.{edge_from}
-use Rattle.cg_bound.proofs.Legal.{operand_within}
 use Rattle.cg_overlap.proofs.Wires.{driven_within, out_within}
+use Rattle.cg_model.proofs.Mappings.{operand_within}
 
 -- an operand that is an edge
 edge_there : (o : Option Operand) → option_map_or is_edge o false ≡ true → (u : ℕ) × (d : ℕ) × (init : List ℕ) × (o ≡ Some (Edge u d init))

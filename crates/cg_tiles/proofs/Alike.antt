@@ -2,7 +2,7 @@
 use Rattle.std.proofs.Common.{◌≡◌, ℕ, ◌+◌, ◌<◌, ◌≤◌, List, [], ◌∷◌, ◌++◌, length, count_by, Bool, true, false, not, cond, ◌&&◌, nat_lt, nat_le, Some, None, codes, decimal, slice_index, arith, refl, ap, sym, ◌∙◌, length-append}
 use Rattle.std.specs.List.{list_all}
 use Rattle.std.proofs.Math.Bool.{and-false}
-use Rattle.std.proofs.lemmas.Bool.{lt-leb}
+use Rattle.std.proofs.lemmas.Bool.{lt-leb, and_right}
 use borrow.Author.Tests.{ltb-true}
 use Rattle.std.proofs.lemmas.List.Folds.{list_all-append}
 use Rattle.std.proofs.lemmas.List.Sums.{sum_by-cons}
@@ -17,7 +17,8 @@ use Rattle.cg_word.specs.declared.op.Op.{Op}
 use Rattle.cg_grid.specs.declared.grid.Cell.{Cell}
 use Rattle.cg_tiles.specs.Elements.{flat_name}
 use Rattle.cg_tiles.specs.Lean.{short_name}
-use Rattle.cg_tiles.proofs.Counted.{entries-cons, links-append, port_entries-length}
+use Rattle.cg_tiles.proofs.Counted.{entries-cons, links-append}
+use Rattle.cg_arch.proofs.Roles.{length-port_entries, unit_long}
 
 -- ---- bad names
 
@@ -29,9 +30,6 @@ no_name true true true d e = let bad : true ≡ false = e in absurd (cc)
 no_name true true false d e = refl
 no_name true false c d e = refl
 no_name false b c d e = refl
-
-no_short : (a b : Bool) → b ≡ false → (a && b) ≡ false
-no_short a b e = ap (λ x. a && x) e ∙ and-false a
 
 -- the short name is bad in every cell
 dot_bad : (cell : Cell) → is_name 40 (flat_name cell (codes ".")) ≡ false
@@ -56,7 +54,7 @@ flat_longer cell name =
 long_bad : (cell : Cell) (name : List ℕ) → nat_lt 40 (length name) ≡ true → is_name 40 (flat_name cell name) ≡ false
 long_bad cell name e =
     let long : 40 < length (flat_name cell name) = omega (arith, ltb-true 40 (length name) e, flat_longer cell name) in
-    no_short (is_identifier (flat_name cell name)) (nat_le (length (flat_name cell name)) 40) (lt-leb (length (flat_name cell name)) 40 long)
+    and_right (is_identifier (flat_name cell name)) (nat_le (length (flat_name cell name)) 40) (lt-leb (length (flat_name cell name)) 40 long)
 
 -- ---- elements
 
@@ -102,9 +100,6 @@ port-links : (m n : List ℕ) (p : ℕ) (ports : List (List (List ℕ))) → lin
 port-links m n p [] = refl
 port-links m n p (x ∷ xs) = omega (arith, port-links m n (p + 1) xs)
 
-unit-resources : (n : List ℕ) (ops : List Op) (latency : ℕ) (ports : List (List (List ℕ))) → length (entries_of (element.Unit n ops latency ports)) ≡ length ports + 1
-unit-resources n ops latency ports = length-append (port_entries n 0 ports) (out_entry n ∷ []) ∙ ap (λ k. k + 1) (port_entries-length n 0 ports)
-
 unit-links : (m n : List ℕ) (ops : List Op) (latency : ℕ) (ports : List (List (List ℕ))) → links (entries_of (element.Unit m ops latency ports)) ≡ links (entries_of (element.Unit n ops latency ports))
 unit-links m n ops latency ports =
     omega (arith, links-append (port_entries m 0 ports) (out_entry m ∷ []), links-append (port_entries n 0 ports) (out_entry n ∷ []), port-links m n 0 ports)
@@ -114,7 +109,7 @@ pub unit-alike : (cell : Cell) (name : List ℕ) (ops : List Op) (latency : ℕ)
 unit-alike cell name ops latency ports =
     named_alike (λ n. element.Unit n ops latency ports)
     (record {
-      resources = λ m n. unit-resources m ops latency ports ∙ sym (unit-resources n ops latency ports);
+      resources = λ m n. unit_long m ops latency ports ∙ sym (unit_long n ops latency ports);
       links = λ m n. unit-links m n ops latency ports;
       unit = λ m n. refl;
       name = λ n. refl;

@@ -18,6 +18,7 @@ use Rattle.cg_grid.specs.declared.grid.Grid.{Grid}
 use Rattle.cg_tiles.specs.Elements.{element_of, driver_of, drivers_of, flat_name, parts_for, row_elements, grid_elements}
 use Rattle.cg_tiles.specs.Counts.{resources_of, part_resources, row_resources, grid_resources, list_links, links_of, part_links, row_links, grid_links}
 use Rattle.cg_tiles.proofs.Distinct.{distinct_distinct}
+use Rattle.cg_arch.proofs.Roles.{length-port_entries}
 
 entries-append : (xs ys : List Element) → entries (xs ++ ys) ≡ entries xs ++ entries ys
 unfolding entries
@@ -37,10 +38,6 @@ links-nil = refl
 
 -- ---- resources
 
-pub port_entries-length : (unit : List ℕ) (p : ℕ) (ports : List (List (List ℕ))) → length (port_entries unit p ports) ≡ length ports
-port_entries-length unit p [] = refl
-port_entries-length unit p (x ∷ xs) = ap (λ n. suc n) (port_entries-length unit (p + 1) xs)
-
 of_part : (grid : Grid) (cell : Cell) (p : Part) → length (entries_of (element_of grid cell p)) ≡ resources_of p
 of_part grid cell (part.Wire name from) = refl
 of_part grid cell (part.Register name from) = refl
@@ -48,7 +45,7 @@ of_part grid cell (part.Unit name ops other latency ports) =
     let unit = flat_name cell name in
     let drivers = map (drivers_of grid cell) ports in
     length-append (port_entries unit 0 drivers) (out_entry unit ∷ [])
-    ∙ ap (λ n. n + 1) (port_entries-length unit 0 drivers ∙ length-map ports (drivers_of grid cell))
+    ∙ ap (λ n. n + 1) (length-port_entries unit 0 drivers ∙ length-map ports (drivers_of grid cell))
 
 of_parts : (grid : Grid) (cell : Cell) (ps : List WrittenPart) → length (entries (map (λ p. element_of grid cell p.part) ps)) ≡ part_resources ps
 of_parts grid cell [] = entries-nil

@@ -13,16 +13,13 @@ use Rattle.cg_grid.specs.declared.grid.Cell.{Cell}
 use Rattle.cg_grid.specs.declared.grid.Grid.{Grid}
 use Rattle.cg_tiles.specs.Elements.{name_on, driver_of, drivers_of}
 use Rattle.cg_tiles.specs.Lean.{letter, key_of, is_same, with_reference, references_once}
+use Rattle.std.proofs.lemmas.Bool.{or_left}
 
 -- ---- names that stand in a list stay there
 
-or_true : (a b : Bool) → a ≡ true → (a || b) ≡ true
-or_true true b e = refl
-or_true false b e = let bad : false ≡ true = e in absurd (cc)
-
 kept_by : (b : Bool) (n : List ℕ) (names : List (List ℕ)) (name : List ℕ) → list_any (bytes_eq n) names ≡ true → list_any (bytes_eq n) (cond b names (names ++ name ∷ [])) ≡ true
 kept_by true n names name e = e
-kept_by false n names name e = list_any-append (bytes_eq n) names (name ∷ []) ∙ or_true (list_any (bytes_eq n) names) (list_any (bytes_eq n) (name ∷ [])) e
+kept_by false n names name e = list_any-append (bytes_eq n) names (name ∷ []) ∙ or_left (list_any (bytes_eq n) names) (list_any (bytes_eq n) (name ∷ [])) e
 
 kept : (n : List ℕ) (names more : List (List ℕ)) → list_any (bytes_eq n) names ≡ true → list_any (bytes_eq n) (fold with_name names more) ≡ true
 kept n names [] e = e

@@ -3,7 +3,7 @@ use Rattle.std.proofs.Common.{◌≡◌, ℕ, zero, suc, ◌+◌, Bool, true, fa
 use Rattle.std.proofs.Math.Seq.{take-append_seam, drop-append_seam}
 use Rattle.std.specs.List.{prefix_len, list_all}
 use Rattle.std.specs.Char.{is_ascii_digit}
-use Rattle.std.proofs.lemmas.Bool.{eqb-true}
+use Rattle.std.proofs.lemmas.Bool.{eqb-true, or_cases}
 use Rattle.cg_tokens.specs.declared.token.Kind.TheVariants.{Word, Number, Mark}
 use Rattle.cg_tokens.specs.declared.token.Kind.{Kind}
 use Rattle.cg_tokens.specs.Tokens.{is_blank, is_letter, kind_of, goes_on, more_of, first_token, tokens_from, texts}
@@ -38,20 +38,16 @@ token_cut k b more c rest place solid kind all stop =
     ∙ ap (λ x. (b ∷ more) ∷ texts (tokens_from 0 (place + 1 + length more) x)) (drop-append_seam more (c ∷ rest))
     ∙ ap (λ x. (b ∷ more) ∷ x) (place_free 0 (place + 1 + length more) 0 (c ∷ rest))
 
-either : (a b : Bool) → a || b ≡ true → (a ≡ true) ⊎ (b ≡ true)
-either true b h = inl refl
-either false b h = inr h
-
 literal_not : (f : ℕ → Bool) (b k : ℕ) → f k ≡ false → b ≡ k → f b ≡ true → ⊥
 literal_not f b k apart e h = let same = ap f e in cc
 
 solid_at : (f : ℕ → Bool) (b : ℕ) (x : Bool) → f 32 ≡ false → f 9 ≡ false → f 13 ≡ false → f 10 ≡ false → is_blank b ≡ x → f b ≡ true → x ≡ false
 solid_at f b false p q r s e h = refl
-solid_at f b true p q r s e h = absurd (elim (either _ (b == 10) e) [
+solid_at f b true p q r s e h = absurd (elim (or_cases _ (b == 10) e) [
   | inr w ↦ literal_not f b 10 s (eqb-true b 10 w) h
-  | inl v ↦ elim (either _ (b == 13) v) [
+  | inl v ↦ elim (or_cases _ (b == 13) v) [
     | inr w ↦ literal_not f b 13 r (eqb-true b 13 w) h
-    | inl u ↦ elim (either (b == 32) (b == 9) u) [
+    | inl u ↦ elim (or_cases (b == 32) (b == 9) u) [
       | inr w ↦ literal_not f b 9 q (eqb-true b 9 w) h
       | inl w ↦ literal_not f b 32 p (eqb-true b 32 w) h
     ]

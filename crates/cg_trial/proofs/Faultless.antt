@@ -31,13 +31,14 @@ use Rattle.cg_arch.specs.Flat.{arch_of}
 use Rattle.cg_arch.specs.Hub.{is_register, is_register_at, names_register, first_bad_entry, first_missing, missing, missing_link, hub_fault}
 use Rattle.cg_arch.specs.Answer.{HasNoCombinationalLoop, IsFault, early, a_loop, late, fault_after_loops}
 use Rattle.cg_arch.proofs.Places.{get_right}
-use Rattle.cg_overlap.proofs.Facts.{Contains-nil}
 use Rattle.cg_trial.specs.Trial.{unit_names, out_names, register_name, register_names, register_part, unit_part, parts_with}
 use Rattle.cg_trial.proofs.Numerals.{numbered}
 use Rattle.cg_trial.proofs.Scans.{past, first_from_range, position_from_range, position_from_found, first_such_range, first_such-append, any_last}
 use Rattle.cg_trial.proofs.Named.{name_same, name_apart, distinct_registers, distinct_drivers}
 use Rattle.cg_trial.proofs.Whole.{all_elements, register_entry, unit_entries, all_entries, entries_are, register_number, other_number}
 use Rattle.cg_trial.proofs.Built.{all_drivers, flat_register, flat_unit, flat_resources, flat_arch, arch_is}
+use Rattle.cg_model.proofs.Ranges.{Contains-range}
+use Rattle.cg_model.proofs.Lookups.{Contains-nil}
 
 -- ---- lists that begin with what the registers make
 
@@ -152,9 +153,6 @@ height_low Wire = lit< tt
 height_low Register = lit< tt
 height_low Port = lit< tt
 height_low Out = lit< tt
-
-in_range : (n q : ℕ) → Contains (range_with_len 0 n) q → q < n
-in_range n q h = let l : h.0 < n = omega (arith, length-range_with_len 0 n, h.1) in omega (arith, get_or-range_with_len 0 n h.0 q l, h.2)
 
 module _ (n : ℕ) (is : 96 ≡ n) where
   small : n ≤ 1000
@@ -340,7 +338,7 @@ module _ (n : ℕ) (is : 96 ≡ n) where
       ⊎_elim
       (λ e. let bad : ◌≡◌ {A = ℕ} 1 0 = sym (ap delay_by e) ∙ p.at_once in absurd (omega arith))
       (λ h. ⊎_elim
-      (λ e. let u : q < n = in_range n q (subst (λ ds. Contains ds q) e.1 p.driver) in
+      (λ e. let u : q < n = Contains-range n q (subst (λ ds. Contains ds q) e.1 p.driver) in
       let low : level q ≡ 0 = ap (λ x. height x.kind) (register_at q u) in
       let high : level r ≡ 1 = ap height e.0 in
       omega arith)

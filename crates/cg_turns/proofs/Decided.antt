@@ -12,6 +12,7 @@ use Rattle.cg_distance.proofs.Decided.{ordered_decided}
 use Rattle.cg_turns.specs.declared.pair.Access.{Access}
 use Rattle.cg_turns.specs.declared.pair.UnorderedPair.{UnorderedPair}
 use Rattle.cg_turns.specs.Pairs.{step_of, IsConflict, AreOrdered, IsUnordered, IsFirstPair, IsPairOf}
+use Rattle.cg_turns.proofs.Pairs.{mod_less}
 
 -- ---- what is decided of two steps
 
@@ -85,9 +86,6 @@ first_pair K good image steps l f =
         latest = λ i u. k.1.most i u.conflict.earlier u;
       },
     )
-
-mod_less : (k m : ℕ) → 0 < m → k % m < m
-mod_less k m some = omega arith
 
 -- a step as an access
 abbrev access_at : ℕ → ℕ → Access

@@ -105,7 +105,7 @@ pair_idle K image s (Some p) none f = pair_stays K image s p f
 no_store : (K : Kernel) → HasNoStore K → (v : ℕ) → v < size K → is_store (node K v).op ≡ true → ⊥
 no_store K none v l h = false≢true (sym none ∙ list_any_at (λ (n : Node). is_store n.op) K.nodes v no_node l h)
 
-mod_less : (k m : ℕ) → 0 < m → k % m < m
+pub mod_less : (k m : ℕ) → 0 < m → k % m < m
 mod_less k m some = omega arith
 
 pub pair_quiet : (K : Kernel) (image : Image) (s : ℕ) (p : Option UnorderedPair) → 0 < size K → HasNoStore K → IsPairSoFar K image s p → IsPairSoFar K image (s + 1) p

@@ -4,7 +4,7 @@ use Rattle.std.specs.List.{flat_map, AllByRecursion}
 use Rattle.std.specs.Cmp.Lexicographic.{same_text}
 use Rattle.std.proofs.lemmas.Cmp.{nat_list_eq_equiv}
 use Rattle.std.specs.Prelude.{decimal}
-use Rattle.cg_verilog.proofs.Numbers.{top_is, top_small, number_top}
+use Rattle.cg_verilog.proofs.Numbers.{top_is, top_small, number_top, same_is}
 use Rattle.cg_tokens.specs.Table.{Spelled, none, next, IsTable}
 use Rattle.cg_verilog.specs.Words.{same, is_name}
 use Rattle.cg_verilog.specs.Module.{PinText, CellText, WireText, IsPin, IsCell, IsWire, IsText, pin_tokens, further_pin, cell_tokens, wire_tokens, header}
@@ -13,9 +13,6 @@ use Rattle.cg_verilog.specs.Rules.{Symbol, is_top, top_number, Exactly, Name, To
 pub chosen : {A : Type 0} (b : Bool) (x y z : A) → cond b x y ≡ z → ((b ≡ true) × (x ≡ z)) ⊎ ((b ≡ false) × (y ≡ z))
 chosen true x y z h = inl (refl, h)
 chosen false x y z h = inr (refl, h)
-
-same_is : (t s : List ℕ) → same t s ≡ true → t ≡ s
-same_is t s h = same_text t s (sym h)
 
 -- a list of symbols, token by token
 pub exactly_then : {stack : List Symbol} {ts : List (List ℕ)} {s : List ℕ} → Spelled Spells (Exactly s ∷ stack) ts → (r : List (List ℕ)) × (ts ≡ s ∷ r) × Spelled Spells stack r

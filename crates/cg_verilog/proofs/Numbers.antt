@@ -3,7 +3,7 @@ use Rattle.std.proofs.Common.{◌≡◌, ◌<◌, ◌≤◌, ◌+◌, ◌-◌, �
 use Rattle.std.specs.Prelude.{decimal, not}
 use Rattle.std.specs.List.{list_all}
 use Rattle.cg_tokens.specs.Tokens.{is_letter}
-use Rattle.std.proofs.lemmas.Bool.{eqb-true, leb-true}
+use Rattle.std.proofs.lemmas.Bool.{eqb-true, leb-true, not-true, or_cases}
 use Rattle.std.proofs.lemmas.Bool.Decides.{leb_tells}
 use Rattle.std.specs.Fmt.{digits}
 use Rattle.std.specs.Char.{is_ascii_digit}
@@ -19,14 +19,6 @@ all_below p (suc n) = p n && all_below p n
 pub both : (a b : Bool) → a && b ≡ true → (a ≡ true) × (b ≡ true)
 both true b h = (refl, h)
 both false b h = cc
-
-pub either : (a b : Bool) → a || b ≡ true → (a ≡ true) ⊎ (b ≡ true)
-either true b h = inl refl
-either false b h = inr h
-
-not_true : (a : Bool) → not a ≡ true → a ≡ false
-not_true true h = cc
-not_true false h = refl
 
 below : (p : ℕ → Bool) (k n : ℕ) → all_below p k ≡ true → n < k → p n ≡ true
 unfolding all_below
@@ -70,7 +62,7 @@ thirties : (k : ℕ) → k < 2 → same (51 ∷ (48 + k) ∷ []) (decimal (30 + 
 unfolding all_below digits
 thirties k lt = below (λ n. same (51 ∷ (48 + n) ∷ []) (decimal (30 + n))) 2 k refl lt
 
-same_is : (t s : List ℕ) → same t s ≡ true → t ≡ s
+pub same_is : (t s : List ℕ) → same t s ≡ true → t ≡ s
 same_is t s h = same_text t s (sym h)
 
 pub record IsTop (t : List ℕ) : Type 0 where
@@ -101,14 +93,14 @@ top_right (d ∷ e ∷ []) h =
     (λ w. ⊎_elim
     (λ v. let is : d ≡ 49 = eqb-true d 49 v in two_digits 49 d e (e - 48) 10 (sym is) back (omega arith) (omega arith) (tens (e - 48) digit))
     (λ v. let is : d ≡ 50 = eqb-true d 50 v in two_digits 50 d e (e - 48) 20 (sym is) back (omega arith) (omega arith) (twenties (e - 48) digit))
-    (either (d == 49) (d == 50) w))
+    (or_cases (d == 49) (d == 50) w))
     (λ w.
     let r = both (d == 51) (nat_le e 49) w in
     let is : d ≡ 51 = eqb-true d 51 r.0 in
     let least : e ≤ 49 = leb-true e 49 r.1 in
     let last : e - 48 < 2 = omega arith in
     two_digits 51 d e (e - 48) 30 (sym is) back (omega arith) (omega arith) (thirties (e - 48) last))
-    (either (d == 49 || d == 50) _ q.1)
+    (or_cases (d == 49 || d == 50) _ q.1)
 top_right (d ∷ e ∷ f ∷ rest) h = cc
 
 pub top_is : (t : List ℕ) → is_top t ≡ true → t ≡ decimal (top_number t)
@@ -140,7 +132,7 @@ number_parts [] h = cc
 number_parts (d ∷ more) h =
     let a = both _ _ h in
     let b = both _ _ a.0 in
-    record { first = d; more = more; whole = refl; other = not_true _ b.0; digit = b.1; digits = a.1 }
+    record { first = d; more = more; whole = refl; other = not-true _ b.0; digit = b.1; digits = a.1 }
 
 -- a number below 32 is spelled by digits
 pub decimal_parts : (n : ℕ) → n < 32 → IsNumber (decimal n)

@@ -24,6 +24,7 @@ use Rattle.cg_bits.proofs.Places.{width_few}
 use Rattle.cg_bits.proofs.Answered.{is_cgb2}
 use Rattle.cg_view.specs.Slot.{Slot, slot_of, slot_in}
 use Rattle.cg_view.specs.Held.{HoldBits, HoldsSlot}
+use Rattle.cg_word.proofs.Arity.{all_among}
 
 -- what is left of bytes from byte 40 on
 pub body_is : (bytes : List ℕ) → take (length bytes - 40) (drop 40 bytes) ≡ drop 40 bytes
@@ -61,33 +62,6 @@ slot_is A bytes slot lt =
     let units : S.units ≡ T.units =
     sym (get_or-map-range_with_len (λ s. (slot_in A (body_bits bytes) (s * slot_len cgb2 A)).units) 0 (ii_in bytes) slot slot [] lt (omega arith)) in
     ap (λ (z : List ℕ). let s : Slot = record { selects = z; units = S.units } in s) selects ∙ ap (λ (z : List UnitFields). let s : Slot = record { selects = T.selects; units = z } in s) units
-
-all_among : (op : Op) → among all_ops op ≡ true
-all_among Const = refl
-all_among Iter = refl
-all_among Input = refl
-all_among Add = refl
-all_among Sub = refl
-all_among Mul = refl
-all_among And = refl
-all_among Or = refl
-all_among Xor = refl
-all_among Shl = refl
-all_among Shr = refl
-all_among Sar = refl
-all_among Eq = refl
-all_among Ne = refl
-all_among Lts = refl
-all_among Ltu = refl
-all_among Mins = refl
-all_among Maxs = refl
-all_among Select = refl
-all_among Load = refl
-all_among Store = refl
-all_among Output = refl
-all_among LoadIf = refl
-all_among StoreIf = refl
-all_among OutputIf = refl
 
 offered_by_all : (o : Option Op) → offered all_ops o ≡ true
 offered_by_all None = refl

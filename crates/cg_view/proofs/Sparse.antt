@@ -1,7 +1,7 @@
 -- What is not read of the fields of a unit is zero.
 use Rattle.std.proofs.Common.{◌≡◌, ℕ, ◌+◌, ◌*◌, ◌<◌, ◌≤◌, ◌&&◌, ◌||◌, not, Bool, true, false, cond, eqb, ltb, leb, List, replicate, Some, None, refl, sym, ap, ◌∙◌, arith}
 use Rattle.std.specs.Prelude.{slice_index}
-use Rattle.std.proofs.lemmas.Bool.{lt-ltb, le-ltb, leb-true, eqb-true, and_parts}
+use Rattle.std.proofs.lemmas.Bool.{lt-ltb, le-ltb, leb-true, eqb-true, and_parts, and_right}
 use Rattle.std.proofs.lemmas.List.FromFn.{fill_by_all, get_or-map-range_with_len}
 use Rattle.cg_word.specs.declared.op.Op.{Op}
 use Rattle.cg_word.specs.Word.{all_ops, has_port}
@@ -19,10 +19,6 @@ use Rattle.cg_bits.proofs.Units.{idle, unit_same}
 other : (b c : Bool) → (b || c) ≡ true → c ≡ false → b ≡ true
 other true c e h = refl
 other false c e h = absurd cc
-
-not_both : (b c : Bool) → c ≡ false → (b && c) ≡ false
-not_both true c e = e
-not_both false c e = refl
 
 -- the port of an operation that names none
 pub port_zero : (f : UnitFields) (op : Op) → AreFields all_ops f → f.op ≡ Some op → f.port ≡ cond (has_port op) f.port 0
@@ -47,7 +43,7 @@ immediate_zero f false are e = eqb-true f.immediate 0 (right_of ((arg f 0).fixed
 
 -- a fixed argument
 takes_not : (f : UnitFields) (p : ℕ) → (arg f p).fixed ≡ true → takes f p ≡ false
-takes_not f p e = not_both (ltb p (arity_of f.op)) (not (arg f p).fixed) (ap not e)
+takes_not f p e = and_right (ltb p (arity_of f.op)) (not (arg f p).fixed) (ap not e)
 
 pub fixed_is : (f : UnitFields) (p : ℕ) → p < 3 → AreFields all_ops f → (arg f p).fixed ≡ true → arg f p ≡ record { fixed = true; count = 0; init = replicate 4 0 }
 fixed_is f p lt are e =
@@ -64,7 +60,7 @@ fixed_is f p lt are e =
 -- words from the count on
 pub word_zero : (f : UnitFields) (p k : ℕ) → p < 3 → k < 4 → AreFields all_ops f → (arg f p).count ≤ k → slice_index (arg f p).init k ≡ 0
 word_zero f p k lt l are le =
-    eqb-true _ 0 (other (eqb (slice_index (arg f p).init k) 0) (takes f p && ltb k (arg f p).count) (are.word p k lt l) (not_both (takes f p) (ltb k (arg f p).count) (le-ltb k (arg f p).count le)))
+    eqb-true _ 0 (other (eqb (slice_index (arg f p).init k) 0) (takes f p && ltb k (arg f p).count) (are.word p k lt l) (and_right (takes f p) (ltb k (arg f p).count) (le-ltb k (arg f p).count le)))
 
 pub count_few : (f : UnitFields) (p : ℕ) → p < 3 → AreFields all_ops f → (arg f p).count ≤ 4
 count_few f p lt are = leb-true _ _ (and_parts _ _ (are.count p lt)).0

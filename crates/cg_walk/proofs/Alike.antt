@@ -17,18 +17,10 @@ use Rattle.cg_route.specs.Least.{Ends, IsAtMost, IsLeastPath, IsFound}
 use Rattle.cg_place.specs.Counts.{order_violations, unit_excess}
 use Rattle.cg_walk.specs.State.{State, table_of_state, missing, cost}
 use Rattle.cg_walk.specs.Alike.{AreAlike}
+use Rattle.cg_claims.proofs.Same.{any_same}
 
 any_less : (ps qs : List Position) → ((p : Position) → uses ps p ≡ uses qs p) → (p : Position) → list_any (same p) ps ≡ true → list_any (same p) qs ≡ true
 any_less ps qs h p m = let u = uses_from_in p ps m in let e = h p in in_from_uses p qs (omega (arith, u, e))
-
-any_same : (ps qs : List Position) → ((p : Position) → uses ps p ≡ uses qs p) → (p : Position) → list_any (same p) ps ≡ list_any (same p) qs
-any_same ps qs h p =
-    ⊎_elim
-    (λ (a : list_any (same p) ps ≡ true). a ∙ sym (any_less ps qs h p a))
-    (λ (a : list_any (same p) ps ≡ false).
-    ⊎_elim (λ (b : list_any (same p) qs ≡ true). let c = any_less qs ps (λ q. sym (h q)) p b in absurd (cc)) (λ (b : list_any (same p) qs ≡ false). a ∙ sym b)
-    (cases_Bool (list_any (same p) qs)))
-    (cases_Bool (list_any (same p) ps))
 
 -- two tables that differ in their positions alone, and use each claim as often
 module _ (A : Arch) (ii : ℕ) (ps qs : List Position) (history : List ℕ) (h : (p : Position) → uses ps p ≡ uses qs p) where

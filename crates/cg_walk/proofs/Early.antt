@@ -15,13 +15,13 @@ use Rattle.cg_edges.proofs.Latencies.{latency_small}
 use Rattle.cg_edges.specs.Chain.{Goes, latencies, distances, IsCycle, IsEarly}
 use Rattle.cg_recur.proofs.Chains.{latencies-append, distances-append, Goes-append}
 use Rattle.cg_recur.specs.Recurrences.{IsRecurrence}
-use Rattle.cg_recur.proofs.Paths.{pigeons}
 use Rattle.cg_recur.proofs.Named.{within}
 use Rattle.cg_recur.proofs.Decided.{all_listed}
 use Rattle.std.proofs.lemmas.Option.{slice_get-get_or, slice_get_within}
 use Rattle.cg_model.specs.declared.kernel.Operand.{Operand}
 use Rattle.cg_model.specs.declared.kernel.Operand.TheVariants.{Const as Constant, Edge as DataEdge}
 use Rattle.cg_model.specs.declared.kernel.OrderEdge.{OrderEdge}
+use Rattle.cg_model.proofs.Ranges.{pigeons}
 
 -- where an edge leads
 abbrev target_at : Option Edge → ℕ

@@ -24,11 +24,11 @@ use Rattle.cg_claims.proofs.Tables.{place_within, place_slot, place_row}
 use Rattle.cg_route.specs.Least.{Ends, IsTimedPath}
 use Rattle.cg_place.specs.Placed.{place_in}
 use Rattle.cg_place.specs.Counts.{unit_excess, order_violations}
-use Rattle.cg_place.proofs.Scheduled.{excess_none, violations_none}
+use Rattle.cg_place.proofs.Scheduled.{excess_none, violations_none, terms_zero}
 use Rattle.cg_walk.specs.State.{State, EdgeOperand, edges, ends_of, positions_of_all, state_positions, table_of_state, is_missing, missing, cost, routes_by, mapping_of}
 use Rattle.cg_walk.specs.Good.{IsGood}
-use Rattle.cg_walk.proofs.Zero.{range_zero}
 use Rattle.cg_walk.proofs.Edges.{IsEdge, edges_are, end_at, edges_end}
+use Rattle.cg_model.proofs.Mappings.{driven_known}
 
 -- nothing costs
 record IsFree (A : Arch) (K : Kernel) (ii : ℕ) (S : State) : Type 0 where
@@ -79,14 +79,6 @@ positions_are A K ii S M same (e ∷ es) (Some path ∷ rs) all =
     let here = All-head (IsEdge K) e es all in
     rw (here.1, same, rest) refl
 
-pub in_range : (A : Arch) (x q : ℕ) → Contains (resource A x).drivers q → x < length A.resources
-in_range A x q m =
-    ⊎_elim (λ a. a)
-    (λ a. let z = get_or_past A.resources x (record { name = []; kind = Wire; drivers = [] }) a in
-    let y : length (resource A x).drivers ≡ 0 = ap (λ (r : Resource). length r.drivers) z in
-    absurd (omega (arith, m.1, y)))
-    (cases_lt x (length A.resources))
-
 pub out_known : (A : Arch) → IsArch A → (x : ℕ) → x < length A.units → (unit A x).out < length A.resources
 out_known A arch x l =
     ⊎_elim (λ a. a)
@@ -100,7 +92,7 @@ after_known : (A : Arch) (u q t : ℕ) (path : List ℕ) (r s : ℕ) → Goes A 
 after_known A u q t [] r s h = All-nil (λ (p : Position). p.resource < length A.resources)
 after_known A u q t (x ∷ path) r s h =
     All-cons (λ (p : Position). p.resource < length A.resources) (record { source = u; resource = x; time = t + delay A x; from = Some q }) (positions_after A u x (t + delay A x) path)
-    (in_range A x q h.0) (after_known A u x (t + delay A x) path r s h.1)
+    (driven_known A x q h.0) (after_known A u x (t + delay A x) path r s h.1)
 
 path_known : (A : Arch) (u : ℕ) (ends : Ends) (path : List ℕ) → ends.from < length A.resources → IsTimedPath A ends path →
     All (λ (p : Position). p.resource < length A.resources) (positions_on A u ends.start path)
@@ -161,7 +153,7 @@ module _ (A : Arch) (K : Kernel) (ii : ℕ) (S : State) (arch : IsArch A) (kerne
       let ps = state_positions A K ii S in
       let k = r * ii + slot in
       let none : excess_at ii ps (node_at ii k) ≡ 0 =
-      range_zero (λ j. excess_at ii ps (node_at ii j)) (length A.resources * ii) k (place_within (length A.resources) ii r p.time some (known p mp)) free.alone in
+      terms_zero (λ j. excess_at ii ps (node_at ii j)) (length A.resources * ii) k (place_within (length A.resources) ii r p.time some (known p mp)) free.alone in
       let here : node_at ii k ≡ node_of ii p =
       ap (λ x. record { resource = x; slot = k % ii }) (place_row ii r p.time some) ∙ ap (λ x. record { resource = r; slot = x }) (place_slot ii r p.time some) in
       let few : claims_at ii ps (node_of ii p) - 1 ≡ 0 = subst (λ n. claims_at ii ps n - 1 ≡ 0) here none in

@@ -26,7 +26,10 @@ use Rattle.cg_walk.specs.Walk.{edge}
 use Rattle.cg_walk.specs.Good.{IsGood}
 use Rattle.cg_walk.specs.Ranges.{AreInRange, most_steps}
 use Rattle.cg_walk.proofs.Edges.{IsEdge, edges_are}
-use Rattle.cg_walk.proofs.Rules.{in_range, out_known}
+use Rattle.cg_walk.proofs.Rules.{out_known}
+use Rattle.cg_model.proofs.Mappings.{driven_known}
+use Rattle.cg_word.proofs.Arity.{arity_few}
+use Rattle.cg_route.proofs.Begins.{kind_delay}
 
 one_more : (a b : ℕ) → (a + 1) * b ≡ a * b + b
 one_more a b = mul_comm (a + 1) b ∙ omega arith
@@ -63,16 +66,10 @@ module _ (A : Arch) (K : Kernel) (ii : ℕ) (S : State) (arch : IsArch A) (kerne
 
 -- ---- paths
 
-kind_delay : (k : Kind) → (delay_by k ≡ 0) ⊎ (delay_by k ≡ 1)
-kind_delay Register = inr refl
-kind_delay Wire = inl refl
-kind_delay Port = inl refl
-kind_delay Out = inl refl
-
 module _ (A : Arch) (arch : IsArch A) where
   goes_within : (q t : ℕ) (path : List ℕ) (r s : ℕ) → Goes A q t path r s → All (λ x. x < length A.resources) path
   goes_within q t [] r s h = All-nil (λ x. x < length A.resources)
-  goes_within q t (x ∷ path) r s h = All-cons (λ y. y < length A.resources) x path (in_range A x q h.0) (goes_within x (t + delay A x) path r s h.1)
+  goes_within q t (x ∷ path) r s h = All-cons (λ y. y < length A.resources) x path (driven_known A x q h.0) (goes_within x (t + delay A x) path r s h.1)
 
   -- the resources of a path are of the architecture
   pub path_within : (ends : Ends) (path : List ℕ) → ends.from < length A.resources → IsTimedPath A ends path → All (λ x. x < length A.resources) path
@@ -90,7 +87,7 @@ module _ (A : Arch) (arch : IsArch A) where
       omega (arith, low, same, next)
   goes_short q t (x ∷ path) r s l h =
       let n = length A.resources in
-      let known : x < n = in_range A x q h.0 in
+      let known : x < n = driven_known A x q h.0 in
       let rest = goes_short x (t + delay A x) path r s known h.1 in
       let low : arch.level q < n = arch.levels q l in
       ⊎_elim
@@ -130,33 +127,6 @@ nodes_few v (n ∷ ns) h =
     let c = nodes_few (suc v) ns (All-tail (λ (n : Node). length n.operands ≤ 3) n ns h) in
     let d = length-append (edges_among v 0 n.operands) (edges_from (suc v) ns) in
     omega (arith, a, b, c, d)
-
-arity_few : (op : Op) → arity op ≤ 3
-arity_few Const = omega arith
-arity_few Iter = omega arith
-arity_few Input = omega arith
-arity_few Add = omega arith
-arity_few Sub = omega arith
-arity_few Mul = omega arith
-arity_few And = omega arith
-arity_few Or = omega arith
-arity_few Xor = omega arith
-arity_few Shl = omega arith
-arity_few Shr = omega arith
-arity_few Sar = omega arith
-arity_few Eq = omega arith
-arity_few Ne = omega arith
-arity_few Lts = omega arith
-arity_few Ltu = omega arith
-arity_few Mins = omega arith
-arity_few Maxs = omega arith
-arity_few Select = omega arith
-arity_few Load = omega arith
-arity_few Store = omega arith
-arity_few Output = omega arith
-arity_few LoadIf = omega arith
-arity_few StoreIf = omega arith
-arity_few OutputIf = omega arith
 
 -- a kernel has at most three edge operands a node
 pub edges_few : (K : Kernel) → IsKernel K → length (edges K) ≤ 3 * most_nodes

@@ -1,7 +1,7 @@
 -- What a route more or less, and a node placed, do to the positions of a state.
 use Rattle.std.proofs.Common.{◌≡◌, ◌≢◌, ℕ, zero, suc, ◌+◌, ◌*◌, ◌<◌, Bool, true, false, eqb, List, [], ◌∷◌, ◌++◌, length, set, Option, Some, None, refl, sym, ap, ◌∙◌, subst, arith, ⊎_elim}
 use Rattle.std.specs.Prelude.{◌||◌, All, Contains, slice_get}
-use Rattle.std.proofs.lemmas.Bool.{cases_eq, cases_Bool, eqb-false}
+use Rattle.std.proofs.lemmas.Bool.{cases_eq, cases_Bool, eqb-false, or_parts}
 use Rattle.std.proofs.lemmas.Option.{slice_get-get_or, slice_get_within, get_or_from_slice_get, same_Some, none-some}
 use Rattle.std.proofs.lemmas.List.{get_or-set_other, length-set, length-append}
 use Rattle.std.proofs.lemmas.List.Elements.{All-filter}
@@ -70,10 +70,6 @@ module _ (A : Arch) (K : Kernel) (ii : ℕ) (S : State) (i : ℕ) (known : i < l
 
 pub edge_is : (K : Kernel) (i : ℕ) (e : EdgeOperand) → slice_get (edges K) i ≡ Some e → edge K i ≡ e
 edge_is K i e h = get_or_from_slice_get (edges K) i e (record { node = 0; arg = 0; source = 0; distance = 0 }) h
-
-or_parts : (x y : Bool) → (x || y) ≡ false → (x ≡ false) × (y ≡ false)
-or_parts true y h = absurd (cc)
-or_parts false y h = (refl, h)
 
 -- an edge operand that doesn't touch a node has other nodes
 pub away : (K : Kernel) (v i : ℕ) (e : EdgeOperand) → slice_get (edges K) i ≡ Some e → touches K v i ≡ false → (e.node ≢ v) × (e.source ≢ v)

@@ -6,14 +6,6 @@ use Rattle.std.proofs.lemmas.Bool.{cases_Bool}
 use Rattle.std.proofs.lemmas.List.Sums.{get_or-le-sum_by}
 use Rattle.std.proofs.lemmas.List.FromFn.{length-range_with_len, get_or-range_with_len}
 
-pub range_zero : (f : ℕ → ℕ) (n i : ℕ) → i < n → sum_by f (range_with_len 0 n) ≡ 0 → f i ≡ 0
-range_zero f n i l h =
-    let long = length-range_with_len 0 n in
-    let a : f (get_or (range_with_len 0 n) i 0) ≤ sum_by f (range_with_len 0 n) = get_or-le-sum_by f (range_with_len 0 n) i 0 (omega (arith, long, l)) in
-    let z : 0 + i ≡ i = omega arith in
-    let e : f (get_or (range_with_len 0 n) i 0) ≡ f i = ap f (get_or-range_with_len 0 n i 0 l ∙ z) in
-    omega (arith, a, e, h)
-
 pub count_zero : {X : Type 0} (p : X → Bool) (xs : List X) (i : ℕ) (d : X) → i < length xs → count_by p xs ≡ 0 → p (get_or xs i d) ≡ false
 count_zero p xs i d l h =
     let a : cond (p (get_or xs i d)) 1 0 ≤ count_by p xs = get_or-le-sum_by (λ x. cond (p x) 1 0) xs i d l in

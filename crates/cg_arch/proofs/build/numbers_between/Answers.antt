@@ -1,7 +1,7 @@
 use Rattle.std.proofs.Common.{◌≡◌, ◌+◌, ◌-◌, ◌∙◌, ◌∷◌, ◌++◌, [], ap, sym, arith}
 use Rattle.std.specs.List.{range_with_len}
-use Rattle.cg_arch.proofs.Starts.{range_more}
 use Rattle.cg_arch.proofs.build.numbers_between.Goals as goal
+use Rattle.cg_model.proofs.Ranges.{range_more}
 
 pub loop-number-preserved : goal.loop-number-preserved
 loop-number-preserved c =

@@ -8,10 +8,11 @@ use Rattle.cg_bits.specs.Format.{slot_len}
 use Rattle.cg_bits.specs.Reading.{ii_in, stages_in, body_bits}
 use Rattle.cg_bits.specs.Faults.{first}
 use Rattle.cg_bits.specs.Checks.{Checks, start_faults, field_faults, end_faults}
-use Rattle.cg_bits.proofs.Breaches.{skip, here}
+use Rattle.cg_bits.proofs.Breaches.{skip}
 use Rattle.cg_bits.proofs.Linked.{faults_are}
 use Rattle.cg_bits.proofs.Started.{checks_then, started}
 use Rattle.cg_bits.proofs.check.check.Goals as goal
+use Rattle.cg_bits.proofs.First.{first_left}
 
 -- what is left of bytes from byte 40 on
 body_is : (bytes : List ℕ) → take (length bytes - 40) (drop 40 bytes) ≡ drop 40 bytes
@@ -26,7 +27,7 @@ returns-in_err-check_start-clause-faults c =
     let A = c.args.arch.now in
     let bytes = c.args.bytes.now in
     let p = err_from_is_err_and c.from_residual.result c.from_residual.ensures.1 in
-    rw (p.1, p.2) (ap first (faults_are F c.requires A (digest_of A) bytes) ∙ here (start_faults F A (digest_of A) bytes) _ _ c.in_err-check_start.ensures)
+    rw (p.1, p.2) (ap first (faults_are F c.requires A (digest_of A) bytes) ∙ first_left (start_faults F A (digest_of A) bytes) _ _ c.in_err-check_start.ensures)
 
 pub invariant_of-slots : goal.invariant_of-slots
 invariant_of-slots c =
@@ -55,7 +56,7 @@ returns-in_err-check_fields-clause-faults c =
     ap (λ z. field_faults F A (bits_of_bytes z) c.ii_in-ii.result c.stages_in.result) (body_is bytes) ∙ ap (λ z. field_faults F A (body_bits bytes) z c.stages_in.result) c.ii_in-ii.ensures.value
     ∙ ap (field_faults F A (body_bits bytes) (ii_in bytes)) c.stages_in.ensures in
     rw (p.1, p.2) (ap first (faults_are F c.requires A (digest_of A) bytes)
-    ∙ skip (start_faults F A (digest_of A) bytes) _ _ c.in_ok-check_start.ensures (here (field_faults F A (body_bits bytes) (ii_in bytes) (stages_in bytes)) _ _ (sym (ap first part) ∙ c.in_err-check_fields.ensures)))
+    ∙ skip (start_faults F A (digest_of A) bytes) _ _ c.in_ok-check_start.ensures (first_left (field_faults F A (body_bits bytes) (ii_in bytes) (stages_in bytes)) _ _ (sym (ap first part) ∙ c.in_err-check_fields.ensures)))
 
 pub returns-clause-faults : goal.returns-clause-faults
 returns-clause-faults c =

@@ -5,15 +5,16 @@ use Rattle.cg_bits.specs.Reading.{unit_place}
 use Rattle.cg_bits.specs.Checks.{fields_there, port_at, port_fault, uses}
 use Rattle.cg_bits.proofs.First.{first_joined, first_unless, joined_none_zero, joined_none_more}
 use Rattle.cg_bits.proofs.None.{unless_none}
-use Rattle.cg_bits.proofs.Fields.{number_at-below}
 use Rattle.cg_bits.proofs.Bytes.{length-bits_of_bytes}
-use Rattle.cg_bits.proofs.Outputs.{fields_op, fields_port, port_below, any_none, or_none, noted_more, free_is}
+use Rattle.cg_bits.proofs.Outputs.{fields_op, fields_port, port_below, any_none, noted_more, free_is}
 use Rattle.cg_bits.proofs.ports.repeated_port_in.Goals as goal
+use Rattle.cg_model.proofs.Bools.{or_false}
+use Rattle.cg_bits.proofs.Bitwise.{number_at_below}
 
 pub loop-x-init : goal.loop-x-init
 loop-x-init c =
     record {
-      noted = λ q lt. sym (ap (λ z. get_or c.args.used.now q false || z) (any_none _) ∙ or_none (get_or c.args.used.now q false));
+      noted = λ q lt. sym (ap (λ z. get_or c.args.used.now q false || z) (any_none _) ∙ or_false (get_or c.args.used.now q false));
       none = joined_none_zero _;
     }
 
@@ -22,7 +23,7 @@ take_port-requires c =
     let s = c.args.slots.now in
     let inside = c.unit_place-at.ensures.inside in
     let whole = s.fit.whole in
-    rw c.number_at-in-loop-x.ensures (number_at-below (bits_of_bytes s.body.now) (c.unit_place-at.result + s.format.op_bits + 16) 4 (omega (arith, length-bits_of_bytes s.body.now)))
+    rw c.number_at-in-loop-x.ensures (number_at_below (bits_of_bytes s.body.now) (c.unit_place-at.result + s.format.op_bits + 16) 4 (omega (arith, length-bits_of_bytes s.body.now)))
 
 pub returns-then-not-take_port-clause-first : goal.returns-then-not-take_port-clause-first
 returns-then-not-take_port-clause-first c =

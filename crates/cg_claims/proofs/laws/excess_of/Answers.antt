@@ -4,8 +4,9 @@ use Rattle.cg_model.specs.Mapping.{Position}
 use Rattle.cg_mrrg.specs.Nodes.{node_at}
 use Rattle.cg_claims.specs.Claims.{excess_at, excess_below, claims_at}
 use Rattle.cg_claims.specs.Plain.{plain, plains}
-use Rattle.cg_claims.proofs.Plain.{sum_more, excess_le}
+use Rattle.cg_claims.proofs.Plain.{excess_le}
 use Rattle.cg_claims.proofs.laws.excess_of.Goals as goal
+use Rattle.cg_model.proofs.Ranges.{sum_more}
 
 pub loop-place-preserved : goal.loop-place-preserved
 loop-place-preserved c =

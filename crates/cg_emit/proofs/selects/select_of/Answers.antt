@@ -2,8 +2,9 @@ use Rattle.std.proofs.Common.{◌≡◌, suc, length, ap, subst, ◌∙◌, arit
 use Rattle.cg_model.specs.declared.array.Resource.{Resource}
 use Rattle.cg_model.specs.Array.{resource}
 use Rattle.cg_model.specs.Configured.{place_of}
-use Rattle.cg_emit.proofs.Paths.{driven_known, resource_is, few_drivers, placed_within}
+use Rattle.cg_emit.proofs.Paths.{resource_is, few_drivers, placed_within}
 use Rattle.cg_emit.proofs.selects.select_of.Goals as goal
+use Rattle.cg_model.proofs.Mappings.{driven_known}
 
 pub place_in-requires : goal.place_in-requires
 place_in-requires c =

@@ -2,23 +2,16 @@ use Rattle.std.proofs.Common.{◌≡◌, ◌∙◌, ◌∷◌, [], ◌++◌, tru
 use Rattle.std.specs.List.{list_any}
 use Rattle.cg_parts.proofs.Lists.{list_any-texts}
 use Rattle.cg_parts.proofs.names.add_distinct.Goals as goal
-
-is_not : (b : Bool) → not b ≡ true → b ≡ false
-is_not true e = let bad : false ≡ true = e in absurd (cc)
-is_not false e = refl
-
-is : (b : Bool) → not b ≡ false → b ≡ true
-is true e = refl
-is false e = let bad : true ≡ false = e in absurd (cc)
+use Rattle.std.proofs.lemmas.Bool.{not-true, not-false}
 
 pub returns-in_ok-push-clause-kept : goal.returns-in_ok-push-clause-kept
 returns-in_ok-push-clause-kept c =
-    let apart = ap (list_any (bytes_eq c.args.name.now)) (sym c.requires) ∙ sym (list_any-texts (bytes_eq c.args.name.now) c.args.seen.now.keys) ∙ is_not (list_any (λ k. bytes_eq c.args.name.now k.now) c.args.seen.now.keys) (sym c.in_ok-_index.ensures.added ∙ c.if-added.true) in
+    let apart = ap (list_any (bytes_eq c.args.name.now)) (sym c.requires) ∙ sym (list_any-texts (bytes_eq c.args.name.now) c.args.seen.now.keys) ∙ not-true (list_any (λ k. bytes_eq c.args.name.now k.now) c.args.seen.now.keys) (sym c.in_ok-_index.ensures.added ∙ c.if-added.true) in
     c.in_ok-push.ensures.items
     ∙ ap (λ name. c.args.kept.now.items ++ name ∷ []) c.in_ok-copy_of.ensures
     ∙ ap (λ b. cond b c.args.kept.now.items (c.args.kept.now.items ++ c.args.name.now ∷ [])) (sym apart)
 
 pub returns-else-added-clause-kept : goal.returns-else-added-clause-kept
 returns-else-added-clause-kept c =
-    let there = ap (list_any (bytes_eq c.args.name.now)) (sym c.requires) ∙ sym (list_any-texts (bytes_eq c.args.name.now) c.args.seen.now.keys) ∙ is (list_any (λ k. bytes_eq c.args.name.now k.now) c.args.seen.now.keys) (sym c.in_ok-_index.ensures.added ∙ c.if-added.false) in
+    let there = ap (list_any (bytes_eq c.args.name.now)) (sym c.requires) ∙ sym (list_any-texts (bytes_eq c.args.name.now) c.args.seen.now.keys) ∙ not-false (list_any (λ k. bytes_eq c.args.name.now k.now) c.args.seen.now.keys) (sym c.in_ok-_index.ensures.added ∙ c.if-added.false) in
     ap (λ b. cond b c.args.kept.now.items (c.args.kept.now.items ++ c.args.name.now ∷ [])) (sym there)

@@ -2,7 +2,8 @@ use Rattle.std.proofs.Common.{◌≡◌, ℕ, ◌∙◌, ◌+◌, ◌*◌, ◌%�
 use Rattle.std.specs.Prelude.{◌&&◌}
 use Rattle.std.specs.List.{list_any}
 use Rattle.std.proofs.lemmas.List.{get_or_read}
-use Rattle.cg_claims.specs.Claims.{same, same_from}
+use Rattle.cg_claims.specs.Claims.{same}
+use Rattle.cg_model.specs.Mapping.{same_from}
 use Rattle.cg_claims.specs.Kept.{ClaimUse}
 use Rattle.cg_claims.specs.Nodes.{IsKept}
 use Rattle.cg_claims.specs.Table.{Table}

@@ -1,10 +1,10 @@
 use Rattle.std.proofs.Common.{◌∙◌, ap}
 use Rattle.cg_model.specs.declared.kernel.Operand.TheVariants.{Edge}
-use Rattle.cg_overlap.proofs.Sequence.{operand_within}
 use Rattle.cg_hub.specs.Hub.{registers_before}
 use Rattle.cg_hub.specs.Scheduled.{Scheduled}
 use Rattle.cg_hub.proofs.Made.{source_there, arg_there, wanted_later, register_there}
 use Rattle.cg_hub.proofs.schedule.Schedule.path.Goals as goal
+use Rattle.cg_model.proofs.Mappings.{operand_within}
 
 pub unit-to-requires : goal.unit-to-requires
 unit-to-requires c = operand_within c.args.self.now.kernel c.args.node c.args.arg (Edge c.args.source c.args.distance c.requires.0) c.requires.1

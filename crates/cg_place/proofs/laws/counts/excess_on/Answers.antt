@@ -1,7 +1,7 @@
 use Rattle.std.proofs.Common.{◌≡◌, ◌-◌, arith, ap, ◌∙◌}
 use Rattle.cg_place.specs.Counts.{excess_at}
-use Rattle.cg_place.proofs.Excess.{sum_more}
 use Rattle.cg_place.proofs.laws.counts.excess_on.Goals as goal
+use Rattle.cg_model.proofs.Ranges.{sum_more}
 
 pub loop-slot-preserved : goal.loop-slot-preserved
 loop-slot-preserved c =

@@ -1,7 +1,7 @@
 use Rattle.std.proofs.Common.{arith}
 use Rattle.cg_place.specs.Counts.{excess_on}
-use Rattle.cg_place.proofs.Excess.{sum_more}
 use Rattle.cg_place.proofs.laws.counts.unit_excess.Goals as goal
+use Rattle.cg_model.proofs.Ranges.{sum_more}
 
 pub loop-unit-preserved : goal.loop-unit-preserved
 loop-unit-preserved c =
