@@ -7,7 +7,7 @@ use Rattle.std.proofs.lemmas.List.Folds.{list_any_at}
 use Rattle.cg_word.specs.declared.op.Op.{Op}
 use Rattle.cg_word.specs.declared.op.Op.TheVariants.{Const, Iter, Input, Add, Sub, Mul, And, Or, Xor, Shl, Shr, Sar, Eq, Ne, Lts, Ltu, Mins, Maxs, Select, Load, Store, Output, LoadIf, StoreIf, OutputIf}
 use Rattle.cg_word.specs.Word.{all_ops, code, op_of}
-use Rattle.cg_word.specs.Sets.{among, with_op}
+use Rattle.cg_word.specs.Sets.{among, with_op, all_among}
 use Rattle.cg_word.proofs.Codes.{same_code, op_again}
 use Rattle.cg_model.specs.declared.kernel.Node.{Node}
 use Rattle.cg_model.specs.declared.array.Unit.{Unit}
@@ -21,7 +21,6 @@ use Rattle.cg_class.proofs.Sets.{offers_to}
 use Rattle.cg_bound.specs.Bound.{IsUnoffered, IsFirstUnoffered, AllOffered}
 use Rattle.cg_bound.specs.Search.{has_op, offers, is_unoffered}
 use Rattle.cg_model.proofs.Sums.{total, total_zero}
-use Rattle.cg_word.proofs.Arity.{all_among}
 
 -- an item that passes, and none that does
 any_some : {X : Type 0} (p : X → Bool) (xs : List X) (d : X) → list_any p xs ≡ true → (i : ℕ) × (i < length xs) × (p (slice_index_or xs i d) ≡ true)

@@ -7,7 +7,7 @@ use Rattle.std.proofs.lemmas.Nat.{row_fits}
 use Rattle.cg_word.specs.declared.op.Op.{Op}
 use Rattle.cg_word.specs.declared.op.Op.TheVariants.{Const, Iter, Input, Add, Sub, Mul, And, Or, Xor, Shl, Shr, Sar, Eq, Ne, Lts, Ltu, Mins, Maxs, Select, Load, Store, Output, LoadIf, StoreIf, OutputIf}
 use Rattle.cg_word.specs.Word.{all_ops}
-use Rattle.cg_word.specs.Sets.{among}
+use Rattle.cg_word.specs.Sets.{among, all_among}
 use Rattle.cg_model.specs.declared.config.UnitFields.{UnitFields}
 use Rattle.cg_model.specs.Array.{Arch, resource, unit}
 use Rattle.cg_model.specs.Config.{off}
@@ -24,7 +24,6 @@ use Rattle.cg_bits.proofs.Places.{width_few}
 use Rattle.cg_bits.proofs.Answered.{is_cgb2}
 use Rattle.cg_view.specs.Slot.{Slot, slot_of, slot_in}
 use Rattle.cg_view.specs.Held.{HoldBits, HoldsSlot}
-use Rattle.cg_word.proofs.Arity.{all_among}
 
 -- what is left of bytes from byte 40 on
 pub body_is : (bytes : List ℕ) → take (length bytes - 40) (drop 40 bytes) ≡ drop 40 bytes

@@ -34,7 +34,7 @@ marks_of ops = map (among ops) all_ops
 
 -- ---- each undoes the other (here, since the type's declaration cites it)
 
-all_among : (op : Op) → among all_ops op ≡ true
+pub all_among : (op : Op) → among all_ops op ≡ true
 all_among Const = refl
 all_among Iter = refl
 all_among Input = refl
