@@ -1,5 +1,5 @@
 -- What the words of a command line ask.
-use Rattle.std.specs.Prelude.{◌≡◌, ◌≤◌, ◌==◌, ◌⊎◌, ℕ, Bool, true, false, not, List, [], ◌∷◌, ◌++◌, take, drop, find, map, Option, Some, None, option_map, option_and_then, if◌then◌else◌, codes, string_bytes, IfSome}
+use Rattle.std.specs.Prelude.{◌≡◌, ◌≤◌, ◌==◌, ◌⊎◌, ℕ, Bool, true, false, not, List, [], ◌∷◌, ◌++◌, take, drop, find, map, Option, Some, None, option_map, option_and_then, if◌then◌else◌, codes, string_bytes}
 use Rattle.std.specs.List.{list_any, before_first, after_first}
 use Rattle.std.specs.Str.{bytes_eq}
 use Rattle.cg_model.specs.Limits.{most_turns}
@@ -138,6 +138,10 @@ pub record Plan : Type 0 where
 -- the plan that a value of the program is
 abbrev pub planned : PlanValue → Plan
 planned p = record { command = p.command; inputs = map string_bytes p.inputs.items; outputs = map string_bytes p.outputs.items }
+
+-- a command with the names of its files
+abbrev pub plan_with : Command → List Text → List Text → Plan
+plan_with command inputs outputs = record { command = command; inputs = inputs; outputs = outputs }
 
 -- turns KERNEL TURNS, and turns KERNEL TURNS IN OUT
 abbrev pub turns_plan : List Text → Option Plan

@@ -1,11 +1,11 @@
 //! The words after a command's name: plain words, and options with their values.
-ghost use Rattle.std.specs.Prelude.{◌≡◌, ◌++◌, false, [], IfOk, IfErr, OnOk, map, option_map, string_bytes};
+ghost use Rattle.std.specs.Prelude.{◌≡◌, ◌++◌, ◌∷◌, false, [], codes, IfOk, IfErr, OnOk, map, option_map, string_bytes};
 ghost use Rattle.std.specs.List.{list_all};
 ghost use Rattle.clap.specs.Words.{app_of, rule_of, fault_of, matches_of, rows_of, found_of, HasKind};
 ghost use Rattle.cg_command.specs.Words as spec;
 ghost use Rattle.cg_command.specs.Words.{given_values, heard_option};
 ghost use Rattle.cg_command.specs.Matches as rows;
-ghost use Rattle.cg_command.specs.Matches.{words_app, words_rule, named_rule, row_texts, arguments_in_rows, has_file};
+ghost use Rattle.cg_command.specs.Matches.{words_app, asked_app, words_rule, named_rule, row_texts, arguments_in_rows, has_file};
 
 use crate::numbers::is_file;
 use clap::error::ErrorKind;
@@ -58,14 +58,21 @@ fn matches_of<'a>(alloc: Global, words: &'a [String]) -> Result<ArgMatches<'a>, 
 fn words_command<'a>(alloc: Global) -> Result<Command<'a>, AllocError>
     ensures { IfOk result (λ c. app_of c ≡ words_app) }
 {
+    numbered_command(alloc)?
+        .arg(option_named(alloc, "moves"))?
+        .arg(option_named(alloc, "mapping"))
+}
+
+/// The same with the first two options alone.
+fn numbered_command<'a>(alloc: Global) -> Result<Command<'a>, AllocError>
+    ensures { IfOk result (λ c. app_of c ≡ asked_app (codes "ii" ∷ codes "seed" ∷ [])) }
+{
     Command::new(alloc, "cgra")
         .no_binary_name(true)
         .disable_help_flag(true)
         .arg(plain_words(alloc))?
         .arg(option_named(alloc, "ii"))?
-        .arg(option_named(alloc, "seed"))?
-        .arg(option_named(alloc, "moves"))?
-        .arg(option_named(alloc, "mapping"))
+        .arg(option_named(alloc, "seed"))
 }
 
 fn plain_words<'a>(alloc: Global) -> Arg<'a>

@@ -1,5 +1,5 @@
 //! Commands, each with its files and its numbers.
-ghost use Rattle.std.specs.Prelude.{◌≡◌, IfOk, IfSome, map, option_map, string_bytes, vec_len};
+ghost use Rattle.std.specs.Prelude.{◌≡◌, Some, IfOk, IfSome, length, map, option_map, string_bytes, vec_len};
 ghost use Rattle.cg_command.specs.Words as spec;
 ghost use Rattle.cg_command.specs.Words.{HasShape};
 
@@ -62,6 +62,40 @@ pub fn plan_words(alloc: Global, words: &[String]) -> Result<Option<Plan>, Alloc
     }
 }
 
+/// The plan of a command with these files.
+pub(crate) fn plan_with(
+    alloc: Global,
+    command: Command,
+    inputs: &[&str],
+    outputs: &[&str],
+) -> Result<Option<Plan>, AllocError>
+    requires { HasShape command (length inputs.now) (length outputs.now) }
+    ensures plan { IfOk result
+        (λ p. option_map spec.planned p ≡ Some (spec.plan_with command (map (λ word. word.now) inputs.now) (map (λ word. word.now) outputs.now))) }
+    ensures shape { IfOk result (λ p. IfSome p
+        (λ plan. HasShape plan.command (vec_len plan.inputs) (vec_len plan.outputs))) }
+{
+    let inputs = owned(alloc, inputs)?;
+    let outputs = owned(alloc, outputs)?;
+    Ok(Some(Plan {
+        command,
+        inputs,
+        outputs,
+    }))
+}
+
+/// Copies of the words.
+fn owned(alloc: Global, words: &[&str]) -> Result<Vec<String>, AllocError>
+    ensures texts { IfOk result (λ list. map string_bytes list.items ≡ map (λ word. word.now) words.now) }
+    ensures count { IfOk result (λ list. vec_len list ≡ length words.now) }
+{
+    let mut list = Vec::new(alloc);
+    for word in words {
+        list.push(String::from_str(alloc, word)?)?;
+    }
+    Ok(list)
+}
+
 fn command_plan(alloc: Global, name: &str, said: &Arguments) -> Result<Option<Plan>, AllocError>
     ensures plan { IfOk result
         (λ p. option_map spec.planned p ≡ spec.command_plan name.now (spec.heard said.now)) }
@@ -100,24 +134,18 @@ fn turns_plan(alloc: Global, words: &[&str]) -> Result<Option<Plan>, AllocError>
             let Some(turns) = turns_of(turns) else {
                 return Ok(None);
             };
-            Ok(Some(Plan {
-                command: Command::Turns { turns },
-                inputs: vec![in alloc; String::from_str(alloc, kernel)?]?,
-                outputs: Vec::new(alloc),
-            }))
+            plan_with(alloc, Command::Turns { turns }, &[*kernel], &[])
         }
         [kernel, turns, input, output] => {
             let Some(turns) = turns_of(turns) else {
                 return Ok(None);
             };
-            Ok(Some(Plan {
-                command: Command::TurnsOnImage { turns },
-                inputs: vec![in alloc;
-                    String::from_str(alloc, kernel)?,
-                    String::from_str(alloc, input)?,
-                ]?,
-                outputs: vec![in alloc; String::from_str(alloc, output)?]?,
-            }))
+            plan_with(
+                alloc,
+                Command::TurnsOnImage { turns },
+                &[*kernel, *input],
+                &[*output],
+            )
         }
         _ => Ok(None),
     }
@@ -130,11 +158,7 @@ fn flat_plan(alloc: Global, words: &[&str]) -> Result<Option<Plan>, AllocError>
         (λ plan. HasShape plan.command (vec_len plan.inputs) (vec_len plan.outputs))) }
 {
     match words {
-        [arch, out] => Ok(Some(Plan {
-            command: Command::Flat,
-            inputs: vec![in alloc; String::from_str(alloc, arch)?]?,
-            outputs: vec![in alloc; String::from_str(alloc, out)?]?,
-        })),
+        [arch, out] => plan_with(alloc, Command::Flat, &[*arch], &[*out]),
         _ => Ok(None),
     }
 }
@@ -150,15 +174,12 @@ fn run_plan(alloc: Global, words: &[&str]) -> Result<Option<Plan>, AllocError>
             let Some(turns) = turns_of(turns) else {
                 return Ok(None);
             };
-            Ok(Some(Plan {
-                command: Command::Run { turns },
-                inputs: vec![in alloc;
-                    String::from_str(alloc, arch)?,
-                    String::from_str(alloc, bits)?,
-                    String::from_str(alloc, input)?,
-                ]?,
-                outputs: vec![in alloc; String::from_str(alloc, output)?]?,
-            }))
+            plan_with(
+                alloc,
+                Command::Run { turns },
+                &[*arch, *bits, *input],
+                &[*output],
+            )
         }
         _ => Ok(None),
     }
@@ -171,14 +192,7 @@ fn bound_plan(alloc: Global, words: &[&str]) -> Result<Option<Plan>, AllocError>
         (λ plan. HasShape plan.command (vec_len plan.inputs) (vec_len plan.outputs))) }
 {
     match words {
-        [arch, kernel] => Ok(Some(Plan {
-            command: Command::Bound,
-            inputs: vec![in alloc;
-                String::from_str(alloc, arch)?,
-                String::from_str(alloc, kernel)?,
-            ]?,
-            outputs: Vec::new(alloc),
-        })),
+        [arch, kernel] => plan_with(alloc, Command::Bound, &[*arch, *kernel], &[]),
         _ => Ok(None),
     }
 }
@@ -190,15 +204,12 @@ fn check_plan(alloc: Global, words: &[&str]) -> Result<Option<Plan>, AllocError>
         (λ plan. HasShape plan.command (vec_len plan.inputs) (vec_len plan.outputs))) }
 {
     match words {
-        [arch, kernel, mapping] => Ok(Some(Plan {
-            command: Command::Check,
-            inputs: vec![in alloc;
-                String::from_str(alloc, arch)?,
-                String::from_str(alloc, kernel)?,
-                String::from_str(alloc, mapping)?,
-            ]?,
-            outputs: Vec::new(alloc),
-        })),
+        [arch, kernel, mapping] => plan_with(
+            alloc,
+            Command::Check,
+            &[*arch, *kernel, *mapping],
+            &[],
+        ),
         _ => Ok(None),
     }
 }
@@ -210,15 +221,12 @@ fn emit_plan(alloc: Global, words: &[&str]) -> Result<Option<Plan>, AllocError>
         (λ plan. HasShape plan.command (vec_len plan.inputs) (vec_len plan.outputs))) }
 {
     match words {
-        [arch, kernel, mapping, out] => Ok(Some(Plan {
-            command: Command::Emit,
-            inputs: vec![in alloc;
-                String::from_str(alloc, arch)?,
-                String::from_str(alloc, kernel)?,
-                String::from_str(alloc, mapping)?,
-            ]?,
-            outputs: vec![in alloc; String::from_str(alloc, out)?]?,
-        })),
+        [arch, kernel, mapping, out] => plan_with(
+            alloc,
+            Command::Emit,
+            &[*arch, *kernel, *mapping],
+            &[*out],
+        ),
         _ => Ok(None),
     }
 }
@@ -234,11 +242,7 @@ fn trial_plan(alloc: Global, words: &[&str]) -> Result<Option<Plan>, AllocError>
             let Some(seed) = seed_of(seed) else {
                 return Ok(None);
             };
-            Ok(Some(Plan {
-                command: Command::Trial { seed },
-                inputs: Vec::new(alloc),
-                outputs: Vec::new(alloc),
-            }))
+            plan_with(alloc, Command::Trial { seed }, &[], &[])
         }
         _ => Ok(None),
     }
@@ -251,11 +255,7 @@ fn verilog_plan(alloc: Global, words: &[&str]) -> Result<Option<Plan>, AllocErro
         (λ plan. HasShape plan.command (vec_len plan.inputs) (vec_len plan.outputs))) }
 {
     match words {
-        [arch, out] => Ok(Some(Plan {
-            command: Command::Verilog,
-            inputs: vec![in alloc; String::from_str(alloc, arch)?]?,
-            outputs: vec![in alloc; String::from_str(alloc, out)?]?,
-        })),
+        [arch, out] => plan_with(alloc, Command::Verilog, &[*arch], &[*out]),
         _ => Ok(None),
     }
 }

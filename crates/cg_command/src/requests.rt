@@ -7,7 +7,7 @@ ghost use Rattle.cg_command.specs.Words.{HasShape, heard_option, said_once};
 
 use crate::arguments::{Arguments, Given};
 use crate::numbers::{USUAL_MOVES, USUAL_RESPONSES, USUAL_SEED, interval_of, moves_of, seed_of};
-use crate::plans::{Command, Plan};
+use crate::plans::{Command, Plan, plan_with};
 use cg_model::Request;
 use std::alloc::{AllocError, Global};
 
@@ -85,14 +85,7 @@ fn written_plan(alloc: Global, words: &[&str], command: Command) -> Result<Optio
         (λ plan. HasShape plan.command (vec_len plan.inputs) (vec_len plan.outputs))) }
 {
     match words {
-        [arch, kernel, out] => Ok(Some(Plan {
-            command,
-            inputs: vec![in alloc;
-                String::from_str(alloc, arch)?,
-                String::from_str(alloc, kernel)?,
-            ]?,
-            outputs: vec![in alloc; String::from_str(alloc, out)?]?,
-        })),
+        [arch, kernel, out] => plan_with(alloc, command, &[*arch, *kernel], &[*out]),
         _ => Ok(None),
     }
 }
@@ -111,17 +104,7 @@ fn plan_with_mapping(
         (λ plan. HasShape plan.command (vec_len plan.inputs) (vec_len plan.outputs))) }
 {
     match words {
-        [arch, kernel, out] => Ok(Some(Plan {
-            command,
-            inputs: vec![in alloc;
-                String::from_str(alloc, arch)?,
-                String::from_str(alloc, kernel)?,
-            ]?,
-            outputs: vec![in alloc;
-                String::from_str(alloc, out)?,
-                String::from_str(alloc, mapping)?,
-            ]?,
-        })),
+        [arch, kernel, out] => plan_with(alloc, command, &[*arch, *kernel], &[*out, mapping]),
         _ => Ok(None),
     }
 }

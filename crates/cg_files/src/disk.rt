@@ -1,5 +1,6 @@
 //! The system's files and its standard output. They tell nothing of content or names.
-ghost use Rattle.std.specs.Prelude.{◌≡◌, ◌+◌, ◌-◌, ◌^◌, ◌<◌, ◌≤◌, ℕ, Err, IfOk, IfSome, IsErrOf, OnOk, length, min};
+ghost use Rattle.std.specs.Prelude.{◌≡◌, ◌+◌, ◌-◌, ◌^◌, ◌<◌, ◌≤◌, ◌++◌, ℕ, List, [], Err, Ok, IfOk, IfSome, IsErrOf, OnOk, length, min};
+ghost use Rattle.std.specs.Io.KnownBytes.{Consumes, IsAtEnd};
 
 use crate::fail::{SinkFail, StoreFail};
 use crate::sink::Sink;
@@ -105,21 +106,47 @@ fn read_up_to<F: Read + Drop>(alloc: Global, mut file: F, limit: u64) -> Result<
         → result ≡ Err (StoreFail.TooLong got) → limit < length bytes) }
 {
     let mut bytes = Vec::new(alloc);
-    let mut piece = [0u8; 4096];
+    read_pieces(&mut file, limit, &mut bytes)?;
+    Ok(bytes)
+}
+
+/// Reads into the empty vector up to the file's end.
+fn read_pieces<F: Read>(file: &mut F, limit: u64, bytes: &mut Vec<u8>) -> Result<(), StoreFail>
+    requires { bytes.old.items ≡ [] }
+    ensures short { OnOk result (length bytes.new.items ≤ limit) }
+    ensures too_long { (got : ℕ) → result ≡ Err (StoreFail.TooLong got)
+        → (limit < got) × (got ≤ limit + 4096) }
+    ensures whole { IfSome (F.remaining file.old) (λ all. OnOk result (bytes.new.items ≡ all)) }
+    ensures longer { IfSome (F.remaining file.old) (λ all. (got : ℕ)
+        → result ≡ Err (StoreFail.TooLong got) → limit < length all) }
+{
     for _ in 0..u64::MAX {
-        let Ok(count) = file.read(&mut piece) else {
-            return Err(StoreFail::Failed);
-        };
+        let count = read_piece(file, bytes)?;
         if count == 0 {
-            return Ok(bytes);
+            return Ok(());
         }
-        bytes.extend_from_slice(&piece[..count])?;
         let len = bytes.len() as u64;
         if len > limit {
             return Err(StoreFail::TooLong(len));
         }
     }
     Err(StoreFail::Failed)
+}
+
+/// Reads the next piece, and answers its length, which is 0 at the file's end alone.
+fn read_piece<F: Read>(file: &mut F, bytes: &mut Vec<u8>) -> Result<usize, StoreFail>
+    ensures ok { IfOk result (λ count. (piece : List ℕ) × (length piece ≡ count)
+        × (count ≤ 4096) × (bytes.new.items ≡ bytes.old.items ++ piece)
+        × Consumes (F.remaining file.old) (F.remaining file.new) piece) }
+    ensures end { result ≡ Ok 0 → IsAtEnd (F.remaining file.new) }
+    ensures err { (got : ℕ) → result ≡ Err (StoreFail.TooLong got) → ⊥ }
+{
+    let mut piece = [0u8; 4096];
+    let Ok(count) = file.read(&mut piece) else {
+        return Err(StoreFail::Failed);
+    };
+    bytes.extend_from_slice(&piece[..count])?;
+    Ok(count)
 }
 
 /// The standard output. Each error of the system raises the count.

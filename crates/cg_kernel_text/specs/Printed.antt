@@ -24,16 +24,22 @@ operand_data nodes (Edge u d init) = object
     (member (codes "from") (string (name_at nodes u))
     (member (codes "init") (array (items_of (map word_data init))) no_members)))
 
+abbrev pub port_member : Node → Members
+port_member n = member (codes "port") (word_data n.port) no_members
+
 -- the port, where the operation has one
 abbrev pub port_members : Node → Members
-port_members n = if word.has_port n.op then member (codes "port") (word_data n.port) no_members else no_members
+port_members n = if word.has_port n.op then port_member n else no_members
 
--- a node, with its keys in alphabetical order
-abbrev pub node_data : List Node → Node → Data
-node_data nodes n = object
-    (member (codes "args") (array (items_of (map (operand_data nodes) n.operands)))
+-- a node with these arguments and this port or none, with its keys in alphabetical order
+abbrev pub data_with : Data → Node → Members → Data
+data_with args n port = object
+    (member (codes "args") args
     (member (codes "name") (string n.name)
-    (member (codes "op") (string (word.name_of n.op)) (port_members n))))
+    (member (codes "op") (string (word.name_of n.op)) port)))
+
+abbrev pub node_data : List Node → Node → Data
+node_data nodes n = data_with (array (items_of (map (operand_data nodes) n.operands))) n (port_members n)
 
 -- an order edge
 abbrev pub edge_data : List Node → OrderEdge → Data

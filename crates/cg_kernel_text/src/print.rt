@@ -1,6 +1,6 @@
 //! The text of a kernel.
 ghost use Rattle.std.specs.Prelude.{◌≡◌, Ok, IfOk, map};
-ghost use Rattle.serde_json.specs.Data.{array};
+ghost use Rattle.serde_json.specs.Data.{array, no_members};
 ghost use Rattle.serde_json.specs.View.{view, items_of};
 ghost use Rattle.serde_json.specs.Written.{compact_text};
 ghost use Rattle.cg_model.specs.Kernel.{IsKernel};
@@ -54,10 +54,22 @@ fn node_value(alloc: Global, nodes: &[Node], node: &Node) -> Result<Value, Alloc
 {
     let args = args_value(alloc, nodes, node.operands.as_slice())?;
     if node.op.has_port() {
-        json!(in alloc; {"args": args, "name": node.name.as_str(), "op": node.op.name(), "port": node.port})
+        value_with_port(alloc, args, node)
     } else {
-        json!(in alloc; {"args": args, "name": node.name.as_str(), "op": node.op.name()})
+        value_without_port(alloc, args, node)
     }
+}
+
+fn value_with_port(alloc: Global, args: Value, node: &Node) -> Result<Value, AllocError>
+    ensures { IfOk result (λ value. view value ≡ spec.data_with (view args) node.now (spec.port_member node.now)) }
+{
+    json!(in alloc; {"args": args, "name": node.name.as_str(), "op": node.op.name(), "port": node.port})
+}
+
+fn value_without_port(alloc: Global, args: Value, node: &Node) -> Result<Value, AllocError>
+    ensures { IfOk result (λ value. view value ≡ spec.data_with (view args) node.now no_members) }
+{
+    json!(in alloc; {"args": args, "name": node.name.as_str(), "op": node.op.name()})
 }
 
 fn args_value(alloc: Global, nodes: &[Node], operands: &[Operand]) -> Result<Value, AllocError>

@@ -2,9 +2,11 @@
 ghost use Rattle.std.specs.Prelude.{◌≡◌, IfOk};
 ghost use Rattle.serde_json.specs.View.{view};
 ghost use Rattle.cg_model.specs.Answers.{Gives};
+ghost use Rattle.cg_model.specs.Kernel.{IsKernel};
 ghost use Rattle.cg_model.specs.Mapping.{IsShaped};
 ghost use Rattle.cg_mapping.specs.Answer as spec;
 ghost use Rattle.cg_mapping.specs.Ends.{AreShort};
+ghost use Rattle.cg_mapping.specs.Names as names;
 ghost use Rattle.cg_mapping.specs.Rules as rules;
 ghost use Rattle.cg_mapping.specs.Sound.{NamesParts, IsWithinLimits};
 ghost use Rattle.cg_mapping.specs.Written as written_form;
@@ -80,11 +82,36 @@ fn known(
 ) -> Result<Mapping, MappingFault>
     ensures { Gives MappingFault.Memory result (spec.answer_known arch.now kernel.now written.now (rules.unknown_key written.now)) }
 {
-    if let Some(place) = unknown_key(written) {
-        return Err(MappingFault::UnknownKey(place));
+    match unknown_key(written) {
+        Some(place) => Err(MappingFault::UnknownKey(place)),
+        None => looked_up(alloc, arch, kernel, written),
     }
+}
+
+/// The answer from P4 on.
+fn looked_up(
+    alloc: Global,
+    arch: &Arch,
+    kernel: &Kernel,
+    written: &WrittenMapping,
+) -> Result<Mapping, MappingFault>
+    ensures { Gives MappingFault.Memory result (spec.answer_named kernel.now (names.named_of arch.now kernel.now written.now)) }
+{
     let directory = Directory::of(alloc, arch, kernel)?;
-    match named_of(alloc, &directory, written) {
+    found_in(alloc, kernel, &directory, written)
+}
+
+fn found_in(
+    alloc: Global,
+    kernel: &Kernel,
+    directory: &Directory,
+    written: &WrittenMapping,
+) -> Result<Mapping, MappingFault>
+    requires kernel { directory.now.kernel ≡ kernel.now }
+    requires valid { IsKernel kernel.now }
+    ensures { Gives MappingFault.Memory result (spec.answer_named kernel.now (names.named_of directory.now.arch kernel.now written.now)) }
+{
+    match named_of(alloc, directory, written) {
         Ok(named) => within(alloc, kernel, &named),
         Err(Misfit::WrongShape(place)) => Err(MappingFault::UnknownName(place)),
         Err(Misfit::Memory) => Err(MappingFault::Memory),

@@ -31,6 +31,27 @@ pub(crate) fn parts_of(alloc: Global, written: WrittenArch) -> Result<Parts, Mak
     })
 }
 
+/// What was made so far, and what there is still room for.
+#[derive(Drop)]
+struct Made {
+    elements: Vec<Element>,
+    room: Room,
+}
+
+/// What is written, and the grid that its tiles lie on.
+#[derive(Clone, Copy)]
+struct Tiling<'a> {
+    written: &'a WrittenArch,
+    grid: Grid,
+}
+
+/// A cell of a grid.
+#[derive(Clone, Copy)]
+struct Site {
+    grid: Grid,
+    cell: Cell,
+}
+
 /// The elements of all cells, by row and column.
 fn elements_of(alloc: Global, written: &WrittenArch) -> Result<Vec<Element>, MakingFault>
     ensures elements { IfOk result (λ list. list.items ≡ spec.grid_elements written.now (spec.grid_of written.now) 0 written.now.header.grid) }
@@ -42,35 +63,36 @@ fn elements_of(alloc: Global, written: &WrittenArch) -> Result<Vec<Element>, Mak
         columns: columns(rows),
         torus: written.header.torus,
     };
-    let mut elements = Vec::new(alloc);
-    let mut room = Room {
+    let tiling = Tiling { written, grid };
+    let room = Room {
         links: MOST_LINKS,
         text: 67_108_864,
     };
+    let mut made = Made {
+        elements: Vec::new(alloc),
+        room,
+    };
     for (row, cells) in rows.iter().enumerate() {
-        let cells = cells.as_str().as_bytes();
-        add_row(alloc, &mut elements, &mut room, written, grid, row, cells)?;
+        add_row(alloc, &mut made, tiling, row, cells.as_str().as_bytes())?;
     }
-    Ok(elements)
+    Ok(made.elements)
 }
 
 /// Adds the elements of a row.
 fn add_row(
     alloc: Global,
-    elements: &mut Vec<Element>,
-    room: &mut Room,
-    written: &WrittenArch,
-    grid: Grid,
+    made: &mut Made,
+    tiling: Tiling,
     row: usize,
     cells: &[u8],
 ) -> Result<(), MakingFault>
-    ensures elements { OnOk result (elements.new.items ≡ elements.old.items ++ spec.row_elements written.now grid row 0 cells.now) }
-    ensures room { OnOk result (room.new.links + counts.row_links written.now grid row 0 cells.now ≡ room.old.links) }
-    ensures many { IsErrOf result MakingFault.TooManyLinks → room.old.links < counts.row_links written.now grid row 0 cells.now }
+    ensures elements { OnOk result (made.new.elements.items ≡ made.old.elements.items ++ spec.row_elements tiling.written.now tiling.grid row 0 cells.now) }
+    ensures room { OnOk result (made.new.room.links + counts.row_links tiling.written.now tiling.grid row 0 cells.now ≡ made.old.room.links) }
+    ensures many { IsErrOf result MakingFault.TooManyLinks → made.old.room.links < counts.row_links tiling.written.now tiling.grid row 0 cells.now }
 {
     for (column, letter) in cells.iter().enumerate() {
         let cell = Cell { row, column };
-        add_cell(alloc, elements, room, written, grid, cell, *letter)?;
+        add_cell(alloc, made, tiling, cell, *letter)?;
     }
     Ok(())
 }
@@ -78,37 +100,35 @@ fn add_row(
 /// Adds the elements of a cell: the parts of its tile.
 fn add_cell(
     alloc: Global,
-    elements: &mut Vec<Element>,
-    room: &mut Room,
-    written: &WrittenArch,
-    grid: Grid,
+    made: &mut Made,
+    tiling: Tiling,
     cell: Cell,
     letter: u8,
 ) -> Result<(), MakingFault>
-    ensures elements { OnOk result (elements.new.items ≡ elements.old.items ++ spec.cell_elements written.now grid cell letter) }
-    ensures room { OnOk result (room.new.links + counts.part_links grid cell (spec.parts_for written.now.tiles letter) ≡ room.old.links) }
-    ensures many { IsErrOf result MakingFault.TooManyLinks → room.old.links < counts.part_links grid cell (spec.parts_for written.now.tiles letter) }
+    ensures elements { OnOk result (made.new.elements.items ≡ made.old.elements.items ++ spec.cell_elements tiling.written.now tiling.grid cell letter) }
+    ensures room { OnOk result (made.new.room.links + counts.part_links tiling.grid cell (spec.parts_for tiling.written.now.tiles letter) ≡ made.old.room.links) }
+    ensures many { IsErrOf result MakingFault.TooManyLinks → made.old.room.links < counts.part_links tiling.grid cell (spec.parts_for tiling.written.now.tiles letter) }
 {
-    match tile_of(written.tiles.as_slice(), letter) {
-        Some(tile) => add_parts(alloc, elements, room, grid, cell, tile.parts.as_slice()),
+    let grid = tiling.grid;
+    match tile_of(tiling.written.tiles.as_slice(), letter) {
+        Some(tile) => add_parts(alloc, made, Site { grid, cell }, tile.parts.as_slice()),
         None => Ok(()),
     }
 }
 
 fn add_parts(
     alloc: Global,
-    elements: &mut Vec<Element>,
-    room: &mut Room,
-    grid: Grid,
-    cell: Cell,
+    made: &mut Made,
+    site: Site,
     parts: &[WrittenPart],
 ) -> Result<(), MakingFault>
-    ensures elements { OnOk result (elements.new.items ≡ elements.old.items ++ map (λ p. spec.element_of grid cell p.part) parts.now) }
-    ensures room { OnOk result (room.new.links + counts.part_links grid cell parts.now ≡ room.old.links) }
-    ensures many { IsErrOf result MakingFault.TooManyLinks → room.old.links < counts.part_links grid cell parts.now }
+    ensures elements { OnOk result (made.new.elements.items ≡ made.old.elements.items ++ map (λ p. spec.element_of site.grid site.cell p.part) parts.now) }
+    ensures room { OnOk result (made.new.room.links + counts.part_links site.grid site.cell parts.now ≡ made.old.room.links) }
+    ensures many { IsErrOf result MakingFault.TooManyLinks → made.old.room.links < counts.part_links site.grid site.cell parts.now }
 {
     for part in parts {
-        elements.push(element_of(alloc, room, grid, cell, &part.part)?)?;
+        let element = element_of(alloc, &mut made.room, site, &part.part)?;
+        made.elements.push(element)?;
     }
     Ok(())
 }
@@ -117,52 +137,83 @@ fn add_parts(
 fn element_of(
     alloc: Global,
     room: &mut Room,
-    grid: Grid,
-    cell: Cell,
+    site: Site,
     part: &Part,
 ) -> Result<Element, MakingFault>
-    ensures element { IfOk result (λ element. element ≡ spec.element_of grid cell part.now) }
-    ensures room { OnOk result (room.new.links + counts.links_of grid cell part.now ≡ room.old.links) }
-    ensures many { IsErrOf result MakingFault.TooManyLinks → room.old.links < counts.links_of grid cell part.now }
+    ensures element { IfOk result (λ element. element ≡ spec.element_of site.grid site.cell part.now) }
+    ensures room { OnOk result (room.new.links + counts.links_of site.grid site.cell part.now ≡ room.old.links) }
+    ensures many { IsErrOf result MakingFault.TooManyLinks → room.old.links < counts.links_of site.grid site.cell part.now }
 {
     match part {
-        Part::Wire { name, from } => Ok(Element::Wire {
-            name: flat_name(alloc, cell, name.as_str())?,
-            drivers: drivers_of(alloc, room, grid, cell, from.as_slice())?,
-        }),
-        Part::Register { name, from } => Ok(Element::Register {
-            name: flat_name(alloc, cell, name.as_str())?,
-            drivers: drivers_of(alloc, room, grid, cell, from.as_slice())?,
-        }),
+        Part::Wire { name, from } => {
+            let driven = driven_of(alloc, room, site, name.as_str(), from.as_slice())?;
+            Ok(Element::Wire {
+                name: driven.name,
+                drivers: driven.drivers,
+            })
+        }
+        Part::Register { name, from } => {
+            let driven = driven_of(alloc, room, site, name.as_str(), from.as_slice())?;
+            Ok(Element::Register {
+                name: driven.name,
+                drivers: driven.drivers,
+            })
+        }
         Part::Unit {
             name,
             ops,
             latency,
             ports,
             ..
-        } => Ok(Element::Unit {
-            name: flat_name(alloc, cell, name.as_str())?,
-            ops: *ops,
-            latency: *latency,
-            ports: Items::new(ports_of(alloc, room, grid, cell, ports.as_slice())?),
-        }),
+        } => {
+            let ports = ports_of(alloc, room, site, ports.as_slice())?;
+            Ok(Element::Unit {
+                name: flat_name(alloc, site.cell, name.as_str())?,
+                ops: *ops,
+                latency: *latency,
+                ports: Items::new(ports),
+            })
+        }
     }
+}
+
+/// A resource, and what drives it.
+#[derive(Drop)]
+struct Driven {
+    name: Name,
+    drivers: Names,
+}
+
+fn driven_of(
+    alloc: Global,
+    room: &mut Room,
+    site: Site,
+    name: &str,
+    from: &[Reference],
+) -> Result<Driven, MakingFault>
+    ensures name { IfOk result (λ driven. driven.name ≡ spec.flat_name site.cell name.now) }
+    ensures drivers { IfOk result (λ driven. driven.drivers ≡ spec.drivers_of site.grid site.cell from.now) }
+    ensures room { OnOk result (room.new.links + counts.list_links site.grid site.cell from.now ≡ room.old.links) }
+    ensures many { IsErrOf result MakingFault.TooManyLinks → room.old.links < counts.list_links site.grid site.cell from.now }
+{
+    let name = flat_name(alloc, site.cell, name)?;
+    let drivers = drivers_of(alloc, room, site, from)?;
+    Ok(Driven { name, drivers })
 }
 
 fn ports_of(
     alloc: Global,
     room: &mut Room,
-    grid: Grid,
-    cell: Cell,
+    site: Site,
     ports: &[References],
 ) -> Result<Vec<Names>, MakingFault>
-    ensures ports { IfOk result (λ list. list.items ≡ map (spec.drivers_of grid cell) ports.now) }
-    ensures room { OnOk result (room.new.links + sum_by (counts.list_links grid cell) ports.now ≡ room.old.links) }
-    ensures many { IsErrOf result MakingFault.TooManyLinks → room.old.links < sum_by (counts.list_links grid cell) ports.now }
+    ensures ports { IfOk result (λ list. list.items ≡ map (spec.drivers_of site.grid site.cell) ports.now) }
+    ensures room { OnOk result (room.new.links + sum_by (counts.list_links site.grid site.cell) ports.now ≡ room.old.links) }
+    ensures many { IsErrOf result MakingFault.TooManyLinks → room.old.links < sum_by (counts.list_links site.grid site.cell) ports.now }
 {
     let mut list = Vec::new(alloc);
     for references in ports {
-        list.push(drivers_of(alloc, room, grid, cell, references.as_slice())?)?;
+        list.push(drivers_of(alloc, room, site, references.as_slice())?)?;
     }
     Ok(list)
 }
@@ -171,15 +222,14 @@ fn ports_of(
 fn drivers_of(
     alloc: Global,
     room: &mut Room,
-    grid: Grid,
-    cell: Cell,
+    site: Site,
     references: &[Reference],
 ) -> Result<Names, MakingFault>
-    ensures names { IfOk result (λ names. names ≡ spec.drivers_of grid cell references.now) }
-    ensures room { OnOk result (room.new.links + counts.list_links grid cell references.now ≡ room.old.links) }
-    ensures many { IsErrOf result MakingFault.TooManyLinks → room.old.links < counts.list_links grid cell references.now }
+    ensures names { IfOk result (λ names. names ≡ spec.drivers_of site.grid site.cell references.now) }
+    ensures room { OnOk result (room.new.links + counts.list_links site.grid site.cell references.now ≡ room.old.links) }
+    ensures many { IsErrOf result MakingFault.TooManyLinks → room.old.links < counts.list_links site.grid site.cell references.now }
 {
-    let names = names_of(alloc, room, grid, cell, references)?;
+    let names = names_of(alloc, room, site, references)?;
     if names.len() > room.links {
         return Err(MakingFault::TooManyLinks);
     }
@@ -192,13 +242,12 @@ fn drivers_of(
 fn names_of(
     alloc: Global,
     room: &mut Room,
-    grid: Grid,
-    cell: Cell,
+    site: Site,
     references: &[Reference],
 ) -> Result<Vec<Name>, MakingFault>
-    ensures names { IfOk result (λ names. names.items ≡ spec.drivers_of grid cell references.now) }
+    ensures names { IfOk result (λ names. names.items ≡ spec.drivers_of site.grid site.cell references.now) }
     ensures links { room.new.links ≡ room.old.links }
-    ensures many { IsErrOf result MakingFault.TooManyLinks → room.old.links < counts.list_links grid cell references.now }
+    ensures many { IsErrOf result MakingFault.TooManyLinks → room.old.links < counts.list_links site.grid site.cell references.now }
 {
     let mut seen = IndexSet::new(alloc);
     let mut names = Vec::new(alloc);
@@ -206,7 +255,7 @@ fn names_of(
         if names.len() > room.links {
             return Err(MakingFault::TooManyLinks);
         }
-        if let Some(other) = neighbour(grid, cell, reference.side) {
+        if let Some(other) = neighbour(site.grid, site.cell, reference.side) {
             let name = driver_in(alloc, other, reference)?;
             room.spend(name.as_str())?;
             add_name(alloc, &mut seen, &mut names, name)?;

@@ -1,17 +1,12 @@
-use Rattle.std.proofs.Common.{true, codes, ap, ap₂, ◌≡◌, ◌∙◌}
+use Rattle.std.proofs.Common.{ap₂, ◌∙◌}
 use Rattle.std.proofs.lemmas.Result.{IfOk-weaker}
-use Rattle.clap.specs.Words.{app_of, new_app, with_rule}
-use Rattle.clap.specs.Simple.{app_of_fields, on_top}
+use Rattle.clap.specs.Words.{with_rule}
 use Rattle.cg_command.specs.Matches.{words_app}
 use Rattle.cg_command.proofs.arguments.words_command.Goals as goal
 
 pub returns : goal.returns
 unfolding words_app
 returns c =
-    let bare : app_of c.disable_help_flag.result ≡ on_top (λ s. record s { no_binary_name = true; disable_help_flag = true }) (new_app (codes "cgra")) =
-    ap app_of_fields c.disable_help_flag.ensures ∙ ap (on_top (λ s. record s { disable_help_flag = true })) (ap app_of_fields c.no_binary_name.ensures ∙ ap (on_top (λ s. record s { no_binary_name = true })) c.new.ensures.app) in
-    IfOk-weaker c.arg-5.result _ _ (λ r h. h.shape c.option_named-4.ensures.local
-    ∙ ap₂ with_rule (c.in_ok-arg-4.ensures.shape c.option_named-3.ensures.local
-    ∙ ap₂ with_rule (c.in_ok-arg-3.ensures.shape c.option_named-2.ensures.local
-    ∙ ap₂ with_rule (c.in_ok-arg-2.ensures.shape c.option_named.ensures.local
-    ∙ ap₂ with_rule (c.in_ok-arg.ensures.shape c.plain_words.ensures.local ∙ ap₂ with_rule bare c.plain_words.ensures.rule) c.option_named.ensures.rule) c.option_named-2.ensures.rule) c.option_named-3.ensures.rule) c.option_named-4.ensures.rule) c.arg-5.ensures
+    IfOk-weaker c.arg-2.result _ _ (λ r h. h.shape c.option_named-2.ensures.local
+    ∙ ap₂ with_rule (c.in_ok-arg.ensures.shape c.option_named.ensures.local
+    ∙ ap₂ with_rule c.in_ok-numbered_command.ensures c.option_named.ensures.rule) c.option_named-2.ensures.rule) c.arg-2.ensures

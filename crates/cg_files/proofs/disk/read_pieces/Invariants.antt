@@ -1,6 +1,6 @@
 use Rattle.std.proofs.Common.{◌≤◌, vec_len}
 use Rattle.std.specs.Io.KnownBytes.{Consumes}
-use Rattle.cg_files.proofs.disk.read_up_to.Given as goal
+use Rattle.cg_files.proofs.disk.read_pieces.Given as goal
 
 -- the bytes so far were read, and are few enough
 abbrev pub invariant-loop : goal.invariant-loop
