@@ -86,9 +86,9 @@ fn add_row(
     row: usize,
     cells: &[u8],
 ) -> Result<(), MakingFault>
-    ensures elements { OnOk result (made.new.elements.items ≡ made.old.elements.items ++ spec.row_elements tiling.written.now tiling.grid row 0 cells.now) }
-    ensures room { OnOk result (made.new.room.links + counts.row_links tiling.written.now tiling.grid row 0 cells.now ≡ made.old.room.links) }
-    ensures many { IsErrOf result MakingFault.TooManyLinks → made.old.room.links < counts.row_links tiling.written.now tiling.grid row 0 cells.now }
+    ensures elements { OnOk result (made.new.elements.items ≡ made.old.elements.items ++ spec.row_elements tiling.entry.written.now tiling.entry.grid row 0 cells.now) }
+    ensures room { OnOk result (made.new.room.links + counts.row_links tiling.entry.written.now tiling.entry.grid row 0 cells.now ≡ made.old.room.links) }
+    ensures many { IsErrOf result MakingFault.TooManyLinks → made.old.room.links < counts.row_links tiling.entry.written.now tiling.entry.grid row 0 cells.now }
 {
     for (column, letter) in cells.iter().enumerate() {
         let cell = Cell { row, column };
@@ -105,9 +105,9 @@ fn add_cell(
     cell: Cell,
     letter: u8,
 ) -> Result<(), MakingFault>
-    ensures elements { OnOk result (made.new.elements.items ≡ made.old.elements.items ++ spec.cell_elements tiling.written.now tiling.grid cell letter) }
-    ensures room { OnOk result (made.new.room.links + counts.part_links tiling.grid cell (spec.parts_for tiling.written.now.tiles letter) ≡ made.old.room.links) }
-    ensures many { IsErrOf result MakingFault.TooManyLinks → made.old.room.links < counts.part_links tiling.grid cell (spec.parts_for tiling.written.now.tiles letter) }
+    ensures elements { OnOk result (made.new.elements.items ≡ made.old.elements.items ++ spec.cell_elements tiling.entry.written.now tiling.entry.grid cell letter) }
+    ensures room { OnOk result (made.new.room.links + counts.part_links tiling.entry.grid cell (spec.parts_for tiling.entry.written.now.tiles letter) ≡ made.old.room.links) }
+    ensures many { IsErrOf result MakingFault.TooManyLinks → made.old.room.links < counts.part_links tiling.entry.grid cell (spec.parts_for tiling.entry.written.now.tiles letter) }
 {
     let grid = tiling.grid;
     match tile_of(tiling.written.tiles.as_slice(), letter) {
