@@ -7,7 +7,7 @@ ghost use Rattle.cg_model.specs.Limits.{most_turns};
 ghost use Rattle.cg_model.specs.Machine.{cycles};
 ghost use Rattle.cg_sim.specs.State.{IsFresh};
 
-use crate::effects::{Effects, store_all};
+use crate::effects::Effects;
 use crate::fault::SimFault;
 use crate::moment::Moment;
 use crate::plan::{Plan, plan_of};
@@ -155,8 +155,7 @@ impl<'a, C: Contexts> Sim<'a, C> {
             &mut self.history,
             &mut self.effects,
         );
-        store_all(&mut self.effects.memory, &self.effects.pending);
-        self.effects.pending.clear();
+        self.effects.store_pending();
         self.moment = self.moment.next(self.ii);
         self.done += 1;
     }
