@@ -47,15 +47,24 @@ fn with_claim(sharing: Sharing, cell: Cell, stop: Stop) -> Cell
     }
 }
 
+/// What claims are made for: a mapping on its architecture, and what values have to share.
+#[derive(Clone, Copy)]
+struct Claiming<'a> {
+    sharing: Sharing,
+    arch: &'a Arch,
+    mapping: &'a Mapping,
+}
+
 /// Claims the resource and the slot of a stop; one past the table claims nothing.
 #[tactic(auto, unfolding(crate::specs::Claims::claimed))]
-fn claim(table: &mut [Cell], sharing: Sharing, ii: u32, stop: Stop)
-    requires { 0 < ii }
-    ensures { table.new ≡ spec.claimed sharing ii table.old (spec.position_of stop) }
+fn claim(table: &mut [Cell], claiming: Claiming, stop: Stop)
+    requires { 0 < claiming.mapping.now.ii }
+    ensures { table.new ≡ spec.claimed claiming.entry.sharing claiming.entry.mapping.now.ii table.old (spec.position_of stop) }
 {
+    let ii = claiming.mapping.ii();
     let at = stop.resource as usize * ii as usize + (stop.time % u64::from(ii)) as usize;
     if at < table.len() {
-        table[at] = with_claim(sharing, table[at], stop);
+        table[at] = with_claim(claiming.sharing, table[at], stop);
     }
 }
 
@@ -73,40 +82,33 @@ fn next(arch: &Arch, stop: Stop, resource: u32) -> Stop
 }
 
 /// Claims the stops of a path from its first one on.
-fn claim_path(table: &mut [Cell], sharing: Sharing, arch: &Arch, ii: u32, start: Stop, rest: &[u32])
-    requires interval { 0 < ii }
+fn claim_path(table: &mut [Cell], claiming: Claiming, start: Stop, rest: &[u32])
+    requires interval { 0 < claiming.mapping.now.ii }
     requires soon { start.time < 2 ^ 33 }
-    ensures { table.new ≡ spec.claims sharing ii table.old (spec.position_of start ∷ mappings.positions_after arch.now start.source start.resource start.time rest.now) }
+    ensures { table.new ≡ spec.claims claiming.entry.sharing claiming.entry.mapping.now.ii table.old (spec.position_of start ∷ mappings.positions_after claiming.entry.arch.now start.source start.resource start.time rest.now) }
 {
     let mut stop = start;
-    claim(table, sharing, ii, stop);
+    claim(table, claiming, stop);
     for resource in rest {
-        stop = next(arch, stop, *resource);
-        claim(table, sharing, ii, stop);
+        stop = next(claiming.arch, stop, *resource);
+        claim(table, claiming, stop);
     }
 }
 
 /// Claims the stops of a route.
-fn claim_route(
-    table: &mut [Cell],
-    sharing: Sharing,
-    arch: &Arch,
-    kernel: &Kernel,
-    mapping: &Mapping,
-    route: &Route,
-)
-    requires { 0 < mapping.now.ii }
-    ensures { table.new ≡ spec.claims sharing mapping.now.ii table.old (mappings.of_route arch.now kernel.now mapping.now route.now) }
+fn claim_route(table: &mut [Cell], claiming: Claiming, kernel: &Kernel, route: &Route)
+    requires { 0 < claiming.mapping.now.ii }
+    ensures { table.new ≡ spec.claims claiming.entry.sharing claiming.entry.mapping.now.ii table.old (mappings.of_route claiming.entry.arch.now kernel.now claiming.entry.mapping.now route.now) }
 {
     if let Some(edge) = edge_into(kernel, route) {
         if let [first, rest @ ..] = route.path.as_slice() {
             let start = Stop {
                 source: edge.source,
                 resource: *first,
-                time: leaves(arch, mapping, edge.source),
+                time: leaves(claiming.arch, claiming.mapping, edge.source),
                 from: None,
             };
-            claim_path(table, sharing, arch, mapping.ii(), start, rest);
+            claim_path(table, claiming, start, rest);
         }
     }
 }
@@ -122,7 +124,12 @@ pub(crate) fn claim_all(
     requires { 0 < mapping.now.ii }
     ensures { table.new ≡ spec.claims sharing mapping.now.ii table.old (mappings.positions arch.now kernel.now mapping.now) }
 {
+    let claiming = Claiming {
+        sharing,
+        arch,
+        mapping,
+    };
     for route in mapping.routes() {
-        claim_route(table, sharing, arch, kernel, mapping, route);
+        claim_route(table, claiming, kernel, route);
     }
 }

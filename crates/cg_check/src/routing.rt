@@ -1,19 +1,20 @@
 //! L5: each route goes along links, and brings its value in time.
-ghost use Rattle.std.specs.Prelude.{◌≡◌, ◌^◌, ◌<◌};
+ghost use Rattle.std.specs.Prelude.{◌≡◌, ◌^◌, ◌<◌, Some};
 ghost use Rattle.cg_check.specs.Rules.{violated, L5, brings as brings_of, goes as goes_of, arrives as arrives_of, is_brought as is_brought_of};
 
-use crate::edge::edge_into;
+use crate::edge::{DataEdge, edge_into};
 use crate::model::{delay, drives, leaves, out, place, port};
 use crate::rule::RulePlace;
+use crate::stop::At;
 use cg_mapping::{Arch, Kernel, Mapping, Route};
 
 /// Whether a path goes on along links from a resource at a time, and ends on a port at a time.
-fn goes(arch: &Arch, start: u32, time: u64, path: &[u32], port: u32, end: u64) -> bool
-    requires { time < 2 ^ 33 }
-    ensures { result ≡ goes_of arch.now start time path.now port end }
+fn goes(arch: &Arch, start: At, path: &[u32], end: At) -> bool
+    requires { start.time < 2 ^ 33 }
+    ensures { result ≡ goes_of arch.now start.resource start.time path.now end.resource end.time }
 {
-    let mut at = start;
-    let mut now = time;
+    let mut at = start.resource;
+    let mut now = start.time;
     for next in path {
         if !drives(arch, at, *next) {
             return false;
@@ -21,30 +22,23 @@ fn goes(arch: &Arch, start: u32, time: u64, path: &[u32], port: u32, end: u64) -
         at = *next;
         now += delay(arch, at);
     }
-    at == port && now == end
+    at == end.resource && now == end.time
 }
 
 /// Whether a path begins with the out of a node's unit when its value leaves, and goes to a port.
-fn arrives(
-    arch: &Arch,
-    mapping: &Mapping,
-    source: u32,
-    path: &[u32],
-    port: Option<u32>,
-    end: u64,
-) -> bool
-    ensures { result ≡ arrives_of arch.now mapping.now source path.now port end }
+fn arrives(arch: &Arch, mapping: &Mapping, source: u32, path: &[u32], end: At) -> bool
+    ensures { result ≡ arrives_of arch.now mapping.now source path.now (Some end.resource) end.time }
 {
-    match port {
-        None => false,
-        Some(port) => match path {
-            [] => false,
-            [first, rest @ ..] => {
-                let unit = place(mapping, source).unit;
-                let time = leaves(arch, mapping, source);
-                *first == out(arch, unit) && goes(arch, *first, time, rest, port, end)
-            }
-        },
+    match path {
+        [] => false,
+        [first, rest @ ..] => {
+            let unit = place(mapping, source).unit;
+            let start = At {
+                resource: *first,
+                time: leaves(arch, mapping, source),
+            };
+            *first == out(arch, unit) && goes(arch, start, rest, end)
+        }
     }
 }
 
@@ -54,11 +48,21 @@ fn is_brought(arch: &Arch, kernel: &Kernel, mapping: &Mapping, route: &Route) ->
 {
     match edge_into(kernel, route) {
         None => true,
-        Some(edge) => {
-            let target = place(mapping, route.node);
-            let port = port(arch, target.unit, route.arg);
-            let end = u64::from(target.time) + u64::from(mapping.ii()) * u64::from(edge.distance);
-            arrives(arch, mapping, edge.source, route.path.as_slice(), port, end)
+        Some(edge) => brings(arch, mapping, route, edge),
+    }
+}
+
+/// Whether a route brings the value of that edge.
+fn brings(arch: &Arch, mapping: &Mapping, route: &Route, edge: DataEdge) -> bool
+    ensures { result ≡ brings_of arch.now mapping.now route.now (Some edge) }
+{
+    let target = place(mapping, route.node);
+    let time = u64::from(target.time) + u64::from(mapping.ii()) * u64::from(edge.distance);
+    match port(arch, target.unit, route.arg) {
+        None => false,
+        Some(resource) => {
+            let end = At { resource, time };
+            arrives(arch, mapping, edge.source, route.path.as_slice(), end)
         }
     }
 }

@@ -1,5 +1,12 @@
 //! Where a value is on its path.
 
+/// A resource, and a cycle in turn 0.
+#[derive(Clone, Copy)]
+pub(crate) struct At {
+    pub resource: u32,
+    pub time: u64,
+}
+
 /// A value on a resource of its path.
 #[derive(Clone, Copy)]
 pub(crate) struct Stop {

@@ -70,16 +70,24 @@ output_pins net = pin (codes "q") net ∷ []
 abbrev pub choice_pins : Arch → Resource → List Pin
 choice_pins A r = select_pin r ∷ (driver_pins A 1 r.drivers ++ output_pins (word_net r))
 
+-- the pins of a cell that gives a resource's select
+abbrev pub select_pins : Resource → List Pin
+select_pins r = clock_pins ++ output_pins (select_net r)
+
+-- those of a unit's cell
+abbrev pub unit_pins : Arch → Unit → List Pin
+unit_pins A u = clock_pins ++ (argument_pins A 0 u.ports ++ output_pins (word_net (resource A u.out)))
+
 -- ---- cells
 
 abbrev pub cell : Form → List ℕ → List Pin → Cell
 cell form name pins = record { «module» = form_name form; name = name; pins = pins }
 
 abbrev pub context_cell : Resource → Cell
-context_cell r = cell (ContextForm (select_width r)) (codes "c_" ++ r.name) (clock_pins ++ output_pins (select_net r))
+context_cell r = cell (ContextForm (select_width r)) (codes "c_" ++ r.name) (select_pins r)
 
 abbrev pub preselect_cell : Resource → Cell
-preselect_cell r = cell (PreselectForm (select_width r)) (codes "p_" ++ r.name) (clock_pins ++ output_pins (select_net r))
+preselect_cell r = cell (PreselectForm (select_width r)) (codes "p_" ++ r.name) (select_pins r)
 
 abbrev pub mux_cell : Arch → Resource → Cell
 mux_cell A r = cell (MuxForm (length r.drivers)) (codes "m_" ++ r.name) (choice_pins A r)
@@ -124,8 +132,7 @@ unit_form u = UnitForm (length u.ports) u.latency (bits_of u.ops)
 
 abbrev pub unit_cell : Arch → Unit → Cell
 unit_cell A u =
-    cell (unit_form u) (codes "u_" ++ u.name)
-    (clock_pins ++ (argument_pins A 0 u.ports ++ output_pins (word_net (resource A u.out))))
+    cell (unit_form u) (codes "u_" ++ u.name) (unit_pins A u)
 
 -- the nets and cells of each resource, and then the cell of each unit
 unfoldable pub netlist_of : Arch → NetGraph

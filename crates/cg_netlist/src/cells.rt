@@ -1,11 +1,11 @@
 //! The cells of resources and units.
-ghost use Rattle.std.specs.Prelude.{◌≡◌, ◌≤◌, length, IfOk};
+ghost use Rattle.std.specs.Prelude.{◌≡◌, ◌≤◌, ◌++◌, codes, length, IfOk};
 ghost use Rattle.cg_netlist.specs.Forms as forms;
 ghost use Rattle.cg_netlist.specs.Netlist as spec;
 ghost use Rattle.cg_netlist.specs.Built.{IsDriven, IsPlaced};
 
 use crate::operations::bits_of;
-use crate::parts::Cell;
+use crate::parts::{Cell, Pin};
 use crate::pins::{
     prefixed, push_argument_pins, push_choice_pins, push_clock_pins, push_out_pin, push_output_pin,
 };
@@ -22,10 +22,7 @@ pub(crate) fn context_cell(alloc: Global, resource: &Resource) -> Result<Cell, A
     let width = select_bits(resource.drivers.as_slice());
     let module = Name::new(format!(in alloc; "cg_ctx_{width}")?);
     let name = prefixed(alloc, "c_", &resource.name)?;
-    let mut pins = Vec::new(alloc);
-    push_clock_pins(alloc, &mut pins)?;
-    push_output_pin(alloc, &mut pins, prefixed(alloc, "s_", &resource.name)?)?;
-    let pins = Items::new(pins);
+    let pins = select_pins(alloc, resource)?;
     Ok(Cell { module, name, pins })
 }
 
@@ -37,11 +34,18 @@ pub(crate) fn preselect_cell(alloc: Global, resource: &Resource) -> Result<Cell,
     let width = select_bits(resource.drivers.as_slice());
     let module = Name::new(format!(in alloc; "cg_pre_{width}")?);
     let name = prefixed(alloc, "p_", &resource.name)?;
+    let pins = select_pins(alloc, resource)?;
+    Ok(Cell { module, name, pins })
+}
+
+/// The pins of both.
+fn select_pins(alloc: Global, resource: &Resource) -> Result<Items<Pin>, AllocError>
+    ensures { IfOk result (λ pins. pins ≡ spec.select_pins resource.now) }
+{
     let mut pins = Vec::new(alloc);
     push_clock_pins(alloc, &mut pins)?;
     push_output_pin(alloc, &mut pins, prefixed(alloc, "s_", &resource.name)?)?;
-    let pins = Items::new(pins);
-    Ok(Cell { module, name, pins })
+    Ok(Items::new(pins))
 }
 
 /// The cell that gives a wire or a port the word of its selected driver.
@@ -52,10 +56,17 @@ pub(crate) fn mux_cell(alloc: Global, arch: &Arch, resource: &Resource) -> Resul
     let count = resource.drivers.as_slice().len();
     let module = Name::new(format!(in alloc; "cg_mux_{count}")?);
     let name = prefixed(alloc, "m_", &resource.name)?;
+    let pins = mux_pins(alloc, arch, resource)?;
+    Ok(Cell { module, name, pins })
+}
+
+fn mux_pins(alloc: Global, arch: &Arch, resource: &Resource) -> Result<Items<Pin>, AllocError>
+    requires { IsDriven arch.now resource.now }
+    ensures { IfOk result (λ pins. pins ≡ spec.choice_pins arch.now resource.now) }
+{
     let mut pins = Vec::new(alloc);
     push_choice_pins(alloc, &mut pins, arch, resource)?;
-    let pins = Items::new(pins);
-    Ok(Cell { module, name, pins })
+    Ok(Items::new(pins))
 }
 
 /// The cell that gives a register the word of its selected driver.
@@ -70,11 +81,18 @@ pub(crate) fn register_cell(
     let count = resource.drivers.as_slice().len();
     let module = Name::new(format!(in alloc; "cg_reg_{count}")?);
     let name = prefixed(alloc, "r_", &resource.name)?;
+    let pins = register_pins(alloc, arch, resource)?;
+    Ok(Cell { module, name, pins })
+}
+
+fn register_pins(alloc: Global, arch: &Arch, resource: &Resource) -> Result<Items<Pin>, AllocError>
+    requires { IsDriven arch.now resource.now }
+    ensures { IfOk result (λ pins. pins ≡ spec.clock_pins ++ spec.choice_pins arch.now resource.now) }
+{
     let mut pins = Vec::new(alloc);
     push_clock_pins(alloc, &mut pins)?;
     push_choice_pins(alloc, &mut pins, arch, resource)?;
-    let pins = Items::new(pins);
-    Ok(Cell { module, name, pins })
+    Ok(Items::new(pins))
 }
 
 /// The cell that gives a resource without drivers the word 0.
@@ -83,10 +101,16 @@ pub(crate) fn zero_cell(alloc: Global, resource: &Resource) -> Result<Cell, Allo
 {
     let module = Name::copy_of(alloc, "cg_zero")?;
     let name = prefixed(alloc, "z_", &resource.name)?;
+    let pins = zero_pins(alloc, resource)?;
+    Ok(Cell { module, name, pins })
+}
+
+fn zero_pins(alloc: Global, resource: &Resource) -> Result<Items<Pin>, AllocError>
+    ensures { IfOk result (λ pins. pins ≡ spec.output_pins (codes "n_" ++ resource.now.name)) }
+{
     let mut pins = Vec::new(alloc);
     push_output_pin(alloc, &mut pins, prefixed(alloc, "n_", &resource.name)?)?;
-    let pins = Items::new(pins);
-    Ok(Cell { module, name, pins })
+    Ok(Items::new(pins))
 }
 
 /// The cell of a unit.
@@ -96,12 +120,19 @@ pub(crate) fn unit_cell(alloc: Global, arch: &Arch, unit: &Unit) -> Result<Cell,
 {
     let module = unit_module(alloc, unit)?;
     let name = prefixed(alloc, "u_", &unit.name)?;
+    let pins = unit_pins(alloc, arch, unit)?;
+    Ok(Cell { module, name, pins })
+}
+
+fn unit_pins(alloc: Global, arch: &Arch, unit: &Unit) -> Result<Items<Pin>, AllocError>
+    requires { IsPlaced arch.now unit.now }
+    ensures { IfOk result (λ pins. pins ≡ spec.unit_pins arch.now unit.now) }
+{
     let mut pins = Vec::new(alloc);
     push_clock_pins(alloc, &mut pins)?;
     push_argument_pins(alloc, &mut pins, arch, unit.ports.as_slice())?;
     push_out_pin(alloc, &mut pins, arch, unit.out)?;
-    let pins = Items::new(pins);
-    Ok(Cell { module, name, pins })
+    Ok(Items::new(pins))
 }
 
 /// The name of a unit's module.

@@ -34,6 +34,16 @@ pub record IsState (A : Arch) (C : Config) (n : ℕ) (image : Image) (c : ℕ) (
   pub pending : e.pending.items ≡ []
   pub pending_room : length A.units ≤ vec_capacity e.pending
 
+-- what a run has left before its first cycle, with room for all that it leaves
+pub record IsFresh (A : Arch) (C : Config) (n : ℕ) (image : Image) (e : Effects) : Type 0 where
+  pub memory : e.memory ≡ image.memory
+  pub pending : e.pending.items ≡ []
+  pub pending_room : length A.units ≤ vec_capacity e.pending
+  pub ports : length e.streams.items ≡ 16
+  pub empty : (port : ℕ) → (stream e.streams.items port).words ≡ []
+  pub room : HaveRoom C (length A.units) n e.streams.items
+  pub outside : e.outside ≡ 0
+
 -- a run, in the fields of a simulator
 pub record IsRunning (run : Run) (ii len : ℕ) (moment : Moment) (plan : Plan) (words before history : List ℕ) (e : Effects) (finished : Vec (List ℕ) Global) : Type 0 where
   pub valid : IsArch run.arch

@@ -62,6 +62,23 @@ pub(crate) struct Effects {
     pub(crate) outside: u64,
 }
 
+impl Effects {
+    ghost use Rattle.std.specs.Prelude.{◌≡◌, ◌≤◌, [], vec_capacity};
+    ghost use Rattle.cg_sim.specs.Effects.{applied};
+
+    /// The stores that wait take effect, in order.
+    pub(crate) fn store_pending(&mut self)
+        ensures memory { self.new.memory ≡ applied self.old.memory self.old.pending.items }
+        ensures pending { self.new.pending.items ≡ [] }
+        ensures room { vec_capacity self.old.pending ≤ vec_capacity self.new.pending }
+        ensures streams { self.new.streams ≡ self.old.streams }
+        ensures outside { self.new.outside ≡ self.old.outside }
+    {
+        store_all(&mut self.memory, &self.pending);
+        self.pending.clear();
+    }
+}
+
 /// Appends what an operation sends.
 #[tactic(auto, unfolding(cg_model::specs::Work::sent))]
 pub(crate) fn send(work: Work, streams: &mut [Stream])
@@ -92,7 +109,7 @@ pub(crate) fn hold(work: Work, pending: &mut Vec<Store>)
 }
 
 /// The stores of a cycle take effect, in order.
-pub(crate) fn store_all(memory: &mut Scratchpad, pending: &[Store])
+fn store_all(memory: &mut Scratchpad, pending: &[Store])
     ensures { memory.new ≡ applied memory.old pending.now }
 {
     for store in pending {

@@ -1,10 +1,13 @@
 //! A run of the array.
-ghost use Rattle.std.specs.Prelude.{◌≡◌, ◌<◌, ◌≤◌, ◌^◌};
+ghost use Rattle.std.specs.Prelude.{◌≡◌, ◌<◌, ◌≤◌, ◌+◌, ◌*◌, ◌^◌, IfOk, OnOk, length, replicate};
+ghost use Rattle.cg_model.specs.Array.{IsArch};
+ghost use Rattle.cg_model.specs.Canonical.{IsCanonical};
 ghost use Rattle.cg_model.specs.Config as configs;
 ghost use Rattle.cg_model.specs.Limits.{most_turns};
 ghost use Rattle.cg_model.specs.Machine.{cycles};
+ghost use Rattle.cg_sim.specs.State.{IsFresh};
 
-use crate::effects::{Effects, store_all};
+use crate::effects::Effects;
 use crate::fault::SimFault;
 use crate::moment::Moment;
 use crate::plan::{Plan, plan_of};
@@ -92,17 +95,11 @@ impl<'a, C: Contexts> Sim<'a, C> {
         requires fits { length image.now.memory ≤ arch.now.memory }
         ensures { IfOk result (λ s. s ≡ start_of arch.now (C.config contexts.now) n image.now) }
     {
-        let resources = arch.resources().len();
-        let units = arch.units().len();
+        let values = no_values(alloc, arch)?;
         let ii = contexts.ii();
         let length = length_in_cycles(n, contexts.stages(), ii);
         let plan = plan_of(alloc, arch)?;
-        let words = vec![in alloc; 0; resources + 1]?;
-        let before = vec![in alloc; 0; resources + 1]?;
-        let history = vec![in alloc; 0; 4 * units]?;
-        let memory = Scratchpad::new(alloc, image.memory())?;
-        let pending = Vec::with_capacity(alloc, units)?;
-        let streams = reserve_streams(alloc, arch, contexts, n)?;
+        let effects = no_effects(alloc, arch, contexts, n, image)?;
         let finished = Vec::with_capacity(alloc, PORTS)?;
         Ok(Sim {
             arch,
@@ -118,15 +115,10 @@ impl<'a, C: Contexts> Sim<'a, C> {
                 row: 0,
             },
             plan,
-            words,
-            before,
-            history,
-            effects: Effects {
-                memory,
-                pending,
-                streams,
-                outside: 0,
-            },
+            words: values.words,
+            before: values.before,
+            history: values.history,
+            effects,
             finished,
         })
     }
@@ -163,8 +155,7 @@ impl<'a, C: Contexts> Sim<'a, C> {
             &mut self.history,
             &mut self.effects,
         );
-        store_all(&mut self.effects.memory, &self.effects.pending);
-        self.effects.pending.clear();
+        self.effects.store_pending();
         self.moment = self.moment.next(self.ii);
         self.done += 1;
     }
@@ -215,6 +206,55 @@ impl<'a, C: Contexts> Sim<'a, C> {
             streams: Streams::new(all_words(streams, finished)),
         }
     }
+}
+
+/// The words of the last cycle and of the one before it, and the results of the last four.
+#[derive(Drop)]
+struct Values {
+    words: Vec<u32>,
+    before: Vec<u32>,
+    history: Vec<u32>,
+}
+
+/// Those before the first cycle, which are 0.
+fn no_values(alloc: Global, arch: &Arch) -> Result<Values, AllocError>
+    ensures words { IfOk result (λ v. v.words.items ≡ replicate (length arch.now.resources + 1) 0) }
+    ensures before { IfOk result (λ v. v.before.items ≡ replicate (length arch.now.resources + 1) 0) }
+    ensures history { IfOk result (λ v. v.history.items ≡ replicate (4 * length arch.now.units) 0) }
+    ensures valid { OnOk result (IsArch arch.now) }
+{
+    let resources = arch.resources().len();
+    let units = arch.units().len();
+    let words = vec![in alloc; 0; resources + 1]?;
+    let before = vec![in alloc; 0; resources + 1]?;
+    let history = vec![in alloc; 0; 4 * units]?;
+    Ok(Values {
+        words,
+        before,
+        history,
+    })
+}
+
+/// What a run has left before its first cycle, with room for all that it leaves.
+fn no_effects<C: Contexts>(
+    alloc: Global,
+    arch: &Arch,
+    contexts: &C,
+    n: u32,
+    image: &Image,
+) -> Result<Effects, AllocError>
+    requires { IsCanonical arch.now (C.config contexts.now) }
+    ensures { IfOk result (IsFresh arch.now (C.config contexts.now) n image.now) }
+{
+    let memory = Scratchpad::new(alloc, image.memory())?;
+    let pending = Vec::with_capacity(alloc, arch.units().len())?;
+    let streams = reserve_streams(alloc, arch, contexts, n)?;
+    Ok(Effects {
+        memory,
+        pending,
+        streams,
+        outside: 0,
+    })
 }
 
 /// How many cycles `n` turns take.

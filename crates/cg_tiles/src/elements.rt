@@ -1,5 +1,5 @@
 //! From tiles on a grid to the parts that they stand for.
-ghost use Rattle.std.specs.Prelude.{◌≡◌, ◌+◌, ◌<◌, ◌≤◌, ◌++◌, IfOk, OnOk, IsErrOf, length, map, string_bytes, sum_by};
+ghost use Rattle.std.specs.Prelude.{◌≡◌, ◌+◌, ◌<◌, ◌≤◌, ◌++◌, ◌∷◌, [], IfOk, IfErr, OnOk, IsErrOf, length, map, filter_map, fold, string_bytes, sum_by};
 ghost use Rattle.cg_model.specs.Limits.{most_links};
 ghost use Rattle.cg_parts.specs.Parts.{with_name};
 ghost use Rattle.cg_tiles.specs.Counts as counts;
@@ -86,9 +86,9 @@ fn add_row(
     row: usize,
     cells: &[u8],
 ) -> Result<(), MakingFault>
-    ensures elements { OnOk result (made.new.elements.items ≡ made.old.elements.items ++ spec.row_elements tiling.written.now tiling.grid row 0 cells.now) }
-    ensures room { OnOk result (made.new.room.links + counts.row_links tiling.written.now tiling.grid row 0 cells.now ≡ made.old.room.links) }
-    ensures many { IsErrOf result MakingFault.TooManyLinks → made.old.room.links < counts.row_links tiling.written.now tiling.grid row 0 cells.now }
+    ensures elements { OnOk result (made.new.elements.items ≡ made.old.elements.items ++ spec.row_elements tiling.entry.written.now tiling.entry.grid row 0 cells.now) }
+    ensures room { OnOk result (made.new.room.links + counts.row_links tiling.entry.written.now tiling.entry.grid row 0 cells.now ≡ made.old.room.links) }
+    ensures many { IsErrOf result MakingFault.TooManyLinks → made.old.room.links < counts.row_links tiling.entry.written.now tiling.entry.grid row 0 cells.now }
 {
     for (column, letter) in cells.iter().enumerate() {
         let cell = Cell { row, column };
@@ -105,9 +105,9 @@ fn add_cell(
     cell: Cell,
     letter: u8,
 ) -> Result<(), MakingFault>
-    ensures elements { OnOk result (made.new.elements.items ≡ made.old.elements.items ++ spec.cell_elements tiling.written.now tiling.grid cell letter) }
-    ensures room { OnOk result (made.new.room.links + counts.part_links tiling.grid cell (spec.parts_for tiling.written.now.tiles letter) ≡ made.old.room.links) }
-    ensures many { IsErrOf result MakingFault.TooManyLinks → made.old.room.links < counts.part_links tiling.grid cell (spec.parts_for tiling.written.now.tiles letter) }
+    ensures elements { OnOk result (made.new.elements.items ≡ made.old.elements.items ++ spec.cell_elements tiling.entry.written.now tiling.entry.grid cell letter) }
+    ensures room { OnOk result (made.new.room.links + counts.part_links tiling.entry.grid cell (spec.parts_for tiling.entry.written.now.tiles letter) ≡ made.old.room.links) }
+    ensures many { IsErrOf result MakingFault.TooManyLinks → made.old.room.links < counts.part_links tiling.entry.grid cell (spec.parts_for tiling.entry.written.now.tiles letter) }
 {
     let grid = tiling.grid;
     match tile_of(tiling.written.tiles.as_slice(), letter) {
@@ -238,7 +238,7 @@ fn drivers_of(
 }
 
 /// The same names. They are given up where those found so far are too many for the room, and may be too many by one.
-#[tactic(auto, using(crate::proofs::Distinct::fold_longer), unfolding(cg_parts::specs::Parts::distinct))]
+#[tactic(auto, using(crate::proofs::Distinct::fold_longer, crate::proofs::Distinct::fold_next), unfolding(cg_parts::specs::Parts::distinct))]
 fn names_of(
     alloc: Global,
     room: &mut Room,
@@ -249,35 +249,57 @@ fn names_of(
     ensures links { room.new.links ≡ room.old.links }
     ensures many { IsErrOf result MakingFault.TooManyLinks → room.old.links < counts.list_links site.grid site.cell references.now }
 {
-    let mut seen = IndexSet::new(alloc);
-    let mut names = Vec::new(alloc);
+    let mut kept = Kept {
+        seen: IndexSet::new(alloc),
+        names: Vec::new(alloc),
+    };
     for reference in references {
-        if names.len() > room.links {
+        if kept.names.len() > room.links {
             return Err(MakingFault::TooManyLinks);
         }
-        if let Some(other) = neighbour(site.grid, site.cell, reference.side) {
-            let name = driver_in(alloc, other, reference)?;
-            room.spend(name.as_str())?;
-            add_name(alloc, &mut seen, &mut names, name)?;
-        }
+        add_driver(alloc, &mut kept, room, site, reference)?;
     }
-    Ok(names)
+    Ok(kept.names)
 }
 
-/// Adds a name to those seen and kept, unless it stands there.
-fn add_name(
+/// Names, each where it stands first, and the texts of those that are kept.
+#[derive(Drop)]
+struct Kept {
+    seen: IndexSet<String>,
+    names: Vec<Name>,
+}
+
+/// Adds the name of the driver that a reference names, if it names one.
+fn add_driver(
     alloc: Global,
-    seen: &mut IndexSet<String>,
-    kept: &mut Vec<Name>,
-    name: Name,
-) -> Result<(), AllocError>
-    requires { map string_bytes seen.old.keys ≡ kept.old.items }
-    ensures seen { OnOk result (map string_bytes seen.new.keys ≡ kept.new.items) }
-    ensures kept { OnOk result (kept.new.items ≡ with_name kept.old.items name) }
+    kept: &mut Kept,
+    room: &mut Room,
+    site: Site,
+    reference: &Reference,
+) -> Result<(), MakingFault>
+    requires { map string_bytes kept.old.seen.keys ≡ kept.old.names.items }
+    ensures seen { OnOk result (map string_bytes kept.new.seen.keys ≡ kept.new.names.items) }
+    ensures names { OnOk result (kept.new.names.items ≡ fold with_name kept.old.names.items (filter_map (spec.driver_of site.grid site.cell) (reference.now ∷ []))) }
+    ensures links { room.new.links ≡ room.old.links }
+    ensures memory { IfErr result (λ fault. fault ≡ MakingFault.Memory) }
 {
-    let added = seen.insert(name.as_str().to_string(alloc)?)?;
+    if let Some(other) = neighbour(site.grid, site.cell, reference.side) {
+        let name = driver_in(alloc, other, reference)?;
+        room.spend(name.as_str())?;
+        add_name(alloc, kept, name)?;
+    }
+    Ok(())
+}
+
+/// Adds a name, unless it stands there.
+fn add_name(alloc: Global, kept: &mut Kept, name: Name) -> Result<(), AllocError>
+    requires { map string_bytes kept.old.seen.keys ≡ kept.old.names.items }
+    ensures seen { OnOk result (map string_bytes kept.new.seen.keys ≡ kept.new.names.items) }
+    ensures names { OnOk result (kept.new.names.items ≡ with_name kept.old.names.items name) }
+{
+    let added = kept.seen.insert(name.as_str().to_string(alloc)?)?;
     if added {
-        kept.push(name)?;
+        kept.names.push(name)?;
     }
     Ok(())
 }

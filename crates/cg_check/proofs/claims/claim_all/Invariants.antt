@@ -6,5 +6,5 @@ use Rattle.cg_check.proofs.claims.claim_all.Given as goal
 
 abbrev pub invariant-loop-route : goal.invariant-loop-route
 invariant-loop-route l =
-    claims l.sharing l.mapping.ii l.table (flat_map (of_route l.arch l.kernel l.mapping) (drop l.route-index l.mapping.routes))
-    ≡ claims l.sharing l.mapping.ii l.fn.table (flat_map (of_route l.arch l.kernel l.mapping) l.mapping.routes)
+    claims l.fn.sharing l.mapping.ii l.table (flat_map (of_route l.arch l.kernel l.mapping) (drop l.route-index l.mapping.routes))
+    ≡ claims l.fn.sharing l.mapping.ii l.fn.table (flat_map (of_route l.arch l.kernel l.mapping) l.mapping.routes)

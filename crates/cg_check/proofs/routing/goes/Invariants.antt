@@ -4,4 +4,4 @@ use Rattle.cg_check.proofs.routing.goes.Given as goal
 
 abbrev pub invariant-loop-next : goal.invariant-loop-next
 invariant-loop-next l =
-    (goes l.arch l.at l.now (drop l.next-index l.path) l.port l.«end» ≡ goes l.arch l.start l.time l.path l.port l.«end») × (l.now ≤ l.time + l.next-index)
+    (goes l.arch l.at l.now (drop l.next-index l.path) l.«end».resource l.«end».time ≡ goes l.arch l.fn.start.resource l.fn.start.time l.path l.«end».resource l.«end».time) × (l.now ≤ l.fn.start.time + l.next-index)

@@ -5,7 +5,7 @@ use Rattle.cg_tiles.proofs.elements.names_of.Given as goal
 
 abbrev pub invariant-loop-reference : goal.invariant-loop-reference
 invariant-loop-reference l = record {
-  seen : map string_bytes l.seen.keys ≡ l.names.items;
-  names : fold with_name l.names.items (filter_map (driver_of l.site.grid l.site.cell) (drop l.reference-index l.references)) ≡ drivers_of l.site.grid l.site.cell l.fn.references;
+  seen : map string_bytes l.kept.seen.keys ≡ l.kept.names.items;
+  names : fold with_name l.kept.names.items (filter_map (driver_of l.site.grid l.site.cell) (drop l.reference-index l.references)) ≡ drivers_of l.site.grid l.site.cell l.fn.references;
   links : l.room.links ≡ l.fn.room.links;
 }

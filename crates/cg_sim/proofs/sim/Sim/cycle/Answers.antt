@@ -1,4 +1,4 @@
-use Rattle.std.proofs.Common.{◌≡◌, ◌<◌, ◌≤◌, ◌+◌, ◌%◌, ◌/◌, ℕ, suc, List, length, Option, Vec, Global, sym, ap, subst, ◌∙◌, refl, arith, rules}
+use Rattle.std.proofs.Common.{◌≡◌, ◌<◌, ◌≤◌, ◌+◌, ◌%◌, ◌/◌, ℕ, suc, List, length, Option, Vec, Global, sym, ap, subst, ◌∙◌, arith, rules}
 use Rattle.std.specs.Prelude.{slice_index}
 use Rattle.std.specs.Vec.{with_items}
 use Rattle.std.proofs.lemmas.List.{with_items_is}
@@ -8,7 +8,7 @@ use Rattle.cg_model.specs.Work.{Work}
 use Rattle.cg_model.specs.Machine.{words_in, at_cycle}
 use Rattle.cg_sim.specs.declared.plan.Terminals.{Terminals}
 use Rattle.cg_sim.specs.declared.effects.Effects.{Effects}
-use Rattle.cg_sim.specs.declared.effects.Store.{Store}
+use Rattle.cg_sim.specs.declared.effects.Stream.{Stream}
 use Rattle.cg_sim.specs.Settle.{terminals, CanSettle, IsSettled}
 use Rattle.cg_sim.specs.Effects.{works_on, HasRoomAfter, BeginsAll, HasRow, applied}
 use Rattle.cg_sim.specs.Moment.{IsMoment}
@@ -118,7 +118,7 @@ invariant_of-self g c =
     let works_are = works_by A C n image inv.valid inv.canonical v.plan inv.plan_is k v.words.items v.before.items v.history.items v.effects s c.deref-3.result.now v.moment.slot v.moment.round c.deref-4.result.now W c.deref-3.ensures.value inv.moment_is.slot inv.moment_is.round words_is in
     let H = c.begin_units.new.history in
     let f : Effects = c.begin_units.new.effects in
-    let G : Effects = record { memory = c.store_all.new.memory; pending = c.clear.new.self; streams = f.streams; outside = f.outside } in
+    let G : Effects = c.store_pending.new.self in
     let all : BeginsAll image (works_on C v.plan.units.items n (k % C.ii) (k / C.ii) W) (length A.units) v.effects f =
     subst (λ (works : ℕ → Option Work). BeginsAll image works (length A.units) v.effects f) works_are
     (subst (λ (m : ℕ). BeginsAll image (works_on C c.deref-3.result.now n v.moment.slot v.moment.round c.deref-4.result.now) m v.effects f) units c.begin_units.ensures.effects) in
@@ -130,10 +130,10 @@ invariant_of-self g c =
     (subst (λ (z : List ℕ). HasRow image v.effects.memory (works_on C c.deref-3.result.now n v.moment.slot v.moment.round c.deref-4.result.now) v.moment.row (length c.deref-3.result.now) z H) kept_history c.begin_units.ensures.history))) in
     let history_kept : length H ≡ length v.history.items = search rules in
     let history_vec : (with_items v.history H).items ≡ H = with_items_is v.history H (search rules) in
-    let pending_is : c.deref-5.result.now ≡ f.pending.items = c.deref-5.ensures.value in
-    let memory_is : G.memory ≡ applied f.memory f.pending.items = c.store_all.ensures ∙ ap (λ (z : List Store). applied f.memory z) pending_is in
+    let last = c.store_pending.ensures in
+    let memory_is : G.memory ≡ applied f.memory f.pending.items = last.memory in
     let next : IsState A C n image (suc k) W v.words.items H G =
-    next_state A C n image inv.valid inv.canonical v.plan inv.plan_is k v.words.items v.before.items v.history.items v.effects s W long settled H f G all row (history_kept ∙ s.history_long) memory_is c.clear.ensures.items (search rules) refl refl in
+    next_state A C n image inv.valid inv.canonical v.plan inv.plan_is k v.words.items v.before.items v.history.items v.effects s W long settled H f G all row (history_kept ∙ s.history_long) memory_is last.pending last.room (ap (λ (z : Vec Stream Global). z.items) last.streams) last.outside in
     let one : suc k ≡ k + 1 = omega arith in
     let next1 : IsState A C n image (k + 1) W v.words.items H G = subst (λ (z : ℕ). IsState A C n image z W v.words.items H G) one next in
     let next2 : IsState A C n image (k + 1) (with_items c.swap.new.x W).items v.words.items H G = subst (λ (z : List ℕ). IsState A C n image (k + 1) z v.words.items H G) (sym words_vec) next1 in

@@ -1,6 +1,5 @@
-use Rattle.std.proofs.Common.{◌≡◌, ◌≤◌, ◌+◌, ◌*◌, ℕ, length, replicate, sym, ap, subst, ◌∙◌, refl, arith, rules}
-use Rattle.std.specs.Prelude.{vec_capacity, ◌<◌}
-use Rattle.cg_sim.specs.declared.effects.Effects.{Effects}
+use Rattle.std.proofs.Common.{◌≤◌, ℕ, sym, subst, refl, arith, rules}
+use Rattle.std.specs.Prelude.{◌<◌}
 use Rattle.cg_sim.proofs.Cycles.{first_state}
 use Rattle.cg_sim.proofs.Facts.{stages_few}
 use Rattle.cg_sim.proofs.sim.Sim.start.Goals as goal
@@ -15,15 +14,10 @@ pub invariant_of-result : goal.invariant_of-result
 invariant_of-result g c =
     let A = c.args.arch.now in
     let C = g.C.Contexts.config c.args.contexts.now in
-    let e : Effects = record { memory = c.in_ok-memory.memory; pending = c.in_ok-pending.pending; streams = c.in_ok-streams.streams; outside = 0 } in
-    let r : length c.resources-resources.result.now ≡ length A.resources = ap length c.resources-resources.ensures.resources in
-    let u : length c.units-units.result.now ≡ length A.units = ap length c.units-units.ensures.units in
-    let words : c.in_ok-words.words.items ≡ replicate (length A.resources + 1) 0 = (search rules) ∙ ap (λ (z : ℕ). replicate (z + 1) 0) r in
-    let before : c.in_ok-before.before.items ≡ replicate (length A.resources + 1) 0 = (search rules) ∙ ap (λ (z : ℕ). replicate (z + 1) 0) r in
-    let history : c.in_ok-history.history.items ≡ replicate (4 * length A.units) 0 = (search rules) ∙ ap (λ (z : ℕ). replicate (4 * z) 0) u in
-    let room : length A.units ≤ vec_capacity c.in_ok-pending.pending = (let h = c.in_ok-pending.ensures.exact in omega arith) in
+    let all = c.in_ok-values.ensures in
+    let fresh = c.in_ok-effects.ensures in
     record {
-      valid = c.units-units.ensures.valid;
+      valid = all.valid;
       canonical = c.requires.canonical;
       turns = c.requires.turns;
       fits = c.requires.fits;
@@ -33,7 +27,7 @@ invariant_of-result g c =
       length_few = c.length_in_cycles-length.ensures.few;
       within = omega arith;
       moment_is = record { slot = omega arith; round = omega arith; row = refl };
-      state_is = first_state A C c.args.n c.args.image.now _ _ _ e words before history (search rules) c.in_ok-streams.ensures.long c.in_ok-streams.ensures.empty c.in_ok-streams.ensures.room refl (search rules) room;
-      few = omega arith;
+      state_is = first_state A C c.args.n c.args.image.now _ _ _ c.in_ok-effects.effects all.words all.before all.history fresh.memory fresh.ports fresh.empty fresh.room fresh.outside fresh.pending fresh.pending_room;
+      few = (let none = fresh.outside in omega arith);
       finished_room = (search rules, (let h = c.in_ok-finished.ensures.exact in omega arith));
     }
