@@ -55,12 +55,7 @@ pub fn kernel_in(alloc: Global, file: &File) -> Result<Kernel, Stop>
 }
 
 /// The mapping that a file gives, of this kernel to this architecture.
-pub fn mapping_in(
-    alloc: Global,
-    arch: &Arch,
-    kernel: &Kernel,
-    file: &File,
-) -> Result<Mapping, Stop>
+pub fn mapping_in(alloc: Global, arch: &Arch, kernel: &Kernel, file: &File) -> Result<Mapping, Stop>
     ensures given { IfOk result (λ mapping.
         mappings.answer_of arch.now kernel.now (file_of file.now).bytes ≡ Ok mapping) }
     ensures refused { IfErr result (EndsBy (RefusesMapping arch.now kernel.now (file_of file.now))) }
@@ -93,11 +88,7 @@ pub fn image_in(alloc: Global, file: &File) -> Result<Image, Stop>
 }
 
 /// The configuration of this architecture that a file gives, over the file's bytes.
-pub fn config_in<'a>(
-    alloc: Global,
-    arch: &'a Arch,
-    file: &'a File,
-) -> Result<ConfigView<'a>, Stop>
+pub fn config_in<'a>(alloc: Global, arch: &'a Arch, file: &'a File) -> Result<ConfigView<'a>, Stop>
     ensures given { IfOk result (λ config. bits.answer_of arch.now (file_of file.now).bytes ≡ Ok config) }
     ensures refused { IfErr result (EndsBy (RefusesBits arch.now (file_of file.now))) }
     ensures canonical { IfOk result (IsCanonical arch.now) }
