@@ -65,7 +65,7 @@ pub struct Outcome {
 impl Outcome {
     ghost use Rattle.std.specs.Prelude.{◌≡◌, ◌++◌, ◌∷◌, [], IfOk};
     ghost use Rattle.cg_ending.specs.Outcome.{outcome_of};
-    ghost use Rattle.cg_ending.specs.Refusals.{reports};
+    ghost use Rattle.cg_ending.specs.Refusals.{reports, writes_one};
 
     /// Ends with a status and a report, and writes nothing.
     pub fn new(alloc: Global, status: Status, report: Vec<u8>) -> Outcome
@@ -77,6 +77,19 @@ impl Outcome {
             report,
             writes: Vec::new(alloc),
         }
+    }
+
+    /// Ends with a status and a report, and writes one file.
+    pub fn with_file(
+        alloc: Global,
+        status: Status,
+        report: Vec<u8>,
+        name: &str,
+        bytes: Vec<u8>,
+    ) -> Result<Outcome, AllocError>
+        ensures { IfOk result (λ o. outcome_of o ≡ writes_one status report.items name.now bytes.items) }
+    {
+        Outcome::new(alloc, status, report).writing(alloc, name, bytes)
     }
 
     /// Writes one file more.
