@@ -4,7 +4,7 @@ ghost use Rattle.cg_model.specs.Limits.{most_links};
 ghost use Rattle.cg_model.specs.Array.{links};
 ghost use Rattle.cg_ending.specs.Allowed.{Allows};
 ghost use Rattle.cg_ending.specs.Outcome.{file_of};
-ghost use Rattle.cg_run_answers.specs.Flat.{IsFlat, flat_report};
+ghost use Rattle.cg_run_answers.specs.Flat.{IsFlat, flat_report, flattened};
 
 use cg_arch::{Arch, Resource, flat_text};
 use cg_ending::{File, Outcome, Status, Stop};
@@ -12,14 +12,20 @@ use cg_inputs::arch_in;
 use std::alloc::{AllocError, Global};
 
 /// The text of the architecture that a file gives, under the name `out`.
-#[tactic(auto, using(crate::proofs::FlatAnswers::flat_refused))]
 pub fn flat(alloc: Global, file: &File, out: &str) -> Result<Outcome, Stop>
     ensures { Allows (IsFlat (file_of file.now) out.now) result }
 {
     let arch = arch_in(alloc, file)?;
-    let report = flat_report(alloc, &arch)?;
-    let text = flat_text(alloc, &arch)?;
-    Ok(Outcome::new(alloc, Status::Done, report).writing(alloc, out, text)?)
+    flattened(alloc, &arch, out)
+}
+
+/// The text of an architecture, and what the report says of it.
+fn flattened(alloc: Global, arch: &Arch, out: &str) -> Result<Outcome, Stop>
+    ensures { Allows (λ o. o ≡ flattened arch.now out.now) result }
+{
+    let report = flat_report(alloc, arch)?;
+    let text = flat_text(alloc, arch)?;
+    Ok(Outcome::with_file(alloc, Status::Done, report, out, text)?)
 }
 
 /// How many resources, units and links there are, and the digest of the text.
