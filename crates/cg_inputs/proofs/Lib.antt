@@ -4,3 +4,5 @@ pub mod Refusals
 pub mod Arrays
 pub mod Paired
 pub mod Mapped
+pub mod Refused
+pub mod Read
