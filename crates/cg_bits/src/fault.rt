@@ -13,34 +13,34 @@ pub enum BitsFault {
     #[error("no bits")]
     Magic,
     /// The bytes end early: how many there are.
-    #[error("the bytes end after {0}")]
+    #[error("the bytes end early")]
     Truncated(usize),
     /// The file is for another architecture: the digest that it names, and that of the architecture.
     #[error("bits of another architecture")]
     ArchMismatch([u8; 32], [u8; 32]),
     /// The header's interval or stages can't be: both of them.
-    #[error("interval {0} and stages {1}")]
+    #[error("an interval or stages that can't be")]
     BadHeader(u32, u32),
     /// A select above the number of drivers: its bit.
-    #[error("no driver has that number, at bit {0}")]
+    #[error("no driver has that number")]
     BadSelect(usize),
     /// No operation has that code: its bit.
-    #[error("no operation has that code, at bit {0}")]
+    #[error("no operation has that code")]
     BadOp(usize),
     /// The unit doesn't offer the operation: its bit.
-    #[error("an operation that isn't offered, at bit {0}")]
+    #[error("an operation that isn't offered")]
     NotOffered(usize),
     /// A field that breaks the rules of canonical configurations: its bit.
-    #[error("not canonical at bit {0}")]
+    #[error("not canonical")]
     NotCanonical(usize),
     /// A padding bit is set: the first one.
-    #[error("padding at bit {0}")]
+    #[error("a padding bit is set")]
     BadPadding(usize),
     /// Bytes follow the padding: the number of the first of them.
-    #[error("a byte too many at {0}")]
+    #[error("a byte too many")]
     Trailing(usize),
     /// An output to a port that an earlier field has: the bit of its port.
-    #[error("an output to a port that is used, at bit {0}")]
+    #[error("an output to a port that is used")]
     RepeatedPort(usize),
 }
 

@@ -23,9 +23,13 @@ size T = length T.arch.resources * T.interval
 abbrev pub history_at : Table → MNode → ℕ
 history_at T n = slice_index T.history (n.resource * T.interval + n.slot)
 
--- what a claim more on a node costs: 1, its history, and 8 for each claim there
+-- what each claim on a node adds to the cost of one more
+abbrev pub claim_toll : ℕ
+claim_toll = 8
+
+-- what a claim more on a node costs: 1, its history, and the toll of each claim there
 unfoldable pub toll : Table → MNode → ℕ
-toll T n = 1 + history_at T n + 8 * claims_at T.interval T.positions n
+toll T n = 1 + history_at T n + claim_toll * claims_at T.interval T.positions n
 
 -- the price of going along a link to a position: none where its claim is there already
 unfoldable pub link_price : Table → Position → ℕ

@@ -1,5 +1,8 @@
 //! The claims of a node.
 
+/// What each claim on a node adds to the cost of one more.
+pub(crate) const CLAIM_TOLL: u64 = 8;
+
 /// A claim on a node, and how often it is used.
 #[derive(Clone, Copy, Debug, PartialEq, Eq, Drop)]
 pub struct ClaimUse {

@@ -7,6 +7,7 @@ ghost use Rattle.cg_claims.specs.Claims as claims;
 ghost use Rattle.cg_model.specs.Mapping as mappings;
 ghost use Rattle.cg_claims.specs.Plain.{plain, plains};
 
+use crate::claim::CLAIM_TOLL;
 use crate::usage::{arrives, comes_from, place};
 use cg_mrrg::{Arch, MNode, Mrrg};
 use std::alloc::{AllocError, Global};
@@ -121,7 +122,8 @@ impl<'a> PlainUsage<'a> {
         ensures small { result ≤ 2 ^ 52 }
     {
         let place = place(self.interval, node.resource, node.slot);
-        1 + u64::from(self.history[place]) + 8 * count_claims(&self.positions, self.interval, node)
+        1 + u64::from(self.history[place])
+            + CLAIM_TOLL * count_claims(&self.positions, self.interval, node)
     }
 
     /// Whether the value of a source is on a resource at a time.

@@ -11,7 +11,7 @@ ghost use Rattle.cg_claims.specs.Kept.{AreClaims, position_of};
 ghost use Rattle.cg_claims.specs.Nodes.{IsListed};
 ghost use Rattle.cg_claims.specs.Along as along;
 
-use crate::claim::ClaimUse;
+use crate::claim::{CLAIM_TOLL, ClaimUse};
 use crate::list::ClaimList;
 use cg_arch::Kind;
 use cg_mrrg::{Arch, MNode, Mrrg};
@@ -137,7 +137,7 @@ impl<'a> Usage<'a> {
         ensures small { result ≤ 2 ^ 52 }
     {
         let place = place(self.interval, node.resource, node.slot);
-        1 + u64::from(self.history[place]) + 8 * self.nodes[place].len()
+        1 + u64::from(self.history[place]) + CLAIM_TOLL * self.nodes[place].len()
     }
 
     /// Whether the value of a source is on a resource at a time.

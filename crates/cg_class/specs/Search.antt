@@ -4,9 +4,8 @@ use Rattle.cg_word.specs.declared.op.Op.{Op}
 use Rattle.cg_word.specs.Word.{code}
 use Rattle.cg_word.specs.Sets.{among}
 use Rattle.cg_model.specs.declared.kernel.Node.{Node}
-use Rattle.cg_model.specs.Kernel.{Kernel, no_node}
+use Rattle.cg_model.specs.Kernel.{no_node}
 use Rattle.cg_model.specs.declared.array.Unit.{Unit}
-use Rattle.cg_model.specs.Array.{Arch}
 use Rattle.cg_class.specs.declared.search.Move.{Move}
 use Rattle.cg_class.specs.declared.search.Found.{Found}
 use Rattle.cg_class.specs.declared.search.Found.TheVariants.{Room, Full}

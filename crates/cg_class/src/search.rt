@@ -26,22 +26,31 @@ pub(crate) enum Found {
     Full(OpSet),
 }
 
+/// Nodes, of which the first have places on units, and how many a unit has room for.
+#[derive(Clone, Copy)]
+struct Placed<'a> {
+    nodes: &'a [Node],
+    units: &'a [Unit],
+    places: &'a [u32],
+    ii: u32,
+}
+
 /// Reaches all units that offer a node's operation: from the unit of move `before`, or, for the new node, from none.
 fn spread(
     log: &mut Vec<Move>,
     seen: &mut [bool],
-    nodes: &[Node],
-    units: &[Unit],
-    places: &[u32],
+    placed: Placed,
     node: usize,
     before: Option<usize>,
 ) -> Result<(), AllocError>
-    requires few { length units.now ≤ most_units }
-    requires good { IsLogged nodes.now units.now places.now log.old.items seen.old }
-    requires node { node < length nodes.now }
-    requires from { IsFrom places.now log.old.items node before }
-    ensures { OnOk result (IsSpread nodes.now units.now places.now log.old.items seen.old log.new.items seen.new (op_at nodes.now node)) }
+    requires few { length placed.units.now ≤ most_units }
+    requires good { IsLogged placed.nodes.now placed.units.now placed.places.now log.old.items seen.old }
+    requires node { node < length placed.nodes.now }
+    requires from { IsFrom placed.places.now log.old.items node before }
+    ensures { OnOk result (IsSpread placed.entry.nodes.now placed.entry.units.now placed.entry.places.now log.old.items seen.old log.new.items seen.new (op_at placed.entry.nodes.now node)) }
 {
+    let nodes = placed.nodes;
+    let units = placed.units;
     let op = nodes[node].op;
     for target in 0..units.len() {
         if units[target].ops.has(op) && !seen[target] {
@@ -63,26 +72,25 @@ fn visit(
     log: &mut Vec<Move>,
     seen: &mut [bool],
     done: OpSet,
-    nodes: &[Node],
-    units: &[Unit],
-    places: &[u32],
-    ii: u32,
+    placed: Placed,
     number: usize,
 ) -> Result<Option<OpSet>, AllocError>
-    requires few { length units.now ≤ most_units }
-    requires next { length places.now < length nodes.now }
-    requires searched { IsSearch nodes.now units.now ii places.now log.old.items seen.old done number }
+    requires few { length placed.units.now ≤ most_units }
+    requires next { length placed.places.now < length placed.nodes.now }
+    requires searched { IsSearch placed.nodes.now placed.units.now placed.ii placed.places.now log.old.items seen.old done number }
     requires inside { number < length log.old.items }
-    ensures { IfOk result (IsVisited nodes.now units.now ii places.now log.new.items seen.new number) }
+    ensures { IfOk result (IsVisited placed.entry.nodes.now placed.entry.units.now placed.entry.ii placed.entry.places.now log.new.items seen.new number) }
 {
+    let nodes = placed.nodes;
+    let places = placed.places;
     let unit = log[number].unit;
-    if count_on(places, unit) < ii as usize {
+    if count_on(places, unit) < placed.ii as usize {
         return Ok(None);
     }
     let mut done = done;
     for other in 0..places.len() {
         if places[other] == unit && !done.has(nodes[other].op) {
-            spread(log, seen, nodes, units, places, other, Some(number))?;
+            spread(log, seen, placed, other, Some(number))?;
             done = done.with(nodes[other].op);
         }
     }
@@ -102,14 +110,20 @@ pub(crate) fn reach(
     requires next { length places.now < length nodes.now }
     ensures { IfOk result (IsFound nodes.now units.now ii places.now) }
 {
+    let placed = Placed {
+        nodes,
+        units,
+        places,
+        ii,
+    };
     let node = places.len();
     let mut log = Vec::new(alloc);
     let mut seen = vec![in alloc; false; units.len()]?;
-    spread(&mut log, &mut seen, nodes, units, places, node, None)?;
+    spread(&mut log, &mut seen, placed, node, None)?;
     let mut done = OpSet::empty().with(nodes[node].op);
     let mut number = 0;
     while number < log.len() {
-        match visit(&mut log, &mut seen, done, nodes, units, places, ii, number)? {
+        match visit(&mut log, &mut seen, done, placed, number)? {
             None => return Ok(Found::Room(log, number)),
             Some(more) => done = more,
         }

@@ -7,9 +7,9 @@ use Rattle.cg_class.proofs.search.spread.Goals.{then-has+then-not-seen-target+in
 
 pub loop-target-preserved : goal.loop-target-preserved
 loop-target-preserved c =
-    let nodes = c.args.nodes.now in
-    let units = c.args.units.now in
-    let places = c.args.places.now in
+    let nodes = c.args.placed.nodes.now in
+    let units = c.args.placed.units.now in
+    let places = c.args.placed.places.now in
     let log0 = c.args.log.now.items in
     let seen0 = c.args.seen.now in
     let i = c.loop-target.invariant in
