@@ -6,9 +6,10 @@ ghost use Rattle.cg_turns.specs.Done.{IsSmall, left_by, left_of};
 ghost use Rattle.cg_turns.specs.Pairs.{IsPairOf};
 
 use crate::fault::TurnsFault;
-use crate::frame::{Frame, one_turn, start};
+use crate::frame::{Frame, Program, one_turn, start};
 use crate::pair::UnorderedPair;
 use crate::watch::unwatched;
+use crate::window::Turn;
 use cg_distance::min_distance;
 use cg_kernel::Kernel;
 use cg_model::MOST_TURNS;
@@ -52,9 +53,15 @@ fn run(alloc: Global, kernel: &Kernel, n: u32, image: &Image) -> Result<TurnsDon
     let table = min_distance(alloc, kernel)?;
     let mut watch = unwatched(alloc, kernel, image.memory().len())?;
     let mut frame = start(alloc, kernel, image)?;
+    let program = Program {
+        kernel,
+        table: &table,
+        image,
+    };
     let mut row = 0;
     for turn in 0..n {
-        one_turn(kernel, image, turn, row, &mut frame, &table, &mut watch)?;
+        let here = Turn { number: turn, row };
+        one_turn(program, here, &mut frame, &mut watch)?;
         row = if row == 4 { 0 } else { row + 1 };
     }
     Ok(done(frame, watch.pair))
