@@ -1,7 +1,7 @@
 //! What a run keeps from step to step.
 ghost use Rattle.std.specs.Prelude.{◌≡◌, ◌<◌, ◌≤◌, ◌+◌, ◌*◌, ◌^◌, IfOk, OnOk, length};
 ghost use Rattle.cg_model.specs.Kernel.{IsKernel, size};
-ghost use Rattle.cg_model.specs.Limits.{most_nodes, most_turns};
+ghost use Rattle.cg_model.specs.Limits.{most_nodes, most_turns, port_count};
 ghost use Rattle.cg_turns.specs.Frame.{IsAt};
 ghost use Rattle.cg_turns.specs.Step.{Steps, work_in};
 ghost use Rattle.cg_turns.specs.Watched.{IsReached, IsWatched};
@@ -57,7 +57,7 @@ fn step(
 ) -> Result<Option<u32>, AllocError>
     requires place { place < size program.kernel.now }
     requires window { length frame.old.window.items ≡ 5 * size program.kernel.now }
-    requires streams { length frame.old.streams.items ≡ 16 }
+    requires streams { length frame.old.streams.items ≡ port_count }
     requires outside { frame.old.outside < 2 ^ 63 }
     ensures steps { OnOk result (Steps program.entry.kernel.now program.entry.image.now place turn.number turn.row frame.old frame.new) }
     ensures outside { OnOk result (frame.new.outside ≤ frame.old.outside + 1) }

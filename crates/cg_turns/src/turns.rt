@@ -1,6 +1,6 @@
 //! Turns, one after the other.
 ghost use Rattle.std.specs.Prelude.{◌≡◌, ◌<◌, ◌≤◌, ◌↔◌, ℕ, Err, IfOk, length};
-ghost use Rattle.cg_model.specs.Limits.{most_turns};
+ghost use Rattle.cg_model.specs.Limits.{most_turns, port_count};
 ghost use Rattle.cg_model.specs.Turns.{turns_left};
 ghost use Rattle.cg_turns.specs.Done.{IsSmall, left_by, left_of};
 ghost use Rattle.cg_turns.specs.Pairs.{IsPairOf};
@@ -69,7 +69,7 @@ fn run(alloc: Global, kernel: &Kernel, n: u32, image: &Image) -> Result<TurnsDon
 
 /// What the frame leaves.
 fn done(frame: Frame, pair: Option<UnorderedPair>) -> TurnsDone
-    requires { length frame.streams.items ≡ 16 }
+    requires { length frame.streams.items ≡ port_count }
     ensures left { left_of result ≡ left_by frame.memory frame.streams.items frame.outside }
     ensures pair { result.pair ≡ pair }
 {
