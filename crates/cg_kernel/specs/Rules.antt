@@ -2,7 +2,7 @@
 use Rattle.std.specs.Prelude.{ℕ, ◌==◌, ◌&&◌, ◌||◌, Bool, true, false, not, List, [], ◌∷◌, length, take, Option, Some, None, nat_lt, nat_le, count_by, slice_get, option_map, option_and_then, if◌then◌else◌}
 use Rattle.std.specs.Option.{option_or, option_map_or, is_none}
 use Rattle.std.specs.List.{list_any}
-use Rattle.cg_model.specs.Limits.{longest_node_name, most_nodes, most_order_edges}
+use Rattle.cg_model.specs.Limits.{last_port, longest_node_name, most_distance, most_nodes, most_order_distance, most_order_edges}
 use Rattle.cg_word.specs.declared.op.Op.{Op}
 use Rattle.cg_word.specs.Word.{arity, code, has_value, has_port, is_output, op_named}
 use Rattle.cg_model.specs.Names.{is_name}
@@ -91,10 +91,10 @@ edge_goes_back w e = (e.distance == 0) && option_map_or (λ v. not (is_before (n
 -- K12 BadDistance: a data distance above 4, an order distance above 255
 abbrev pub is_too_far : WrittenArg → Bool
 is_too_far (Number c) = false
-is_too_far (Source from distance init other) = nat_lt 4 distance
+is_too_far (Source from distance init other) = nat_lt most_distance distance
 
 abbrev pub edge_is_too_far : WrittenEdge → Bool
-edge_is_too_far e = nat_lt 255 e.distance
+edge_is_too_far e = nat_lt most_order_distance e.distance
 
 -- K13 InitCount: not as many initial words as the distance
 abbrev pub has_wrong_init : WrittenArg → Bool
@@ -112,7 +112,7 @@ has_two_constants n = nat_lt 1 (count_by is_number n.args)
 -- K15 BadPort: a port is missing where the operation has one, given where it has none, or above 15
 abbrev pub is_bad_port : Op → Option ℕ → Bool
 is_bad_port op None = has_port op
-is_bad_port op (Some port) = not (has_port op) || nat_lt 15 port
+is_bad_port op (Some port) = not (has_port op) || nat_lt last_port port
 
 abbrev pub has_bad_port : WrittenKernel → WrittenNode → Bool
 has_bad_port w n = option_map_or (λ op. is_bad_port op n.port) (op_of w n) false

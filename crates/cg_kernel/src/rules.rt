@@ -7,7 +7,10 @@ ghost use Rattle.cg_kernel.specs.Rules as spec;
 
 use crate::rule::Rule;
 use crate::written::{Format, WrittenArg, WrittenEdge, WrittenKernel, WrittenNode};
-use cg_model::{LONGEST_NODE_NAME, MOST_NODES, MOST_ORDER_EDGES, is_name};
+use cg_model::{
+    LAST_PORT, LONGEST_NODE_NAME, MOST_DISTANCE, MOST_NODES, MOST_ORDER_DISTANCE, MOST_ORDER_EDGES,
+    is_name,
+};
 use cg_names::{Numbers, is_before, number_in};
 use cg_word::Op;
 
@@ -136,7 +139,7 @@ fn is_too_far(arg: &WrittenArg) -> bool
 {
     match arg {
         WrittenArg::Number(_) => false,
-        WrittenArg::Source { distance, .. } => *distance > 4,
+        WrittenArg::Source { distance, .. } => *distance > MOST_DISTANCE,
     }
 }
 
@@ -176,7 +179,7 @@ fn is_bad_port(op: Op, port: Option<u32>) -> bool
     ensures { result ≡ spec.is_bad_port op port }
 {
     match port {
-        Some(port) => !op.has_port() || port > 15,
+        Some(port) => !op.has_port() || port > LAST_PORT,
         None => op.has_port(),
     }
 }
@@ -308,7 +311,7 @@ pub fn applies_to_edge(
         Rule::UnknownKey => edge.other_keys,
         Rule::UnknownNode => joins_no_nodes(numbers, written, edge),
         Rule::BackEdgeWithoutDistance => edge_goes_back(numbers, written, edge),
-        Rule::BadDistance => edge.distance > 255,
+        Rule::BadDistance => edge.distance > MOST_ORDER_DISTANCE,
         _ => false,
     }
 }

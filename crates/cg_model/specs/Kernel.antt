@@ -5,7 +5,7 @@ use Rattle.std.specs.Prelude.{◌≡◌, ℕ, ◌<◌, ◌≤◌, true, false, L
 use Rattle.cg_word.specs.declared.op.Op.TheVariants.{Const}
 use Rattle.cg_word.specs.Word.{arity, words, has_value, has_port, is_output}
 use Rattle.cg_model.specs.Names.{IsName}
-use Rattle.cg_model.specs.Limits.{longest_node_name, most_nodes, most_order_edges}
+use Rattle.cg_model.specs.Limits.{last_port, longest_node_name, most_distance, most_nodes, most_order_distance, most_order_edges}
 pub use Rattle.cg_model.specs.declared.kernel.Operand.{Operand}
 pub use Rattle.cg_model.specs.declared.kernel.Operand.TheVariants.{Const as Constant, Edge}
 pub use Rattle.cg_model.specs.declared.kernel.Node.{Node}
@@ -51,7 +51,7 @@ pub record IsOrder (K : Kernel) : Type 0 where
   pub few : length K.order ≤ most_order_edges
   pub known : (e u v d : ℕ) → HasOrder K e u v d → (u < size K) × (v < size K)
   pub forward : (e u v : ℕ) → HasOrder K e u v 0 → u < v
-  pub near : (e u v d : ℕ) → HasOrder K e u v d → d ≤ 255
+  pub near : (e u v d : ℕ) → HasOrder K e u v d → d ≤ most_order_distance
 
 -- each node has a name of at most 32 characters (K5) of its own (K6)
 pub record IsNamed (K : Kernel) : Type 0 where
@@ -73,7 +73,7 @@ pub record IsKernel (K : Kernel) : Type 0 where
       has_value (node K u).op ≡ true
   -- K12, K13: a data edge goes over at most 4 turns, and has an initial word for each of them
   pub near : (v p u d : ℕ) (init : List ℕ) → v < size K → HasOperand K v p (Edge u d init) →
-      d ≤ 4
+      d ≤ most_distance
   pub inits : (v p u d : ℕ) (init : List ℕ) → v < size K → HasOperand K v p (Edge u d init) →
       length init ≡ d
   pub init_words : (v p u d k : ℕ) (init : List ℕ) → v < size K → HasOperand K v p (Edge u d init) →
@@ -82,7 +82,7 @@ pub record IsKernel (K : Kernel) : Type 0 where
   pub one_constant : (v p q a b : ℕ) → v < size K →
       HasOperand K v p (Constant a) → HasOperand K v q (Constant b) → p ≡ q
   -- K15: ports are 0 to 15, and 0 where the operation names none
-  pub ports : (v : ℕ) → v < size K → (node K v).port ≤ 15
+  pub ports : (v : ℕ) → v < size K → (node K v).port ≤ last_port
   pub no_ports : (v : ℕ) → v < size K → has_port (node K v).op ≡ false → (node K v).port ≡ 0
   -- K16: no two outputs, guarded or not, go to one port
   pub one_output : (v w : ℕ) → v < size K → w < size K →

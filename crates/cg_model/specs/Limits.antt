@@ -13,6 +13,20 @@ longest_node_name = 32
 abbrev pub most_order_edges : ℕ
 most_order_edges = 4096
 
+-- turns over which a data edge goes, and over which an order edge does
+abbrev pub most_distance : ℕ
+most_distance = 4
+
+abbrev pub most_order_distance : ℕ
+most_order_distance = 255
+
+-- ports of a kernel and of an array, and so streams of an image
+abbrev pub port_count : ℕ
+port_count = 16
+
+abbrev pub last_port : ℕ
+last_port = 15
+
 abbrev pub most_turns : ℕ
 most_turns = 1000000
 

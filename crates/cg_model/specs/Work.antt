@@ -4,6 +4,7 @@ use Rattle.std.specs.Prelude.{◌≡◌, ℕ, ◌<◌, ◌%◌, nat_le, nat_lt, 
 use Rattle.std.specs.List.{range_with_len}
 use Rattle.cg_word.specs.declared.op.Op.{Op}
 use Rattle.cg_word.specs.declared.op.Op.TheVariants.{Iter, Input, Load, LoadIf}
+use Rattle.cg_model.specs.Limits.{port_count}
 use Rattle.cg_word.specs.Word.{words, apply_of, is_guarded, is_access, is_store, is_output, address_arg, last_arg}
 
 -- what a run starts from: the words of the scratchpad memory by address, and the input streams by
@@ -14,7 +15,7 @@ pub record Image : Type 0 where
 
 -- it has sixteen streams, and words of 32 bits everywhere
 pub record IsImage (image : Image) : Type 0 where
-  pub sixteen : length image.streams ≡ 16
+  pub sixteen : length image.streams ≡ port_count
   pub memory : (a : ℕ) → a < length image.memory → slice_index image.memory a < words
   pub streams : (port k : ℕ) → k < length (slice_index_or image.streams port []) →
       slice_index (slice_index_or image.streams port []) k < words
@@ -30,7 +31,7 @@ pub record Left : Type 0 where
 abbrev pub left : List ℕ → (ℕ → List ℕ) → ℕ → Left
 left memory streams outside =
     record {
-      image = record { memory = memory; streams = map streams (range_with_len 0 16) };
+      image = record { memory = memory; streams = map streams (range_with_len 0 port_count) };
       outside = outside;
     }
 

@@ -9,6 +9,18 @@ pub const LONGEST_NODE_NAME: usize = 32;
 /// Order edges of a kernel.
 pub const MOST_ORDER_EDGES: usize = 4096;
 
+/// Turns over which a data edge goes.
+pub const MOST_DISTANCE: u32 = 4;
+
+/// Turns over which an order edge goes.
+pub const MOST_ORDER_DISTANCE: u32 = 255;
+
+/// Ports of a kernel and of an array, and so streams of an image.
+pub const PORTS: usize = 16;
+
+/// The last port.
+pub const LAST_PORT: u32 = 15;
+
 /// Turns of a run.
 pub const MOST_TURNS: u32 = 1_000_000;
 

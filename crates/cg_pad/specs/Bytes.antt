@@ -7,7 +7,7 @@ use Rattle.cg_model.specs.Work.{Image}
 use Rattle.cg_pad.specs.declared.fault.ImageFault.{ImageFault}
 use Rattle.cg_pad.specs.declared.fault.ImageFault.TheVariants.{Magic, Truncated, TooLarge, Trailing}
 use Rattle.cg_pad.specs.declared.fault.TooLargePlace.TheVariants as place
-use Rattle.cg_model.specs.Limits.{most_memory, most_stream}
+use Rattle.cg_model.specs.Limits.{most_memory, most_stream, port_count}
 
 -- ---- writing
 
@@ -87,7 +87,7 @@ at_end size image (b ∷ rest) = Err (Trailing (size - length (b ∷ rest)))
 abbrev pub read_blocks : ℕ → List ℕ → Result Image ImageFault
 read_blocks size bytes =
     and_then (read_block most_memory memory_too_large size bytes)
-    (λ p. and_then (read_streams size 0 16 p.1) (λ q. at_end size (record { memory = p.0; streams = q.0 }) q.1))
+    (λ p. and_then (read_streams size 0 port_count p.1) (λ q. at_end size (record { memory = p.0; streams = q.0 }) q.1))
 
 -- after the letters: as many of the first four bytes as there are must begin them
 abbrev pub read_magic : ℕ → List ℕ → Result (List ℕ) ImageFault

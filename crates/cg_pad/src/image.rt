@@ -1,12 +1,10 @@
 //! Images of memory and streams.
 ghost use Rattle.std.specs.Prelude.{◌≡◌, [], IfOk, replicate};
+ghost use Rattle.cg_model.specs.Limits.{port_count};
 
-use cg_model::{Items, MOST_MEMORY, MOST_STREAM, Words};
+use cg_model::{Items, MOST_MEMORY, MOST_STREAM, PORTS, Words};
 use std::alloc::{AllocError, Global};
 use std::marker::Model;
-
-/// The number of streams of an image, one a port.
-pub const PORTS: usize = 16;
 
 /// Streams of words, by port.
 pub type Streams = Items<Words>;
@@ -20,13 +18,14 @@ pub struct Image {
 
 impl Model for Image {
     ghost use Rattle.std.specs.Prelude.{◌≡◌, length};
+    ghost use Rattle.cg_model.specs.Limits.{port_count};
     ghost use Rattle.cg_model.specs.Work as works;
 
     ghost Value = { works.Image };
 
     ghost view = { λ i. record { memory = i.memory; streams = i.streams } };
 
-    ghost invariant = { λ i. length i.streams ≡ 16 };
+    ghost invariant = { λ i. length i.streams ≡ port_count };
 }
 
 impl Image {
@@ -35,7 +34,7 @@ impl Image {
 
     /// An image without words.
     pub fn empty(alloc: Global) -> Result<Image, AllocError>
-        ensures { IfOk result (λ i. i ≡ record { memory = []; streams = replicate 16 [] }) }
+        ensures { IfOk result (λ i. i ≡ record { memory = []; streams = replicate port_count [] }) }
     {
         Ok(Image {
             memory: Words::new(Vec::new(alloc)),
@@ -53,7 +52,7 @@ impl Image {
     /// The streams, by port.
     pub fn streams(&self) -> &[Words]
         ensures streams { result.now ≡ self.now.streams }
-        ensures sixteen { length self.now.streams ≡ 16 }
+        ensures sixteen { length self.now.streams ≡ port_count }
     {
         self.streams.as_slice()
     }
@@ -79,7 +78,7 @@ impl Image {
 
 /// Sixteen streams without words.
 pub fn empty_streams(alloc: Global) -> Result<Streams, AllocError>
-    ensures { IfOk result (λ s. s ≡ replicate 16 []) }
+    ensures { IfOk result (λ s. s ≡ replicate port_count []) }
 {
     let mut streams = Vec::with_capacity(alloc, PORTS)?;
     for _port in 0..PORTS {

@@ -9,9 +9,9 @@ mod texts;
 mod work;
 mod writing;
 
-pub use cg_model::Words;
+pub use cg_model::{PORTS, Words};
 pub use fault::{ImageFault, TooLargePlace};
-pub use image::{Image, PORTS, Streams, empty_streams};
+pub use image::{Image, Streams, empty_streams};
 pub use reading::read_image;
 pub use scratchpad::Scratchpad;
 pub use texts::image_fault_text;

@@ -1,13 +1,13 @@
 //! Images out of bytes.
 ghost use Rattle.std.specs.Prelude.{◌≡◌, ◌≤◌, IfOk, length};
 ghost use Rattle.cg_model.specs.Answers.{Gives};
-ghost use Rattle.cg_model.specs.Limits.{most_memory, most_stream};
+ghost use Rattle.cg_model.specs.Limits.{most_memory, most_stream, port_count};
 ghost use Rattle.cg_pad.specs.Bytes.{answer_of};
 
 use crate::fault::{ImageFault, TooLargePlace};
-use crate::image::{Image, PORTS, Streams};
+use crate::image::{Image, Streams};
 use crate::writing::MAGIC;
-use cg_model::{MOST_MEMORY, MOST_STREAM, Words};
+use cg_model::{MOST_MEMORY, MOST_STREAM, PORTS, Words};
 use std::alloc::{AllocError, Global};
 
 /// The image that the bytes spell: `CGI1`, the memory, and the sixteen streams, each as its number of words and the words.
@@ -34,7 +34,7 @@ struct Cursor<'a> {
 impl Cursor<'_> {
     ghost use Rattle.std.specs.Prelude.{◌≡◌, ◌<◌, ◌≤◌, ℕ, IfOk, length};
     ghost use Rattle.cg_model.specs.Answers.{Gives};
-    ghost use Rattle.cg_model.specs.Limits.{most_memory, most_stream};
+    ghost use Rattle.cg_model.specs.Limits.{most_memory, most_stream, port_count};
     ghost use Rattle.cg_pad.specs.Bytes.{take_number, take_words, or_truncated, read_magic, memory_too_large, stream_too_large, read_block, read_streams, at_end, read_blocks};
     ghost use Rattle.cg_pad.specs.Cursor.{with_rest, bytes_after, Takes};
 
@@ -67,7 +67,7 @@ impl Cursor<'_> {
 
     /// Nothing may follow.
     fn end(&self, memory: Words, streams: Streams) -> Result<Image, ImageFault>
-        requires { length streams ≡ 16 }
+        requires { length streams ≡ port_count }
         ensures memory { IfOk result (λ image. image.memory ≡ memory) }
         ensures answer { result ≡ at_end self.now.size (record { memory = memory; streams = streams }) self.now.rest.now }
     {
@@ -104,12 +104,12 @@ impl Cursor<'_> {
 
     /// The words of all streams, by port.
     fn streams(&mut self, alloc: Global) -> Result<Streams, ImageFault>
-        ensures answer { Gives ImageFault.Memory (with_rest result self.new.rest.now) (read_streams self.old.size 0 16 self.old.rest.now) }
-        ensures sixteen { IfOk result (λ streams. length streams ≡ 16) }
+        ensures answer { Gives ImageFault.Memory (with_rest result self.new.rest.now) (read_streams self.old.size 0 port_count self.old.rest.now) }
+        ensures sixteen { IfOk result (λ streams. length streams ≡ port_count) }
         ensures size { self.new.size ≡ self.old.size }
     {
         let mut streams = Vec::with_capacity(alloc, PORTS)?;
-        for port in 0..16 {
+        for port in 0..PORTS as u32 {
             streams.push(self.stream(alloc, port)?)?;
         }
         Ok(Streams::new(streams))

@@ -1,11 +1,11 @@
 -- Loads that are taken in, written over those of their nodes or beside them.
-use Rattle.std.proofs.Common.{◌≡◌, ℕ, ◌+◌, ◌<◌, ◌≤◌, ◌⊎◌, inl, inr, zero, suc, Bool, true, false, cond, List, [], ◌∷◌, ◌++◌, length, sym, ap, ◌∙◌, subst, arith, ⊎_elim, refl, take, set, get_or, length-set}
+use Rattle.std.proofs.Common.{◌≡◌, ℕ, ◌+◌, ◌<◌, ◌≤◌, inl, inr, zero, suc, Bool, false, cond, List, [], ◌∷◌, ◌++◌, length, sym, ap, ◌∙◌, subst, arith, ⊎_elim, refl, take, set, get_or, length-set}
 use Rattle.std.specs.Prelude.{Contains, Some, None}
 use Rattle.std.proofs.lemmas.Bool.{cases_eq, ne_eqb}
 use Rattle.std.proofs.lemmas.List.{get_or-set_same, get_or-set_other, get_or_default, get_or_read_under}
 use Rattle.std.proofs.lemmas.List.Elements.{Contains-push, Contains-push_cases, Contains-append_left}
 use Rattle.cg_turns.specs.declared.pair.Access.{Access}
-use Rattle.cg_turns.specs.Trace.{Kept, Covers, IsThinned, Takes, Keeps, no_access}
+use Rattle.cg_turns.specs.Trace.{Covers, IsThinned, Takes, Keeps, no_access}
 use Rattle.cg_turns.specs.Last.{no_store, store_at, kept_in, with_store_place, IsThinnedBehind, TakesBehind}
 use Rattle.cg_turns.proofs.Pairs.{item_last, item_first, item_here}
 

@@ -1,6 +1,7 @@
 -- What a run keeps is what the steps so far have done.
 use Rattle.std.specs.Prelude.{◌≡◌, ℕ, ◌+◌, ◌*◌, ◌<◌, [], length, slice_index_or}
 use Rattle.cg_model.specs.Kernel.{Kernel, size}
+use Rattle.cg_model.specs.Limits.{port_count}
 use Rattle.cg_model.specs.Work.{Image}
 use Rattle.cg_model.specs.Turns.{Progress, before}
 use Rattle.cg_turns.specs.Window.{IsWindow}
@@ -9,8 +10,8 @@ use Rattle.cg_turns.specs.declared.frame.Frame.{Frame}
 -- a frame that keeps what the steps so far have done, before node v of turn i
 pub record IsProgress (m i v : ℕ) (p : Progress) (f : Frame) : Type 0 where
   pub memory : f.memory ≡ p.memory
-  pub ports : length f.streams.items ≡ 16
-  pub streams : (port : ℕ) → port < 16 → slice_index_or f.streams.items port [] ≡ p.streams port
+  pub ports : length f.streams.items ≡ port_count
+  pub streams : (port : ℕ) → port < port_count → slice_index_or f.streams.items port [] ≡ p.streams port
   pub outside : f.outside ≡ p.outside
   pub window : IsWindow m i v f.window.items p.values
   pub steps : length p.values ≡ i * m + v

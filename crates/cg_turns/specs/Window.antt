@@ -1,5 +1,6 @@
 -- The values of the last turns, a row for each turn modulo 5.
 use Rattle.std.specs.Prelude.{◌≡◌, ℕ, ◌+◌, ◌-◌, ◌*◌, ◌%◌, ◌<◌, ◌≤◌, ◌⊎◌, List, length, slice_index, nat_lt, nat_le, if◌then◌else◌}
+use Rattle.cg_model.specs.Limits.{most_distance}
 use Rattle.cg_model.specs.declared.kernel.Operand.{Operand}
 use Rattle.cg_model.specs.declared.kernel.Operand.TheVariants.{Const as Constant, Edge}
 
@@ -15,7 +16,7 @@ operand_in window row size i (Edge u d init) = if nat_lt i d then slice_index in
 -- an operand that the rows know
 abbrev pub IsNear : ℕ → Operand → Type 0
 IsNear size (Constant w) = Unit {0}
-IsNear size (Edge u d init) = (u < size) × (d ≤ 4)
+IsNear size (Edge u d init) = (u < size) × (d ≤ most_distance)
 
 -- before node v of turn i the window has the values of the last turns
 pub record IsWindow (size i v : ℕ) (window values : List ℕ) : Type 0 where

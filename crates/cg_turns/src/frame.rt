@@ -1,14 +1,14 @@
 //! What a run keeps from step to step.
-ghost use Rattle.std.specs.Prelude.{◌≡◌, ◌<◌, ◌≤◌, ◌+◌, ◌*◌, ◌%◌, ◌^◌, IfOk, OnOk, length};
+ghost use Rattle.std.specs.Prelude.{◌≡◌, ◌<◌, ◌≤◌, ◌+◌, ◌*◌, ◌^◌, IfOk, OnOk, length};
 ghost use Rattle.cg_model.specs.Kernel.{IsKernel, size};
-ghost use Rattle.cg_model.specs.Limits.{most_nodes, most_turns};
+ghost use Rattle.cg_model.specs.Limits.{most_nodes, most_turns, port_count};
 ghost use Rattle.cg_turns.specs.Frame.{IsAt};
 ghost use Rattle.cg_turns.specs.Step.{Steps, work_in};
 ghost use Rattle.cg_turns.specs.Watched.{IsReached, IsWatched};
 
 use crate::pair::Access;
 use crate::watch::{Watch, reached, watch_step};
-use crate::window::{ROWS, argument};
+use crate::window::{ROWS, Turn, Window, argument};
 use cg_distance::DistanceTable;
 use cg_kernel::Kernel;
 use cg_model::Words;
@@ -39,74 +39,80 @@ pub(crate) fn start(alloc: Global, kernel: &Kernel, image: &Image) -> Result<Fra
     })
 }
 
+/// A kernel with its distances, and the image that it runs on.
+#[derive(Clone, Copy)]
+pub(crate) struct Program<'a> {
+    pub(crate) kernel: &'a Kernel,
+    pub(crate) table: &'a DistanceTable<'a>,
+    pub(crate) image: &'a Image,
+    ghost distances: { table.now ≡ kernel.now },
+}
+
 /// One step: a node in a turn. It gives the word of the memory that it reaches.
 fn step(
-    kernel: &Kernel,
-    image: &Image,
+    program: Program,
+    turn: Turn,
     place: usize,
-    turn: u32,
-    row: usize,
     frame: &mut Frame,
 ) -> Result<Option<u32>, AllocError>
-    requires place { place < size kernel.now }
-    requires row { row < 5 }
-    requires window { length frame.old.window.items ≡ 5 * size kernel.now }
-    requires streams { length frame.old.streams.items ≡ 16 }
+    requires place { place < size program.kernel.now }
+    requires window { length frame.old.window.items ≡ 5 * size program.kernel.now }
+    requires streams { length frame.old.streams.items ≡ port_count }
     requires outside { frame.old.outside < 2 ^ 63 }
-    ensures steps { OnOk result (Steps kernel.now image.now place turn row frame.old frame.new) }
+    ensures steps { OnOk result (Steps program.entry.kernel.now program.entry.image.now place turn.number turn.row frame.old frame.new) }
     ensures outside { OnOk result (frame.new.outside ≤ frame.old.outside + 1) }
-    ensures reached { IfOk result (IsReached (length frame.old.memory) (work_in kernel.now place turn row frame.old)) }
+    ensures reached { IfOk result (IsReached (length frame.old.memory) (work_in program.entry.kernel.now place turn.number turn.row frame.old)) }
 {
-    let nodes = kernel.nodes();
+    let nodes = program.kernel.nodes();
     let size = nodes.len();
     let node = &nodes[place];
     let operands = node.operands.as_slice();
-    let a = argument(operands, 0, row, size, turn, &frame.window);
-    let b = argument(operands, 1, row, size, turn, &frame.window);
-    let c = argument(operands, 2, row, size, turn, &frame.window);
+    let window = Window {
+        values: &frame.window,
+        size,
+        turn,
+    };
+    let a = argument(operands, 0, window);
+    let b = argument(operands, 1, window);
+    let c = argument(operands, 2, window);
     let work = Work {
         op: node.op,
         port: node.port,
-        turn,
+        turn: turn.number,
         args: [a, b, c],
     };
     let word = reached(work, frame.memory.size());
-    let value = work.value(image, &frame.memory);
+    let value = work.value(program.image, &frame.memory);
     frame.outside += work.missed(frame.memory.size());
     work.send(&mut frame.streams)?;
     work.store(&mut frame.memory);
-    frame.window[row * size + place] = value;
+    frame.window[turn.row * size + place] = value;
     Ok(word)
 }
 
 /// One turn: the nodes in program order.
 pub(crate) fn one_turn(
-    kernel: &Kernel,
-    image: &Image,
-    turn: u32,
-    row: usize,
+    program: Program,
+    turn: Turn,
     frame: &mut Frame,
-    table: &DistanceTable,
     watch: &mut Watch,
 ) -> Result<(), AllocError>
-    requires table { table.now ≡ kernel.now }
-    requires watched { IsWatched kernel.now image.now (turn * size kernel.now + 0) watch.old }
-    requires at { IsAt kernel.now image.now turn 0 frame.old }
-    requires row { row ≡ turn % 5 }
-    requires turn { turn < most_turns }
-    requires outside { frame.old.outside ≤ most_nodes * turn }
-    ensures at { OnOk result (IsAt kernel.now image.now turn (size kernel.now) frame.new) }
-    ensures outside { OnOk result (frame.new.outside ≤ most_nodes * turn + most_nodes) }
-    ensures watched { OnOk result (IsWatched kernel.now image.now (turn * size kernel.now + size kernel.now) watch.new) }
+    requires watched { IsWatched program.kernel.now program.image.now (turn.number * size program.kernel.now + 0) watch.old }
+    requires at { IsAt program.kernel.now program.image.now turn.number 0 frame.old }
+    requires turn { turn.number < most_turns }
+    requires outside { frame.old.outside ≤ most_nodes * turn.number }
+    ensures at { OnOk result (IsAt program.entry.kernel.now program.entry.image.now turn.number (size program.entry.kernel.now) frame.new) }
+    ensures outside { OnOk result (frame.new.outside ≤ most_nodes * turn.number + most_nodes) }
+    ensures watched { OnOk result (IsWatched program.entry.kernel.now program.entry.image.now (turn.number * size program.entry.kernel.now + size program.entry.kernel.now) watch.new) }
 {
-    let size = kernel.nodes().len();
+    let size = program.kernel.nodes().len();
     for place in 0..size {
-        let word = step(kernel, image, place, turn, row, frame)?;
+        let word = step(program, turn, place, frame)?;
         let access = Access {
             node: place as u32,
-            turn,
+            turn: turn.number,
         };
-        watch_step(kernel, table, word, access, watch)?;
+        watch_step(program.kernel, program.table, word, access, watch)?;
     }
     Ok(())
 }

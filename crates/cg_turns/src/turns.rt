@@ -1,14 +1,15 @@
 //! Turns, one after the other.
 ghost use Rattle.std.specs.Prelude.{◌≡◌, ◌<◌, ◌≤◌, ◌↔◌, ℕ, Err, IfOk, length};
-ghost use Rattle.cg_model.specs.Limits.{most_turns};
+ghost use Rattle.cg_model.specs.Limits.{most_turns, port_count};
 ghost use Rattle.cg_model.specs.Turns.{turns_left};
 ghost use Rattle.cg_turns.specs.Done.{IsSmall, left_by, left_of};
 ghost use Rattle.cg_turns.specs.Pairs.{IsPairOf};
 
 use crate::fault::TurnsFault;
-use crate::frame::{Frame, one_turn, start};
+use crate::frame::{Frame, Program, one_turn, start};
 use crate::pair::UnorderedPair;
 use crate::watch::unwatched;
+use crate::window::Turn;
 use cg_distance::min_distance;
 use cg_kernel::Kernel;
 use cg_model::MOST_TURNS;
@@ -52,9 +53,15 @@ fn run(alloc: Global, kernel: &Kernel, n: u32, image: &Image) -> Result<TurnsDon
     let table = min_distance(alloc, kernel)?;
     let mut watch = unwatched(alloc, kernel, image.memory().len())?;
     let mut frame = start(alloc, kernel, image)?;
+    let program = Program {
+        kernel,
+        table: &table,
+        image,
+    };
     let mut row = 0;
     for turn in 0..n {
-        one_turn(kernel, image, turn, row, &mut frame, &table, &mut watch)?;
+        let here = Turn { number: turn, row };
+        one_turn(program, here, &mut frame, &mut watch)?;
         row = if row == 4 { 0 } else { row + 1 };
     }
     Ok(done(frame, watch.pair))
@@ -62,7 +69,7 @@ fn run(alloc: Global, kernel: &Kernel, n: u32, image: &Image) -> Result<TurnsDon
 
 /// What the frame leaves.
 fn done(frame: Frame, pair: Option<UnorderedPair>) -> TurnsDone
-    requires { length frame.streams.items ≡ 16 }
+    requires { length frame.streams.items ≡ port_count }
     ensures left { left_of result ≡ left_by frame.memory frame.streams.items frame.outside }
     ensures pair { result.pair ≡ pair }
 {
