@@ -1,5 +1,5 @@
 //! What is to be mapped: the kernel as lists of edges, and the array as the search reads it.
-ghost use Rattle.std.specs.Prelude.{◌≡◌, IfOk};
+ghost use Rattle.std.specs.Prelude.{◌≡◌, ◌<◌, IfOk};
 
 use crate::hosts::{Host, hosts, offers};
 use crate::late::latest;
@@ -10,6 +10,7 @@ use cg_edges::latency;
 use cg_kernel::Kernel;
 use cg_model::{Node, Operand, OrderEdge};
 use cg_respond_prices::Wiring;
+use cg_task::Task;
 use std::alloc::{AllocError, Global};
 
 /// Intervals from time 0 to the origin, from which the times of an opening count: so many may a node go back.
@@ -57,19 +58,15 @@ pub struct Problem {
     pub late: Vec<u32>,
     /// The array's resources.
     pub wiring: Wiring,
+    ghost some: { 0 < ii },
 }
 
 impl Problem {
-    /// A kernel on an array at an interval, where its nodes have these earliest times.
-    pub fn new(
-        alloc: Global,
-        arch: &Arch,
-        kernel: &Kernel,
-        ii: u32,
-        early: Vec<u32>,
-    ) -> Result<Problem, AllocError>
-        ensures { IfOk result (λ p. p.ii ≡ ii) }
-    {
+    /// The problem that a task poses.
+    pub fn new(alloc: Global, task: &Task) -> Result<Problem, AllocError> {
+        task.holds();
+        let arch = task.arch();
+        let kernel = task.kernel();
         let edges = data_edges(alloc, kernel)?;
         let nodes = count(kernel.nodes());
         let ins = ends_by(alloc, nodes, &edges, End::Target)?;
@@ -77,9 +74,9 @@ impl Problem {
         let order = Vec::from_slice(alloc, kernel.order())?;
         let ties = ties(alloc, nodes, &order)?;
         let quickest = quickest(alloc, arch, kernel)?;
-        let late = latest(alloc, ii, &edges, &order, &quickest, &early)?;
+        let late = latest(alloc, task, &edges, &order, &quickest)?;
         Ok(Problem {
-            ii,
+            ii: task.interval(),
             nodes,
             edges,
             ins,
@@ -89,7 +86,7 @@ impl Problem {
             offers: offers(alloc, arch, kernel)?,
             hosts: hosts(alloc, arch)?,
             quickest,
-            early,
+            early: Vec::from_slice(alloc, task.early())?,
             late,
             wiring: Wiring::new(alloc, arch)?,
         })
@@ -191,7 +188,7 @@ fn add_edges(edges: &mut Vec<DataEdge>, node: &Node, number: u32) -> Result<(), 
 fn ends_by(
     alloc: Global,
     nodes: u32,
-    edges: &Vec<DataEdge>,
+    edges: &[DataEdge],
     end: End,
 ) -> Result<Lists, AllocError> {
     let mut lists = Lists::new(alloc, nodes)?;
@@ -209,7 +206,7 @@ fn ends_by(
 }
 
 /// The order edges of each node; one from a node to itself stands there once.
-fn ties(alloc: Global, nodes: u32, order: &Vec<OrderEdge>) -> Result<Lists, AllocError> {
+fn ties(alloc: Global, nodes: u32, order: &[OrderEdge]) -> Result<Lists, AllocError> {
     let mut ties = Lists::new(alloc, nodes)?;
     let mut number: u32 = 0;
     for edge in order {

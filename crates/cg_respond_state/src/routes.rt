@@ -32,12 +32,8 @@ struct Ends {
 }
 
 impl Routes {
-    ghost use Rattle.std.specs.Prelude.{◌<◌};
-
     /// No routes.
-    pub fn new(alloc: Global, problem: &Problem) -> Result<Routes, AllocError>
-        requires { 0 < problem.now.ii }
-    {
+    pub fn new(alloc: Global, problem: &Problem) -> Result<Routes, AllocError> {
         let count = problem.edges.len();
         Ok(Routes {
             routes: unrouted(alloc, count)?,

@@ -1,8 +1,8 @@
 use Rattle.std.proofs.Common.{None, subst}
 use Rattle.cg_bound.specs.Bound.{IsBoundBy}
-use Rattle.cg_map.specs.Tried.{last_tried}
-use Rattle.cg_map.proofs.Intervals.{never_unbounded}
-use Rattle.cg_map.proofs.answering.first_tried.Goals as goal
+use Rattle.cg_task.specs.Intervals.{last_tried}
+use Rattle.cg_task.proofs.Intervals.{never_unbounded}
+use Rattle.cg_task.proofs.intervals.first_tried.Goals as goal
 
 pub unreachable-requires : goal.unreachable-requires
 unreachable-requires c =
