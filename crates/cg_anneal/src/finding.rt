@@ -7,6 +7,7 @@ ghost use Rattle.cg_anneal.specs.Ended.{IsFoundAt, IsReached, IsWalkedFrom, IsWa
 ghost use Rattle.cg_anneal.specs.Walking.{IsRoutedBy};
 
 use crate::counting::Counting;
+use crate::moves::Pace;
 use crate::walk::Walk;
 use cg_check::LegalMapping;
 use cg_model::Request;
@@ -127,7 +128,8 @@ fn make_moves(
         if cost == 0 {
             return Ok(Reached::Zero(k));
         }
-        walk.step(alloc, counting, moves, k, &mut generator)?;
+        let pace = Pace { counting, moves, k };
+        walk.step(alloc, pace, &mut generator)?;
     }
     let left = walk.cost_by(alloc, counting)?;
     if left == 0 {

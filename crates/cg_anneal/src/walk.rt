@@ -16,6 +16,10 @@ use cg_walk::EdgeOperand;
 use std::alloc::{AllocError, Global};
 use std::marker::Model;
 
+/// What each edge operand without a route, each order edge that is broken and each node beyond one in a slot of a unit
+/// costs.
+pub(crate) const WEIGHT: u64 = 1000;
+
 /// The state of a walk: places, routes and histories, with a use table that has the uses of the routes.
 #[derive(Drop)]
 pub(crate) struct Walk<'g, 'a> {
@@ -127,7 +131,7 @@ impl<'g, 'a> Walk<'g, 'a> {
         let heavy = u64::from(self.missing)
             + u64::from(self.placement.order_violations())
             + u64::from(self.placement.unit_excess());
-        1000 * heavy + self.usage.excess()
+        WEIGHT * heavy + self.usage.excess()
     }
 
     /// The number of edge operands without a route, counted anew.

@@ -16,6 +16,14 @@ use std::alloc::{AllocError, Global};
 /// Intervals from time 0 to the origin, from which the times of an opening count: so many may a node go back.
 const ORIGIN: u32 = 1 << 20;
 
+/// How many intervals the longest routes take, and how many cycles more.
+const MOST_INTERVALS: u32 = 6;
+const MORE_CYCLES: u32 = 32;
+
+/// By how many intervals and cycles a route may be longer than the way across the array.
+const WIDER_INTERVALS: u32 = 4;
+const WIDER_CYCLES: u32 = 24;
+
 /// A data edge: a value of `source` is operand number `arg` of `target`, `distance` turns later.
 #[derive(Clone, Copy, Drop)]
 pub struct DataEdge {
@@ -104,8 +112,8 @@ impl Problem {
 
     /// The greatest number of cycles that a route may take.
     pub fn reach(&self) -> u32 {
-        let long = self.ii.saturating_mul(6).saturating_add(32);
-        let wide = self.ii.saturating_mul(4).saturating_add(24);
+        let long = spanned(self.ii, MOST_INTERVALS, MORE_CYCLES);
+        let wide = spanned(self.ii, WIDER_INTERVALS, WIDER_CYCLES);
         long.min(wide.saturating_add(self.wiring.diameter()))
     }
 
@@ -142,6 +150,11 @@ impl Problem {
         let place = places.at(edge.target)?;
         Some(place.time.saturating_add(self.turns(edge.distance)))
     }
+}
+
+/// So many intervals and so many cycles.
+fn spanned(ii: u32, intervals: u32, cycles: u32) -> u32 {
+    ii.saturating_mul(intervals).saturating_add(cycles)
 }
 
 /// The slot of a time at an interval.

@@ -3,13 +3,13 @@
 #![tactic(auto)]
 
 mod answering;
-mod intervals;
 mod posing;
+mod tried;
 
 pub use answering::{Answer, FoundBy};
 pub use cg_arch::Arch;
 pub use cg_bound::Certificate;
 pub use cg_check::LegalMapping;
 pub use cg_kernel::Kernel;
-pub use intervals::{first_tried, last_tried};
 pub use posing::Task;
+pub use tried::{first_tried, last_tried};

@@ -5,7 +5,7 @@ ghost use Rattle.cg_anneal.specs.Ended.{IsWalked};
 
 use crate::counting::Counting;
 use crate::finding::{Found, search_by};
-use crate::walk::Walk;
+use crate::walk::{WEIGHT, Walk};
 use cg_claims::laws::PlainUsage;
 use cg_model::Request;
 use cg_place::Move;
@@ -77,6 +77,6 @@ impl<'g, 'a> Walk<'g, 'a> {
         let heavy = self.missing_anew()
             + u64::from(placement.order_violations())
             + u64::from(placement.unit_excess());
-        Ok(1000 * heavy + usage.excess())
+        Ok(WEIGHT * heavy + usage.excess())
     }
 }
