@@ -11,7 +11,13 @@ use Rattle.cg_anneal.proofs.Nodeless.{some_nodes}
 use Rattle.cg_anneal.proofs.finding.make_moves.Goals as goal
 
 pub loop-k-init : goal.loop-k-init
-loop-k-init c = ?
+loop-k-init c =
+    let W = c.args.walk.now in
+    let g = c.new-generator.ensures ∙ ap (λ x. generator c.args.request.seed x) (c.from.ensures ∙ c.interval.ensures) in
+    record {
+      same = refl;
+      walked = subst (λ x. Walked W.arch W.kernel W.ii W.early c.args.request.moves c.args.request.seed 0 x W.state) (sym g) (start c.requires.start);
+    }
 
 pub returns-then-cost-eq0 : goal.returns-then-cost-eq0
 returns-then-cost-eq0 c =

@@ -10,6 +10,12 @@ use Rattle.cg_anneal.proofs.Ready.{ready, posed}
 use Rattle.cg_anneal.proofs.Keeping as keeping
 use Rattle.cg_anneal.proofs.walk.Walk.start.Goals as goal
 
+pub start-requires-clause-early : goal.start-requires-clause-early
+start-requires-clause-early c =
+    let t = subst IsTask (sym (posed c.args.task.now c.arch-arch.result.now c.kernel-kernel.result.now c.interval-ii.result c.early.result.now c.arch-arch.ensures c.kernel-kernel.ensures c.interval-ii.ensures c.early.ensures)) c.holds.ensures in
+    let r = ready (record { arch = c.arch-arch.result.now; kernel = c.kernel-kernel.result.now; ii = c.interval-ii.result; early = c.early.result.now }) t in
+    record { each = r.each; soon = λ v l. let s = r.soon v l in omega (arith, s) }
+
 pub overflow_cast-missing : goal.overflow_cast-missing
 overflow_cast-missing c =
     let t = subst IsTask (sym (posed c.args.task.now c.arch-arch.result.now c.kernel-kernel.result.now c.interval-ii.result c.early.result.now c.arch-arch.ensures c.kernel-kernel.ensures c.interval-ii.ensures c.early.ensures)) c.holds.ensures in
