@@ -8,8 +8,8 @@ use Rattle.cg_task.proofs.Intervals.{offered, first_within, open_from}
 use Rattle.cg_map.proofs.Attempts.{left_more}
 use Rattle.cg_map.proofs.answering.tried.Goals as goal
 
-pub new-requires-2-clause-offered : goal.new-requires-2-clause-offered
-new-requires-2-clause-offered c = offered c.args.arch.now c.args.kernel.now (last_tried c.args.arch.now c.args.request.ii) c.requires.free
+pub new-requires-clause-offered : goal.new-requires-clause-offered
+new-requires-clause-offered c = offered c.args.arch.now c.args.kernel.now (last_tried c.args.arch.now c.args.request.ii) c.requires.free
 
 pub returns-in-Mapped : goal.returns-in-Mapped
 returns-in-Mapped c =

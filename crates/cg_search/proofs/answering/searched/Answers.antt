@@ -3,8 +3,8 @@ use Rattle.cg_task.specs.Intervals.{last_tried}
 use Rattle.cg_task.proofs.Intervals.{offered, first_within}
 use Rattle.cg_search.proofs.answering.searched.Goals as goal
 
-pub new-requires-2-clause-offered : goal.new-requires-2-clause-offered
-new-requires-2-clause-offered c = offered c.args.arch.now c.args.kernel.now (last_tried c.args.arch.now c.args.request.ii) c.requires.free
+pub new-requires-clause-offered : goal.new-requires-clause-offered
+new-requires-clause-offered c = offered c.args.arch.now c.args.kernel.now (last_tried c.args.arch.now c.args.request.ii) c.requires.free
 
 pub over_hub-requires-clause-all : goal.over_hub-requires-clause-all
 over_hub-requires-clause-all c =
