@@ -3,3 +3,4 @@ pub mod Outcome
 pub mod Reads
 pub mod Status
 pub mod Refusals
+pub mod Allowed

@@ -8,6 +8,10 @@ use Rattle.cg_ending.specs.Outcome.{Name, Bytes, Outcome, line_of}
 abbrev pub reports : Status → Bytes → Outcome
 reports status report = record { status = status; report = report; writes = [] }
 
+-- a status with a report, and one file written
+abbrev pub writes_one : Status → Bytes → Name → Bytes → Outcome
+writes_one status report name bytes = record { status = status; report = report; writes = record { name = name; bytes = bytes } ∷ [] }
+
 -- the words fit no command
 abbrev pub usage_outcome : Outcome
 usage_outcome = reports Usage (line_of (codes "usage: cgra COMMAND ARGUMENTS" ∷ []))

@@ -9,4 +9,4 @@ mod refusals;
 pub use finishing::finish;
 pub use outcome::{File, Outcome, Status};
 pub use read::{READ_LIMIT, Stop, read_all};
-pub use refusals::{malformed, usage};
+pub use refusals::{malformed, refusal, usage};

@@ -1,6 +1,8 @@
 //! What a command defines.
 ghost use Rattle.std.specs.Prelude.{◌≡◌};
 
+use std::alloc::{AllocError, Global};
+
 /// How a call ended.
 #[derive(Clone, Copy, Debug, PartialEq, Eq)]
 pub enum Status {
@@ -58,4 +60,47 @@ pub struct Outcome {
     pub status: Status,
     pub report: Vec<u8>,
     pub writes: Vec<File>,
+}
+
+impl Outcome {
+    ghost use Rattle.std.specs.Prelude.{◌≡◌, ◌++◌, ◌∷◌, [], IfOk};
+    ghost use Rattle.cg_ending.specs.Outcome.{outcome_of};
+    ghost use Rattle.cg_ending.specs.Refusals.{reports, writes_one};
+
+    /// Ends with a status and a report, and writes nothing.
+    pub fn new(alloc: Global, status: Status, report: Vec<u8>) -> Outcome
+        ensures reports { outcome_of result ≡ reports status report.items }
+        ensures no_write { result.writes.items ≡ [] }
+    {
+        Outcome {
+            status,
+            report,
+            writes: Vec::new(alloc),
+        }
+    }
+
+    /// Ends with a status and a report, and writes one file.
+    pub fn with_file(
+        alloc: Global,
+        status: Status,
+        report: Vec<u8>,
+        name: &str,
+        bytes: Vec<u8>,
+    ) -> Result<Outcome, AllocError>
+        ensures { IfOk result (λ o. outcome_of o ≡ writes_one status report.items name.now bytes.items) }
+    {
+        Outcome::new(alloc, status, report).writing(alloc, name, bytes)
+    }
+
+    /// Writes one file more.
+    pub fn writing(self, alloc: Global, name: &str, bytes: Vec<u8>) -> Result<Outcome, AllocError>
+        ensures { IfOk result (λ o. outcome_of o ≡ record (outcome_of self) {
+          writes = (outcome_of self).writes ++ (record { name = name.now; bytes = bytes.items } ∷ []);
+        }) }
+    {
+        let mut outcome = self;
+        let name = String::from_str(alloc, name)?;
+        outcome.writes.push(File { name, bytes })?;
+        Ok(outcome)
+    }
 }

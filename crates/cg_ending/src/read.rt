@@ -77,20 +77,12 @@ fn read_fault(alloc: Global, name: &str) -> Result<Outcome, AllocError>
     ensures { IfOk result (λ outcome. outcome_of outcome ≡ read_fault_of name.now) }
 {
     let report = format!(in alloc; "read fault {name}\n")?;
-    Ok(Outcome {
-        status: Status::ReadFault,
-        report: report.into_bytes(),
-        writes: Vec::new(alloc),
-    })
+    Ok(Outcome::new(alloc, Status::ReadFault, report.into_bytes()))
 }
 
 fn too_long(alloc: Global, name: &str) -> Result<Outcome, AllocError>
     ensures { IfOk result (λ outcome. outcome_of outcome ≡ too_long_of name.now) }
 {
     let report = format!(in alloc; "malformed {name}: G1 TooLong limit 16777216\n")?;
-    Ok(Outcome {
-        status: Status::Malformed,
-        report: report.into_bytes(),
-        writes: Vec::new(alloc),
-    })
+    Ok(Outcome::new(alloc, Status::Malformed, report.into_bytes()))
 }

@@ -1,9 +1,11 @@
 //! The outcomes of refusals that no command has by itself.
 ghost use Rattle.std.specs.Prelude.{◌≡◌, [], IfOk};
-ghost use Rattle.cg_ending.specs.Outcome.{outcome_of};
+ghost use Rattle.cg_ending.specs.Outcome.{file_of, outcome_of};
+ghost use Rattle.cg_ending.specs.Allowed.{EndsBy};
 ghost use Rattle.cg_ending.specs.Refusals.{malformed_of, usage_outcome};
 
-use crate::outcome::{Outcome, Status};
+use crate::outcome::{File, Outcome, Status};
+use crate::read::Stop;
 use std::alloc::{AllocError, Global};
 
 /// The words fit no command.
@@ -12,11 +14,7 @@ pub fn usage(alloc: Global) -> Result<Outcome, AllocError>
     ensures no_write { IfOk result (λ o. o.writes.items ≡ []) }
 {
     let report = String::from_str(alloc, "usage: cgra COMMAND ARGUMENTS\n")?;
-    Ok(Outcome {
-        status: Status::Usage,
-        report: report.into_bytes(),
-        writes: Vec::new(alloc),
-    })
+    Ok(Outcome::new(alloc, Status::Usage, report.into_bytes()))
 }
 
 /// A reader refuses the file of that name. The fault is told by its code, its name and its place.
@@ -24,9 +22,15 @@ pub fn malformed(alloc: Global, file: &str, fault: &str) -> Result<Outcome, Allo
     ensures { IfOk result (λ o. outcome_of o ≡ malformed_of file.now fault.now) }
 {
     let report = format!(in alloc; "malformed {file}: {fault}\n")?;
-    Ok(Outcome {
-        status: Status::Malformed,
-        report: report.into_bytes(),
-        writes: Vec::new(alloc),
-    })
+    Ok(Outcome::new(alloc, Status::Malformed, report.into_bytes()))
+}
+
+/// Ends a call, since a reader refuses the file.
+pub fn refusal(alloc: Global, file: &File, fault: &str) -> Stop
+    ensures { EndsBy (λ o. o ≡ malformed_of (file_of file.now).name fault.now) result }
+{
+    match malformed(alloc, file.name.as_str(), fault) {
+        Ok(outcome) => Stop::Ended(outcome),
+        Err(AllocError) => Stop::Memory,
+    }
 }

@@ -1,2 +1,2 @@
 pub mod Sources
-pub mod Given
+pub mod Refused

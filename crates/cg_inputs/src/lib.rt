@@ -1,9 +1,12 @@
-//! What the files of a command give: an architecture, a kernel and a mapping, or the outcome of a refusal.
+//! What the files of a command give: an architecture, a kernel, a mapping, an image or a configuration, or the outcome of a
+//! refusal.
 #![tactic(auto)]
 
-mod sources;
+mod readers;
 
 pub use cg_check::LegalMapping;
-pub use cg_ending::{File, Outcome};
+pub use cg_ending::{File, Outcome, Stop};
 pub use cg_mapping::{Arch, Kernel, Mapping};
-pub use sources::{Given, GivenPair, Sources, read_pair, read_sources};
+pub use cg_pad::Image;
+pub use cg_view::ConfigView;
+pub use readers::{arch_in, config_in, image_in, kernel_in, mapping_in};

@@ -12,9 +12,17 @@ use Rattle.cg_tiles.specs.Answer as tiles
 use Rattle.cg_tiles.specs.Answer.{AreValidBytes}
 use Rattle.cg_tiles.proofs.NotBoth.{not_both}
 use Rattle.cg_tiles.proofs.Solved.{some_answer}
+use Rattle.cg_ending.specs.declared.read.Stop.{Stop}
+use Rattle.cg_ending.specs.Allowed.{EndsBy}
+use Rattle.cg_ending.proofs.Allowed.{ends_weaker}
+use Rattle.cg_inputs.specs.Refused.{RefusesArch}
 use Rattle.cg_inputs.proofs.Sound.{IsSound, IsNamed}
 use Rattle.cg_inputs.proofs.Wholes.{whole, one_write, differ}
 use Rattle.cg_run_answers.specs.Flat.{IsFlat, IsFlattened, flat_by}
+
+-- the refusal of the file is an outcome
+pub flat_refused : (file : File) (out : Name) (s : Stop) → EndsBy (RefusesArch file) s → EndsBy (IsFlat file out) s
+flat_refused file out s = ends_weaker (RefusesArch file) (IsFlat file out) s (λ o t. record { given = Err t.fault; is_given = t.is_fault; no_memory = λ e. t.no_memory (cc); outcome = t.outcome })
 
 -- what a file gives decides between an architecture and a fault
 same_by : (file : File) (out : Name) (a b : Outcome) (r q : Result Arch TilesFault) → tiles.IsAnswer file.bytes r → tiles.IsAnswer file.bytes q → r ≢ Err fault.Memory → q ≢ Err fault.Memory

@@ -5,3 +5,4 @@ pub mod TurnsAnswers
 pub mod OnImage
 pub mod FlatAnswers
 pub mod RunAnswers
+pub mod Allowed

@@ -2,39 +2,30 @@
 ghost use Rattle.std.specs.Prelude.{◌≡◌, ◌≤◌, IfOk};
 ghost use Rattle.cg_model.specs.Limits.{most_links};
 ghost use Rattle.cg_model.specs.Array.{links};
-ghost use Rattle.cg_ending.specs.Outcome.{file_of, outcome_of};
+ghost use Rattle.cg_ending.specs.Allowed.{Allows};
+ghost use Rattle.cg_ending.specs.Outcome.{file_of};
 ghost use Rattle.cg_run_answers.specs.Flat.{IsFlat, flat_report, flattened};
 
 use cg_arch::{Arch, Resource, flat_text};
-use cg_ending::{File, Outcome, Status, malformed};
-use cg_tiles::{TilesFault, read_arch, tiles_fault_text};
+use cg_ending::{File, Outcome, Status, Stop};
+use cg_inputs::arch_in;
 use std::alloc::{AllocError, Global};
 
 /// The text of the architecture that a file gives, under the name `out`.
-pub fn flat(alloc: Global, file: &File, out: &str) -> Result<Outcome, AllocError>
-    ensures { IfOk result (λ o. IsFlat (file_of file.now) out.now (outcome_of o)) }
+pub fn flat(alloc: Global, file: &File, out: &str) -> Result<Outcome, Stop>
+    ensures { Allows (IsFlat (file_of file.now) out.now) result }
 {
-    match read_arch(alloc, file.bytes.as_slice()) {
-        Ok(arch) => flattened(alloc, &arch, out),
-        Err(TilesFault::Memory) => Err(AllocError),
-        Err(fault) => {
-            let text = tiles_fault_text(alloc, &fault)?;
-            malformed(alloc, file.name.as_str(), text.as_str())
-        }
-    }
+    let arch = arch_in(alloc, file)?;
+    flattened(alloc, &arch, out)
 }
 
-/// The architecture was read: its text, and what the report says of it.
-fn flattened(alloc: Global, arch: &Arch, out: &str) -> Result<Outcome, AllocError>
-    ensures { IfOk result (λ o. outcome_of o ≡ flattened arch.now out.now) }
+/// The text of an architecture, and what the report says of it.
+fn flattened(alloc: Global, arch: &Arch, out: &str) -> Result<Outcome, Stop>
+    ensures { Allows (λ o. o ≡ flattened arch.now out.now) result }
 {
-    let bytes = flat_text(alloc, arch)?;
-    let name = String::from_str(alloc, out)?;
-    Ok(Outcome {
-        status: Status::Done,
-        report: flat_report(alloc, arch)?,
-        writes: vec![in alloc; File { name, bytes }]?,
-    })
+    let report = flat_report(alloc, arch)?;
+    let text = flat_text(alloc, arch)?;
+    Ok(Outcome::with_file(alloc, Status::Done, report, out, text)?)
 }
 
 /// How many resources, units and links there are, and the digest of the text.

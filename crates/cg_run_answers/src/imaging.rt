@@ -2,79 +2,50 @@
 ghost use Rattle.std.specs.Prelude.{◌≡◌, ◌<◌, ◌≤◌, Some, IfOk, IfSome, length, string_bytes};
 ghost use Rattle.cg_model.specs.Kernel.{size, node as node_of};
 ghost use Rattle.cg_model.specs.Limits.{most_memory, most_turns};
-ghost use Rattle.cg_ending.specs.Outcome.{file_of, outcome_of};
-ghost use Rattle.cg_run_answers.specs.TurnsOnImage.{IsImaged, IsOnImage, IsTurnsOnImage, image_report, pair_status};
-ghost use Rattle.cg_pad.specs.Bytes as images;
+ghost use Rattle.cg_ending.specs.Allowed.{Allows};
+ghost use Rattle.cg_ending.specs.Outcome.{file_of};
+ghost use Rattle.cg_run_answers.specs.TurnsOnImage.{IsImaged, IsTurnsOnImage, image_report, pair_status};
 
 use crate::running::run;
-use cg_ending::{File, Outcome, Status, malformed};
-use cg_kernel::{Kernel, KernelFault, kernel_fault_text, read_kernel};
-use cg_pad::{Image, ImageFault, image_fault_text, read_image, write_image};
+use cg_ending::{File, Outcome, Status, Stop};
+use cg_inputs::{image_in, kernel_in};
+use cg_kernel::Kernel;
+use cg_pad::{Image, write_image};
 use cg_turns::UnorderedPair;
 use std::alloc::{AllocError, Global};
 
 /// The turns from the image that a file holds, and the result image under the name `out`.
-#[tactic(auto, unfolding(crate::specs::TurnsOnImage::IsTurnsOnImage))]
 pub fn turns_on_image(
     alloc: Global,
     turns: u32,
     file: &File,
     input: &File,
     out: &str,
-) -> Result<Outcome, AllocError>
+) -> Result<Outcome, Stop>
     requires { turns ≤ most_turns }
-    ensures { IfOk result (λ o. IsTurnsOnImage turns (file_of file.now) (file_of input.now) out.now (outcome_of o)) }
+    ensures { Allows (IsTurnsOnImage turns (file_of file.now) (file_of input.now) out.now) result }
 {
-    match read_kernel(alloc, file.bytes.as_slice()) {
-        Ok(kernel) => on_image(alloc, turns, &kernel, input, out),
-        Err(KernelFault::Memory) => Err(AllocError),
-        Err(fault) => {
-            let text = kernel_fault_text(alloc, &fault)?;
-            malformed(alloc, file.name.as_str(), text.as_str())
-        }
-    }
+    let kernel = kernel_in(alloc, file)?;
+    let image = image_in(alloc, input)?;
+    imaged(alloc, turns, &kernel, &image, out)
 }
 
-fn on_image(
-    alloc: Global,
-    turns: u32,
-    kernel: &Kernel,
-    input: &File,
-    out: &str,
-) -> Result<Outcome, AllocError>
-    requires { turns ≤ most_turns }
-    ensures { IfOk result (λ o. IsOnImage turns kernel.now (file_of input.now) out.now (images.answer_of input.now.bytes.items) (outcome_of o)) }
-{
-    match read_image(alloc, input.bytes.as_slice()) {
-        Ok(image) => imaged(alloc, turns, kernel, &image, out),
-        Err(ImageFault::Memory) => Err(AllocError),
-        Err(fault) => {
-            let text = image_fault_text(alloc, fault)?;
-            malformed(alloc, input.name.as_str(), text.as_str())
-        }
-    }
-}
-
-/// The turns were run: the result image, and what the report says.
+/// The turns of a kernel from an image: the result image, and what the report says.
 fn imaged(
     alloc: Global,
     turns: u32,
     kernel: &Kernel,
     image: &Image,
     out: &str,
-) -> Result<Outcome, AllocError>
+) -> Result<Outcome, Stop>
     requires turns { turns ≤ most_turns }
     requires memory { length image.now.memory ≤ most_memory }
-    ensures { IfOk result (λ o. IsImaged turns kernel.now image.now out.now (outcome_of o)) }
+    ensures { Allows (IsImaged turns kernel.now image.now out.now) result }
 {
     let done = run(alloc, kernel, turns, image)?;
+    let report = image_report(alloc, kernel, done.outside, done.pair)?;
     let bytes = write_image(alloc, &done.image)?;
-    let name = String::from_str(alloc, out)?;
-    Ok(Outcome {
-        status: status_of(done.pair),
-        report: image_report(alloc, kernel, done.outside, done.pair)?,
-        writes: vec![in alloc; File { name, bytes }]?,
-    })
+    Ok(Outcome::with_file(alloc, status_of(done.pair), report, out, bytes)?)
 }
 
 /// Done where all accesses that matter are ordered, else No.

@@ -1,41 +1,34 @@
 //! `turns KERNEL TURNS`.
-ghost use Rattle.std.specs.Prelude.{◌≡◌, ◌≤◌, IfOk};
+ghost use Rattle.std.specs.Prelude.{◌≡◌, ◌≤◌};
 ghost use Rattle.cg_model.specs.Limits.{most_turns};
-ghost use Rattle.cg_ending.specs.Outcome.{file_of, outcome_of};
+ghost use Rattle.cg_ending.specs.Allowed.{Allows};
+ghost use Rattle.cg_ending.specs.Outcome.{file_of};
 ghost use Rattle.cg_run_answers.specs.Turns.{turned, turns_of};
 
 use crate::running::run;
 use crate::streams::streams_report;
-use cg_ending::{File, Outcome, Status, malformed};
-use cg_kernel::{Kernel, KernelFault, kernel_fault_text, read_kernel};
+use cg_ending::{File, Outcome, Status, Stop};
+use cg_inputs::kernel_in;
+use cg_kernel::Kernel;
 use cg_pad::Image;
-use std::alloc::{AllocError, Global};
+use std::alloc::Global;
 
-#[tactic(auto, unfolding(crate::specs::Turns::turns_of))]
-pub fn turns(alloc: Global, turns: u32, file: &File) -> Result<Outcome, AllocError>
+/// What the turns of the kernel that a file gives send to its output ports, from an image without words.
+pub fn turns(alloc: Global, turns: u32, file: &File) -> Result<Outcome, Stop>
     requires { turns ≤ most_turns }
-    ensures { IfOk result (λ o. outcome_of o ≡ turns_of turns (file_of file.now)) }
+    ensures { Allows (λ o. o ≡ turns_of turns (file_of file.now)) result }
 {
-    match read_kernel(alloc, file.bytes.as_slice()) {
-        Ok(kernel) => turned(alloc, turns, &kernel),
-        Err(KernelFault::Memory) => Err(AllocError),
-        Err(fault) => {
-            let text = kernel_fault_text(alloc, &fault)?;
-            malformed(alloc, file.name.as_str(), text.as_str())
-        }
-    }
+    let kernel = kernel_in(alloc, file)?;
+    turned(alloc, turns, &kernel)
 }
 
-/// The turns were run, on an image without words.
-fn turned(alloc: Global, turns: u32, kernel: &Kernel) -> Result<Outcome, AllocError>
+/// The turns of a kernel, from an image without words.
+fn turned(alloc: Global, turns: u32, kernel: &Kernel) -> Result<Outcome, Stop>
     requires { turns ≤ most_turns }
-    ensures { IfOk result (λ o. outcome_of o ≡ turned turns kernel.now) }
+    ensures { Allows (λ o. o ≡ turned turns kernel.now) result }
 {
-    let image = Image::empty(alloc)?;
-    let done = run(alloc, kernel, turns, &image)?;
-    Ok(Outcome {
-        status: Status::Done,
-        report: streams_report(alloc, kernel, done.image.streams())?,
-        writes: Vec::new(alloc),
-    })
+    let blank = Image::empty(alloc)?;
+    let done = run(alloc, kernel, turns, &blank)?;
+    let report = streams_report(alloc, kernel, done.image.streams())?;
+    Ok(Outcome::new(alloc, Status::Done, report))
 }

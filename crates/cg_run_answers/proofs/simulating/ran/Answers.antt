@@ -12,6 +12,6 @@ returns c =
     let outside_is : c.outside-outside.result ≡ (machine_left r.arch r.config r.n r.image).outside = c.outside-outside.ensures ∙ ap (λ (x : Run). (state x).outside) c.finish.ensures in
     let image_is : c.into_image-image.result ≡ (machine_left r.arch r.config r.n r.image).image = c.into_image-image.ensures.image ∙ ap (λ (x : Run). (machine_left x.arch x.config x.n x.image).image) c.finish.ensures in
     let bytes_is : c.in_ok-bytes.bytes.items ≡ image_bytes (machine_left r.arch r.config r.n r.image).image = c.in_ok-bytes.ensures ∙ ap image_bytes image_is in
-    let report_is : c.in_ok-run_report.field-0.items ≡ run_report (all_cycles r) (machine_left r.arch r.config r.n r.image).outside =
-    c.in_ok-run_report.ensures ∙ ap (λ n. run_report n c.outside-outside.result) cycles_is ∙ ap (run_report (all_cycles r)) outside_is in
+    let report_is : c.in_ok-report.report.items ≡ run_report (all_cycles r) (machine_left r.arch r.config r.n r.image).outside =
+    c.in_ok-report.ensures ∙ ap (λ n. run_report n c.outside-outside.result) cycles_is ∙ ap (run_report (all_cycles r)) outside_is in
     search rules

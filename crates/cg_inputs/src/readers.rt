@@ -1,0 +1,104 @@
+//! What a file gives. Where it gives none, the call ends by the outcome of its refusal.
+ghost use Rattle.std.specs.Prelude.{◌≡◌, ◌≤◌, Ok, IfOk, IfErr, length};
+ghost use Rattle.cg_model.specs.Array.{IsArch};
+ghost use Rattle.cg_model.specs.Canonical.{IsCanonical};
+ghost use Rattle.cg_model.specs.Kernel.{IsKernel};
+ghost use Rattle.cg_model.specs.Limits.{most_memory};
+ghost use Rattle.cg_model.specs.Mapping.{IsShaped};
+ghost use Rattle.cg_ending.specs.Allowed.{EndsBy};
+ghost use Rattle.cg_ending.specs.Outcome.{file_of};
+ghost use Rattle.cg_tiles.specs.Answer.{AreValidBytes};
+ghost use Rattle.cg_kernel.specs.Answer as kernels;
+ghost use Rattle.cg_mapping.specs.Answer as mappings;
+ghost use Rattle.cg_pad.specs.Bytes as images;
+ghost use Rattle.cg_bits.specs.Answers as bits;
+ghost use Rattle.cg_inputs.specs.Refused.{RefusesArch, RefusesBits, RefusesImage, RefusesKernel, RefusesMapping};
+
+use cg_ending::{File, Stop, refusal};
+use cg_kernel::{Kernel, KernelFault, kernel_fault_text, read_kernel};
+use cg_mapping::{Arch, Mapping, MappingFault, mapping_fault_text, read_mapping};
+use cg_pad::{Image, ImageFault, image_fault_text, read_image};
+use cg_tiles::{TilesFault, read_arch, tiles_fault_text};
+use cg_view::{BitsFault, ConfigView, bits_fault_text};
+use std::alloc::Global;
+
+/// The architecture that a file gives.
+pub fn arch_in(alloc: Global, file: &File) -> Result<Arch, Stop>
+    ensures given { IfOk result (AreValidBytes (file_of file.now).bytes) }
+    ensures refused { IfErr result (EndsBy (RefusesArch (file_of file.now))) }
+    ensures valid { IfOk result IsArch }
+{
+    match read_arch(alloc, file.bytes.as_slice()) {
+        Ok(arch) => Ok(arch),
+        Err(TilesFault::Memory) => Err(Stop::Memory),
+        Err(fault) => {
+            let text = tiles_fault_text(alloc, &fault)?;
+            Err(refusal(alloc, file, text.as_str()))
+        }
+    }
+}
+
+/// The kernel that a file gives.
+pub fn kernel_in(alloc: Global, file: &File) -> Result<Kernel, Stop>
+    ensures given { IfOk result (λ kernel. kernels.answer_of (file_of file.now).bytes ≡ Ok kernel) }
+    ensures refused { IfErr result (EndsBy (RefusesKernel (file_of file.now))) }
+    ensures valid { IfOk result IsKernel }
+{
+    match read_kernel(alloc, file.bytes.as_slice()) {
+        Ok(kernel) => Ok(kernel),
+        Err(KernelFault::Memory) => Err(Stop::Memory),
+        Err(fault) => {
+            let text = kernel_fault_text(alloc, &fault)?;
+            Err(refusal(alloc, file, text.as_str()))
+        }
+    }
+}
+
+/// The mapping that a file gives, of this kernel to this architecture.
+pub fn mapping_in(alloc: Global, arch: &Arch, kernel: &Kernel, file: &File) -> Result<Mapping, Stop>
+    ensures given { IfOk result (λ mapping.
+        mappings.answer_of arch.now kernel.now (file_of file.now).bytes ≡ Ok mapping) }
+    ensures refused { IfErr result (EndsBy (RefusesMapping arch.now kernel.now (file_of file.now))) }
+    ensures shaped { IfOk result (λ mapping. IsShaped kernel.now mapping) }
+{
+    match read_mapping(alloc, arch, kernel, file.bytes.as_slice()) {
+        Ok(mapping) => Ok(mapping),
+        Err(MappingFault::Memory) => Err(Stop::Memory),
+        Err(fault) => {
+            let text = mapping_fault_text(alloc, &fault)?;
+            Err(refusal(alloc, file, text.as_str()))
+        }
+    }
+}
+
+/// The image that a file gives.
+pub fn image_in(alloc: Global, file: &File) -> Result<Image, Stop>
+    ensures given { IfOk result (λ image. images.answer_of (file_of file.now).bytes ≡ Ok image) }
+    ensures refused { IfErr result (EndsBy (RefusesImage (file_of file.now))) }
+    ensures small { IfOk result (λ image. length image.memory ≤ most_memory) }
+{
+    match read_image(alloc, file.bytes.as_slice()) {
+        Ok(image) => Ok(image),
+        Err(ImageFault::Memory) => Err(Stop::Memory),
+        Err(fault) => {
+            let text = image_fault_text(alloc, fault)?;
+            Err(refusal(alloc, file, text.as_str()))
+        }
+    }
+}
+
+/// The configuration of this architecture that a file gives, over the file's bytes.
+pub fn config_in<'a>(alloc: Global, arch: &'a Arch, file: &'a File) -> Result<ConfigView<'a>, Stop>
+    ensures given { IfOk result (λ config. bits.answer_of arch.now (file_of file.now).bytes ≡ Ok config) }
+    ensures refused { IfErr result (EndsBy (RefusesBits arch.now (file_of file.now))) }
+    ensures canonical { IfOk result (IsCanonical arch.now) }
+{
+    match ConfigView::of(arch, file.bytes.as_slice()) {
+        Ok(config) => Ok(config),
+        Err(BitsFault::Memory) => Err(Stop::Memory),
+        Err(fault) => {
+            let text = bits_fault_text(alloc, fault)?;
+            Err(refusal(alloc, file, text.as_str()))
+        }
+    }
+}

@@ -1,0 +1,56 @@
+use Rattle.std.proofs.Common.{◌≡◌, ◌<◌, ◌≤◌, ℕ, length, Err, ap, ◌∙◌, arith, ⊎_elim, refl, subst}
+use Rattle.std.proofs.lemmas.Bool.{cases_lt}
+use Rattle.cg_ending.specs.Outcome.{file_of}
+use Rattle.cg_ending.specs.Allowed.{Allows}
+use Rattle.cg_ending.specs.Refusals.{malformed_of}
+use Rattle.cg_ending.proofs.Allowed.{allows_weaker, ends_weaker, stopped}
+use Rattle.cg_pad.specs.Bytes as images
+use Rattle.cg_sim.specs.Run.{Run}
+use Rattle.cg_sim.specs.Texts.{sim_fault_text}
+use Rattle.cg_sim.specs.declared.fault.SimFault.{SimFault}
+use Rattle.cg_sim.specs.declared.fault.SimFault.TheVariants.{ImageTooLarge}
+use Rattle.cg_run_answers.specs.Run.{ran, run_by_image, too_large}
+use Rattle.cg_run_answers.proofs.Allowed.{run_image_refused, run_ran, run_too_large}
+use Rattle.cg_run_answers.proofs.simulating.run_on.Goals as goal
+
+pub returns-in_err-image : goal.returns-in_err-image
+returns-in_err-image c =
+    let input = file_of c.args.input.now in
+    let A = c.args.array.now in
+    let C = c.args.config.now in
+    stopped (λ o. o ≡ run_by_image c.args.turns A C input.name c.args.out.now (images.answer_of input.bytes)) c.in_err-image.field-0.0 _ c.from_residual.ensures.1
+    (run_image_refused c.args.turns A C input c.args.out.now _ c.in_err-image.ensures.refused)
+
+pub returns-in-Ok : goal.returns-in-Ok
+returns-in-Ok c =
+    let input = file_of c.args.input.now in
+    let A = c.args.array.now in
+    let C = c.args.config.now in
+    let image = c.in_ok-image.image in
+    let turns = c.requires.turns in
+    let fits : length image.memory ≤ A.memory =
+    ⊎_elim (λ more. absurd (let bad = (c.in-Ok.ensures.large (length image.memory)).1 (refl, turns, more) in cc)) (λ few. few) (cases_lt A.memory (length image.memory)) in
+    allows_weaker (λ o. o ≡ ran c.args.turns A C image c.args.out.now) (λ o. o ≡ run_by_image c.args.turns A C input.name c.args.out.now (images.answer_of input.bytes)) c.ran.result
+    (λ o e. run_ran c.args.turns A C input c.args.out.now image o c.in_ok-image.ensures.given fits e)
+    (subst (λ (r : Run). Allows (λ o. o ≡ ran r.n r.arch r.config r.image c.args.out.now) c.ran.result) c.in-Ok.ensures.ok c.ran.ensures)
+
+pub too_large-requires : goal.too_large-requires
+too_large-requires c = λ t is.
+    let turns = c.requires.turns in
+    let many = ((c.in-Err.ensures.many t).0 (ap Err is)).1 in
+    absurd (omega arith)
+
+pub returns : goal.returns
+returns c =
+    let input = file_of c.args.input.now in
+    let A = c.args.array.now in
+    let C = c.args.config.now in
+    let image = c.in_ok-image.image in
+    ends_weaker (λ o. (w : ℕ) × (c.in-Err.fault ≡ ImageTooLarge w) × (o ≡ malformed_of input.name (sim_fault_text c.in-Err.fault)))
+    (λ o. o ≡ run_by_image c.args.turns A C input.name c.args.out.now (images.answer_of input.bytes)) c.too_large.result
+    (λ o h.
+    let large = (c.in-Err.ensures.large h.0).0 (ap Err h.1) in
+    let more : A.memory < length image.memory = (let a = large.0 in let b = large.2 in omega arith) in
+    run_too_large c.args.turns A C input c.args.out.now image o c.in_ok-image.ensures.given more
+    (h.2 ∙ ap (λ (f : SimFault). malformed_of input.name (sim_fault_text f)) (h.1 ∙ ap ImageTooLarge large.0)))
+    c.too_large.ensures
