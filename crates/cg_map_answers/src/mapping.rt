@@ -1,13 +1,14 @@
 //! `map ARCH KERNEL OUT [--ii N] [--seed N] [--moves N] [--mapping FILE]`.
 ghost use Rattle.std.specs.Prelude.{IfOk, map, string_bytes};
+ghost use Rattle.cg_ending.specs.Allowed.{Allows};
 ghost use Rattle.cg_ending.specs.Outcome.{file_of, outcome_of};
 ghost use Rattle.cg_model.specs.Request.{IsInRange};
 ghost use Rattle.cg_map_answers.specs.Map.{IsMap, IsWalk};
 ghost use Rattle.cg_task_answers.specs.Searches.{IsWithin, is_above};
 
 use cg_arch::Arch;
-use cg_ending::{File, Outcome};
-use cg_inputs::{GivenPair, read_pair};
+use cg_ending::{File, Outcome, Stop};
+use cg_inputs::{arch_in, kernel_in};
 use cg_kernel::Kernel;
 use cg_map::map_answer;
 use cg_model::Request;
@@ -23,16 +24,15 @@ pub fn map(
     arch: &File,
     kernel: &File,
     outputs: &[String],
-) -> Result<Outcome, AllocError>
+) -> Result<Outcome, Stop>
     requires { IsInRange request }
-    ensures { IfOk result (λ o. IsMap request (file_of arch.now) (file_of kernel.now) (map string_bytes outputs.now) (outcome_of o)) }
+    ensures { Allows (IsMap request (file_of arch.now) (file_of kernel.now) (map string_bytes outputs.now)) result }
 {
-    match read_pair(alloc, arch, kernel)? {
-        GivenPair::Pair(array, kernel) => {
-            searched(alloc, request, arch.name.as_str(), &array, &kernel, outputs)
-        }
-        GivenPair::Refused(outcome) => Ok(outcome),
-    }
+    let array = arch_in(alloc, arch)?;
+    let graph = kernel_in(alloc, kernel)?;
+    let name = arch.name.as_str();
+    let outcome = searched(alloc, request, name, &array, &graph, outputs)?;
+    Ok(outcome)
 }
 
 /// The same for what both files give.
