@@ -5,3 +5,4 @@ pub mod Arrays
 pub mod Paired
 pub mod Mapped
 pub mod Refused
+pub mod Read

@@ -1,3 +1,4 @@
 pub mod Checked
 pub mod Bitstream
 pub mod Bounded
+pub mod Allowed

@@ -1,36 +1,33 @@
 //! `bound ARCH KERNEL`.
 ghost use Rattle.std.specs.Prelude.{◌≡◌, ◌∷◌, ◌++◌, [], IfOk};
-ghost use Rattle.cg_ending.specs.Outcome.{file_of, line_of, outcome_of};
+ghost use Rattle.cg_ending.specs.Allowed.{Allows};
+ghost use Rattle.cg_ending.specs.Outcome.{file_of, line_of};
 ghost use Rattle.cg_mapping_answers.specs.Bound as spec;
 ghost use Rattle.cg_mapping_answers.specs.Bound.{IsBoundOf, IsBounded, bound_report, first_line};
 
 use cg_arch::Arch;
 use cg_bound::{LeastInterval, bound as least_interval, certificate_text};
-use cg_ending::{File, Outcome, Status};
-use cg_inputs::{GivenPair, read_pair};
+use cg_ending::{File, Outcome, Status, Stop};
+use cg_inputs::{arch_in, kernel_in};
 use cg_kernel::Kernel;
 use std::alloc::{AllocError, Global};
 
 /// The least interval of the kernel that the second file gives on the architecture of the first.
-pub fn bound(alloc: Global, arch: &File, kernel: &File) -> Result<Outcome, AllocError>
-    ensures { IfOk result (λ o. IsBoundOf (file_of arch.now) (file_of kernel.now) (outcome_of o)) }
+pub fn bound(alloc: Global, arch: &File, kernel: &File) -> Result<Outcome, Stop>
+    ensures { Allows (IsBoundOf (file_of arch.now) (file_of kernel.now)) result }
 {
-    match read_pair(alloc, arch, kernel)? {
-        GivenPair::Pair(array, kernel) => bounded(alloc, &array, &kernel),
-        GivenPair::Refused(outcome) => Ok(outcome),
-    }
+    let array = arch_in(alloc, arch)?;
+    let graph = kernel_in(alloc, kernel)?;
+    bounded(alloc, &array, &graph)
 }
 
-/// Both files were read.
-fn bounded(alloc: Global, array: &Arch, kernel: &Kernel) -> Result<Outcome, AllocError>
-    ensures { IfOk result (λ o. IsBounded (record { arch = array.now; kernel = kernel.now }) (outcome_of o)) }
+/// The least interval of a kernel on an architecture, and what the report says of it.
+fn bounded(alloc: Global, array: &Arch, kernel: &Kernel) -> Result<Outcome, Stop>
+    ensures { Allows (IsBounded (record { arch = array.now; kernel = kernel.now })) result }
 {
     let least = least_interval(alloc, array, kernel)?;
-    Ok(Outcome {
-        status: Status::Done,
-        report: bound_report(alloc, array, kernel, &least)?,
-        writes: Vec::new(alloc),
-    })
+    let report = bound_report(alloc, array, kernel, &least)?;
+    Ok(Outcome::new(alloc, Status::Done, report))
 }
 
 /// The least interval, and why the one below it is impossible; or why every one is.

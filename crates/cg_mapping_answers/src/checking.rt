@@ -1,56 +1,46 @@
 //! `check ARCH KERNEL MAPPING`.
-ghost use Rattle.std.specs.Prelude.{◌≡◌, IfOk};
-ghost use Rattle.cg_ending.specs.Outcome.{file_of, outcome_of};
+ghost use Rattle.std.specs.Prelude.{◌≡◌};
+ghost use Rattle.cg_model.specs.Mapping.{IsShaped};
+ghost use Rattle.cg_ending.specs.Allowed.{Allows};
+ghost use Rattle.cg_ending.specs.Outcome.{file_of};
 ghost use Rattle.cg_ending.specs.Refusals.{reports};
 ghost use Rattle.cg_ending.specs.declared.outcome.Status.TheVariants.{Done, No};
 ghost use Rattle.cg_check.specs.Rules.{violation};
 ghost use Rattle.cg_mapping_answers.specs.Check.{IsCheck, checked_by, illegal_report, legal_report};
 
-use cg_check::{Arch, CheckVerdict, Kernel, Rule, RulePlace, check as check_mapping, rule_text};
-use cg_ending::{File, Outcome, Status};
-use cg_inputs::{Given, Sources, read_sources};
-use std::alloc::{AllocError, Global};
+use cg_check::{Arch, CheckVerdict, Kernel, Mapping, Rule, RulePlace, check as judge, rule_text};
+use cg_ending::{File, Outcome, Status, Stop};
+use cg_inputs::{arch_in, kernel_in, mapping_in};
+use std::alloc::Global;
 
 /// Whether the mapping that the third file gives is legal for the kernel of the second on the architecture of the first.
-pub fn check(
-    alloc: Global,
-    arch: &File,
-    kernel: &File,
-    mapping: &File,
-) -> Result<Outcome, AllocError>
-    ensures { IfOk result (λ o. IsCheck (file_of arch.now) (file_of kernel.now) (file_of mapping.now) (outcome_of o)) }
+pub fn check(alloc: Global, arch: &File, kernel: &File, mapping: &File) -> Result<Outcome, Stop>
+    ensures { Allows (IsCheck (file_of arch.now) (file_of kernel.now) (file_of mapping.now)) result }
 {
-    match read_sources(alloc, arch, kernel, mapping)? {
-        Given::Sources(sources) => checked(alloc, sources),
-        Given::Refused(outcome) => Ok(outcome),
-    }
+    let array = arch_in(alloc, arch)?;
+    let graph = kernel_in(alloc, kernel)?;
+    let placed = mapping_in(alloc, &array, &graph, mapping)?;
+    checked(alloc, &array, &graph, placed)
 }
 
-/// All files were read.
-fn checked(alloc: Global, sources: Sources) -> Result<Outcome, AllocError>
-    ensures { IfOk result (λ o. outcome_of o
-        ≡ checked_by sources (violation sources.arch sources.kernel sources.mapping)) }
+/// Whether a mapping is legal.
+fn checked(alloc: Global, array: &Arch, kernel: &Kernel, mapping: Mapping) -> Result<Outcome, Stop>
+    requires { IsShaped kernel.now mapping }
+    ensures { Allows (λ o. o ≡ checked_by (record { arch = array.now; kernel = kernel.now; mapping = mapping })
+        (violation array.now kernel.now mapping)) result }
 {
-    let Sources {
-        arch,
-        kernel,
-        mapping,
-    } = sources;
-    match check_mapping(alloc, &arch, &kernel, mapping)? {
+    match judge(alloc, array, kernel, mapping)? {
         CheckVerdict::Legal(_) => legal(alloc),
-        CheckVerdict::Illegal { rule, place, .. } => illegal(alloc, &arch, &kernel, rule, place),
+        CheckVerdict::Illegal { rule, place, .. } => illegal(alloc, array, kernel, rule, place),
     }
 }
 
 /// The mapping is legal.
-fn legal(alloc: Global) -> Result<Outcome, AllocError>
-    ensures { IfOk result (λ o. outcome_of o ≡ reports Done legal_report) }
+fn legal(alloc: Global) -> Result<Outcome, Stop>
+    ensures { Allows (λ o. o ≡ reports Done legal_report) result }
 {
-    Ok(Outcome {
-        status: Status::Done,
-        report: Vec::from_slice(alloc, b"legal\n")?,
-        writes: Vec::new(alloc),
-    })
+    let report = Vec::from_slice(alloc, b"legal\n")?;
+    Ok(Outcome::new(alloc, Status::Done, report))
 }
 
 /// The mapping violates a rule.
@@ -60,16 +50,12 @@ pub(crate) fn illegal(
     kernel: &Kernel,
     rule: Rule,
     place: RulePlace,
-) -> Result<Outcome, AllocError>
-    ensures { IfOk result (λ o. outcome_of o
-        ≡ reports No (illegal_report arch.now kernel.now (record { rule = rule; place = place }))) }
+) -> Result<Outcome, Stop>
+    ensures { Allows (λ o. o
+        ≡ reports No (illegal_report arch.now kernel.now (record { rule = rule; place = place }))) result }
 {
     let text = rule_text(alloc, arch, kernel, rule, place)?;
     let broken = text.as_str();
     let report = format!(in alloc; "illegal {broken}\n")?;
-    Ok(Outcome {
-        status: Status::No,
-        report: report.into_bytes(),
-        writes: Vec::new(alloc),
-    })
+    Ok(Outcome::new(alloc, Status::No, report.into_bytes()))
 }

@@ -1,14 +1,16 @@
 //! `emit ARCH KERNEL MAPPING OUT`.
 ghost use Rattle.std.specs.Prelude.{◌≡◌, IfOk};
-ghost use Rattle.cg_ending.specs.Outcome.{file_of, outcome_of};
+ghost use Rattle.cg_model.specs.Mapping.{IsShaped};
+ghost use Rattle.cg_ending.specs.Allowed.{Allows};
+ghost use Rattle.cg_ending.specs.Outcome.{file_of};
 ghost use Rattle.cg_check.specs.Rules.{violation};
 ghost use Rattle.cg_mapping_answers.specs.Emit.{IsEmit, IsEmitted, IsEmittedBy, emit_report};
 
 use crate::checking::illegal;
-use cg_check::{CheckVerdict, LegalMapping, check};
+use cg_check::{Arch, CheckVerdict, Kernel, LegalMapping, Mapping, check as judge};
 use cg_emit::{emit as emit_bits, stages};
-use cg_ending::{File, Outcome, Status};
-use cg_inputs::{Given, Sources, read_sources};
+use cg_ending::{File, Outcome, Status, Stop};
+use cg_inputs::{arch_in, kernel_in, mapping_in};
 use std::alloc::{AllocError, Global};
 
 /// The bits of the mapping that the third file gives for the kernel of the second on the architecture of the first, under the
@@ -19,41 +21,40 @@ pub fn emit(
     kernel: &File,
     mapping: &File,
     out: &str,
-) -> Result<Outcome, AllocError>
-    ensures { IfOk result (λ o. IsEmit (file_of arch.now) (file_of kernel.now) (file_of mapping.now) out.now (outcome_of o)) }
+) -> Result<Outcome, Stop>
+    ensures { Allows (IsEmit (file_of arch.now) (file_of kernel.now) (file_of mapping.now) out.now) result }
 {
-    match read_sources(alloc, arch, kernel, mapping)? {
-        Given::Sources(sources) => emitted(alloc, sources, out),
-        Given::Refused(outcome) => Ok(outcome),
-    }
+    let array = arch_in(alloc, arch)?;
+    let graph = kernel_in(alloc, kernel)?;
+    let placed = mapping_in(alloc, &array, &graph, mapping)?;
+    emitted(alloc, &array, &graph, placed, out)
 }
 
-/// All files were read.
-fn emitted(alloc: Global, sources: Sources, out: &str) -> Result<Outcome, AllocError>
-    ensures { IfOk result (λ o. IsEmittedBy out.now sources (violation sources.arch sources.kernel sources.mapping) (outcome_of o)) }
+/// The bits of a mapping that is legal.
+fn emitted(
+    alloc: Global,
+    array: &Arch,
+    kernel: &Kernel,
+    mapping: Mapping,
+    out: &str,
+) -> Result<Outcome, Stop>
+    requires { IsShaped kernel.now mapping }
+    ensures { Allows (IsEmittedBy out.now (record { arch = array.now; kernel = kernel.now; mapping = mapping })
+        (violation array.now kernel.now mapping)) result }
 {
-    let Sources {
-        arch,
-        kernel,
-        mapping,
-    } = sources;
-    match check(alloc, &arch, &kernel, mapping)? {
+    match judge(alloc, array, kernel, mapping)? {
         CheckVerdict::Legal(legal) => written(alloc, &legal, out),
-        CheckVerdict::Illegal { rule, place, .. } => illegal(alloc, &arch, &kernel, rule, place),
+        CheckVerdict::Illegal { rule, place, .. } => illegal(alloc, array, kernel, rule, place),
     }
 }
 
 /// The mapping is legal: its bits, and what the report says of them.
-fn written(alloc: Global, legal: &LegalMapping<'_>, out: &str) -> Result<Outcome, AllocError>
-    ensures { IfOk result (λ o. IsEmitted out.now legal.now (outcome_of o)) }
+fn written(alloc: Global, legal: &LegalMapping<'_>, out: &str) -> Result<Outcome, Stop>
+    ensures { Allows (IsEmitted out.now legal.now) result }
 {
-    let bytes = emit_bits(alloc, legal)?;
-    let name = String::from_str(alloc, out)?;
-    Ok(Outcome {
-        status: Status::Done,
-        report: emit_report(alloc, legal)?,
-        writes: vec![in alloc; File { name, bytes }]?,
-    })
+    let report = emit_report(alloc, legal)?;
+    let bits = emit_bits(alloc, legal)?;
+    Ok(Outcome::with_file(alloc, Status::Done, report, out, bits)?)
 }
 
 /// The interval, and the stages of the configuration.
