@@ -18,10 +18,12 @@ const ORIGIN: u32 = 1 << 20;
 
 /// How many intervals the longest routes take, and how many cycles more.
 const MOST_INTERVALS: u32 = 6;
+
 const MORE_CYCLES: u32 = 32;
 
 /// By how many intervals and cycles a route may be longer than the way across the array.
 const WIDER_INTERVALS: u32 = 4;
+
 const WIDER_CYCLES: u32 = 24;
 
 /// A data edge: a value of `source` is operand number `arg` of `target`, `distance` turns later.
@@ -198,12 +200,7 @@ fn add_edges(edges: &mut Vec<DataEdge>, node: &Node, number: u32) -> Result<(), 
 }
 
 /// The data edges that have each node for that end.
-fn ends_by(
-    alloc: Global,
-    nodes: u32,
-    edges: &[DataEdge],
-    end: End,
-) -> Result<Lists, AllocError> {
+fn ends_by(alloc: Global, nodes: u32, edges: &[DataEdge], end: End) -> Result<Lists, AllocError> {
     let mut lists = Lists::new(alloc, nodes)?;
     let mut number: u32 = 0;
     for edge in edges {

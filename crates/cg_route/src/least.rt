@@ -8,6 +8,7 @@ use std::alloc::{AllocError, Global};
 
 /// How many intervals the longest paths take that are looked for, and how many cycles more.
 const MOST_INTERVALS: u32 = 6;
+
 const MORE_CYCLES: u32 = 32;
 
 /// The path of least price for the value of a source from a resource, on which it is at `start`, to another, on which
