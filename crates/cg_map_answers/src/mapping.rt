@@ -53,13 +53,7 @@ fn searched(
     }
     let _valid_arch = arch.units();
     match map_answer(alloc, arch, kernel, request)? {
-        Answer::Impossible(certificate) => impossible(
-            alloc,
-            request,
-            arch,
-            kernel,
-            &certificate,
-        ),
+        Answer::Impossible(certificate) => impossible(alloc, request, arch, kernel, &certificate),
         Answer::Mapped(mapping, found_by) => found(alloc, "walk", &mapping, found_by, outputs),
         Answer::Spent { first, left } => spent(alloc, "cost", first, left.as_slice()),
     }

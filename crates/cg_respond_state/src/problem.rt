@@ -16,12 +16,16 @@ use std::alloc::{AllocError, Global};
 /// Intervals from time 0 to the origin, from which the times of an opening count: so many may a node go back.
 const ORIGIN: u32 = 1 << 20;
 
-/// How many intervals the longest routes take, and how many cycles more.
+/// How many intervals the longest routes take.
 const MOST_INTERVALS: u32 = 6;
+
+/// How many cycles more they take.
 const MORE_CYCLES: u32 = 32;
 
-/// By how many intervals and cycles a route may be longer than the way across the array.
+/// By how many intervals a route may be longer than the way across the array.
 const WIDER_INTERVALS: u32 = 4;
+
+/// By how many cycles more.
 const WIDER_CYCLES: u32 = 24;
 
 /// A data edge: a value of `source` is operand number `arg` of `target`, `distance` turns later.
@@ -198,12 +202,7 @@ fn add_edges(edges: &mut Vec<DataEdge>, node: &Node, number: u32) -> Result<(), 
 }
 
 /// The data edges that have each node for that end.
-fn ends_by(
-    alloc: Global,
-    nodes: u32,
-    edges: &[DataEdge],
-    end: End,
-) -> Result<Lists, AllocError> {
+fn ends_by(alloc: Global, nodes: u32, edges: &[DataEdge], end: End) -> Result<Lists, AllocError> {
     let mut lists = Lists::new(alloc, nodes)?;
     let mut number: u32 = 0;
     for edge in edges {

@@ -111,13 +111,8 @@ impl Routes {
         for edge in problem.outs.of(from.source) {
             self.lay(*edge, from.start, last);
         }
-        self.layers.forward(
-            &self.occupancy,
-            &problem.wiring,
-            from.start,
-            last,
-            target,
-        );
+        self.layers
+            .forward(&self.occupancy, &problem.wiring, from.start, last, target);
         Ok(())
     }
 

@@ -6,8 +6,10 @@ use crate::search::{PathEnds, Search};
 use cg_claims::{Mrrg, Usage};
 use std::alloc::{AllocError, Global};
 
-/// How many intervals the longest paths take that are looked for, and how many cycles more.
+/// How many intervals the longest paths take that are looked for.
 const MOST_INTERVALS: u32 = 6;
+
+/// How many cycles more they take.
 const MORE_CYCLES: u32 = 32;
 
 /// The path of least price for the value of a source from a resource, on which it is at `start`, to another, on which

@@ -53,13 +53,7 @@ fn searched(
     }
     let _valid_arch = arch.units();
     match search_answer(alloc, arch, kernel, request)? {
-        Answer::Impossible(certificate) => impossible(
-            alloc,
-            request,
-            arch,
-            kernel,
-            &certificate,
-        ),
+        Answer::Impossible(certificate) => impossible(alloc, request, arch, kernel, &certificate),
         Answer::Mapped(mapping, found_by) => found(alloc, "search", &mapping, found_by, outputs),
         Answer::Spent { first, left } => spent(alloc, "faults", first, left.as_slice()),
     }

@@ -36,6 +36,6 @@ returns c =
     let h = made.made_at es c.args.ii n m.log.items c.as_slice-log.result.now m.last.items c.as_slice-last.result.now m.is_deep c.as_slice-log.ensures.value c.as_slice-last.ensures.value c.in_ok-made.ensures in
     let none = none_numbered c.args.arch.now c.args.kernel.now c.in_ok-list.list.names.items es good c.args.ii c.requires in
     let a = made.early es c.args.ii n c.as_slice-log.result.now c.as_slice-last.result.now inside c.in_ok-early.early.items
-        (made.none_deep es c.args.ii n c.as_slice-log.result.now c.as_slice-last.result.now m.is_deep none h) c.in_ok-early.ensures in
+    (made.none_deep es c.args.ii n c.as_slice-log.result.now c.as_slice-last.result.now m.is_deep none h) c.in_ok-early.ensures in
     let b = times_named c.args.arch.now c.args.kernel.now c.in_ok-list.list.names.items es good c.args.ii n c.in_ok-early.early.items (ap (λ (z : List Node). length z) c.nodes-nodes.ensures.nodes) a.0 a.1 a.2 in
     record { each = b.0; right = b.1 }
