@@ -35,11 +35,7 @@ pub(crate) enum Reached {
 }
 
 /// Makes the walk of a task, with the seed and no more moves than are asked.
-pub fn search<'a>(
-    alloc: Global,
-    task: &Task<'a>,
-    request: Request,
-) -> Result<Found<'a>, AllocError>
+pub fn search<'a>(alloc: Global, task: &Task<'a>, request: Request) -> Result<Found<'a>, AllocError>
     requires few { request.moves ≤ most_moves }
     ensures { IfOk result (IsWalked task.now.arch task.now.kernel task.now.ii request.seed request.moves) }
 {
@@ -75,9 +71,23 @@ fn walk_over<'g, 'a>(
     ensures { IfOk result (IsWalkedFrom task.now.arch task.now.kernel task.now.ii task.now.early request.seed request.moves) }
 {
     let mut walk = begin(alloc, graph, task)?;
-    match make_moves(alloc, counting, &mut walk, request)? {
+    end_of(alloc, counting, &mut walk, request)
+}
+
+/// Where a walk comes to from its start on.
+fn end_of<'g, 'a>(
+    alloc: Global,
+    counting: Counting,
+    walk: &mut Walk<'g, 'a>,
+    request: Request,
+) -> Result<Found<'a>, AllocError>
+    requires few { request.moves ≤ most_moves }
+    requires start { IsStart walk.old.arch walk.old.kernel walk.old.ii walk.old.early walk.old.state }
+    ensures { IfOk result (IsWalkedFrom walk.old.arch walk.old.kernel walk.old.ii walk.old.early request.seed request.moves) }
+{
+    match make_moves(alloc, counting, walk, request)? {
         Reached::Zero(k) => {
-            let end = legal_end(alloc, &mut walk, k)?;
+            let end = legal_end(alloc, walk, k)?;
             Ok(end)
         }
         Reached::Cost(cost) => Ok(Found::Spent(cost)),

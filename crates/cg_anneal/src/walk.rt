@@ -180,11 +180,11 @@ impl<'g, 'a> Walk<'g, 'a> {
         let arch = task.arch();
         let kernel = task.kernel();
         let ii = task.interval();
-        let placement = Placement::start(alloc, arch, kernel, ii, task.early())?;
-        let usage = Usage::new(alloc, graph)?;
         let edges = edges_of_kernel(alloc, kernel)?;
         let routes = no_routes(alloc, edges.len())?;
         let missing = edges.len() as u32;
+        let placement = Placement::start(alloc, arch, kernel, ii, task.early())?;
+        let usage = Usage::new(alloc, graph)?;
         Ok(Walk {
             graph,
             arch,

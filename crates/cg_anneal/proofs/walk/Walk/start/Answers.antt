@@ -1,6 +1,5 @@
 use Rattle.std.proofs.Common.{◌≡◌, ◌∙◌, List, length, sym, ap, subst, arith}
-use Rattle.cg_mrrg.specs.Graph.{Graph}
-use Rattle.cg_place.specs.Placed.{AreEarly}
+use Rattle.cg_model.specs.Kernel.{IsKernel}
 use Rattle.cg_walk.specs.declared.edge.EdgeOperand.{EdgeOperand}
 use Rattle.cg_walk.specs.Walk.{unrouted_start}
 use Rattle.cg_walk.proofs.Small.{edges_few}
@@ -18,8 +17,8 @@ start-requires-clause-early c =
 
 pub overflow_cast-missing : goal.overflow_cast-missing
 overflow_cast-missing c =
-    let t = subst IsTask (sym (posed c.args.task.now c.arch-arch.result.now c.kernel-kernel.result.now c.interval-ii.result c.early.result.now c.arch-arch.ensures c.kernel-kernel.ensures c.interval-ii.ensures c.early.ensures)) c.holds.ensures in
-    let few = edges_few c.kernel-kernel.result.now t.kernel in
+    let valid = subst IsKernel (sym c.kernel-kernel.ensures) c.holds.ensures.kernel in
+    let few = edges_few c.kernel-kernel.result.now valid in
     let long = ap (λ (xs : List EdgeOperand). length xs) c.in_ok-edges.ensures in
     let h = c.len-missing.ensures in
     let ok = c.in_ok-edges.edges.ok.0 in
