@@ -1,5 +1,6 @@
 //! `map ARCH KERNEL OUT [--ii N] [--seed N] [--moves N] [--mapping FILE]`.
 ghost use Rattle.std.specs.Prelude.{◌≡◌, ◌+◌, ◌<◌, ◌^◌, ◌++◌, false, length, IfOk, OnOk, map, string_bytes};
+ghost use Rattle.cg_ending.specs.Allowed.{Allows};
 ghost use Rattle.cg_ending.specs.Outcome.{file_of, outcome_of};
 ghost use Rattle.cg_ending.specs.Refusals.{reports};
 ghost use Rattle.cg_ending.specs.declared.outcome.Status.TheVariants as status;
@@ -9,8 +10,8 @@ ghost use Rattle.cg_task_answers.specs.Searches.{IsWithin, is_above};
 
 use cg_arch::Arch;
 use cg_check::LegalMapping;
-use cg_ending::{File, Outcome, Status};
-use cg_inputs::{GivenPair, read_pair};
+use cg_ending::{File, Outcome, Status, Stop};
+use cg_inputs::{arch_in, kernel_in};
 use cg_kernel::Kernel;
 use cg_map::{MapAnswer, Way, map_answer};
 use cg_mapping_answers::emit_report;
@@ -26,16 +27,13 @@ pub fn map(
     arch: &File,
     kernel: &File,
     outputs: &[String],
-) -> Result<Outcome, AllocError>
+) -> Result<Outcome, Stop>
     requires { IsInRange request }
-    ensures { IfOk result (λ o. IsMap request (file_of arch.now) (file_of kernel.now) (map string_bytes outputs.now) (outcome_of o)) }
+    ensures { Allows (IsMap request (file_of arch.now) (file_of kernel.now) (map string_bytes outputs.now)) result }
 {
-    match read_pair(alloc, arch, kernel)? {
-        GivenPair::Pair(array, kernel) => {
-            searched_within(alloc, request, arch.name.as_str(), &array, &kernel, outputs)
-        }
-        GivenPair::Refused(outcome) => Ok(outcome),
-    }
+    let array = arch_in(alloc, arch)?;
+    let graph = kernel_in(alloc, kernel)?;
+    Ok(searched_within(alloc, request, arch.name.as_str(), &array, &graph, outputs)?)
 }
 
 /// Both files were read.
