@@ -75,7 +75,9 @@ pub struct Problem {
 
 impl Problem {
     /// The problem that a task poses.
-    pub fn new(alloc: Global, task: &Task) -> Result<Problem, AllocError> {
+    pub fn new(alloc: Global, task: &Task) -> Result<Problem, AllocError>
+        ensures { IfOk result (λ p. p.ii ≡ task.now.ii) }
+    {
         task.holds();
         let arch = task.arch();
         let kernel = task.kernel();
