@@ -1,4 +1,4 @@
-use Rattle.std.proofs.Common.{◌+◌, ◌<◌, ◌^◌, length, subst, sym}
+use Rattle.std.proofs.Common.{◌∙◌, ◌+◌, ◌<◌, ◌^◌, length, subst, sym}
 use Rattle.cg_task.specs.declared.answering.Answer.TheVariants.{Spent}
 use Rattle.cg_map_answers.specs.Map.{words, IsAnswerOf, IsOnlyMapping, AreCosts}
 use Rattle.cg_task_answers.proofs.Searched.{spent_few}
@@ -10,4 +10,4 @@ spent-requires c =
     let s = c.args.request in
     let found = subst (λ a. IsAnswerOf s (record { arch = c.args.arch.now; kernel = c.args.kernel.now }) a) c.in-Spent.is c.in_ok-certificate.ensures in
     subst (λ left. c.in-Spent.first + length left < 2 ^ 32) (sym c.as_slice.ensures.value)
-    (spent_few words IsAnswerOf IsOnlyMapping AreCosts searcher s (record { arch = c.args.arch.now; kernel = c.args.kernel.now }) c.in-Spent.first c.in-Spent.left c.units-valid_arch.ensures.valid c.requires c.if-asks_above.false found)
+    (spent_few words IsAnswerOf IsOnlyMapping AreCosts searcher s (record { arch = c.args.arch.now; kernel = c.args.kernel.now }) c.in-Spent.first c.in-Spent.left c.units-valid_arch.ensures.valid c.requires (sym c.asks_above.ensures ∙ c.if-asks_above.false) found)
