@@ -1,24 +1,18 @@
--- Some end of the walk is there, with the earliest times, wherever no recurrence forbids the interval: by
--- definitions alone.
+-- Some end of the walk of a task is there, by definitions alone.
 use Rattle.std.proofs.Common.{◌≡◌, ℕ, ◌<◌, ◌≤◌, List, refl, subst, arith, ⊎_elim}
 use Rattle.std.proofs.lemmas.Bool.{cases_lt}
 use Rattle.rand_pcg.specs.Lcg.{Lcg}
-use Rattle.cg_model.specs.Kernel.{Kernel, IsKernel}
-use Rattle.cg_model.specs.Array.{Arch, IsArch}
-use Rattle.cg_edges.specs.declared.edge.EdgeId.{EdgeId}
-use Rattle.cg_edges.proofs.Latencies.{latency_small}
-use Rattle.cg_recur.specs.Recurrences.{IsRecurrence}
-use Rattle.cg_recur.proofs.Earliest.{earliest}
+use Rattle.cg_model.specs.Kernel.{Kernel}
+use Rattle.cg_model.specs.Array.{Arch}
 use Rattle.cg_check.specs.Legal.{Mapped as Triple}
-use Rattle.cg_place.specs.Placed.{IsOffered}
 use Rattle.cg_walk.specs.State.{State, cost, mapping_of}
 use Rattle.cg_walk.specs.Walk.{IsEnd}
-use Rattle.cg_walk.specs.Good.{IsReady}
-use Rattle.cg_walk.proofs.Early.{early_soon}
 use Rattle.cg_walk.proofs.Endings.{ended}
 use Rattle.cg_anneal.specs.declared.finding.Found.{Found}
 use Rattle.cg_anneal.specs.declared.finding.Found.TheVariants.{Mapped, Spent}
-use Rattle.cg_anneal.specs.Ended.{AreEarliest, IsWalkedFrom, IsWalked}
+use Rattle.cg_anneal.specs.Ended.{IsWalkedFrom, IsWalked}
+use Rattle.cg_anneal.proofs.Ready.{ready}
+use Rattle.cg_task.specs.Posed.{Posed, IsTask}
 
 module _ (A : Arch) (K : Kernel) (ii seed moves : ℕ) where
   -- what an end of the walk gives
@@ -35,29 +29,9 @@ module _ (A : Arch) (K : Kernel) (ii seed moves : ℕ) where
       (Mapped m k, (g, S, end, omega (arith, none), refl)))
       (cases_lt 0 (cost A K ii S))
 
-  module _ (arch : IsArch A) (kernel : IsKernel K) (positive : 0 < ii) (contexts : ii ≤ A.contexts) (offered : IsOffered A K) (free : (ids : List EdgeId) → IsRecurrence A K ii ids → ⊥) where
-    -- with the earliest times the walk can begin
-    earliest_ready : (early : List ℕ) → AreEarliest A K ii early → IsReady A K ii early
-    earliest_ready early are = record {
-      interval = positive;
-      contexts = contexts;
-      offered = offered;
-      each = are.each;
-      soon = λ v l.
-          let s = early_soon A K ii early arch kernel are.right free v l in
-          let small = arch.small.contexts.1 in
-          omega (arith, s, contexts, small);
-    }
-
-    -- so the walk has an end, which gives something
-    pub some_walked : (f : Found) × IsWalked A K ii seed moves f
-    some_walked =
-        let (early, each, right) = earliest A K (λ op. latency_small A op arch) kernel ii free in
-        let are : AreEarliest A K ii early = record { each = each; right = right } in
-        let (k, g, S, end) = ended A K ii arch kernel early (earliest_ready early are) moves seed in
-        let (f, walked) = found_at early k g S end in
-        (f, (early, are, walked))
-
-pub some_found : (A : Arch) (K : Kernel) (ii seed moves : ℕ) → IsArch A → IsKernel K → 0 < ii → ii ≤ A.contexts → IsOffered A K → ((ids : List EdgeId) → IsRecurrence A K ii ids → ⊥) →
-    (f : Found) × IsWalked A K ii seed moves f
-some_found A K ii seed moves arch kernel positive contexts offered free = some_walked A K ii seed moves arch kernel positive contexts offered free
+-- so the walk of a task has an end, which gives something
+pub some_found : (T : Posed) (seed moves : ℕ) → IsTask T → (f : Found) × IsWalked T.arch T.kernel T.ii seed moves f
+some_found T seed moves t =
+    let (k, g, S, end) = ended T.arch T.kernel T.ii t.arch t.kernel T.early (ready T t) moves seed in
+    let (f, walked) = found_at T.arch T.kernel T.ii seed moves T.early k g S end in
+    (f, (T.early, t.times, walked))

@@ -1,3 +1,4 @@
+pub mod Ready
 pub mod Keeping
 pub mod Operands
 pub mod Loops

@@ -2,26 +2,23 @@
 use Rattle.std.proofs.Common.{◌≡◌, ◌≢◌, ℕ, suc, ◌+◌, ◌*◌, ◌<◌, ◌≤◌, List, length, get_or, refl, sym, ap, ◌∙◌, subst, arith}
 use Rattle.std.proofs.lemmas.List.{ext_get_or}
 use Rattle.rand_pcg.specs.Lcg.{Lcg}
-use Rattle.cg_model.specs.Limits.{latest_time}
-use Rattle.cg_model.specs.Kernel.{Kernel, IsKernel, size}
-use Rattle.cg_model.specs.Array.{Arch, IsArch}
+use Rattle.cg_model.specs.Kernel.{Kernel, size}
+use Rattle.cg_model.specs.Array.{Arch}
 use Rattle.cg_model.specs.Mapping.{Mapping, IsLegal}
-use Rattle.cg_edges.specs.declared.edge.EdgeId.{EdgeId}
 use Rattle.cg_edges.specs.Edges.{edge_of}
-use Rattle.cg_recur.specs.Recurrences.{IsRecurrence}
+use Rattle.cg_recur.specs.Recurrences.{AreEarliest}
 use Rattle.cg_recur.proofs.Chains.{one_early}
-use Rattle.cg_place.specs.Placed.{IsOffered}
 use Rattle.cg_check.specs.Legal as checks
 use Rattle.cg_walk.specs.State.{State, cost, mapping_of}
 use Rattle.cg_walk.specs.Walk.{Walked, start, more}
-use Rattle.cg_walk.specs.Good.{IsReady}
 use Rattle.cg_walk.proofs.Once.{end_once}
-use Rattle.cg_walk.proofs.Early.{early_soon}
 use Rattle.cg_walk.proofs.Keeps.{walked_good}
 use Rattle.cg_walk.proofs.Rules.{legal_at_zero}
 use Rattle.cg_anneal.specs.declared.finding.Found.{Found}
 use Rattle.cg_anneal.specs.declared.finding.Found.TheVariants.{Mapped, Spent}
-use Rattle.cg_anneal.specs.Ended.{AreEarliest, IsWalkedFrom, IsWalked}
+use Rattle.cg_anneal.specs.Ended.{IsWalkedFrom, IsWalked}
+use Rattle.cg_anneal.proofs.Ready.{ready}
+use Rattle.cg_task.specs.Posed.{Posed, IsTask}
 
 pub one_time : (A : Arch) (K : Kernel) (ii : ℕ) (early other : List ℕ) → AreEarliest A K ii early → AreEarliest A K ii other → early ≡ other
 one_time A K ii early other a b =
@@ -62,26 +59,17 @@ interval_of : (K : Kernel) (ii : ℕ) (S : State) → (mapping_of K ii S).ii ≡
 unfolding mapping_of
 interval_of K ii S = refl
 
-pub ready : (A : Arch) (K : Kernel) (ii : ℕ) (early : List ℕ) → IsArch A → IsKernel K → 0 < ii → ii ≤ A.contexts → IsOffered A K → ((ids : List EdgeId) → IsRecurrence A K ii ids → ⊥) → AreEarliest A K ii early → IsReady A K ii early
-ready A K ii early arch kernel some few offered free times = record {
-  interval = some;
-  contexts = few;
-  offered = offered;
-  each = times.each;
-  soon = λ v l.
-      let s = early_soon A K ii early arch kernel times.right free v l in
-      let small = arch.small.contexts.1 in
-      omega (arith, s, few, small);
-}
-
-pub legal_end : (A : Arch) (K : Kernel) (ii seed moves k : ℕ) (m : checks.Mapped) → IsArch A → IsKernel K → 0 < ii → ii ≤ A.contexts → IsOffered A K → ((ids : List EdgeId) → IsRecurrence A K ii ids → ⊥) →
-    IsWalked A K ii seed moves (Mapped m k) → (m.arch ≡ A) × (m.kernel ≡ K) × (m.mapping.ii ≡ ii) × IsLegal A K m.mapping × (k ≤ moves)
-legal_end A K ii seed moves k m arch kernel some few offered free (early, times, (g, S, end, zero, e)) =
-    let good = walked_good A K ii early (ready A K ii early arch kernel some few offered free times) moves seed end.0 in
-    let legal = legal_at_zero A K ii S arch kernel good zero in (
+pub legal_end : (T : Posed) (seed moves k : ℕ) (m : checks.Mapped) → IsTask T → IsWalked T.arch T.kernel T.ii seed moves (Mapped m k) →
+    (m.arch ≡ T.arch) × (m.kernel ≡ T.kernel) × (m.mapping.ii ≡ T.ii) × IsLegal T.arch T.kernel m.mapping × (k ≤ moves)
+legal_end T seed moves k m t (early, times, (g, S, end, zero, e)) =
+    let A = T.arch in
+    let K = T.kernel in
+    let now : IsTask (record { arch = A; kernel = K; ii = T.ii; early = early }) = record { arch = t.arch; kernel = t.kernel; some = t.some; contexts = t.contexts; offered = t.offered; free = t.free; times = times } in
+    let good = walked_good A K T.ii early (ready (record { arch = A; kernel = K; ii = T.ii; early = early }) now) moves seed end.0 in
+    let legal = legal_at_zero A K T.ii S t.arch t.kernel good zero in (
       ap (λ (x : checks.Mapped). x.arch) e,
       ap (λ (x : checks.Mapped). x.kernel) e,
-      ap (λ (x : checks.Mapped). x.mapping.ii) e ∙ interval_of K ii S,
+      ap (λ (x : checks.Mapped). x.mapping.ii) e ∙ interval_of K T.ii S,
       subst (λ (x : checks.Mapped). IsLegal A K x.mapping) (sym e) legal,
-      walked_few A K ii early seed moves end.0,
+      walked_few A K T.ii early seed moves end.0,
     )

@@ -1,24 +1,30 @@
 -- How the walk ends.
-use Rattle.std.specs.Prelude.{◌≡◌, ℕ, ◌<◌, List, length, slice_index}
+use Rattle.std.specs.Prelude.{◌≡◌, ℕ, ◌<◌, List}
 use Rattle.rand_pcg.specs.Lcg.{Lcg}
-use Rattle.cg_model.specs.Kernel.{Kernel, size}
+use Rattle.cg_model.specs.Kernel.{Kernel}
 use Rattle.cg_model.specs.Array.{Arch}
-use Rattle.cg_edges.specs.Chain.{IsEarly}
-use Rattle.cg_edges.specs.Edges.{edge_of}
+use Rattle.cg_recur.specs.Recurrences.{AreEarliest}
 use Rattle.cg_walk.specs.State.{State, cost, mapping_of}
 use Rattle.cg_walk.specs.Walk.{IsEnd}
+use Rattle.cg_anneal.specs.Walking.{Walking, at_state}
+use Rattle.cg_anneal.specs.declared.finding.Reached.{Reached}
+use Rattle.cg_anneal.specs.declared.finding.Reached.TheVariants.{Zero, Cost}
 use Rattle.cg_anneal.specs.declared.finding.Found.{Found}
 use Rattle.cg_anneal.specs.declared.finding.Found.TheVariants.{Mapped, Spent}
-
--- the earliest times of a kernel's nodes
-pub record AreEarliest (A : Arch) (K : Kernel) (ii : ℕ) (early : List ℕ) : Type 0 where
-  pub each : length early ≡ size K
-  pub right : (v : ℕ) → v < size K → IsEarly (edge_of A K) ii v (slice_index early v)
 
 -- the mapping that a state stands for, after k moves
 abbrev pub IsFoundAt : Arch → Kernel → ℕ → State → ℕ → Found → Type 0
 IsFoundAt A K ii S k (Mapped m j) = (m ≡ record { arch = A; kernel = K; mapping = mapping_of K ii S }) × (j ≡ k)
 IsFoundAt A K ii S k (Spent c) = ⊥
+
+-- the moves of a walk were made from its start on: up to the first state of cost 0, or all, and that cost is left
+abbrev pub IsReached : Walking → ℕ → ℕ → Walking → Reached → Type 0
+IsReached W seed moves V (Zero k) =
+    (V ≡ at_state W V.state) × (cost W.arch W.kernel W.ii V.state ≡ 0)
+    × ((g : Lcg) × IsEnd W.arch W.kernel W.ii W.early moves seed k g V.state)
+IsReached W seed moves V (Cost c) =
+    (V ≡ at_state W V.state) × (cost W.arch W.kernel W.ii V.state ≡ c) × (0 < c)
+    × ((g : Lcg) × IsEnd W.arch W.kernel W.ii W.early moves seed moves g V.state)
 
 -- where the walk ends at cost 0, what its last state stands for, and the number of moves; else the cost that
 -- is left after all moves

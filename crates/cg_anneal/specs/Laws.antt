@@ -1,15 +1,14 @@
 -- The laws of how the walk ends.
-use Rattle.std.specs.Prelude.{◌≡◌, ℕ, ◌<◌, ◌≤◌, List}
-use Rattle.cg_model.specs.Kernel.{Kernel, IsKernel}
-use Rattle.cg_model.specs.Array.{Arch, IsArch}
+use Rattle.std.specs.Prelude.{◌≡◌, ℕ, ◌≤◌, List}
+use Rattle.cg_model.specs.Kernel.{Kernel}
+use Rattle.cg_model.specs.Array.{Arch}
 use Rattle.cg_model.specs.Mapping.{IsLegal}
-use Rattle.cg_edges.specs.declared.edge.EdgeId.{EdgeId}
-use Rattle.cg_recur.specs.Recurrences.{IsRecurrence}
-use Rattle.cg_place.specs.Placed.{IsOffered}
+use Rattle.cg_recur.specs.Recurrences.{AreEarliest}
+use Rattle.cg_task.specs.Posed.{Posed, IsTask}
 use Rattle.cg_check.specs.Legal as checks
 use Rattle.cg_anneal.specs.declared.finding.Found.{Found}
 use Rattle.cg_anneal.specs.declared.finding.Found.TheVariants.{Mapped}
-use Rattle.cg_anneal.specs.Ended.{AreEarliest, IsWalked}
+use Rattle.cg_anneal.specs.Ended.{IsWalked}
 
 -- a kernel has one list of earliest times at an interval
 abbrev pub IsOneTime : Type 0
@@ -23,11 +22,8 @@ IsOneAnswer =
     (A : Arch) (K : Kernel) (ii seed moves : ℕ) (f g : Found) → IsWalked A K ii seed moves f →
     IsWalked A K ii seed moves g → f ≡ g
 
--- where the walk may be made, what it finds is a legal mapping at that interval, after no more moves
--- than there are
+-- what the walk of a task finds is a legal mapping at its interval, after no more moves than there are
 abbrev pub IsLegalEnd : Type 0
 IsLegalEnd =
-    (A : Arch) (K : Kernel) (ii seed moves k : ℕ) (m : checks.Mapped) → IsArch A → IsKernel K → 0 < ii →
-    ii ≤ A.contexts → IsOffered A K → ((ids : List EdgeId) → IsRecurrence A K ii ids → ⊥) →
-    IsWalked A K ii seed moves (Mapped m k) →
-    (m.arch ≡ A) × (m.kernel ≡ K) × (m.mapping.ii ≡ ii) × IsLegal A K m.mapping × (k ≤ moves)
+    (T : Posed) (seed moves k : ℕ) (m : checks.Mapped) → IsTask T → IsWalked T.arch T.kernel T.ii seed moves (Mapped m k) →
+    (m.arch ≡ T.arch) × (m.kernel ≡ T.kernel) × (m.mapping.ii ≡ T.ii) × IsLegal T.arch T.kernel m.mapping × (k ≤ moves)

@@ -2,13 +2,16 @@
 ghost use Rattle.std.specs.Prelude.{◌≡◌, ◌<◌, ◌≤◌};
 ghost use Rattle.cg_walk.specs.Walk as spec;
 
+/// How much hotter the walk is at its start than at its end.
+const HOTTEST: u64 = 64;
+
 /// How hot the walk is at a move.
 fn heat(moves: u32, k: u32) -> u64
     requires { k < moves }
     ensures value { result ≡ spec.heat moves k }
     ensures some { 0 < result }
 {
-    1 + 64 * u64::from(moves - k) / u64::from(moves)
+    1 + HOTTEST * u64::from(moves - k) / u64::from(moves)
 }
 
 /// Whether a move stands that takes the cost from `before` to `after`, by a word.

@@ -1,20 +1,18 @@
 //! The search for a mapping at an interval.
-ghost use Rattle.std.specs.Prelude.{◌≡◌, ◌<◌, ◌≤◌, List, IfOk};
-ghost use Rattle.cg_edges.specs.declared.edge.EdgeId.{EdgeId};
+ghost use Rattle.std.specs.Prelude.{◌≡◌, ◌≤◌, IfOk, OnOk};
 ghost use Rattle.cg_model.specs.Limits.{most_moves};
-ghost use Rattle.cg_place.specs.Placed.{IsOffered};
-ghost use Rattle.cg_recur.specs.Recurrences.{IsRecurrence};
-ghost use Rattle.cg_walk.specs.Good.{IsReady};
 ghost use Rattle.cg_walk.specs.State.{cost};
-ghost use Rattle.cg_anneal.specs.Ended.{IsFoundAt, IsWalkedFrom, IsWalked};
+ghost use Rattle.cg_walk.specs.Walk.{IsStart, all_edges, unrouted_start};
+ghost use Rattle.cg_anneal.specs.Ended.{IsFoundAt, IsReached, IsWalkedFrom, IsWalked};
+ghost use Rattle.cg_anneal.specs.Walking.{IsRoutedBy};
 
 use crate::counting::Counting;
+use crate::moves::Pace;
 use crate::walk::Walk;
-use cg_arch::Arch;
 use cg_check::LegalMapping;
-use cg_kernel::Kernel;
+use cg_model::Request;
 use cg_mrrg::Mrrg;
-use cg_recur::{Recur, recurrence};
+use cg_task::Task;
 use rand_pcg::Lcg64Xsh32;
 use std::alloc::{AllocError, Global};
 
@@ -27,114 +25,141 @@ pub enum Found<'a> {
     Spent(u64),
 }
 
-/// Makes the walk of a kernel on an architecture, at an interval, with a seed and so many moves at most.
-pub fn search<'a>(
-    alloc: Global,
-    arch: &'a Arch,
-    kernel: &'a Kernel,
-    ii: u32,
-    seed: u64,
-    moves: u32,
-) -> Result<Found<'a>, AllocError>
-    requires some { 0 < ii }
-    requires contexts { ii ≤ arch.now.contexts }
-    requires few { moves ≤ most_moves }
-    requires offered { IsOffered arch.now kernel.now }
-    requires free { (ids : List EdgeId) → IsRecurrence arch.now kernel.now ii ids → ⊥ }
-    ensures { IfOk result (IsWalked arch.now kernel.now ii seed moves) }
+/// Where a walk stands after its moves.
+#[derive(Clone, Copy, Drop)]
+pub(crate) enum Reached {
+    /// At a state of cost 0, after that many moves.
+    Zero(u32),
+    /// At that cost, after all moves.
+    Cost(u64),
+}
+
+/// Makes the walk of a task, with the seed and no more moves than are asked.
+pub fn search<'a>(alloc: Global, task: &Task<'a>, request: Request) -> Result<Found<'a>, AllocError>
+    requires few { request.moves ≤ most_moves }
+    ensures { IfOk result (IsWalked task.now.arch task.now.kernel task.now.ii request.seed request.moves) }
 {
-    search_by(alloc, Counting::Kept, arch, kernel, ii, seed, moves)
+    search_by(alloc, Counting::Kept, task, request)
 }
 
 /// Makes it, and counts the costs of states so.
 pub(crate) fn search_by<'a>(
     alloc: Global,
     counting: Counting,
-    arch: &'a Arch,
-    kernel: &'a Kernel,
-    ii: u32,
-    seed: u64,
-    moves: u32,
+    task: &Task<'a>,
+    request: Request,
 ) -> Result<Found<'a>, AllocError>
-    requires some { 0 < ii }
-    requires contexts { ii ≤ arch.now.contexts }
-    requires few { moves ≤ most_moves }
-    requires offered { IsOffered arch.now kernel.now }
-    requires free { (ids : List EdgeId) → IsRecurrence arch.now kernel.now ii ids → ⊥ }
-    ensures { IfOk result (IsWalked arch.now kernel.now ii seed moves) }
+    requires few { request.moves ≤ most_moves }
+    ensures { IfOk result (IsWalked task.now.arch task.now.kernel task.now.ii request.seed request.moves) }
 {
-    arch.contexts();
-    kernel.nodes();
-    match recurrence(alloc, arch, kernel, ii)? {
-        Recur::Cycle(_) => unreachable!(),
-        Recur::Times(early) => {
-            let found = run(
-                alloc,
-                counting,
-                arch,
-                kernel,
-                ii,
-                early.as_slice(),
-                seed,
-                moves,
-            )?;
-            Ok(found)
+    task.holds();
+    let graph = Mrrg::expand(alloc, task.arch(), task.interval())?;
+    let found = walk_over(alloc, counting, &graph, task, request)?;
+    Ok(found)
+}
+
+/// Makes it over the task's modulo routing resource graph.
+fn walk_over<'g, 'a>(
+    alloc: Global,
+    counting: Counting,
+    graph: &'g Mrrg<'a>,
+    task: &Task<'a>,
+    request: Request,
+) -> Result<Found<'a>, AllocError>
+    requires graph { graph.now ≡ record { arch = task.now.arch; interval = task.now.ii } }
+    requires few { request.moves ≤ most_moves }
+    ensures { IfOk result (IsWalkedFrom task.now.arch task.now.kernel task.now.ii task.now.early request.seed request.moves) }
+{
+    let mut walk = begin(alloc, graph, task)?;
+    end_of(alloc, counting, &mut walk, request)
+}
+
+/// Where a walk comes to from its start on.
+fn end_of<'g, 'a>(
+    alloc: Global,
+    counting: Counting,
+    walk: &mut Walk<'g, 'a>,
+    request: Request,
+) -> Result<Found<'a>, AllocError>
+    requires few { request.moves ≤ most_moves }
+    requires start { IsStart walk.old.arch walk.old.kernel walk.old.ii walk.old.early walk.old.state }
+    ensures { IfOk result (IsWalkedFrom walk.old.arch walk.old.kernel walk.old.ii walk.old.early request.seed request.moves) }
+{
+    match make_moves(alloc, counting, walk, request)? {
+        Reached::Zero(k) => {
+            let end = legal_end(alloc, walk, k)?;
+            Ok(end)
         }
+        Reached::Cost(cost) => Ok(Found::Spent(cost)),
     }
 }
 
-/// Makes the walk that begins with these earliest times.
-fn run<'a>(
+/// The walk at its start.
+fn begin<'g, 'a>(
+    alloc: Global,
+    graph: &'g Mrrg<'a>,
+    task: &Task<'a>,
+) -> Result<Walk<'g, 'a>, AllocError>
+    requires graph { graph.now ≡ record { arch = task.now.arch; interval = task.now.ii } }
+    ensures same { IfOk result (λ w. w ≡ record { arch = task.now.arch; kernel = task.now.kernel; ii = task.now.ii; early = task.now.early; state = w.state }) }
+    ensures start { IfOk result (λ w. IsStart task.now.arch task.now.kernel task.now.ii task.now.early w.state) }
+{
+    let mut walk = Walk::start(alloc, graph, task)?;
+    route_first(alloc, &mut walk)?;
+    Ok(walk)
+}
+
+/// Routes all edge operands of a walk at its start.
+fn route_first(alloc: Global, walk: &mut Walk) -> Result<(), AllocError>
+    requires { walk.old.state ≡ unrouted_start walk.old.arch walk.old.kernel walk.old.ii walk.old.early }
+    ensures { OnOk result (IsRoutedBy (all_edges walk.old.kernel) walk.old walk.new) }
+{
+    let list = walk.all(alloc)?;
+    walk.route_all(alloc, &list)
+}
+
+/// Makes moves until a state costs nothing, all of them else.
+fn make_moves(
     alloc: Global,
     counting: Counting,
-    arch: &'a Arch,
-    kernel: &'a Kernel,
-    ii: u32,
-    early: &[u32],
-    seed: u64,
-    moves: u32,
-) -> Result<Found<'a>, AllocError>
-    requires ready { IsReady arch.now kernel.now ii early.now }
-    requires few { moves ≤ most_moves }
-    ensures { IfOk result (IsWalkedFrom arch.now kernel.now ii early.now seed moves) }
+    walk: &mut Walk,
+    request: Request,
+) -> Result<Reached, AllocError>
+    requires few { request.moves ≤ most_moves }
+    requires start { IsStart walk.old.arch walk.old.kernel walk.old.ii walk.old.early walk.old.state }
+    ensures { IfOk result (IsReached walk.old request.seed request.moves walk.new) }
 {
-    arch.contexts();
-    let graph = Mrrg::expand(alloc, arch, ii)?;
-    let mut walk = Walk::start(alloc, &graph, arch, kernel, ii, early)?;
-    let list = walk.all(alloc)?;
-    walk.route_all(alloc, &list)?;
-    let mut generator = Lcg64Xsh32::new(seed, u64::from(ii));
+    walk.holds();
+    let moves = request.moves;
+    let mut generator = Lcg64Xsh32::new(request.seed, u64::from(walk.interval()));
     for k in 0..moves {
         walk.holds();
         let cost = walk.cost_by(alloc, counting)?;
         if cost == 0 {
-            let end = legal_end(alloc, arch, kernel, &mut walk, k)?;
-            return Ok(end);
+            return Ok(Reached::Zero(k));
         }
-        walk.step(alloc, counting, moves, k, &mut generator)?;
+        let pace = Pace { counting, moves, k };
+        walk.step(alloc, pace, &mut generator)?;
     }
     let left = walk.cost_by(alloc, counting)?;
     if left == 0 {
-        let last = legal_end(alloc, arch, kernel, &mut walk, moves)?;
-        return Ok(last);
+        return Ok(Reached::Zero(moves));
     }
-    Ok(Found::Spent(left))
+    Ok(Reached::Cost(left))
 }
 
 /// The mapping that a state of cost 0 stands for.
 fn legal_end<'g, 'a>(
     alloc: Global,
-    arch: &'a Arch,
-    kernel: &'a Kernel,
     walk: &mut Walk<'g, 'a>,
     k: u32,
 ) -> Result<Found<'a>, AllocError>
-    requires arch { walk.old.arch ≡ arch.now }
-    requires kernel { walk.old.kernel ≡ kernel.now }
     requires zero { cost walk.old.arch walk.old.kernel walk.old.ii walk.old.state ≡ 0 }
-    ensures { IfOk result (IsFoundAt arch.now kernel.now walk.old.ii walk.old.state k) }
+    ensures { IfOk result (IsFoundAt walk.old.arch walk.old.kernel walk.old.ii walk.old.state k) }
 {
     walk.holds();
+    let arch = walk.arch();
+    let kernel = walk.kernel();
     let mapping = walk.take_mapping(alloc)?;
     Ok(Found::Mapped(LegalMapping::new(arch, kernel, mapping), k))
 }

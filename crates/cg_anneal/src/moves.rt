@@ -11,6 +11,17 @@ use rand_core::utils::NextWord;
 use rand_pcg::Lcg64Xsh32;
 use std::alloc::{AllocError, Global};
 
+/// The number of moves after which histories grow.
+const PERIOD: u32 = 64;
+
+/// Which move of a walk is made: its number, of how many; and how the costs of states are counted.
+#[derive(Clone, Copy, Drop)]
+pub(crate) struct Pace {
+    pub(crate) counting: Counting,
+    pub(crate) moves: u32,
+    pub(crate) k: u32,
+}
+
 /// Four words of a generator, one after another.
 #[derive(Clone, Copy, Drop)]
 struct Drawn {
@@ -61,25 +72,23 @@ impl<'g, 'a> Walk<'g, 'a> {
     fn attempt(
         &mut self,
         alloc: Global,
-        counting: Counting,
-        moves: u32,
-        k: u32,
+        pace: Pace,
         change: Move,
         list: &[u32],
         word: u32,
     ) -> Result<(), AllocError>
-        requires left { k < moves }
+        requires left { pace.k < pace.moves }
         requires may { spec.MayPlace self.old change }
         requires list { list.now ≡ touching self.old.kernel change.node }
-        ensures { OnOk result (IsAttempt self.old change moves k word self.new) }
+        ensures { OnOk result (IsAttempt self.old change pace.moves pace.k word self.new) }
     {
         self.holds();
-        let before = self.cost_by(alloc, counting)?;
+        let before = self.cost_by(alloc, pace.counting)?;
         let routes = self.take_all(alloc, list)?;
         let back = self.place(change);
         self.route_all(alloc, list)?;
-        let after = self.cost_by(alloc, counting)?;
-        if is_taken(moves, k, before, after, word) {
+        let after = self.cost_by(alloc, pace.counting)?;
+        if is_taken(pace.moves, pace.k, before, after, word) {
             return Ok(());
         }
         self.drop_all(list);
@@ -88,13 +97,13 @@ impl<'g, 'a> Walk<'g, 'a> {
         Ok(())
     }
 
-    /// Lets histories grow, where the move was a 64th one.
+    /// Lets histories grow, where so many moves were made.
     fn rest(&mut self, k: u32)
         requires left { k < 1000000 }
         requires small { All (λ h. h < 4294967295) self.old.state.history }
         ensures { self.new ≡ spec.at_state self.old (rested self.old.arch self.old.kernel self.old.ii k self.old.state) }
     {
-        if (k + 1) % 64 == 0 {
+        if (k + 1) % PERIOD == 0 {
             self.age();
         }
     }
@@ -103,23 +112,21 @@ impl<'g, 'a> Walk<'g, 'a> {
     pub(crate) fn step(
         &mut self,
         alloc: Global,
-        counting: Counting,
-        moves: u32,
-        k: u32,
+        pace: Pace,
         generator: &mut Lcg64Xsh32,
     ) -> Result<(), AllocError>
-        requires left { k < moves }
-        requires few { moves ≤ 1000000 }
+        requires left { pace.k < pace.moves }
+        requires few { pace.moves ≤ 1000000 }
         requires some { 0 < size self.old.kernel }
-        requires small { All (λ h. h ≤ k) self.old.state.history }
-        ensures step { OnOk result (IsStep self.old moves k generator.old self.new) }
+        requires small { All (λ h. h ≤ pace.k) self.old.state.history }
+        ensures step { OnOk result (IsStep self.old pace.moves pace.k generator.old self.new) }
         ensures next { OnOk result (generator.new ≡ after_words 4 generator.old) }
     {
         let words = draw(generator);
         let change = self.propose(words.node, words.unit, words.time);
         let list = self.touching(alloc, change.node)?;
-        self.attempt(alloc, counting, moves, k, change, &list, words.stands)?;
-        self.rest(k);
+        self.attempt(alloc, pace, change, &list, words.stands)?;
+        self.rest(pace.k);
         Ok(())
     }
 }

@@ -11,9 +11,14 @@ use cg_model::{Items, Place, Words};
 use cg_mrrg::Mrrg;
 use cg_place::{Move, Placement};
 use cg_route::least_path;
+use cg_task::Task;
 use cg_walk::EdgeOperand;
 use std::alloc::{AllocError, Global};
 use std::marker::Model;
+
+/// What each edge operand without a route, each order edge that is broken and each node beyond one in a slot of a unit
+/// costs.
+pub(crate) const WEIGHT: u64 = 1000;
 
 /// The state of a walk: places, routes and histories, with a use table that has the uses of the routes.
 #[derive(Drop)]
@@ -47,7 +52,6 @@ impl<'g, 'a> Walk<'g, 'a> {
     ghost use Rattle.cg_walk.specs.State.{edges, cost, missing, positions_by, state_positions};
     ghost use Rattle.cg_model.specs.Kernel.{size};
     ghost use Rattle.cg_place.specs.Draws.{drawn_move};
-    ghost use Rattle.cg_walk.specs.Good.{IsReady};
     ghost use Rattle.cg_walk.specs.Walk.{edge, with_route, all_edges, aged_state, unrouted_start, IsFoundFor};
     ghost use Rattle.cg_walk.specs.Walk.{touching as touching_of_kernel};
     ghost use Rattle.cg_walk.specs.Ranges.{AreInRange};
@@ -127,7 +131,7 @@ impl<'g, 'a> Walk<'g, 'a> {
         let heavy = u64::from(self.missing)
             + u64::from(self.placement.order_violations())
             + u64::from(self.placement.unit_excess());
-        1000 * heavy + self.usage.excess()
+        WEIGHT * heavy + self.usage.excess()
     }
 
     /// The number of edge operands without a route, counted anew.
@@ -167,28 +171,28 @@ impl<'g, 'a> Walk<'g, 'a> {
     pub(crate) fn start(
         alloc: Global,
         graph: &'g Mrrg<'a>,
-        arch: &'a Arch,
-        kernel: &'a Kernel,
-        ii: u32,
-        early: &[u32],
+        task: &Task<'a>,
     ) -> Result<Walk<'g, 'a>, AllocError>
-        requires ready { IsReady arch.now kernel.now ii early.now }
-        requires graph { graph.now ≡ record { arch = arch.now; interval = ii } }
-        ensures { IfOk result (λ w. w ≡ record { arch = arch.now; kernel = kernel.now; ii = ii; early = early.now; state = unrouted_start arch.now kernel.now ii early.now }) }
+        requires { graph.now ≡ record { arch = task.now.arch; interval = task.now.ii } }
+        ensures { IfOk result (λ w. w ≡ record { arch = task.now.arch; kernel = task.now.kernel; ii = task.now.ii; early = task.now.early; state = unrouted_start task.now.arch task.now.kernel task.now.ii task.now.early }) }
     {
-        arch.contexts();
-        kernel.nodes();
+        task.holds();
+        let arch = task.arch();
+        let kernel = task.kernel();
+        let ii = task.interval();
         let edges = edges_of_kernel(alloc, kernel)?;
         let routes = no_routes(alloc, edges.len())?;
         let missing = edges.len() as u32;
+        let placement = Placement::start(alloc, arch, kernel, ii, task.early())?;
+        let usage = Usage::new(alloc, graph)?;
         Ok(Walk {
             graph,
             arch,
             kernel,
             ii,
             edges,
-            placement: Placement::start(alloc, arch, kernel, ii, early)?,
-            usage: Usage::new(alloc, graph)?,
+            placement,
+            usage,
             routes,
             missing,
         })

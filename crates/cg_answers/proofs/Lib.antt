@@ -5,3 +5,4 @@ pub mod Commands
 pub mod Judged
 pub mod Left
 pub mod Defined
+pub mod Allowed

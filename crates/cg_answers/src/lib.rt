@@ -3,5 +3,6 @@
 
 mod answering;
 mod netlisting;
+mod shaped;
 
 pub use answering::answer;

@@ -11,6 +11,7 @@ use Rattle.cg_edges.specs.declared.edge.EdgeId.{EdgeId}
 use Rattle.cg_edges.specs.Edges.{edge_of}
 use Rattle.cg_edges.specs.Chain.{IsShown}
 use Rattle.cg_recur.specs.Recurrences.{IsRecurrence}
+pub use Rattle.cg_recur.specs.Recurrences.{HasNoRecurrence}
 use Rattle.cg_class.specs.Class.{IsOverfull, AreOfNodes}
 use Rattle.cg_bound.specs.declared.interval.Certificate.{Certificate}
 use Rattle.cg_bound.specs.declared.interval.Certificate.TheVariants.{Cycle, Class}
@@ -19,10 +20,6 @@ use Rattle.cg_bound.specs.declared.interval.IntervalVerdict.TheVariants.{Impossi
 use Rattle.cg_bound.specs.declared.interval.LeastInterval.{LeastInterval}
 
 -- ---- intervals
-
--- no closed chain of edges is too long for an interval of ii cycles
-abbrev pub HasNoRecurrence : Arch → Kernel → ℕ → Type 0
-HasNoRecurrence A K ii = (ids : List EdgeId) → IsRecurrence A K ii ids → ⊥
 
 -- no set of operations has more nodes than its units can begin in ii cycles
 abbrev pub HasNoOverfull : Arch → Kernel → ℕ → Type 0

@@ -1,9 +1,11 @@
 //! Runs the transcripts that its arguments name: worked cases as data, each a call of `run_line` over files in memory
-//! and what it must leave. Prints a line a transcript, and before it what differs.
+//! and what it must leave. Prints a line a transcript, and before it what differs. At last some calls over the files of
+//! the system.
 #![tactic(auto)]
 
 mod bench;
 mod content;
+mod disk;
 mod series;
 mod transcript;
 
@@ -15,7 +17,7 @@ fn main(rt: HostRuntime) -> io::Result<()> {
     for name in env::args(&rt)?.skip(1) {
         run_file(&rt, name.as_str())?;
     }
-    Ok(())
+    disk::run_calls(&rt)
 }
 
 /// Runs the transcript that a file holds.

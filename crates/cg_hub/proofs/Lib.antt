@@ -7,3 +7,4 @@ pub mod Legal
 pub mod Found
 pub mod Made
 pub mod Rows
+pub mod Hubs

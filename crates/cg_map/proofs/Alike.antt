@@ -6,25 +6,28 @@ use Rattle.cg_model.specs.Kernel.{Kernel, IsKernel}
 use Rattle.cg_model.specs.Array.{Arch, IsArch}
 use Rattle.cg_model.specs.Mapping.{IsLegal}
 use Rattle.cg_check.specs.Legal.{Mapped as MappedValue}
-use Rattle.cg_map.specs.declared.trying.Way.{Way}
+use Rattle.cg_task.specs.declared.answering.FoundBy.{FoundBy}
 use Rattle.cg_map.specs.declared.trying.Attempt.TheVariants as at
-use Rattle.cg_map.specs.declared.answering.MapAnswer.{MapAnswer}
-use Rattle.cg_map.specs.declared.answering.MapAnswer.TheVariants.{Impossible, Mapped, Spent}
-use Rattle.cg_map.specs.Tried.{last_tried, IsAttempt, IsTried, IsFirst, IsFirstMapping, AreAllLeft, IsSearched, IsAnswer}
-use Rattle.cg_map.specs.Laws.{AreAlike, IsMapping, IsAsked}
+use Rattle.cg_task.specs.declared.answering.Answer.{Answer}
+use Rattle.cg_task.specs.declared.answering.Answer.TheVariants.{Impossible, Mapped, Spent}
+use Rattle.cg_task.specs.Intervals.{IsAsked, last_tried}
+use Rattle.cg_task.specs.Answers.{IsMapping, IsSearched}
+use Rattle.cg_task.proofs.Answers.{not_impossible}
+use Rattle.cg_map.specs.Tried.{IsAttempt, IsTried, IsFirstMapping, AreAllLeft, IsAnswer}
+use Rattle.cg_map.specs.Laws.{AreAlike}
 use Rattle.cg_hub.proofs.Legal.{hub_legal}
-use Rattle.cg_map.proofs.Hubs.{hub_interval}
+use Rattle.cg_hub.proofs.Hubs.{hub_interval}
 use Rattle.cg_hub.specs.Hub.{HubEnough, hub_map}
 use Rattle.cg_bound.proofs.Legal.{excluded}
-use Rattle.cg_map.proofs.Intervals.{not_both, shown_forbids, one_first, first_within, last_positive, open_from}
+use Rattle.cg_task.proofs.Intervals.{not_both, shown_forbids, one_first, first_within, last_positive, open_from}
 use Rattle.cg_map.proofs.Attempts.{not_left, one_mapped, left_at, one_costs, legal_attempt}
 
 module _ (A : Arch) (K : Kernel) (arch : IsArch A) (kernel : IsKernel K) (asked : Option ℕ) (seed moves : ℕ) where
   -- no interval before that of a first mapping has one
-  not_before : (first : ℕ) (m n : MappedValue) (way by : Way) (p : IsFirstMapping A K asked seed moves first m way) (q : IsFirstMapping A K asked seed moves first n by) → length p.costs < length q.costs → ⊥
+  not_before : (first : ℕ) (m n : MappedValue) (way by : FoundBy) (p : IsFirstMapping A K asked seed moves first m way) (q : IsFirstMapping A K asked seed moves first n by) → length p.costs < length q.costs → ⊥
   not_before first m n way by p q l = not_left A K arch kernel seed moves (first + length p.costs) m way (slice_index q.costs (length p.costs)) p.attempt (left_at A K arch kernel seed moves first q.costs (length p.costs) q.left l)
 
-  same_mapping : (first : ℕ) (m n : MappedValue) (way by : Way) → IsFirstMapping A K asked seed moves first m way → IsFirstMapping A K asked seed moves first n by → (m ≡ n) × (way ≡ by)
+  same_mapping : (first : ℕ) (m n : MappedValue) (way by : FoundBy) → IsFirstMapping A K asked seed moves first m way → IsFirstMapping A K asked seed moves first n by → (m ≡ n) × (way ≡ by)
   same_mapping first m n way by p q =
       ⊎_elim (λ l. absurd (not_before first m n way by p q l))
       (λ h. ⊎_elim (λ l. absurd (not_before first n m by way q p l))
@@ -34,7 +37,7 @@ module _ (A : Arch) (K : Kernel) (arch : IsArch A) (kernel : IsKernel K) (asked 
       (cases_lt (length p.costs) (length q.costs))
 
   -- where all costs are left there is no mapping
-  none_left : (first : ℕ) (m : MappedValue) (way : Way) (costs : List ℕ) → IsFirstMapping A K asked seed moves first m way → AreAllLeft A K asked seed moves first costs → ⊥
+  none_left : (first : ℕ) (m : MappedValue) (way : FoundBy) (costs : List ℕ) → IsFirstMapping A K asked seed moves first m way → AreAllLeft A K asked seed moves first costs → ⊥
   none_left first m way costs p q =
       not_left A K arch kernel seed moves (first + length p.costs) m way (slice_index costs (length p.costs)) p.attempt
       (left_at A K arch kernel seed moves first costs (length p.costs) q.left (let w = p.within in let e = q.all in omega (arith, w, e)))
@@ -44,11 +47,11 @@ module _ (A : Arch) (K : Kernel) (arch : IsArch A) (kernel : IsKernel K) (asked 
 
   -- ---- answers
 
-  abbrev Answered : MapAnswer → Type 0
+  abbrev Answered : Answer → Type 0
   Answered a = IsAnswer A K asked seed moves a
 
   -- what comes of one first interval
-  same_tried : (first : ℕ) (a b : MapAnswer) → IsTried A K asked seed moves first a → IsTried A K asked seed moves first b → AreAlike a b
+  same_tried : (first : ℕ) (a b : Answer) → IsTried A K asked seed moves first a → IsTried A K asked seed moves first b → AreAlike a b
   same_tried first (Impossible c) b p q = absurd p
   same_tried first (Mapped m way) (Impossible d) p q = absurd q
   same_tried first (Mapped m way) (Mapped n by) p q = same_mapping first m n way by p q
@@ -57,28 +60,27 @@ module _ (A : Arch) (K : Kernel) (arch : IsArch A) (kernel : IsKernel K) (asked 
   same_tried first (Spent f cs) (Mapped n by) p q = absurd (none_left first n by cs.items q p.1)
   same_tried first (Spent f cs) (Spent g ds) p q = (p.0 ∙ sym q.0, same_costs first cs.items ds.items p.1 q.1)
 
-  same_search : (a b : MapAnswer) → IsSearched A K asked seed moves a → IsSearched A K asked seed moves b → AreAlike a b
+  abbrev Comes : ℕ → Answer → Type 0
+  Comes = IsTried A K asked seed moves
+
+  same_search : (a b : Answer) → IsSearched A K asked Comes a → IsSearched A K asked Comes b → AreAlike a b
   same_search a b p q =
       let e : p.first ≡ q.first = one_first A K asked p.first q.first p.is_first q.is_first in
       same_tried q.first a b (subst (λ z. IsTried A K asked seed moves z a) e p.tried) q.tried
 
-  -- an interval that is searched isn't impossible
-  not_impossible : (a : MapAnswer) → IsSearched A K asked seed moves a → (c : _) → Answered (Impossible c) → ⊥
-  not_impossible a p c q = not_both A K (last_tried A asked) p.free (shown_forbids A K (last_tried A asked) c q)
-
-  pub alike : (a b : MapAnswer) → Answered a → Answered b → AreAlike a b
+  pub alike : (a b : Answer) → Answered a → Answered b → AreAlike a b
   alike (Impossible c) (Impossible d) p q = tt
-  alike (Impossible c) (Mapped n by) p q = absurd (not_impossible (Mapped n by) q c p)
-  alike (Impossible c) (Spent g ds) p q = absurd (not_impossible (Spent g ds) q c p)
-  alike (Mapped m way) (Impossible d) p q = absurd (not_impossible (Mapped m way) p d q)
+  alike (Impossible c) (Mapped n by) p q = absurd (not_impossible A K asked Comes (Mapped n by) q c p)
+  alike (Impossible c) (Spent g ds) p q = absurd (not_impossible A K asked Comes (Spent g ds) q c p)
+  alike (Mapped m way) (Impossible d) p q = absurd (not_impossible A K asked Comes (Mapped m way) p d q)
   alike (Mapped m way) (Mapped n by) p q = same_search (Mapped m way) (Mapped n by) p q
   alike (Mapped m way) (Spent g ds) p q = same_search (Mapped m way) (Spent g ds) p q
-  alike (Spent f cs) (Impossible d) p q = absurd (not_impossible (Spent f cs) p d q)
+  alike (Spent f cs) (Impossible d) p q = absurd (not_impossible A K asked Comes (Spent f cs) p d q)
   alike (Spent f cs) (Mapped n by) p q = same_search (Spent f cs) (Mapped n by) p q
   alike (Spent f cs) (Spent g ds) p q = same_search (Spent f cs) (Spent g ds) p q
 
   -- a mapping that is answered is legal
-  pub legal : IsAsked A asked → (m : MappedValue) (way : Way) → Answered (Mapped m way) → (m.arch ≡ A) × (m.kernel ≡ K) × IsLegal A K m.mapping
+  pub legal : IsAsked A asked → (m : MappedValue) (way : FoundBy) → Answered (Mapped m way) → (m.arch ≡ A) × (m.kernel ≡ K) × IsLegal A K m.mapping
   legal is m way p =
       let (some, most) = last_positive A K asked arch is in
       let (positive, l) = first_within A K asked p.first arch is p.free p.is_first in
@@ -89,7 +91,7 @@ module _ (A : Arch) (K : Kernel) (arch : IsArch A) (kernel : IsKernel K) (asked 
       (open_from A K asked p.first ii p.free p.is_first (omega arith) w) t.attempt
 
   -- where the hub suffices at the last interval a mapping is answered
-  pub by_hub : IsAsked A asked → HubEnough A K (last_tried A asked) → (a : MapAnswer) → Answered a → IsMapping a
+  pub by_hub : IsAsked A asked → HubEnough A K (last_tried A asked) → (a : Answer) → Answered a → IsMapping a
   by_hub is enough (Mapped m way) p = tt
   by_hub is enough (Impossible c) p =
       let ii = last_tried A asked in

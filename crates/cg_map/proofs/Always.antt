@@ -1,43 +1,24 @@
 -- There is always an answer, by definitions alone.
 use Rattle.std.proofs.Common.{rules, ◌≡◌, ℕ, zero, suc, ◌+◌, ◌-◌, ◌^◌, ◌<◌, ◌≤◌, List, [], ◌∷◌, ◌++◌, length, Option, Some, None, refl, sym, ap, ◌∙◌, subst, arith, inl, inr, ⊎_elim}
-use Rattle.std.specs.Global.{Vec}
-use denote.RawPtr.{null_ptr}
 use Rattle.std.proofs.Math.ListN.{length-append}
 use Rattle.cg_model.specs.Kernel.{Kernel, IsKernel}
 use Rattle.cg_model.specs.Array.{Arch, IsArch}
-use Rattle.cg_model.specs.Limits.{most_contexts}
-use Rattle.cg_bound.specs.declared.interval.Certificate.{Certificate}
-use Rattle.cg_bound.specs.declared.interval.Certificate.TheVariants.{Cycle, Class}
-use Rattle.cg_bound.specs.declared.interval.LeastInterval.{LeastInterval}
-use Rattle.cg_bound.specs.declared.interval.IntervalVerdict.{IntervalVerdict}
-use Rattle.cg_bound.specs.declared.interval.IntervalVerdict.TheVariants as verdict
-use Rattle.cg_bound.specs.Bound.{IsOpen, IsVerdict, IsBoundBy, ShowsUnoffered}
-use Rattle.cg_bound.proofs.Always.{some_bound, some_verdict}
+use Rattle.cg_bound.specs.Bound.{IsOpen}
 use Rattle.cg_map.specs.declared.trying.Attempt.{Attempt}
 use Rattle.cg_map.specs.declared.trying.Attempt.TheVariants as at
-use Rattle.cg_map.specs.declared.answering.MapAnswer.{MapAnswer}
-use Rattle.cg_map.specs.declared.answering.MapAnswer.TheVariants.{Impossible, Mapped, Spent}
-use Rattle.cg_map.specs.Tried.{last_tried, IsFirst, IsAttempt, AreLeft, IsTried, IsAnswer}
-use Rattle.cg_map.specs.Laws.{IsAsked}
-use Rattle.cg_map.proofs.Intervals.{never_unbounded, first_within, last_positive, open_from}
+use Rattle.cg_task.specs.declared.answering.Answer.{Answer}
+use Rattle.cg_task.specs.declared.answering.Answer.TheVariants.{Mapped, Spent}
+use Rattle.cg_task.specs.Intervals.{IsAsked, last_tried, IsFirst}
+use Rattle.cg_map.specs.Tried.{IsAttempt, AreLeft, IsTried, IsAnswer}
+use Rattle.cg_task.proofs.Intervals.{first_within, last_positive, open_from}
+use Rattle.cg_task.proofs.Answers as answers
+use Rattle.cg_task.proofs.Answers.{held}
 use Rattle.cg_map.proofs.Attempts.{some_attempt, left_more}
 
--- a list as a value of the program: where it would stand in memory is no matter of what is said of it
-abbrev held : (costs : List ℕ) → length costs < 2 ^ 60 → Vec ℕ
-held costs l = record { ptr = null_ptr; len = length costs; cap = length costs; alloc = record { memory = record { seal = tt } }; items = costs; ok = (refl, omega arith); small = omega (arith, l) }
-
 module _ (A : Arch) (K : Kernel) (arch : IsArch A) (kernel : IsKernel K) (asked : Option ℕ) (seed moves : ℕ) (is : IsAsked A asked) where
-  first_of : (o : Option ℕ) (below : Option Certificate) → IsBoundBy A K o below → IsOpen A K A.contexts → (m : ℕ) × IsFirst A K None m
-  first_of (Some m) below (all, mii, shown) free = (m, mii)
-  first_of None below b free = absurd (never_unbounded A K below A.contexts b free)
-
-  some_first : (o : Option ℕ) → IsOpen A K (last_tried A o) → (m : ℕ) × IsFirst A K o m
-  some_first None free = let (b, is_bound) = some_bound A K arch kernel in first_of b.mii b.below is_bound free
-  some_first (Some n) free = (n, refl)
-
   module _ (free : IsOpen A K (last_tried A asked)) (first : ℕ) (is_first : IsFirst A K asked first) where
     abbrev Comes : Type 0
-    Comes = (a : MapAnswer) × IsAnswer A K asked seed moves a
+    Comes = (a : Answer) × IsAnswer A K asked seed moves a
 
     -- a mapping comes, or one cost more is left
     on_from : (costs : List ℕ) → AreLeft A K seed moves first costs → first + length costs ≤ last_tried A asked
@@ -66,12 +47,9 @@ module _ (A : Arch) (K : Kernel) (arch : IsArch A) (kernel : IsKernel K) (asked 
         upwards fuel (costs ++ c ∷ []) left' (omega (arith, e, longer)))
         a p
 
-  by_verdict : (v : IntervalVerdict) → IsVerdict A K (last_tried A asked) v → (a : MapAnswer) × IsAnswer A K asked seed moves a
-  by_verdict (verdict.Impossible c) shown = (Impossible c, shown)
-  by_verdict verdict.Allowed free =
-      let (first, is_first) = some_first asked free in
+  pub some_answer : (a : Answer) × IsAnswer A K asked seed moves a
+  some_answer =
+      answers.some_answer A K asked (IsTried A K asked seed moves) arch kernel
+      (λ first free is_first.
       let (positive, l) = first_within A K asked first arch is free is_first in
-      upwards free first is_first (last_tried A asked + 1 - first) [] tt (omega (arith, l))
-
-  pub some_answer : (a : MapAnswer) × IsAnswer A K asked seed moves a
-  some_answer = let (v, is_verdict) = some_verdict A K (last_tried A asked) arch kernel in by_verdict v is_verdict
+      upwards free first is_first (last_tried A asked + 1 - first) [] tt (omega (arith, l)))

@@ -1,5 +1,3 @@
-pub mod Intervals
-pub mod Hubs
 pub mod Attempts
 pub mod Alike
 pub mod Always

@@ -2,32 +2,17 @@
 ghost use Rattle.std.specs.Prelude.{◌≡◌, ◌≤◌, IfOk};
 ghost use Rattle.cg_model.specs.Limits.{most_moves};
 ghost use Rattle.cg_bound.specs.Bound.{IsOpen};
-ghost use Rattle.cg_map.specs.Laws.{IsAsked};
-ghost use Rattle.cg_map.specs.Tried as spec;
-ghost use Rattle.cg_map.specs.Tried.{IsAnswer, IsFirst, IsTried};
+ghost use Rattle.cg_task.specs.Intervals as spec;
+ghost use Rattle.cg_task.specs.Intervals.{IsAsked, IsFirst};
+ghost use Rattle.cg_map.specs.Tried.{IsAnswer, IsTried};
 
-use crate::trying::{Attempt, Way, try_interval};
+use crate::trying::{Attempt, try_task};
 use cg_arch::Arch;
-use cg_bound::{Certificate, IntervalVerdict, bound, verdict};
-use cg_check::LegalMapping;
+use cg_bound::{IntervalVerdict, verdict};
 use cg_kernel::Kernel;
+use cg_model::Request;
+use cg_task::{Answer, Task, first_tried, last_tried};
 use std::alloc::{AllocError, Global};
-
-/// What a search for a mapping answers.
-#[derive(Drop)]
-pub enum MapAnswer<'a> {
-    /// The last interval that would be tried is impossible, and this is why.
-    Impossible(Certificate),
-    /// The mapping of the first interval that has one.
-    Mapped(LegalMapping<'a>, Way),
-    /// No interval has one: the first that was tried, and the cost that is left at each from there on.
-    Spent {
-        /// The first interval that was tried, in cycles.
-        first: u32,
-        /// The costs.
-        costs: Vec<u64>,
-    },
-}
 
 /// Searches a mapping: at the interval that is asked, or at each from the least one that nothing forbids to as many cycles
 /// as the architecture has contexts.
@@ -35,49 +20,18 @@ pub fn map_answer<'a>(
     alloc: Global,
     arch: &'a Arch,
     kernel: &'a Kernel,
-    asked: Option<u32>,
-    seed: u64,
-    moves: u32,
-) -> Result<MapAnswer<'a>, AllocError>
-    requires within { IsAsked arch.now asked }
-    requires few { moves ≤ most_moves }
-    ensures { IfOk result (IsAnswer arch.now kernel.now asked seed moves) }
+    request: Request,
+) -> Result<Answer<'a>, AllocError>
+    requires within { IsAsked arch.now request.ii }
+    requires few { request.moves ≤ most_moves }
+    ensures { IfOk result (IsAnswer arch.now kernel.now request.ii request.seed request.moves) }
 {
-    match verdict(alloc, arch, kernel, last_tried(arch, asked))? {
-        IntervalVerdict::Impossible(certificate) => Ok(MapAnswer::Impossible(certificate)),
+    match verdict(alloc, arch, kernel, last_tried(arch, request.ii))? {
+        IntervalVerdict::Impossible(certificate) => Ok(Answer::Impossible(certificate)),
         IntervalVerdict::Allowed => {
-            let first = first_tried(alloc, arch, kernel, asked)?;
-            tried(alloc, arch, kernel, first, asked, seed, moves)
+            let first = first_tried(alloc, arch, kernel, request.ii)?;
+            tried(alloc, arch, kernel, first, request)
         }
-    }
-}
-
-/// The last interval that is tried.
-pub fn last_tried(arch: &Arch, asked: Option<u32>) -> u32
-    ensures { result ≡ spec.last_tried arch.now asked }
-{
-    match asked {
-        Some(ii) => ii,
-        None => arch.contexts(),
-    }
-}
-
-/// The first one.
-pub fn first_tried(
-    alloc: Global,
-    arch: &Arch,
-    kernel: &Kernel,
-    asked: Option<u32>,
-) -> Result<u32, AllocError>
-    requires { IsOpen arch.now kernel.now (spec.last_tried arch.now asked) }
-    ensures { IfOk result (IsFirst arch.now kernel.now asked) }
-{
-    match asked {
-        Some(ii) => Ok(ii),
-        None => match bound(alloc, arch, kernel)?.mii {
-            Some(least) => Ok(least),
-            None => unreachable!(),
-        },
     }
 }
 
@@ -87,23 +41,22 @@ fn tried<'a>(
     arch: &'a Arch,
     kernel: &'a Kernel,
     first: u32,
-    asked: Option<u32>,
-    seed: u64,
-    moves: u32,
-) -> Result<MapAnswer<'a>, AllocError>
-    requires within { IsAsked arch.now asked }
-    requires few { moves ≤ most_moves }
-    requires first { IsFirst arch.now kernel.now asked first }
-    requires free { IsOpen arch.now kernel.now (spec.last_tried arch.now asked) }
-    ensures { IfOk result (IsTried arch.now kernel.now asked seed moves first) }
+    request: Request,
+) -> Result<Answer<'a>, AllocError>
+    requires within { IsAsked arch.now request.ii }
+    requires few { request.moves ≤ most_moves }
+    requires first { IsFirst arch.now kernel.now request.ii first }
+    requires free { IsOpen arch.now kernel.now (spec.last_tried arch.now request.ii) }
+    ensures { IfOk result (IsTried arch.now kernel.now request.ii request.seed request.moves first) }
 {
     arch.contexts();
-    let mut costs = Vec::new(alloc);
-    for ii in first..last_tried(arch, asked) + 1 {
-        match try_interval(alloc, arch, kernel, ii, seed, moves)? {
-            Attempt::Mapped(mapping, way) => return Ok(MapAnswer::Mapped(mapping, way)),
-            Attempt::Left(cost) => costs.push(cost)?,
+    let mut left = Vec::new(alloc);
+    for ii in first..last_tried(arch, request.ii) + 1 {
+        let task = Task::new(alloc, arch, kernel, ii)?;
+        match try_task(alloc, &task, request)? {
+            Attempt::Mapped(mapping, found_by) => return Ok(Answer::Mapped(mapping, found_by)),
+            Attempt::Left(cost) => left.push(cost)?,
         }
     }
-    Ok(MapAnswer::Spent { first, costs })
+    Ok(Answer::Spent { first, left })
 }

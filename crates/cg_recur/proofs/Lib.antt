@@ -7,5 +7,6 @@ pub mod Names
 pub mod Named
 pub mod Visits
 pub mod Closing
+pub mod Made
 pub mod Decided
 pub mod Earliest

@@ -18,7 +18,7 @@ use Rattle.cg_edges.specs.Chain.{IsCycle, IsShown, IsEarly}
 use Rattle.cg_edges.specs.Edges.{edge_of, of_operand, of_order, latency, AreEdges}
 use Rattle.cg_recur.specs.Log.{IsWithin}
 use Rattle.cg_recur.specs.Numbered.{IsShownCycle}
-use Rattle.cg_recur.specs.Recurrences.{IsRecurrence, name_at}
+use Rattle.cg_recur.specs.Recurrences.{IsRecurrence, HasNoRecurrence, name_at}
 use Rattle.cg_recur.proofs.Names.{named, IsCycle-map, IsShown-map, IsEarly-names}
 
 -- an edge of a valid kernel joins nodes, and its latency is small
@@ -106,6 +106,10 @@ module _ (A : Arch) (K : Kernel) (names : List EdgeId) (es : List Edge) (good : 
         IsCycle-map (slice_get es) (edge_of A K) (name_at names) same ii numbers c.0,
         IsShown-map (slice_get es) (edge_of A K) (name_at names) same c.0.closed.0 c.0.closed.0 numbers c.0.closed.1 c.1,
       )
+
+  -- no chain by number is too long where none by name is
+  pub none_numbered : (ii : ℕ) → HasNoRecurrence A K ii → (xs : List ℕ) → IsCycle (slice_get es) ii xs → ⊥
+  none_numbered ii none xs c = none (map (name_at names) xs) (IsCycle-map (slice_get es) (edge_of A K) (name_at names) same ii xs c)
 
   pub times_named : (ii n : ℕ) (ts : List ℕ) → n ≡ size K → length ts ≡ n → ((v : ℕ) → v < n → IsEarly (slice_get es) ii v (slice_index ts v)) → ((xs : List ℕ) → IsCycle (slice_get es) ii xs → ⊥) →
       (length ts ≡ size K) × ((v : ℕ) → v < size K → IsEarly (edge_of A K) ii v (slice_index ts v)) × ((ids : List EdgeId) → IsRecurrence A K ii ids → ⊥)

@@ -1,6 +1,7 @@
 -- The log of the moments at which a node's time rose.
-use Rattle.std.specs.Prelude.{◌≡◌, ℕ, ◌+◌, ◌*◌, ◌^◌, ◌<◌, ◌≤◌, ◌⊎◌, List, length, Some, slice_get, slice_index, slice_index_or}
+use Rattle.std.specs.Prelude.{◌≡◌, ℕ, ◌+◌, ◌*◌, ◌^◌, ◌<◌, ◌≤◌, ◌⊎◌, List, length, Some, slice_get, slice_index, slice_index_or, Bool, true, false}
 use Rattle.cg_edges.specs.declared.edge.Edge.{Edge}
+use Rattle.cg_edges.specs.Chain.{IsTight}
 use Rattle.cg_recur.specs.declared.moments.Step.{Step}
 use Rattle.cg_recur.specs.declared.moments.Outcome.{Outcome}
 use Rattle.cg_recur.specs.declared.moments.Outcome.TheVariants.{Same, Raised, Deep}
@@ -102,3 +103,8 @@ IsCounting n last = (length last ≡ n) × ((i : ℕ) → i < n → slice_index 
 -- the time of each node by the log
 abbrev pub AreTimes : List Step → List ℕ → List ℕ → Type 0
 AreTimes log last ts = (length ts ≡ length last) × ((v : ℕ) → v < length last → slice_index ts v ≡ time_of log last v)
+
+-- what the rounds leave: a log whose last moment comes by n edges, or one without such a moment, in which each edge is slack
+abbrev pub IsMade : List Edge → ℕ → ℕ → List Step → List ℕ → Bool → Type 0
+IsMade es ii n log last true = IsLog es ii n log last × IsDeep n log
+IsMade es ii n log last false = IsLog es ii n log last × IsShallow n log × IsTight (slice_get es) ii (time_of log last)

@@ -13,6 +13,15 @@ use Rattle.cg_recur.specs.declared.recur.Recur.TheVariants.{Cycle, Times}
 abbrev pub IsRecurrence : Arch → Kernel → ℕ → List EdgeId → Type 0
 IsRecurrence A K ii ids = IsCycle (edge_of A K) ii ids
 
+-- no closed chain of edges is too long for an interval of ii cycles
+abbrev pub HasNoRecurrence : Arch → Kernel → ℕ → Type 0
+HasNoRecurrence A K ii = (ids : List EdgeId) → IsRecurrence A K ii ids → ⊥
+
+-- the earliest times of a kernel's nodes
+pub record AreEarliest (A : Arch) (K : Kernel) (ii : ℕ) (early : List ℕ) : Type 0 where
+  pub each : length early ≡ size K
+  pub right : (v : ℕ) → v < size K → IsEarly (edge_of A K) ii v (slice_index early v)
+
 -- such a chain in its shown form, or the earliest times of all nodes where there is none
 abbrev pub IsAnswer : Arch → Kernel → ℕ → Recur → Type 0
 IsAnswer A K ii (Cycle ids) = IsRecurrence A K ii ids.items × IsShown (edge_of A K) ids.items

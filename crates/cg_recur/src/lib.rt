@@ -10,4 +10,4 @@ mod rounds;
 
 pub use cg_edges::{Arch, EdgeId, Kernel};
 pub use check::check_cycle;
-pub use recur::{Recur, recurrence};
+pub use recur::{Recur, earliest_times, recurrence};

@@ -1,8 +1,9 @@
 //! The bound by recurrences of a kernel on an architecture.
 ghost use Rattle.std.specs.Prelude.{◌≡◌, ℕ, ◌<◌, IfOk, length, map, slice_index};
-ghost use Rattle.cg_recur.specs.Recurrences.{IsAnswer, name_at};
+ghost use Rattle.cg_recur.specs.Recurrences.{IsAnswer, HasNoRecurrence, AreEarliest, name_at};
 
-use crate::rounds::{Numbered, longest_chains};
+use crate::moments::times;
+use crate::rounds::{Numbered, longest_chains, make_rounds};
 use cg_arch::Arch;
 use cg_edges::{EdgeId, edges_of, latencies_are_small};
 use cg_kernel::Kernel;
@@ -30,6 +31,27 @@ pub fn recurrence(alloc: Global, arch: &Arch, kernel: &Kernel, ii: u32) -> Resul
         Numbered::Cycle(numbers) => Ok(Recur::Cycle(name_all(alloc, &list.names, &numbers)?)),
         Numbered::Times(times) => Ok(Recur::Times(times)),
     }
+}
+
+/// The earliest times of the nodes, at an interval for which no closed chain of edges is too long.
+pub fn earliest_times(
+    alloc: Global,
+    arch: &Arch,
+    kernel: &Kernel,
+    ii: u32,
+) -> Result<Vec<u32>, AllocError>
+    requires { HasNoRecurrence arch.now kernel.now ii }
+    ensures { IfOk result (λ v. AreEarliest arch.now kernel.now ii v.items) }
+{
+    latencies_are_small(arch);
+    let list = edges_of(alloc, arch, kernel)?;
+    let nodes = kernel.nodes().len();
+    let edges = list.edges.as_slice();
+    let made = make_rounds(alloc, edges, nodes, ii)?;
+    let log = made.log.as_slice();
+    let last = made.last.as_slice();
+    let early = times(alloc, log, last, edges, ii)?;
+    Ok(early)
 }
 
 /// The names of edges, by their numbers.

@@ -1,12 +1,23 @@
 //! Rounds over all edges, until no time rises or a chain closes.
 ghost use Rattle.std.specs.Prelude.{◌^◌, ◌<◌, IfOk};
-ghost use Rattle.cg_recur.specs.Log.{IsWithin, IsLog, IsSettled};
+ghost use Rattle.cg_recur.specs.Log.{IsWithin, IsMade};
 ghost use Rattle.cg_recur.specs.Numbered.{IsNumbered};
 
 use crate::closed::cycle;
-use crate::moments::{Outcome, begin, numbers, relax, times};
+use crate::moments::{Outcome, Step, begin, numbers, relax, times};
 use cg_edges::Edge;
 use std::alloc::{AllocError, Global};
+
+/// What the rounds leave.
+#[derive(Drop)]
+pub(crate) struct Rounds {
+    /// The log.
+    pub(crate) log: Vec<Step>,
+    /// The latest moment of each node.
+    pub(crate) last: Vec<usize>,
+    /// Whether the last moment comes by a chain of as many edges as there are nodes.
+    pub(crate) is_deep: bool,
+}
 
 /// The longest chains of edges, or why they have no end.
 #[derive(Drop)]
@@ -28,6 +39,28 @@ pub(crate) fn longest_chains(
     requires small { nodes < 2 ^ 16 }
     ensures { IfOk result (λ r. IsNumbered edges.now nodes ii r) }
 {
+    let made = make_rounds(alloc, edges, nodes, ii)?;
+    let log = made.log.as_slice();
+    let last = made.last.as_slice();
+    if made.is_deep {
+        let numbers = cycle(alloc, log, edges, last, ii)?;
+        return Ok(Numbered::Cycle(numbers));
+    }
+    let early = times(alloc, log, last, edges, ii)?;
+    Ok(Numbered::Times(early))
+}
+
+/// Makes as many rounds as there are nodes, fewer where no time rises in one, or a chain is too long.
+pub(crate) fn make_rounds(
+    alloc: Global,
+    edges: &[Edge],
+    nodes: usize,
+    ii: u32,
+) -> Result<Rounds, AllocError>
+    requires within { IsWithin edges.now nodes }
+    requires small { nodes < 2 ^ 16 }
+    ensures { IfOk result (λ r. IsMade edges.now ii nodes r.log.items r.last.items r.is_deep) }
+{
     let mut log = begin(alloc, nodes)?;
     let mut last = numbers(alloc, nodes)?;
     for r in 0..nodes {
@@ -36,12 +69,26 @@ pub(crate) fn longest_chains(
             match relax(&mut log, &mut last, edges, e, nodes, ii)? {
                 Outcome::Same => {}
                 Outcome::Raised => quiet = false,
-                Outcome::Deep => return Ok(Numbered::Cycle(cycle(alloc, &log, edges, &last, ii)?)),
+                Outcome::Deep => {
+                    return Ok(Rounds {
+                        log,
+                        last,
+                        is_deep: true,
+                    });
+                }
             }
         }
         if quiet {
-            return Ok(Numbered::Times(times(alloc, &log, &last, edges, ii)?));
+            return Ok(Rounds {
+                log,
+                last,
+                is_deep: false,
+            });
         }
     }
-    Ok(Numbered::Times(times(alloc, &log, &last, edges, ii)?))
+    Ok(Rounds {
+        log,
+        last,
+        is_deep: false,
+    })
 }

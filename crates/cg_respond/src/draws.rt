@@ -14,12 +14,6 @@ fn scaled(word: u32, k: u32) -> u32 {
     (u64::from(word) * u64::from(k) / (1 << 32)) as u32
 }
 
-/// The upper 24 bits of the next word: what breaks ties at random.
-pub(crate) fn lot(generator: &mut Lcg64Xsh32) -> u32 {
-    let word = generator.next_word();
-    word / 256
-}
-
 /// Puts a list in a random order.
 pub(crate) fn shuffle(generator: &mut Lcg64Xsh32, list: &mut [u32]) {
     for place in (1..list.len()).rev() {

@@ -3,7 +3,7 @@
 use crate::windows::Window;
 use cg_model::{OrderEdge, Place};
 use cg_respond_state::{
-    DataEdge, Host, Places, Problem, Routes, State, count, is_before, number_at, raise,
+    DataEdge, Host, Places, Problem, Routes, State, count, is_before, leaving_of, number_at, raise,
 };
 use std::alloc::{AllocError, Global};
 
@@ -25,6 +25,7 @@ struct Fan {
 pub(crate) struct Estimates {
     /// The times of each row.
     pub(crate) window: Window,
+    node: u32,
     width: usize,
     costs: Vec<u32>,
     fans: Vec<Fan>,
@@ -59,6 +60,7 @@ impl Estimates {
         }
         Ok(Estimates {
             window,
+            node,
             width,
             costs,
             fans: vec![in alloc; Fan { sum: 0, most: 0 }; entries]?,
@@ -190,128 +192,134 @@ pub(crate) fn estimate(
 ) -> Result<Estimates, AllocError> {
     let mut estimates = Estimates::of_places(alloc, problem, &state.places, node, window)?;
     for edge in problem.ins.of(node) {
-        estimate_in(problem, state, &mut estimates, node, *edge)?;
+        estimate_in(problem, state, &mut estimates, *edge)?;
     }
     for edge in problem.outs.of(node) {
-        estimate_out(problem, state, &mut estimates, node, *edge)?;
+        estimate_out(problem, state, &mut estimates, *edge)?;
     }
     estimates.add_fans();
     for tie in problem.ties.of(node) {
-        estimate_tie(problem, state, &mut estimates, node, *tie);
+        estimate_tie(problem, state, &mut estimates, *tie);
     }
     Ok(estimates)
 }
 
-/// Adds the routes of an edge into a node, where its source is placed.
+/// Adds the routes of an edge into the node, where its source is placed.
 fn estimate_in(
     problem: &Problem,
     state: &mut State,
     estimates: &mut Estimates,
-    node: u32,
     edge: u32,
 ) -> Result<(), AllocError> {
     if let Some(facts) = problem.edge(edge) {
-        if let Some(place) = state.places.at(facts.source) {
-            if let Some(host) = problem.host(place.unit) {
-                let start = place.time.saturating_add(host.latency);
-                return estimate_from(
-                    problem, state, estimates, node, edge, facts, host.out, start,
-                );
+        if let Some(from) = leaving_of(problem, &state.places, facts) {
+            let last = last_to(problem, estimates, facts, from.start);
+            if let Some(last) = last {
+                state.routes.forward(problem, from, last, None)?;
             }
+            let link = Link {
+                time: from.start,
+                last: last.unwrap_or(0),
+                penalty: state.routes.penalty(edge),
+            };
+            add_to_ports(problem, &state.routes, estimates, link, facts);
         }
     }
     Ok(())
 }
 
-/// Adds the routes of an edge whose value leaves an out at a time.
-fn estimate_from(
-    problem: &Problem,
-    state: &mut State,
-    estimates: &mut Estimates,
-    node: u32,
-    edge: u32,
-    facts: DataEdge,
-    out: u32,
-    start: u32,
-) -> Result<(), AllocError> {
-    let turns = problem.turns(facts.distance);
-    let end = estimates.window.last.saturating_add(turns);
-    let last = end.saturating_sub(start).min(problem.reach());
-    if end >= start {
-        state
-            .routes
-            .forward(problem, facts.source, out, start, last, None)?;
+/// The last layer of the routes of an edge into the node whose value leaves at a time. None where the value comes too late.
+fn last_to(problem: &Problem, estimates: &Estimates, edge: DataEdge, start: u32) -> Option<u32> {
+    let end = estimates
+        .window
+        .last
+        .saturating_add(problem.turns(edge.distance));
+    if end < start {
+        return None;
     }
-    let link = Link {
-        time: start,
-        last,
-        penalty: state.routes.penalty(edge),
-    };
+    Some((end - start).min(problem.reach()))
+}
+
+/// Adds the routes of an edge to the port of each unit that offers the node's operation.
+fn add_to_ports(
+    problem: &Problem,
+    routes: &Routes,
+    estimates: &mut Estimates,
+    link: Link,
+    edge: DataEdge,
+) {
+    let turns = problem.turns(edge.distance);
     let mut row: u32 = 0;
-    for unit in problem.offers.of(node) {
+    for unit in problem.offers.of(estimates.node) {
         if let Some(host) = problem.host(*unit) {
-            estimates.add_in(&state.routes, link, row, host.port(facts.arg), turns);
+            estimates.add_in(routes, link, row, host.port(edge.arg), turns);
         }
         row = row.saturating_add(1);
     }
-    Ok(())
 }
 
-/// Adds the routes of an edge out of a node, where its target is placed.
+/// Adds the routes of an edge out of the node, where its target is placed.
 fn estimate_out(
     problem: &Problem,
     state: &mut State,
     estimates: &mut Estimates,
-    node: u32,
     edge: u32,
 ) -> Result<(), AllocError> {
     if let Some(facts) = problem.edge(edge) {
-        if let Some(place) = state.places.at(facts.target) {
-            if let Some(host) = problem.host(place.unit) {
-                let end = place.time.saturating_add(problem.turns(facts.distance));
-                let port = host.port(facts.arg);
-                return estimate_to(problem, state, estimates, node, edge, port, end);
+        if let Some(end) = problem.arrives(&state.places, facts) {
+            let last = last_from(problem, estimates, end);
+            if let Some(last) = last {
+                let port = port_of(problem, &state.places, facts);
+                state.routes.backward(problem, port, end, last)?;
             }
+            let link = Link {
+                time: end,
+                last: last.unwrap_or(0),
+                penalty: state.routes.penalty(edge),
+            };
+            add_from_outs(problem, &state.routes, estimates, link);
         }
     }
     Ok(())
 }
 
-/// Adds the routes of an edge whose value is to be on a port at a time.
-fn estimate_to(
-    problem: &Problem,
-    state: &mut State,
-    estimates: &mut Estimates,
-    node: u32,
-    edge: u32,
-    port: u32,
-    end: u32,
-) -> Result<(), AllocError> {
+/// The port on which a data edge ends; 0 where its target isn't placed.
+fn port_of(problem: &Problem, places: &Places, edge: DataEdge) -> u32 {
+    match places.at(edge.target) {
+        Some(place) => match problem.host(place.unit) {
+            Some(host) => host.port(edge.arg),
+            None => 0,
+        },
+        None => 0,
+    }
+}
+
+/// The last layer of the routes out of the node to a time. None where that is too soon.
+fn last_from(problem: &Problem, estimates: &Estimates, end: u32) -> Option<u32> {
     let leaves = estimates
         .window
         .first
-        .saturating_add(problem.least_latency(node));
-    let last = end.saturating_sub(leaves).min(problem.reach());
-    if end >= leaves {
-        state.routes.backward(problem, port, end, last)?;
+        .saturating_add(problem.least_latency(estimates.node));
+    if end < leaves {
+        return None;
     }
-    let link = Link {
-        time: end,
-        last,
-        penalty: state.routes.penalty(edge),
-    };
+    Some((end - leaves).min(problem.reach()))
+}
+
+/// Adds the routes of an edge from the out of each unit that offers the node's operation.
+fn add_from_outs(problem: &Problem, routes: &Routes, estimates: &mut Estimates, link: Link) {
     let mut row: u32 = 0;
-    for unit in problem.offers.of(node) {
+    for unit in problem.offers.of(estimates.node) {
         if let Some(host) = problem.host(*unit) {
-            estimates.add_out(&state.routes, link, row, host);
+            estimates.add_out(routes, link, row, host);
         }
         row = row.saturating_add(1);
     }
-    Ok(())
 }
 
 /// Adds what an order edge costs where it is violated.
-fn estimate_tie(problem: &Problem, state: &State, estimates: &mut Estimates, node: u32, tie: u32) {
+fn estimate_tie(problem: &Problem, state: &State, estimates: &mut Estimates, tie: u32) {
+    let node = estimates.node;
     let rows = count(problem.offers.of(node));
     let penalty = state.tie_penalty(tie);
     if let Some(edge) = problem.order.get(tie as usize).copied() {

@@ -9,6 +9,7 @@ mod estimates;
 mod faults;
 mod mapping;
 mod opening;
+mod ranks;
 mod responding;
 mod settling;
 mod sweeps;

@@ -57,16 +57,22 @@ impl Pace {
         self.since = 0;
     }
 
-    /// Counts the faults before a sweep, and says whether the sweep is to be made.
-    fn goes_on(&mut self, faults: u32) -> bool {
-        self.least = self.least.min(faults);
-        if faults < self.low {
-            self.low = faults;
+    /// Counts the faults of a state before the first sweep or after a sweep.
+    fn count(&mut self, problem: &Problem, state: &State) -> u32 {
+        let found = faults(problem, state);
+        self.least = self.least.min(found);
+        if found < self.low {
+            self.low = found;
             self.since = 0;
         } else {
             self.since = self.since.saturating_add(1);
         }
-        self.since <= STALE && self.left > 0
+        found
+    }
+
+    /// Whether a sweep is to be made: faults grew fewer not long ago, and there are moves left.
+    fn goes_on(&self) -> bool {
+        self.since < STALE && self.left > 0
     }
 
     /// Makes the best response of a node, if there are moves left.
@@ -96,17 +102,23 @@ pub(crate) fn attempt(
 ) -> Result<Ending, AllocError> {
     open(alloc, problem, state, pace, number)?;
     pace.begin();
+    let mut found = pace.count(problem, state);
     for sweep in 0..SWEEPS {
-        let found = faults(problem, state);
-        if found == 0 {
-            return Ok(Ending::Clean);
-        }
-        if !pace.goes_on(found) {
-            return Ok(Ending::Faulty);
+        if found == 0 || !pace.goes_on() {
+            break;
         }
         make_sweep(alloc, problem, state, pace, sweep < WHOLE)?;
+        found = pace.count(problem, state);
     }
-    Ok(Ending::Faulty)
+    Ok(ending_of(found))
+}
+
+/// How an attempt ends that leaves so many faults.
+fn ending_of(faults: u32) -> Ending {
+    match faults {
+        0 => Ending::Clean,
+        _ => Ending::Faulty,
+    }
 }
 
 /// Places the nodes one after another where none stands.

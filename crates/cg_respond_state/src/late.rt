@@ -3,18 +3,20 @@
 use crate::lists::number_at;
 use crate::problem::DataEdge;
 use cg_model::OrderEdge;
+use cg_task::Task;
 use std::alloc::{AllocError, Global};
 
 /// The latest time of each node at which no node is later than the last of the earliest times.
 pub(crate) fn latest(
     alloc: Global,
-    ii: u32,
-    edges: &Vec<DataEdge>,
-    order: &Vec<OrderEdge>,
-    quickest: &Vec<u32>,
-    early: &Vec<u32>,
+    task: &Task,
+    edges: &[DataEdge],
+    order: &[OrderEdge],
+    quickest: &[u32],
 ) -> Result<Vec<u32>, AllocError> {
-    let mut late = vec![in alloc; last_of(early.as_slice()); early.len()]?;
+    let ii = task.interval();
+    let early = task.early();
+    let mut late = vec![in alloc; last_of(early); early.len()]?;
     for _ in 0..early.len() {
         pull_by_edges(ii, edges, quickest, &mut late);
         pull_by_order(ii, order, &mut late);
@@ -32,9 +34,9 @@ fn last_of(times: &[u32]) -> u32 {
 }
 
 /// Makes the source of each data edge as early as its target asks.
-fn pull_by_edges(ii: u32, edges: &Vec<DataEdge>, quickest: &Vec<u32>, late: &mut Vec<u32>) {
+fn pull_by_edges(ii: u32, edges: &[DataEdge], quickest: &[u32], late: &mut [u32]) {
     for edge in edges {
-        let latency = number_at(quickest.as_slice(), edge.source as usize);
+        let latency = number_at(quickest, edge.source as usize);
         pull(
             late,
             edge.source,
@@ -46,7 +48,7 @@ fn pull_by_edges(ii: u32, edges: &Vec<DataEdge>, quickest: &Vec<u32>, late: &mut
 }
 
 /// Makes the source of each order edge as early as its target asks.
-fn pull_by_order(ii: u32, order: &Vec<OrderEdge>, late: &mut Vec<u32>) {
+fn pull_by_order(ii: u32, order: &[OrderEdge], late: &mut [u32]) {
     for edge in order {
         pull(
             late,
@@ -59,8 +61,8 @@ fn pull_by_order(ii: u32, order: &Vec<OrderEdge>, late: &mut Vec<u32>) {
 }
 
 /// Makes a source begin so many cycles before its target, which is some turns later.
-fn pull(late: &mut Vec<u32>, source: u32, target: u32, turns: u32, cycles: u32) {
-    let end = number_at(late.as_slice(), target as usize).saturating_add(turns);
+fn pull(late: &mut [u32], source: u32, target: u32, turns: u32, cycles: u32) {
+    let end = number_at(late, target as usize).saturating_add(turns);
     let time = end.saturating_sub(cycles);
     if let Some(latest) = late.get_mut(source as usize) {
         *latest = time.min(*latest);

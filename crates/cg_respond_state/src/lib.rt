@@ -14,5 +14,5 @@ pub use hosts::Host;
 pub use lists::{Lists, count, number_at, raise};
 pub use places::Places;
 pub use problem::{DataEdge, Problem};
-pub use routes::Routes;
+pub use routes::{Leaving, Routes, leaving_of};
 pub use state::{State, is_before};

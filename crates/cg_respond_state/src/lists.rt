@@ -49,7 +49,7 @@ pub fn number_at(list: &[u32], place: usize) -> u32 {
 }
 
 /// Adds to an entry of a list, where there is one.
-pub fn raise(list: &mut Vec<u32>, place: usize, by: u32) {
+pub fn raise(list: &mut [u32], place: usize, by: u32) {
     if let Some(number) = list.get_mut(place) {
         *number = number.saturating_add(by);
     }

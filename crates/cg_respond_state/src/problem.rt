@@ -1,5 +1,5 @@
 //! What is to be mapped: the kernel as lists of edges, and the array as the search reads it.
-ghost use Rattle.std.specs.Prelude.{◌≡◌, IfOk};
+ghost use Rattle.std.specs.Prelude.{◌≡◌, ◌<◌, IfOk};
 
 use crate::hosts::{Host, hosts, offers};
 use crate::late::latest;
@@ -10,10 +10,23 @@ use cg_edges::latency;
 use cg_kernel::Kernel;
 use cg_model::{Node, Operand, OrderEdge};
 use cg_respond_prices::Wiring;
+use cg_task::Task;
 use std::alloc::{AllocError, Global};
 
 /// Intervals from time 0 to the origin, from which the times of an opening count: so many may a node go back.
 const ORIGIN: u32 = 1 << 20;
+
+/// How many intervals the longest routes take.
+const MOST_INTERVALS: u32 = 6;
+
+/// How many cycles more they take.
+const MORE_CYCLES: u32 = 32;
+
+/// By how many intervals a route may be longer than the way across the array.
+const WIDER_INTERVALS: u32 = 4;
+
+/// By how many cycles more.
+const WIDER_CYCLES: u32 = 24;
 
 /// A data edge: a value of `source` is operand number `arg` of `target`, `distance` turns later.
 #[derive(Clone, Copy, Drop)]
@@ -57,19 +70,17 @@ pub struct Problem {
     pub late: Vec<u32>,
     /// The array's resources.
     pub wiring: Wiring,
+    ghost some: { 0 < ii },
 }
 
 impl Problem {
-    /// A kernel on an array at an interval, where its nodes have these earliest times.
-    pub fn new(
-        alloc: Global,
-        arch: &Arch,
-        kernel: &Kernel,
-        ii: u32,
-        early: Vec<u32>,
-    ) -> Result<Problem, AllocError>
-        ensures { IfOk result (λ p. p.ii ≡ ii) }
+    /// The problem that a task poses.
+    pub fn new(alloc: Global, task: &Task) -> Result<Problem, AllocError>
+        ensures { IfOk result (λ p. p.ii ≡ task.now.ii) }
     {
+        task.holds();
+        let arch = task.arch();
+        let kernel = task.kernel();
         let edges = data_edges(alloc, kernel)?;
         let nodes = count(kernel.nodes());
         let ins = ends_by(alloc, nodes, &edges, End::Target)?;
@@ -77,9 +88,9 @@ impl Problem {
         let order = Vec::from_slice(alloc, kernel.order())?;
         let ties = ties(alloc, nodes, &order)?;
         let quickest = quickest(alloc, arch, kernel)?;
-        let late = latest(alloc, ii, &edges, &order, &quickest, &early)?;
+        let late = latest(alloc, task, &edges, &order, &quickest)?;
         Ok(Problem {
-            ii,
+            ii: task.interval(),
             nodes,
             edges,
             ins,
@@ -89,7 +100,7 @@ impl Problem {
             offers: offers(alloc, arch, kernel)?,
             hosts: hosts(alloc, arch)?,
             quickest,
-            early,
+            early: Vec::from_slice(alloc, task.early())?,
             late,
             wiring: Wiring::new(alloc, arch)?,
         })
@@ -107,8 +118,8 @@ impl Problem {
 
     /// The greatest number of cycles that a route may take.
     pub fn reach(&self) -> u32 {
-        let long = self.ii.saturating_mul(6).saturating_add(32);
-        let wide = self.ii.saturating_mul(4).saturating_add(24);
+        let long = spanned(self.ii, MOST_INTERVALS, MORE_CYCLES);
+        let wide = spanned(self.ii, WIDER_INTERVALS, WIDER_CYCLES);
         long.min(wide.saturating_add(self.wiring.diameter()))
     }
 
@@ -145,6 +156,11 @@ impl Problem {
         let place = places.at(edge.target)?;
         Some(place.time.saturating_add(self.turns(edge.distance)))
     }
+}
+
+/// So many intervals and so many cycles.
+fn spanned(ii: u32, intervals: u32, cycles: u32) -> u32 {
+    ii.saturating_mul(intervals).saturating_add(cycles)
 }
 
 /// The slot of a time at an interval.
@@ -188,12 +204,7 @@ fn add_edges(edges: &mut Vec<DataEdge>, node: &Node, number: u32) -> Result<(), 
 }
 
 /// The data edges that have each node for that end.
-fn ends_by(
-    alloc: Global,
-    nodes: u32,
-    edges: &Vec<DataEdge>,
-    end: End,
-) -> Result<Lists, AllocError> {
+fn ends_by(alloc: Global, nodes: u32, edges: &[DataEdge], end: End) -> Result<Lists, AllocError> {
     let mut lists = Lists::new(alloc, nodes)?;
     let mut number: u32 = 0;
     for edge in edges {
@@ -209,7 +220,7 @@ fn ends_by(
 }
 
 /// The order edges of each node; one from a node to itself stands there once.
-fn ties(alloc: Global, nodes: u32, order: &Vec<OrderEdge>) -> Result<Lists, AllocError> {
+fn ties(alloc: Global, nodes: u32, order: &[OrderEdge]) -> Result<Lists, AllocError> {
     let mut ties = Lists::new(alloc, nodes)?;
     let mut number: u32 = 0;
     for edge in order {

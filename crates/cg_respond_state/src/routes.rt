@@ -22,22 +22,28 @@ pub struct Routes {
     layers: Layers,
 }
 
+/// Where and when a node's value leaves its unit.
+#[derive(Clone, Copy, Drop)]
+pub struct Leaving {
+    /// The node.
+    pub source: u32,
+    /// The out of its unit.
+    pub out: u32,
+    /// The time.
+    pub start: u32,
+}
+
 /// Where and when a route begins and ends.
 #[derive(Clone, Copy, Drop)]
 struct Ends {
-    out: u32,
-    start: u32,
+    from: Leaving,
     port: u32,
     end: u32,
 }
 
 impl Routes {
-    ghost use Rattle.std.specs.Prelude.{◌<◌};
-
     /// No routes.
-    pub fn new(alloc: Global, problem: &Problem) -> Result<Routes, AllocError>
-        requires { 0 < problem.now.ii }
-    {
+    pub fn new(alloc: Global, problem: &Problem) -> Result<Routes, AllocError> {
         let count = problem.edges.len();
         Ok(Routes {
             routes: unrouted(alloc, count)?,
@@ -97,18 +103,16 @@ impl Routes {
     pub fn forward(
         &mut self,
         problem: &Problem,
-        source: u32,
-        out: u32,
-        start: u32,
+        from: Leaving,
         last: u32,
         target: Option<u32>,
     ) -> Result<(), AllocError> {
-        self.layers.begin(&problem.wiring, out, last)?;
-        for edge in problem.outs.of(source) {
-            self.lay(*edge, start, last);
+        self.layers.begin(&problem.wiring, from.out, last)?;
+        for edge in problem.outs.of(from.source) {
+            self.lay(*edge, from.start, last);
         }
         self.layers
-            .forward(&self.occupancy, &problem.wiring, start, last, target);
+            .forward(&self.occupancy, &problem.wiring, from.start, last, target);
         Ok(())
     }
 
@@ -144,15 +148,9 @@ impl Routes {
         places: &Places,
         edge: u32,
     ) -> Result<Option<u32>, AllocError> {
-        match (problem.edge(edge), ends_of(problem, places, edge)) {
-            (Some(facts), Some(ends)) => self.connect_ends(
-                alloc,
-                problem,
-                edge,
-                facts.source,
-                ends,
-            ),
-            _ => Ok(None),
+        match ends_of(problem, places, edge) {
+            Some(ends) => self.connect_ends(alloc, problem, edge, ends),
+            None => Ok(None),
         }
     }
 
@@ -162,25 +160,25 @@ impl Routes {
         alloc: Global,
         problem: &Problem,
         edge: u32,
-        source: u32,
         ends: Ends,
     ) -> Result<Option<u32>, AllocError> {
-        let last = ends.end.saturating_sub(ends.start);
-        if ends.end < ends.start || last > problem.reach() {
+        let from = ends.from;
+        let last = ends.end.saturating_sub(from.start);
+        if ends.end < from.start || last > problem.reach() {
             return Ok(None);
         }
-        if problem.wiring.hops(ends.out, ends.port) > last {
+        if problem.wiring.hops(from.out, ends.port) > last {
             return Ok(None);
         }
-        self.forward(problem, source, ends.out, ends.start, last, Some(ends.port))?;
+        self.forward(problem, from, last, Some(ends.port))?;
         let price = self.price(last, ends.port);
         if price >= UNREACHED {
             return Ok(None);
         }
         let route = self
             .layers
-            .path(alloc, &problem.wiring, ends.port, ends.start, last)?;
-        self.put(source, edge, route)?;
+            .path(alloc, &problem.wiring, ends.port, from.start, last)?;
+        self.put(from.source, edge, route)?;
         Ok(Some(price))
     }
 
@@ -241,7 +239,7 @@ impl Routes {
 }
 
 /// The route of an edge, if it has one.
-fn route_in(routes: &Vec<Option<Vec<Stand>>>, edge: u32) -> Option<&[Stand]> {
+fn route_in(routes: &[Option<Vec<Stand>>], edge: u32) -> Option<&[Stand]> {
     match routes.get(edge as usize) {
         Some(Some(route)) => Some(route.as_slice()),
         _ => None,
@@ -249,7 +247,7 @@ fn route_in(routes: &Vec<Option<Vec<Stand>>>, edge: u32) -> Option<&[Stand]> {
 }
 
 /// Whether an edge has no route.
-fn is_missing(routes: &Vec<Option<Vec<Stand>>>, edge: usize) -> bool {
+fn is_missing(routes: &[Option<Vec<Stand>>], edge: usize) -> bool {
     match routes.get(edge) {
         Some(route) => route.is_none(),
         None => false,
@@ -275,14 +273,22 @@ fn unrouted(alloc: Global, edges: usize) -> Result<Vec<Option<Vec<Stand>>>, Allo
     Ok(routes)
 }
 
+/// Where and when the value of a data edge leaves the unit of its source. None where that isn't placed.
+pub fn leaving_of(problem: &Problem, places: &Places, edge: DataEdge) -> Option<Leaving> {
+    let host = problem.host(places.at(edge.source)?.unit)?;
+    Some(Leaving {
+        source: edge.source,
+        out: host.out,
+        start: problem.leaves(places, edge)?,
+    })
+}
+
 /// The ends of an edge whose nodes are placed.
 fn ends_of(problem: &Problem, places: &Places, edge: u32) -> Option<Ends> {
     let facts = problem.edge(edge)?;
-    let from = problem.host(places.at(facts.source)?.unit)?;
     let to = problem.host(places.at(facts.target)?.unit)?;
     Some(Ends {
-        out: from.out,
-        start: problem.leaves(places, facts)?,
+        from: leaving_of(problem, places, facts)?,
         port: to.port(facts.arg),
         end: problem.arrives(places, facts)?,
     })

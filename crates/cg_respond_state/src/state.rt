@@ -18,12 +18,8 @@ pub struct State {
 }
 
 impl State {
-    ghost use Rattle.std.specs.Prelude.{◌<◌};
-
     /// No node stands anywhere.
-    pub fn new(alloc: Global, problem: &Problem) -> Result<State, AllocError>
-        requires { 0 < problem.now.ii }
-    {
+    pub fn new(alloc: Global, problem: &Problem) -> Result<State, AllocError> {
         let nodes = problem.nodes as usize;
         Ok(State {
             places: Places::new(alloc, nodes, problem.hosts.len(), problem.ii)?,

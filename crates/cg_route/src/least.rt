@@ -2,9 +2,15 @@
 ghost use Rattle.std.specs.Prelude.{◌≡◌, ℕ, ◌<◌, List, length, IfOk, IfSome, IfNone};
 ghost use Rattle.cg_route.specs.Least as spec;
 
-use crate::search::Search;
+use crate::search::{PathEnds, Search};
 use cg_claims::{Mrrg, Usage};
 use std::alloc::{AllocError, Global};
+
+/// How many intervals the longest paths take that are looked for.
+const MOST_INTERVALS: u32 = 6;
+
+/// How many cycles more they take.
+const MORE_CYCLES: u32 = 32;
 
 /// The path of least price for the value of a source from a resource, on which it is at `start`, to another, on which
 /// it is to be at `end`; of those of that price the first in the order of lists.
@@ -29,10 +35,10 @@ pub fn least_path(
     ensures near { IfOk result (λ found. IfSome found (λ path. spec.AreNear usage.now.interval (record { from = from; start = start; to = to; end = end }))) }
     ensures none { IfOk result (λ found. IfNone found (spec.AreNear usage.now.interval (record { from = from; start = start; to = to; end = end }) → (path : List ℕ) → spec.IsTimedPath usage.now.arch (record { from = from; start = start; to = to; end = end }) path → ⊥)) }
 {
-    if end < start || end - start > 6 * graph.interval() + 32 {
+    if end < start || end - start > MOST_INTERVALS * graph.interval() + MORE_CYCLES {
         return Ok(None);
     }
-    let search = Search::new(alloc, graph, usage, source, from, to, end)?;
+    let search = Search::new(alloc, graph, usage, source, PathEnds { from, to, end })?;
     let layers = search.layers(alloc, end - start)?;
     search.trace(alloc, &layers, end - start, from)
 }

@@ -8,6 +8,14 @@ use cg_model::Items;
 use std::alloc::{AllocError, Global};
 use std::marker::Model;
 
+/// Where a path begins, and where and when it ends.
+#[derive(Clone, Copy, Drop)]
+pub(crate) struct PathEnds {
+    pub from: u32,
+    pub to: u32,
+    pub end: u32,
+}
+
 /// A search for ways of a source's value to a resource at a time.
 #[derive(Drop)]
 pub(crate) struct Search<'s, 'a> {
@@ -48,18 +56,16 @@ impl<'s, 'a> Search<'s, 'a> {
         graph: &'s Mrrg<'a>,
         usage: &'s Usage<'a>,
         source: u32,
-        from: u32,
-        to: u32,
-        end: u32,
+        ends: PathEnds,
     ) -> Result<Search<'s, 'a>, AllocError>
         requires arch { graph.now.arch ≡ usage.now.arch }
         requires interval { graph.now.interval ≡ usage.now.interval }
-        requires to { to < length graph.now.arch.resources }
+        requires to { ends.to < length graph.now.arch.resources }
         ensures table { IfOk result (λ s. s.table ≡ usage.now) }
         ensures source { IfOk result (λ s. s.source ≡ source) }
-        ensures from { IfOk result (λ s. s.from ≡ from) }
-        ensures to { IfOk result (λ s. s.to ≡ to) }
-        ensures end { IfOk result (λ s. s.end ≡ end) }
+        ensures from { IfOk result (λ s. s.from ≡ ends.from) }
+        ensures to { IfOk result (λ s. s.to ≡ ends.to) }
+        ensures end { IfOk result (λ s. s.end ≡ ends.end) }
         ensures search { IfOk result spec.IsSearch }
     {
         Ok(Search {
@@ -68,11 +74,11 @@ impl<'s, 'a> Search<'s, 'a> {
             order: graph.order(),
             count: graph.arch().resources().len(),
             interval: graph.interval(),
-            met: met(alloc, graph, from)?,
+            met: met(alloc, graph, ends.from)?,
             source,
-            from,
-            to,
-            end,
+            from: ends.from,
+            to: ends.to,
+            end: ends.end,
         })
     }
 

@@ -1,5 +1,5 @@
 //! Walks that look for a mapping: their ends where they make no move, and the plain walk beside them where they do.
-ghost use Rattle.std.specs.Prelude.{◌≤◌};
+ghost use Rattle.std.specs.Prelude.{◌≡◌, ◌≤◌};
 ghost use Rattle.cg_model.specs.Limits.{most_moves};
 
 use cg_anneal::laws::plain_search;
@@ -8,8 +8,10 @@ use cg_arch::Arch;
 use cg_check::LegalMapping;
 use cg_kernel::Kernel;
 use cg_mapping::{Mapping, Place, Route};
+use cg_model::Request;
 use cg_place::is_offered;
 use cg_recur::{Recur, recurrence};
+use cg_task::Task;
 use std::alloc::{AllocError, Global};
 
 /// The ends of the walk and of the plain walk, where they may be made.
@@ -19,26 +21,39 @@ struct Ends<'a> {
     plain: Found<'a>,
 }
 
-/// Makes both walks.
+/// A request of an interval, a seed and so many moves.
+fn request_of(ii: u32, seed: u64, moves: u32) -> Request
+    ensures { result.moves ≡ moves }
+{
+    Request {
+        ii: Some(ii),
+        seed,
+        moves,
+    }
+}
+
+/// Makes both walks at the interval that is asked.
 fn walked<'a>(
     alloc: Global,
     arch: &'a Arch,
     kernel: &'a Kernel,
-    ii: u32,
-    seed: u64,
-    moves: u32,
+    request: Request,
 ) -> Result<Option<Ends<'a>>, AllocError>
-    requires { moves ≤ most_moves }
+    requires { request.moves ≤ most_moves }
 {
+    let ii = request.ii.unwrap_or(0);
     if ii == 0 || ii > arch.contexts() || !is_offered(arch, kernel) {
         return Ok(None);
     }
     match recurrence(alloc, arch, kernel, ii)? {
         Recur::Cycle(_) => Ok(None),
-        Recur::Times(_) => Ok(Some(Ends {
-            found: search(alloc, arch, kernel, ii, seed, moves)?,
-            plain: plain_search(alloc, arch, kernel, ii, seed, moves)?,
-        })),
+        Recur::Times(_) => {
+            let task = Task::new(alloc, arch, kernel, ii)?;
+            Ok(Some(Ends {
+                found: search(alloc, &task, request)?,
+                plain: plain_search(alloc, &task, request)?,
+            }))
+        }
     }
 }
 
@@ -81,7 +96,7 @@ pub(crate) fn end_alike(
 ) -> Result<bool, AllocError>
     requires { moves ≤ most_moves }
 {
-    match walked(alloc, arch, kernel, ii, seed, moves)? {
+    match walked(alloc, arch, kernel, request_of(ii, seed, moves))? {
         None => Ok(false),
         Some(ends) => Ok(are_alike(&ends)),
     }
@@ -121,7 +136,7 @@ fn is_first_sum(legal: &LegalMapping) -> bool {
 
 /// Whether the running sum at interval 3 is mapped at its start.
 pub(crate) fn maps_sum(alloc: Global, arch: &Arch, kernel: &Kernel) -> Result<bool, AllocError> {
-    match walked(alloc, arch, kernel, 3, 7, 0)? {
+    match walked(alloc, arch, kernel, request_of(3, 7, 0))? {
         None => Ok(false),
         Some(ends) => {
             let first = match &ends.found {
@@ -139,7 +154,7 @@ pub(crate) fn leaves_two_in_a_slot(
     arch: &Arch,
     kernel: &Kernel,
 ) -> Result<bool, AllocError> {
-    match walked(alloc, arch, kernel, 2, 1, 0)? {
+    match walked(alloc, arch, kernel, request_of(2, 1, 0))? {
         None => Ok(false),
         Some(ends) => {
             let left = match &ends.found {

@@ -4,13 +4,13 @@ use Rattle.cg_model.specs.Kernel.{Kernel}
 use Rattle.cg_model.specs.Array.{Arch}
 use Rattle.cg_model.specs.Mapping.{IsLegal}
 use Rattle.cg_check.specs.Legal.{Mapped as MappedValue}
-use Rattle.cg_bound.specs.Bound.{IsOpen, Shows}
 use Rattle.cg_hub.specs.Hub.{HubEnough, hub_map}
-use Rattle.cg_map.specs.Tried.{last_tried, IsFirst}
-use Rattle.cg_search.specs.declared.answering.FoundBy.{FoundBy}
-use Rattle.cg_search.specs.declared.answering.FoundBy.TheVariants.{Hub, Responses}
-use Rattle.cg_search.specs.declared.answering.SearchAnswer.{SearchAnswer}
-use Rattle.cg_search.specs.declared.answering.SearchAnswer.TheVariants.{Impossible, Mapped, Spent}
+use Rattle.cg_task.specs.Intervals.{last_tried}
+use Rattle.cg_task.specs.Answers as answers
+use Rattle.cg_task.specs.declared.answering.FoundBy.{FoundBy}
+use Rattle.cg_task.specs.declared.answering.FoundBy.TheVariants.{Hub, Moves}
+use Rattle.cg_task.specs.declared.answering.Answer.{Answer}
+use Rattle.cg_task.specs.declared.answering.Answer.TheVariants.{Impossible, Mapped, Spent}
 
 module _ (A : Arch) (K : Kernel) (asked : Option ℕ) (moves : ℕ) where
   -- the hub suffices at no interval from the first one on that is less than this one
@@ -19,7 +19,7 @@ module _ (A : Arch) (K : Kernel) (asked : Option ℕ) (moves : ℕ) where
 
   -- how a mapping was found: by no more best responses than there are; or over the hub, at the first interval where it suffices
   abbrev pub IsBy : ℕ → MappedValue → FoundBy → Type 0
-  IsBy first m (Responses count) = count ≤ moves
+  IsBy first m (Moves count) = count ≤ moves
   IsBy first m Hub = HubEnough A K m.mapping.ii × HasNoHub first m.mapping.ii × (m.mapping ≡ hub_map A K m.mapping.ii)
 
   -- a legal mapping of the kernel, at an interval that is tried
@@ -38,20 +38,11 @@ module _ (A : Arch) (K : Kernel) (asked : Option ℕ) (moves : ℕ) where
     pub no_hub : HasNoHub first (last_tried A asked + 1)
 
   -- what may come of the intervals from the first one on
-  abbrev pub IsTried : ℕ → SearchAnswer → Type 0
+  abbrev pub IsTried : ℕ → Answer → Type 0
   IsTried first (Impossible certificate) = ⊥
   IsTried first (Mapped m found_by) = IsFound first m found_by
-  IsTried first (Spent f faults) = (f ≡ first) × AreAllFaulty first faults.items
-
-  -- nothing forbids the last interval, and this comes of those that are tried
-  pub record IsSearched (answer : SearchAnswer) : Type 0 where
-    pub free : IsOpen A K (last_tried A asked)
-    pub first : ℕ
-    pub is_first : IsFirst A K asked first
-    pub tried : IsTried first answer
+  IsTried first (Spent f left) = (f ≡ first) × AreAllFaulty first left.items
 
   -- why the last interval is impossible, where a recurrence or an overfull set forbids it; what comes of the intervals else
-  abbrev pub IsAnswer : SearchAnswer → Type 0
-  IsAnswer (Impossible certificate) = Shows A K (last_tried A asked) certificate
-  IsAnswer (Mapped m found_by) = IsSearched (Mapped m found_by)
-  IsAnswer (Spent first faults) = IsSearched (Spent first faults)
+  abbrev pub IsAnswer : Answer → Type 0
+  IsAnswer = answers.IsAnswer A K asked IsTried

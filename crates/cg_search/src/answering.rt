@@ -2,44 +2,18 @@
 ghost use Rattle.std.specs.Prelude.{◌≡◌, ◌+◌, ◌<◌, ◌≤◌, All, IfOk, length};
 ghost use Rattle.cg_model.specs.Limits.{most_moves};
 ghost use Rattle.cg_bound.specs.Bound.{IsOpen};
-ghost use Rattle.cg_map.specs.Laws.{IsAsked};
-ghost use Rattle.cg_map.specs.Tried as tried;
-ghost use Rattle.cg_map.specs.Tried.{IsFirst};
+ghost use Rattle.cg_task.specs.Intervals as spec;
+ghost use Rattle.cg_task.specs.Intervals.{IsAsked, IsFirst};
 ghost use Rattle.cg_search.specs.Search.{IsAnswer, IsTried};
 
 use cg_arch::Arch;
-use cg_bound::{Certificate, IntervalVerdict, verdict};
-use cg_check::LegalMapping;
+use cg_bound::{IntervalVerdict, verdict};
 use cg_hub::{hub_enough, hub_mapping};
 use cg_kernel::Kernel;
-use cg_map::{first_tried, last_tried};
+use cg_model::Request;
 use cg_respond::{Responded, respond};
+use cg_task::{Answer, FoundBy, Task, first_tried, last_tried};
 use std::alloc::{AllocError, Global};
-
-/// How a mapping was found.
-#[derive(Clone, Copy, Debug, PartialEq, Eq, Drop)]
-pub enum FoundBy {
-    /// Over the hub, where the search had found none.
-    Hub,
-    /// By the search, after that many best responses.
-    Responses(u32),
-}
-
-/// What the search answers.
-#[derive(Drop)]
-pub enum SearchAnswer<'a> {
-    /// The last interval that would be tried is impossible, and this is why.
-    Impossible(Certificate),
-    /// A mapping of an interval that was tried.
-    Mapped(LegalMapping<'a>, FoundBy),
-    /// None: the first interval that was tried, and the faults that are left at each from there on.
-    Spent {
-        /// The first interval that was tried, in cycles.
-        first: u32,
-        /// The least number of faults that was met.
-        faults: Vec<u32>,
-    },
-}
 
 /// Searches a mapping: at the interval that is asked, or at each from the least one that nothing forbids to as many cycles
 /// as the architecture has contexts; and then over the hub.
@@ -47,19 +21,17 @@ pub fn search_answer<'a>(
     alloc: Global,
     arch: &'a Arch,
     kernel: &'a Kernel,
-    asked: Option<u32>,
-    seed: u64,
-    moves: u32,
-) -> Result<SearchAnswer<'a>, AllocError>
-    requires within { IsAsked arch.now asked }
-    requires few { moves ≤ most_moves }
-    ensures { IfOk result (IsAnswer arch.now kernel.now asked moves) }
+    request: Request,
+) -> Result<Answer<'a>, AllocError>
+    requires within { IsAsked arch.now request.ii }
+    requires few { request.moves ≤ most_moves }
+    ensures { IfOk result (IsAnswer arch.now kernel.now request.ii request.moves) }
 {
-    match verdict(alloc, arch, kernel, last_tried(arch, asked))? {
-        IntervalVerdict::Impossible(certificate) => Ok(SearchAnswer::Impossible(certificate)),
+    match verdict(alloc, arch, kernel, last_tried(arch, request.ii))? {
+        IntervalVerdict::Impossible(certificate) => Ok(Answer::Impossible(certificate)),
         IntervalVerdict::Allowed => {
-            let first = first_tried(alloc, arch, kernel, asked)?;
-            searched(alloc, arch, kernel, first, asked, seed, moves)
+            let first = first_tried(alloc, arch, kernel, request.ii)?;
+            searched(alloc, arch, kernel, first, request)
         }
     }
 }
@@ -70,28 +42,27 @@ fn searched<'a>(
     arch: &'a Arch,
     kernel: &'a Kernel,
     first: u32,
-    asked: Option<u32>,
-    seed: u64,
-    moves: u32,
-) -> Result<SearchAnswer<'a>, AllocError>
-    requires within { IsAsked arch.now asked }
-    requires few { moves ≤ most_moves }
-    requires first { IsFirst arch.now kernel.now asked first }
-    requires free { IsOpen arch.now kernel.now (tried.last_tried arch.now asked) }
-    ensures { IfOk result (IsTried arch.now kernel.now asked moves first) }
+    request: Request,
+) -> Result<Answer<'a>, AllocError>
+    requires within { IsAsked arch.now request.ii }
+    requires few { request.moves ≤ most_moves }
+    requires first { IsFirst arch.now kernel.now request.ii first }
+    requires free { IsOpen arch.now kernel.now (spec.last_tried arch.now request.ii) }
+    ensures { IfOk result (IsTried arch.now kernel.now request.ii request.moves first) }
 {
     arch.contexts();
-    let mut faults = Vec::new(alloc);
-    for ii in first..last_tried(arch, asked) + 1 {
-        match respond(alloc, arch, kernel, ii, seed, moves)? {
+    let mut left = Vec::new(alloc);
+    for ii in first..last_tried(arch, request.ii) + 1 {
+        let task = Task::new(alloc, arch, kernel, ii)?;
+        match respond(alloc, &task, request)? {
             Responded::Mapped(mapping, count) => {
                 mapping.mapping();
-                return Ok(SearchAnswer::Mapped(mapping, FoundBy::Responses(count)));
+                return Ok(Answer::Mapped(mapping, FoundBy::Moves(count)));
             }
-            Responded::Spent(left) => faults.push(left)?,
+            Responded::Spent(faults) => left.push(u64::from(faults))?,
         }
     }
-    over_hub(alloc, arch, kernel, first, asked, moves, faults)
+    over_hub(alloc, arch, kernel, first, request, left)
 }
 
 /// Takes the hub's mapping of the first interval where it suffices, where there is one.
@@ -100,24 +71,23 @@ fn over_hub<'a>(
     arch: &'a Arch,
     kernel: &'a Kernel,
     first: u32,
-    asked: Option<u32>,
-    moves: u32,
-    faults: Vec<u32>,
-) -> Result<SearchAnswer<'a>, AllocError>
-    requires within { IsAsked arch.now asked }
-    requires first { IsFirst arch.now kernel.now asked first }
-    requires free { IsOpen arch.now kernel.now (tried.last_tried arch.now asked) }
-    requires each { All (λ n. 0 < n) faults.items }
-    requires all { first + length faults.items ≡ tried.last_tried arch.now asked + 1 }
-    ensures { IfOk result (IsTried arch.now kernel.now asked moves first) }
+    request: Request,
+    left: Vec<u64>,
+) -> Result<Answer<'a>, AllocError>
+    requires within { IsAsked arch.now request.ii }
+    requires first { IsFirst arch.now kernel.now request.ii first }
+    requires free { IsOpen arch.now kernel.now (spec.last_tried arch.now request.ii) }
+    requires each { All (λ n. 0 < n) left.items }
+    requires all { first + length left.items ≡ spec.last_tried arch.now request.ii + 1 }
+    ensures { IfOk result (IsTried arch.now kernel.now request.ii request.moves first) }
 {
     arch.contexts();
-    for ii in first..last_tried(arch, asked) + 1 {
+    for ii in first..last_tried(arch, request.ii) + 1 {
         if hub_enough(arch, kernel, ii) {
             let mapping = hub_mapping(alloc, arch, kernel, ii)?;
             mapping.mapping();
-            return Ok(SearchAnswer::Mapped(mapping, FoundBy::Hub));
+            return Ok(Answer::Mapped(mapping, FoundBy::Hub));
         }
     }
-    Ok(SearchAnswer::Spent { first, faults })
+    Ok(Answer::Spent { first, left })
 }

@@ -3,4 +3,4 @@
 
 mod answering;
 
-pub use answering::{FoundBy, SearchAnswer, search_answer};
+pub use answering::search_answer;

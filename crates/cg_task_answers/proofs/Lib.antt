@@ -1,3 +1,4 @@
 pub mod Over
 pub mod Left
 pub mod Named
+pub mod Searched

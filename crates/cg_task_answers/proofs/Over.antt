@@ -3,15 +3,21 @@ use Rattle.std.proofs.Common.{◌≡◌, Bool, true, false, List, Option, Some, 
 use Rattle.std.specs.Prelude.{◌≤◌, ℕ, IfSome}
 use Rattle.std.proofs.lemmas.Bool.{ltb-false}
 use Rattle.cg_model.specs.Array.{Arch, IsArch}
-use Rattle.cg_model.specs.Kernel.{IsKernel}
+use Rattle.cg_model.specs.Kernel.{Kernel, IsKernel}
 use Rattle.cg_ending.specs.declared.outcome.Status.{Status}
 use Rattle.cg_ending.specs.declared.outcome.Status.TheVariants.{Done, Malformed}
 use Rattle.cg_ending.specs.Outcome.{Name, File, Outcome}
 use Rattle.cg_ending.specs.Ends.{Moment, Completed}
-use Rattle.cg_map.specs.Laws.{IsAsked}
+use Rattle.cg_task.specs.Intervals.{IsAsked}
 use Rattle.cg_model.specs.declared.request.Request.{Request}
 use Rattle.cg_model.specs.Request.{IsInRange}
-use Rattle.cg_inputs.specs.Sources.{Pair, ArePaired, GivesPair}
+use Rattle.cg_ending.specs.declared.read.Stop.{Stop}
+use Rattle.cg_ending.specs.Allowed.{EndsBy}
+use Rattle.cg_ending.proofs.Allowed.{ends_weaker}
+use Rattle.cg_tiles.specs.Answer.{AreValidBytes}
+use Rattle.cg_kernel.specs.Answer as kernels
+use Rattle.cg_inputs.specs.Refused.{RefusesArch, RefusesKernel}
+use Rattle.cg_inputs.specs.Sources.{Pair, ArePaired, GivesPair, pair_by}
 use Rattle.cg_inputs.proofs.Sound.{IsSound, IsNamed}
 use Rattle.cg_inputs.proofs.Refusals.{IsRefusal, AreRefused, IsAlike, equal, refusals, sound_refusal}
 use Rattle.cg_inputs.proofs.Paired as paired
@@ -50,6 +56,41 @@ module _ (defines : Pair → Outcome → Type 0) (s : Request) (arch kernel : Fi
 
   pub named_over : (outs : List Name) → ((p : Pair) (o : Outcome) → defines p o → IsNamed outs o) → (o : Outcome) → IsSearchOver defines s arch kernel o → IsNamed outs o
   named_over outs each o e = named_by outs each e.pair o (refused_pair arch kernel e.pair e.given) e.outcome
+
+  -- ---- by the readers of both files
+
+  module _ (range : IsInRange s) where
+    -- the architecture's file is refused
+    pub arch_refused : (stop : Stop) → EndsBy (RefusesArch arch) stop → EndsBy (IsSearchOver defines s arch kernel) stop
+    arch_refused stop =
+        ends_weaker (RefusesArch arch) (IsSearchOver defines s arch kernel) stop
+        (λ o t. record {
+          range = range;
+          pair = Err o;
+          given = record { given = Err t.fault; is_given = t.is_fault; no_memory = λ e. t.no_memory (cc); pair_is = ap (λ z. Err z) t.outcome };
+          outcome = refl;
+        })
+
+    module _ (A : Arch) (valid : AreValidBytes arch.bytes A) where
+      -- so is the kernel's
+      pub kernel_refused : (stop : Stop) → EndsBy (RefusesKernel kernel) stop → EndsBy (IsSearchOver defines s arch kernel) stop
+      kernel_refused stop =
+          ends_weaker (RefusesKernel kernel) (IsSearchOver defines s arch kernel) stop
+          (λ o t. record {
+            range = range;
+            pair = Err o;
+            given = record { given = Ok A; is_given = valid; no_memory = λ e. absurd (cc); pair_is = ap (λ z. Err z) t.outcome ∙ sym (ap (pair_by A kernel.name) t.is_fault) };
+            outcome = refl;
+          })
+
+      -- both give something
+      pub pair_given : (K : Kernel) → kernels.answer_of kernel.bytes ≡ Ok K → (o : Outcome) → IsWithin defines arch.name (record { arch = A; kernel = K }) (is_above s.ii A) o → IsSearchOver defines s arch kernel o
+      pair_given K answer o within = record {
+        range = range;
+        pair = Ok (record { arch = A; kernel = K });
+        given = record { given = Ok A; is_given = valid; no_memory = λ e. absurd (cc); pair_is = sym (ap (pair_by A kernel.name) answer) };
+        outcome = within;
+      }
 
   -- ---- how two outcomes agree
 

@@ -14,7 +14,7 @@ use Rattle.cg_check.specs.Legal.{Mapped}
 use Rattle.cg_bound.specs.declared.interval.Certificate.{Certificate}
 use Rattle.cg_bound.specs.Bound.{IsForbidden, Certifies, Shows}
 use Rattle.cg_bound.specs.Text.{certificate_text}
-use Rattle.cg_map.specs.Tried.{last_tried}
+use Rattle.cg_task.specs.Intervals.{last_tried}
 use Rattle.cg_model.specs.declared.request.Request.{Request}
 use Rattle.cg_model.specs.Request.{IsInRange}
 use Rattle.cg_inputs.specs.Sources.{Pair, ArePaired, HoldPair}
@@ -23,7 +23,7 @@ use Rattle.cg_mapping_answers.specs.Emit.{config_of}
 -- ---- reports
 
 -- why the last interval that is tried is impossible
-abbrev pub impossible_report : Pair → Search → Certificate → Bytes
+abbrev pub impossible_report : Pair → Request → Certificate → Bytes
 impossible_report p s c = line_of (certificate_text p.arch p.kernel (Some (last_tried p.arch s.ii)) c ∷ [])
 
 -- ---- files

@@ -1,8 +1,12 @@
-//! What the answers of all searches for a mapping share: why there is none, and what is written where one was found.
+//! What the answers of all searches for a mapping share: why there is none, what is written and said where one was found,
+//! and what is said where none was.
 #![tactic(auto)]
 
+mod finding;
 mod refusing;
+mod spending;
 mod writing;
 
+pub use finding::found;
 pub use refusing::{above, asks_above, impossible};
-pub use writing::written;
+pub use spending::spent;

@@ -9,8 +9,8 @@ use cg_arch::Arch;
 use cg_bound::{Certificate, certificate_text};
 use cg_ending::{Outcome, Status, malformed};
 use cg_kernel::Kernel;
-use cg_map::last_tried;
 use cg_model::Request;
+use cg_task::last_tried;
 use std::alloc::{AllocError, Global};
 
 /// Whether an interval is asked that has more cycles than the architecture has contexts.

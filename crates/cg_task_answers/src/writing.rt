@@ -12,7 +12,7 @@ use std::alloc::{AllocError, Global};
 
 /// A mapping was found, and this is said of it: its bits, under the first of the names `outputs`, and its text, where there
 /// is a second one.
-pub fn written(
+pub(crate) fn written(
     alloc: Global,
     mapping: &LegalMapping<'_>,
     report: Vec<u8>,

@@ -7,3 +7,4 @@ pub mod Left
 pub mod Call
 pub mod Defined
 pub mod Calls
+pub mod Planned

@@ -1,12 +1,13 @@
 //! The top call: from the words of a command line to what the store holds, what the sink takes and the status.
 #![tactic(auto)]
 
-ghost use Rattle.std.specs.Prelude.{◌≡◌, ◌≤◌, [], None, IfOk, map, string_bytes};
+ghost use Rattle.std.specs.Prelude.{◌≡◌, ◌≤◌, [], None, Some, IfOk, length, map, string_bytes};
 ghost use Rattle.cg_files.specs.Causes.{Rose};
+ghost use Rattle.cg_ending.specs.Allowed.{Allows};
 ghost use Rattle.cg_ending.specs.Outcome.{outcome_of};
 ghost use Rattle.cg_ending.specs.Ends.{moment};
-ghost use Rattle.cg_command.specs.Words.{plan_of};
-ghost use Rattle.cg_top.specs.TopCall.{IsOutcome, Ends, IsCall, Asks, MakesCalls};
+ghost use Rattle.cg_command.specs.Words.{HasShape, plan_of, planned};
+ghost use Rattle.cg_top.specs.TopCall.{IsOutcome, IsPlanned, Ends, IsCall, Asks, MakesCalls};
 
 mod laws;
 
@@ -81,9 +82,23 @@ fn outcome<S: Store>(alloc: Global, words: &[String], store: &mut S) -> Result<O
     let Some(plan) = plan_words(alloc, words)? else {
         return usage(alloc);
     };
-    match read_all(alloc, plan.inputs.as_slice(), store) {
-        Ok(files) => answer(alloc, &plan, files.as_slice()),
-        Err(Stop::Ended(outcome)) => Ok(outcome),
+    match answered(alloc, &plan, store) {
+        Ok(outcome) | Err(Stop::Ended(outcome)) => Ok(outcome),
         Err(Stop::Memory) => Err(AllocError),
     }
+}
+
+/// What a planned command answers, over what the store gives.
+fn answered<S: Store>(alloc: Global, plan: &Plan, store: &mut S) -> Result<Outcome, Stop>
+    requires { HasShape plan.now.command (length plan.now.inputs.items) (length plan.now.outputs.items) }
+    ensures planned { Allows (IsPlanned (S.held store.old) (Rose (S.read_faults store.old) (S.read_faults store.new))
+        (Some (planned plan.now))) result }
+    ensures asks { Asks (Some (planned plan.now)) (S.asked store.old) (S.asked store.new) }
+    ensures wrote { S.wrote store.new ≡ S.wrote store.old }
+    ensures held { S.held store.new ≡ S.held store.old }
+    ensures reads { S.read_faults store.old ≤ S.read_faults store.new }
+    ensures writes { S.write_faults store.new ≡ S.write_faults store.old }
+{
+    let files = read_all(alloc, plan.inputs.as_slice(), store)?;
+    answer(alloc, plan, files.as_slice())
 }

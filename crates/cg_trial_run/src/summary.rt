@@ -1,6 +1,8 @@
 //! A trial from its seed to its report.
 ghost use Rattle.std.specs.Prelude.{◌≡◌, ◌≤◌, IfOk, length};
 ghost use Rattle.cg_model.specs.Limits.{most_memory};
+ghost use Rattle.cg_trial.specs.Drawn.{trial_kernel};
+ghost use Rattle.cg_trial.specs.Trial.{trial_arch, trial_image};
 ghost use Rattle.cg_trial_run.specs.Report.{IsReport, IsTrial, mapping_lines, report_of, run_lines};
 ghost use Rattle.cg_trial_run.specs.Laws.{LeavesSame};
 
@@ -10,7 +12,7 @@ use cg_emit::{emit, stages};
 use cg_hub::hub_mapping;
 use cg_pad::Image;
 use cg_trial::laws::enough;
-use cg_trial::trial_parts;
+use cg_trial::{TrialParts, trial_parts};
 use std::alloc::{AllocError, Global};
 
 /// The trial of a seed: its parts are mapped at an interval of 64 cycles, the bits are run by the array, and the kernel turn
@@ -22,6 +24,16 @@ pub fn trial(alloc: Global, seed: u64) -> Result<Vec<u8>, AllocError>
     ensures same { LeavesSame seed }
 {
     let parts = trial_parts(alloc, seed)?;
+    trial_on(alloc, seed, &parts)
+}
+
+/// The trial of a seed, whose parts these are.
+fn trial_on(alloc: Global, seed: u64, parts: &TrialParts) -> Result<Vec<u8>, AllocError>
+    requires arch { parts.now.arch ≡ trial_arch }
+    requires kernel { parts.now.kernel ≡ trial_kernel seed }
+    requires image { parts.now.image ≡ trial_image }
+    ensures { IfOk result (λ v. IsTrial seed v.items) }
+{
     enough();
     let mapping = hub_mapping(alloc, &parts.arch, &parts.kernel, 64)?;
     let text = report_on(alloc, seed, &mapping, &parts.image)?;

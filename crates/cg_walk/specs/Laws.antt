@@ -14,7 +14,7 @@ use Rattle.cg_route.specs.Least.{Ends, IsTimedPath, IsFound}
 use Rattle.cg_place.specs.declared.moves.Move.{Move}
 use Rattle.cg_place.specs.Placed.{moved}
 use Rattle.cg_place.specs.Counts.{order_violations, unit_excess}
-use Rattle.cg_walk.specs.State.{State, edges, ends_of, table_of_state, state_positions, missing, cost, mapping_of}
+use Rattle.cg_walk.specs.State.{State, edges, ends_of, table_of_state, state_positions, missing, weight, cost, mapping_of}
 use Rattle.cg_walk.specs.Walk.{edge, with_route, touches, Walked, IsEnd}
 use Rattle.cg_walk.specs.Good.{IsReady, IsGood}
 use Rattle.cg_walk.specs.Alike.{AreAlike}
@@ -99,7 +99,7 @@ abbrev pub IsCostByUses : Type 0
 IsCostByUses =
     (A : Arch) (K : Kernel) (ii : ℕ) (S : State) (T : Table) → AreAlike T (table_of_state A K ii S) →
     cost A K ii S
-    ≡ 1000 * (missing S + order_violations K ii S.places + unit_excess A ii S.places) + excess T
+    ≡ weight * (missing S + order_violations K ii S.places + unit_excess A ii S.places) + excess T
 
 -- the route of each edge operand of a good state begins and ends in range
 abbrev pub AreEndsInRange : Type 0

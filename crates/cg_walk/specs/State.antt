@@ -87,12 +87,16 @@ is_missing (Some path) = false
 abbrev pub missing : State → ℕ
 missing S = count_by is_missing S.routes
 
--- the cost of a state: 1,000 for each edge operand without a route, for each order edge that the times
+-- what weighs more than claims
+abbrev pub weight : ℕ
+weight = 1000
+
+-- the cost of a state: its weight for each edge operand without a route, for each order edge that the times
 -- break and for each node beyond one in a slot of a unit; and 1 for each claim beyond one at a node of
 -- the modulo routing resource graph
 unfoldable pub cost : Arch → Kernel → ℕ → State → ℕ
 cost A K ii S =
-    1000 * (missing S + order_violations K ii S.places + unit_excess A ii S.places)
+    weight * (missing S + order_violations K ii S.places + unit_excess A ii S.places)
     + excess (table_of_state A K ii S)
 
 -- ---- mappings

@@ -83,9 +83,13 @@ proposal A K ii early g = drawn_move A K ii early (word 0 g) (word 1 g) (word 2 
 abbrev pub IsTried : Arch → Kernel → ℕ → Move → State → State → Type 0
 IsTried A K ii m S tried = IsRouted A K ii (touching K m.node) (moved_by K m S) tried
 
+-- how much hotter the walk is at its start than at its end
+abbrev pub hottest : ℕ
+hottest = 64
+
 -- how hot the walk is at move k
 abbrev pub heat : ℕ → ℕ → ℕ
-heat moves k = 1 + 64 * (moves - k) / moves
+heat moves k = 1 + hottest * (moves - k) / moves
 
 -- move k stands by that word where the cost doesn't rise, or else with a chance that halves with each
 -- `heat` of the rise
@@ -97,9 +101,13 @@ is_taken moves k before after chance =
 abbrev pub aged_state : Arch → Kernel → ℕ → State → State
 aged_state A K ii S = record S { history = aged (table_of_state A K ii S) }
 
--- what stands after move k: after each 64th move the histories grow
+-- the number of moves after which the histories grow
+abbrev pub period : ℕ
+period = 64
+
+-- what stands after move k: after each such number of moves the histories grow
 abbrev pub rested : Arch → Kernel → ℕ → ℕ → State → State
-rested A K ii k S = if eqb ((k + 1) % 64) 0 then aged_state A K ii S else S
+rested A K ii k S = if eqb ((k + 1) % period) 0 then aged_state A K ii S else S
 
 -- move k, by the generator's next four words: a move is tried, and stands or not
 abbrev pub IsMove : Arch → Kernel → ℕ → List ℕ → ℕ → ℕ → Lcg → State → State → Type 0

@@ -7,8 +7,6 @@ ghost use Rattle.cg_ending.specs.Status.{number_of};
 
 mod commands;
 mod notices;
-#[cfg(test)]
-mod tests;
 
 use cg_files::{DiskStore, StdSink};
 use cg_top::{Status, run_line};

@@ -1,38 +1,28 @@
 //! The plain walk, and the cost of a state counted anew.
-ghost use Rattle.std.specs.Prelude.{◌≡◌, ◌<◌, ◌≤◌, List, IfOk};
-ghost use Rattle.cg_edges.specs.declared.edge.EdgeId.{EdgeId};
+ghost use Rattle.std.specs.Prelude.{◌≤◌, IfOk};
 ghost use Rattle.cg_model.specs.Limits.{most_moves};
-ghost use Rattle.cg_place.specs.Placed.{IsOffered};
-ghost use Rattle.cg_recur.specs.Recurrences.{IsRecurrence};
 ghost use Rattle.cg_anneal.specs.Ended.{IsWalked};
 
 use crate::counting::Counting;
 use crate::finding::{Found, search_by};
-use crate::walk::Walk;
-use cg_arch::Arch;
+use crate::walk::{WEIGHT, Walk};
 use cg_claims::laws::PlainUsage;
-use cg_kernel::Kernel;
+use cg_model::Request;
 use cg_place::Move;
 use cg_place::laws::PlainPlacement;
+use cg_task::Task;
 use std::alloc::{AllocError, Global};
 
 /// Makes the walk that `search` makes, and counts the cost of each state anew, from all its places and all its routes.
 pub fn plain_search<'a>(
     alloc: Global,
-    arch: &'a Arch,
-    kernel: &'a Kernel,
-    ii: u32,
-    seed: u64,
-    moves: u32,
+    task: &Task<'a>,
+    request: Request,
 ) -> Result<Found<'a>, AllocError>
-    requires some { 0 < ii }
-    requires contexts { ii ≤ arch.now.contexts }
-    requires few { moves ≤ most_moves }
-    requires offered { IsOffered arch.now kernel.now }
-    requires free { (ids : List EdgeId) → IsRecurrence arch.now kernel.now ii ids → ⊥ }
-    ensures { IfOk result (IsWalked arch.now kernel.now ii seed moves) }
+    requires few { request.moves ≤ most_moves }
+    ensures { IfOk result (IsWalked task.now.arch task.now.kernel task.now.ii request.seed request.moves) }
 {
-    search_by(alloc, Counting::Anew, arch, kernel, ii, seed, moves)
+    search_by(alloc, Counting::Anew, task, request)
 }
 
 impl<'g, 'a> Walk<'g, 'a> {
@@ -87,6 +77,6 @@ impl<'g, 'a> Walk<'g, 'a> {
         let heavy = self.missing_anew()
             + u64::from(placement.order_violations())
             + u64::from(placement.unit_excess());
-        Ok(1000 * heavy + usage.excess())
+        Ok(WEIGHT * heavy + usage.excess())
     }
 }

@@ -11,5 +11,5 @@ new-requires c =
     let h = c.holds.ensures in
     let m = c.in_ok-mapping.mapping in
     let legal = legal_at_zero W.arch W.kernel W.ii W.state h.arch h.kernel h.good c.requires.zero in
-    subst (λ (A : Arch). IsLegal A c.args.kernel.now m) c.requires.arch
-    (subst (λ (K : Kernel). IsLegal W.arch K m) c.requires.kernel (subst (λ (x : Mapping). IsLegal W.arch W.kernel x) (sym c.in_ok-mapping.ensures) legal))
+    subst (λ (A : Arch). IsLegal A c.kernel-kernel.result.now m) (sym c.arch-arch.ensures)
+    (subst (λ (K : Kernel). IsLegal W.arch K m) (sym c.kernel-kernel.ensures) (subst (λ (x : Mapping). IsLegal W.arch W.kernel x) (sym c.in_ok-mapping.ensures) legal))

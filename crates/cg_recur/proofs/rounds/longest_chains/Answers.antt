@@ -1,53 +1,37 @@
-use Rattle.std.proofs.Common.{◌≡◌, length, sym, ◌∙◌, subst, arith}
-use Rattle.std.proofs.lemmas.Bool.{false≢true}
-use Rattle.cg_recur.specs.Log.{IsSettled, AreSlack, IsRelaxed}
-use Rattle.cg_recur.proofs.Ends.{stays, still, slack_tight, tight, next_round, answers, times_from}
+use Rattle.std.proofs.Common.{subst}
+use Rattle.cg_recur.specs.Log.{IsMade}
+use Rattle.cg_recur.proofs.Made as made
 use Rattle.cg_recur.proofs.rounds.longest_chains.Goals as goal
-use Rattle.cg_recur.proofs.rounds.longest_chains.Goals.{in-Same, in-Raised}
 
-pub loop-e-preserved : goal.loop-e-preserved
-loop-e-preserved c =
-    let es = c.args.edges.now in
-    let ii = c.args.ii in
-    let n = c.args.nodes in
-    let i = c.loop-e.invariant in
-    let log = c.loop-e.log.items in
-    let log' = c.relax.new.log.items in
-    let last = c.loop-e.last.items in
-    let last' = c.relax.new.last.items in
-    elim c.match-branch-4.branch [
-      | in-Same w ↦
-          (let h = subst (IsRelaxed es ii n c.loop-e.e log last log' last') w.in-Same.is c.in_ok-relax.ensures in
-          let (a, b, d) = stays es ii n c.loop-e.e log log' last last' c.loop-r.r h.0 h.1 i.2 in
-          (a, b, d, λ q. still es ii c.loop-e.e log log' last last' h.2 (i.3 (sym w.quiet-is ∙ q))))
-      | in-Raised w ↦
-          (let h = subst (IsRelaxed es ii n c.loop-e.e log last log' last') w.in-Raised.is c.in_ok-relax.ensures in
-          let (a, b, d) = stays es ii n c.loop-e.e log log' last last' c.loop-r.r h.0 h.1 i.2 in
-          (a, b, d, λ q. absurd (false≢true (sym w.quiet-is ∙ q))))
-    ]
+pub cycle-requires-clause-good : goal.cycle-requires-clause-good
+cycle-requires-clause-good c =
+    let m = c.in_ok-made.made in
+    made.good c.args.edges.now c.args.ii c.args.nodes c.as_slice-log.result.now c.as_slice-last.result.now m.is_deep
+    (made.made_at c.args.edges.now c.args.ii c.args.nodes m.log.items c.as_slice-log.result.now m.last.items c.as_slice-last.result.now m.is_deep c.as_slice-log.ensures.value c.as_slice-last.ensures.value c.in_ok-made.ensures)
 
-pub returns-then-quiet : goal.returns-then-quiet
-returns-then-quiet c =
-    let es = c.args.edges.now in
-    let i = c.loop-e.invariant in
-    let e : c.loop-e.e ≡ length es = omega arith in
-    answers es c.args.ii c.args.nodes c.loop-e.log.items c.loop-e.last.items c.requires.within i.0
-    (slack_tight es c.args.ii c.args.nodes c.loop-e.log.items c.loop-e.last.items c.requires.within i.0 (subst (λ z. AreSlack es c.args.ii z c.loop-e.log.items c.loop-e.last.items) e (i.3 c.if-quiet.true)))
-    c.in_ok-times.field-0.items
-    (times_from c.loop-e.log.items c.deref-then-quiet.result.now c.loop-e.last.items c.deref-then-quiet-2.result.now c.in_ok-times.field-0.items c.deref-then-quiet.ensures.value c.deref-then-quiet-2.ensures.value c.in_ok-times.ensures)
+pub cycle-requires-clause-deep : goal.cycle-requires-clause-deep
+cycle-requires-clause-deep c =
+    let m = c.in_ok-made.made in
+    made.deep c.args.edges.now c.args.ii c.args.nodes c.as_slice-log.result.now c.as_slice-last.result.now m.is_deep c.if-made.true
+    (made.made_at c.args.edges.now c.args.ii c.args.nodes m.log.items c.as_slice-log.result.now m.last.items c.as_slice-last.result.now m.is_deep c.as_slice-log.ensures.value c.as_slice-last.ensures.value c.in_ok-made.ensures)
 
-pub loop-r-preserved : goal.loop-r-preserved
-loop-r-preserved c =
-    let i = c.loop-e.invariant in
-    let e : c.loop-e.e ≡ length c.args.edges.now = omega arith in
-    (i.0, i.1, next_round c.args.edges.now c.args.ii c.loop-r.r c.loop-e.log.items c.loop-e.last.items (subst (λ z. IsSettled c.args.edges.now c.args.ii c.loop-r.r z c.loop-e.log.items c.loop-e.last.items) e i.2))
+pub times-requires-clause-good : goal.times-requires-clause-good
+times-requires-clause-good c =
+    let m = c.in_ok-made.made in
+    made.good c.args.edges.now c.args.ii c.args.nodes c.as_slice-log.result.now c.as_slice-last.result.now m.is_deep
+    (made.made_at c.args.edges.now c.args.ii c.args.nodes m.log.items c.as_slice-log.result.now m.last.items c.as_slice-last.result.now m.is_deep c.as_slice-log.ensures.value c.as_slice-last.ensures.value c.in_ok-made.ensures)
+
+pub times-requires-clause-shallow : goal.times-requires-clause-shallow
+times-requires-clause-shallow c =
+    let m = c.in_ok-made.made in
+    made.shallow c.args.edges.now c.args.ii c.args.nodes c.as_slice-log.result.now c.as_slice-last.result.now
+    (subst (IsMade c.args.edges.now c.args.ii c.args.nodes c.as_slice-log.result.now c.as_slice-last.result.now) c.if-made.false
+    (made.made_at c.args.edges.now c.args.ii c.args.nodes m.log.items c.as_slice-log.result.now m.last.items c.as_slice-last.result.now m.is_deep c.as_slice-log.ensures.value c.as_slice-last.ensures.value c.in_ok-made.ensures))
 
 pub returns : goal.returns
 returns c =
-    let es = c.args.edges.now in
-    let i = c.loop-r.invariant in
-    let e : c.loop-r.r ≡ c.args.nodes = omega arith in
-    answers es c.args.ii c.args.nodes c.loop-r.log.items c.loop-r.last.items c.requires.within i.0
-    (tight es c.args.ii c.args.nodes c.loop-r.log.items c.loop-r.last.items c.requires.within i.0 i.1 (subst (λ z. IsSettled es c.args.ii z 0 c.loop-r.log.items c.loop-r.last.items) e i.2))
-    c.in_ok-times-2.field-0.items
-    (times_from c.loop-r.log.items c.deref-2.result.now c.loop-r.last.items c.deref-3.result.now c.in_ok-times-2.field-0.items c.deref-2.ensures.value c.deref-3.ensures.value c.in_ok-times-2.ensures)
+    let m = c.in_ok-made.made in
+    made.early c.args.edges.now c.args.ii c.args.nodes c.as_slice-log.result.now c.as_slice-last.result.now c.requires.within c.in_ok-early.early.items
+    (subst (IsMade c.args.edges.now c.args.ii c.args.nodes c.as_slice-log.result.now c.as_slice-last.result.now) c.if-made.false
+    (made.made_at c.args.edges.now c.args.ii c.args.nodes m.log.items c.as_slice-log.result.now m.last.items c.as_slice-last.result.now m.is_deep c.as_slice-log.ensures.value c.as_slice-last.ensures.value c.in_ok-made.ensures))
+    c.in_ok-early.ensures

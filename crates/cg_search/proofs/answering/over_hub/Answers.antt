@@ -1,9 +1,9 @@
 use Rattle.std.proofs.Common.{rules, ◌≡◌, ◌≤◌, refl, sym, subst, arith}
 use Rattle.cg_model.specs.Mapping.{IsLegal}
 use Rattle.cg_hub.specs.Hub.{HubEnough, hub_map}
-use Rattle.cg_map.specs.Tried.{last_tried}
-use Rattle.cg_map.proofs.Hubs.{hub_interval}
-use Rattle.cg_search.specs.declared.answering.FoundBy.TheVariants.{Hub}
+use Rattle.cg_task.specs.Intervals.{last_tried}
+use Rattle.cg_hub.proofs.Hubs.{hub_interval}
+use Rattle.cg_task.specs.declared.answering.FoundBy.TheVariants.{Hub}
 use Rattle.cg_search.specs.Search.{HasNoHub, IsFound}
 use Rattle.cg_search.proofs.answering.over_hub.Goals as goal
 
@@ -11,8 +11,8 @@ pub returns-then-hub_enough : goal.returns-then-hub_enough
 returns-then-hub_enough c =
     let A = c.args.arch.now in
     let K = c.args.kernel.now in
-    let asked = c.args.asked in
-    let moves = c.args.moves in
+    let asked = c.args.request.ii in
+    let moves = c.args.request.moves in
     let first = c.args.first in
     let ii = c.loop-ii.ii in
     let is = c.in_ok-mapping.ensures in

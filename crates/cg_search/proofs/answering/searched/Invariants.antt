@@ -3,4 +3,4 @@ use Rattle.std.specs.Prelude.{All}
 use Rattle.cg_search.proofs.answering.searched.Given as goal
 
 abbrev pub invariant-loop-ii : goal.invariant-loop-ii
-invariant-loop-ii l = All (λ n. 0 < n) l.faults.items × (l.first + length l.faults.items ≡ l.ii)
+invariant-loop-ii l = All (λ n. 0 < n) l.left.items × (l.first + length l.left.items ≡ l.ii)

@@ -1,13 +1,13 @@
-use Rattle.std.proofs.Common.{◌+◌, ◌<◌, ◌^◌, length, subst, sym}
-use Rattle.cg_search.specs.declared.answering.SearchAnswer.TheVariants.{Spent}
-use Rattle.cg_search.specs.Search.{IsAnswer}
-use Rattle.cg_search_answers.proofs.Searched.{spent_few}
+use Rattle.std.proofs.Common.{◌∙◌, ◌+◌, ◌<◌, ◌^◌, length, subst, sym}
+use Rattle.cg_task.specs.declared.answering.Answer.TheVariants.{Spent}
+use Rattle.cg_search_answers.specs.Search.{words, IsAnswerOf, IsFoundWithin, AreFaults}
+use Rattle.cg_task_answers.proofs.Searched.{spent_few}
+use Rattle.cg_search_answers.proofs.Searched.{searcher}
 use Rattle.cg_search_answers.proofs.searching.searched.Goals as goal
 
 pub spent-requires : goal.spent-requires
 spent-requires c =
-    let A = c.args.arch.now in
-    let K = c.args.kernel.now in
     let s = c.args.request in
-    let p : IsAnswer A K s.ii s.moves (Spent c.in-Spent.first c.in-Spent.faults) = subst (λ a. IsAnswer A K s.ii s.moves a) c.in-Spent.is c.in_ok-certificate.ensures in
-    subst (λ faults. c.in-Spent.first + length faults < 2 ^ 32) (sym c.as_slice.ensures.value) (spent_few s A K c.in-Spent.first c.in-Spent.faults c.units-valid_arch.ensures.valid c.requires.range c.requires.within p)
+    let found = subst (λ a. IsAnswerOf s (record { arch = c.args.arch.now; kernel = c.args.kernel.now }) a) c.in-Spent.is c.in_ok-certificate.ensures in
+    subst (λ left. c.in-Spent.first + length left < 2 ^ 32) (sym c.as_slice.ensures.value)
+    (spent_few words IsAnswerOf IsFoundWithin AreFaults searcher s (record { arch = c.args.arch.now; kernel = c.args.kernel.now }) c.in-Spent.first c.in-Spent.left c.units-valid_arch.ensures.valid c.requires (sym c.asks_above.ensures ∙ c.if-asks_above.false) found)

@@ -62,4 +62,4 @@ put_all-requires-clause-fits c =
 
 pub returns : goal.returns
 returns c =
-    moves.attempt_refused c.args.self.now c.args.change c.args.list.now c.requires.list c.holds.ensures c.take_all.new.self c.place-back.new.self c.in_ok-routes.ensures.new c.place-back.ensures.new c.route_all.new.self c.in_ok-route_all.ensures c.args.moves c.args.k c.args.word c.in_ok-before.before c.in_ok-after.after c.is_taken.result c.in_ok-before.ensures c.in_ok-after.ensures c.is_taken.ensures c.put_all.new.self (moves.restored_whole c.args.self.now c.args.change c.args.list.now c.requires.list c.holds.ensures c.take_all.new.self c.place-back.new.self c.in_ok-routes.ensures.new c.place-back.ensures.new c.route_all.new.self c.in_ok-route_all.ensures c.drop_all.new.self c.place.new.self c.place-back.result c.place-back.ensures.back c.drop_all.ensures c.place.ensures.new c.in_ok-routes.routes.items c.in_ok-routes.ensures.routes c.put_all.new.self c.in_ok-put_all.ensures) c.if-is_taken.false
+    moves.attempt_refused c.args.self.now c.args.change c.args.list.now c.requires.list c.holds.ensures c.take_all.new.self c.place-back.new.self c.in_ok-routes.ensures.new c.place-back.ensures.new c.route_all.new.self c.in_ok-route_all.ensures c.args.pace.moves c.args.pace.k c.args.word c.in_ok-before.before c.in_ok-after.after c.is_taken.result c.in_ok-before.ensures c.in_ok-after.ensures c.is_taken.ensures c.put_all.new.self (moves.restored_whole c.args.self.now c.args.change c.args.list.now c.requires.list c.holds.ensures c.take_all.new.self c.place-back.new.self c.in_ok-routes.ensures.new c.place-back.ensures.new c.route_all.new.self c.in_ok-route_all.ensures c.drop_all.new.self c.place.new.self c.place-back.result c.place-back.ensures.back c.drop_all.ensures c.place.ensures.new c.in_ok-routes.routes.items c.in_ok-routes.ensures.routes c.put_all.new.self c.in_ok-put_all.ensures) c.if-is_taken.false

@@ -8,7 +8,7 @@ pub rest-requires-clause-small : goal.rest-requires-clause-small
 rest-requires-clause-small c =
     let l = c.requires.left in
     let few = c.requires.few in
-    attempt_small c.args.self.now c.attempt.new.self c.propose-change.result c.args.moves c.args.k c.draw-words.result.stands c.in_ok-attempt.ensures (omega (arith, l, few)) c.requires.small
+    attempt_small c.args.self.now c.attempt.new.self c.propose-change.result c.args.pace.moves c.args.pace.k c.draw-words.result.stands c.in_ok-attempt.ensures (omega (arith, l, few)) c.requires.small
 
 pub returns-clause-step : goal.returns-clause-step
 returns-clause-step c =
@@ -17,4 +17,4 @@ returns-clause-step c =
     let d = c.draw-words.result in
     let m = c.propose-change.ensures.value ∙ ap (λ x. drawn_move W.arch W.kernel W.ii W.early x d.unit d.time) c.draw-words.ensures.node
     ∙ ap (λ x. drawn_move W.arch W.kernel W.ii W.early (word 0 g) x d.time) c.draw-words.ensures.unit ∙ ap (λ x. drawn_move W.arch W.kernel W.ii W.early (word 0 g) (word 1 g) x) c.draw-words.ensures.time in
-    stepped W c.attempt.new.self c.rest.new.self c.propose-change.result c.args.moves c.args.k d.stands g m c.draw-words.ensures.stands c.in_ok-attempt.ensures c.rest.ensures
+    stepped W c.attempt.new.self c.rest.new.self c.propose-change.result c.args.pace.moves c.args.pace.k d.stands g m c.draw-words.ensures.stands c.in_ok-attempt.ensures c.rest.ensures

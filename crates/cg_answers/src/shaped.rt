@@ -1,0 +1,138 @@
+//! The commands, each over the files and the names that its shape gives it.
+ghost use Rattle.std.specs.Prelude.{length, map, string_bytes};
+ghost use Rattle.cg_ending.specs.Allowed.{Allows};
+ghost use Rattle.cg_ending.specs.Outcome.{file_of};
+ghost use Rattle.cg_command.specs.Words.{HasShape};
+ghost use Rattle.cg_answers.specs.Commands.{IsAnswer};
+
+use crate::netlisting;
+use cg_command::Command;
+use cg_ending::{File, Outcome, Status, Stop};
+use cg_model::Request;
+use std::alloc::Global;
+
+/// `turns KERNEL TURNS`.
+pub(crate) fn turns(
+    alloc: Global,
+    turns: u32,
+    files: &[File],
+    outputs: &[String],
+) -> Result<Outcome, Stop>
+    requires { HasShape (Command.Turns turns) (length files.now) (length outputs.now) }
+    ensures { Allows (IsAnswer (Command.Turns turns) (map file_of files.now) (map string_bytes outputs.now)) result }
+{
+    cg_run_answers::turns(alloc, turns, &files[0])
+}
+
+/// `turns KERNEL TURNS IN OUT`.
+pub(crate) fn turns_on_image(
+    alloc: Global,
+    turns: u32,
+    files: &[File],
+    outputs: &[String],
+) -> Result<Outcome, Stop>
+    requires { HasShape (Command.TurnsOnImage turns) (length files.now) (length outputs.now) }
+    ensures { Allows (IsAnswer (Command.TurnsOnImage turns) (map file_of files.now) (map string_bytes outputs.now)) result }
+{
+    cg_run_answers::turns_on_image(alloc, turns, &files[0], &files[1], outputs[0].as_str())
+}
+
+/// `flat ARCH OUT`.
+pub(crate) fn flat(alloc: Global, files: &[File], outputs: &[String]) -> Result<Outcome, Stop>
+    requires { HasShape (Command.Flat) (length files.now) (length outputs.now) }
+    ensures { Allows (IsAnswer (Command.Flat) (map file_of files.now) (map string_bytes outputs.now)) result }
+{
+    cg_run_answers::flat(alloc, &files[0], outputs[0].as_str())
+}
+
+/// `run ARCH BITS TURNS IN OUT`.
+pub(crate) fn run(
+    alloc: Global,
+    turns: u32,
+    files: &[File],
+    outputs: &[String],
+) -> Result<Outcome, Stop>
+    requires { HasShape (Command.Run turns) (length files.now) (length outputs.now) }
+    ensures { Allows (IsAnswer (Command.Run turns) (map file_of files.now) (map string_bytes outputs.now)) result }
+{
+    cg_run_answers::run(
+        alloc,
+        turns,
+        &files[0],
+        &files[1],
+        &files[2],
+        outputs[0].as_str(),
+    )
+}
+
+/// `bound ARCH KERNEL`.
+pub(crate) fn bound(alloc: Global, files: &[File], outputs: &[String]) -> Result<Outcome, Stop>
+    requires { HasShape (Command.Bound) (length files.now) (length outputs.now) }
+    ensures { Allows (IsAnswer (Command.Bound) (map file_of files.now) (map string_bytes outputs.now)) result }
+{
+    cg_mapping_answers::bound(alloc, &files[0], &files[1])
+}
+
+/// `check ARCH KERNEL MAPPING`.
+pub(crate) fn check(alloc: Global, files: &[File], outputs: &[String]) -> Result<Outcome, Stop>
+    requires { HasShape (Command.Check) (length files.now) (length outputs.now) }
+    ensures { Allows (IsAnswer (Command.Check) (map file_of files.now) (map string_bytes outputs.now)) result }
+{
+    cg_mapping_answers::check(alloc, &files[0], &files[1], &files[2])
+}
+
+/// `emit ARCH KERNEL MAPPING OUT`.
+pub(crate) fn emit(alloc: Global, files: &[File], outputs: &[String]) -> Result<Outcome, Stop>
+    requires { HasShape (Command.Emit) (length files.now) (length outputs.now) }
+    ensures { Allows (IsAnswer (Command.Emit) (map file_of files.now) (map string_bytes outputs.now)) result }
+{
+    cg_mapping_answers::emit(alloc, &files[0], &files[1], &files[2], outputs[0].as_str())
+}
+
+/// `map ARCH KERNEL OUT`, maybe with a file for the mapping.
+pub(crate) fn map(
+    alloc: Global,
+    request: Request,
+    files: &[File],
+    outputs: &[String],
+) -> Result<Outcome, Stop>
+    requires { HasShape (Command.Map request) (length files.now) (length outputs.now) }
+    ensures { Allows (IsAnswer (Command.Map request) (map file_of files.now) (map string_bytes outputs.now)) result }
+{
+    cg_map_answers::map(alloc, request, &files[0], &files[1], outputs)
+}
+
+/// `search ARCH KERNEL OUT`, maybe with a file for the mapping.
+pub(crate) fn search(
+    alloc: Global,
+    request: Request,
+    files: &[File],
+    outputs: &[String],
+) -> Result<Outcome, Stop>
+    requires { HasShape (Command.Search request) (length files.now) (length outputs.now) }
+    ensures { Allows (IsAnswer (Command.Search request) (map file_of files.now) (map string_bytes outputs.now)) result }
+{
+    cg_search_answers::search(alloc, request, &files[0], &files[1], outputs)
+}
+
+/// `trial SEED`.
+pub(crate) fn trial(
+    alloc: Global,
+    seed: u64,
+    files: &[File],
+    outputs: &[String],
+) -> Result<Outcome, Stop>
+    requires { HasShape (Command.Trial seed) (length files.now) (length outputs.now) }
+    ensures { Allows (IsAnswer (Command.Trial seed) (map file_of files.now) (map string_bytes outputs.now)) result }
+{
+    let report = cg_trial_run::trial(alloc, seed)?;
+    Ok(Outcome::new(alloc, Status::Done, report))
+}
+
+/// `verilog ARCH OUT`.
+pub(crate) fn verilog(alloc: Global, files: &[File], outputs: &[String]) -> Result<Outcome, Stop>
+    requires { HasShape (Command.Verilog) (length files.now) (length outputs.now) }
+    ensures { Allows (IsAnswer (Command.Verilog) (map file_of files.now) (map string_bytes outputs.now)) result }
+{
+    netlisting::verilog(alloc, &files[0], outputs[0].as_str())
+}

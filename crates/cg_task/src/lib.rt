@@ -1,0 +1,15 @@
+//! What both searches for a mapping share: a kernel on an architecture at an interval, the intervals that are tried, and
+//! what is answered.
+#![tactic(auto)]
+
+mod answering;
+mod posing;
+mod tried;
+
+pub use answering::{Answer, FoundBy};
+pub use cg_arch::Arch;
+pub use cg_bound::Certificate;
+pub use cg_check::LegalMapping;
+pub use cg_kernel::Kernel;
+pub use posing::Task;
+pub use tried::{first_tried, last_tried};

@@ -1,0 +1,39 @@
+//! The intervals that are tried.
+ghost use Rattle.std.specs.Prelude.{◌≡◌, IfOk};
+ghost use Rattle.cg_bound.specs.Bound.{IsOpen};
+ghost use Rattle.cg_task.specs.Intervals as spec;
+ghost use Rattle.cg_task.specs.Intervals.{IsFirst};
+
+use cg_arch::Arch;
+use cg_bound::bound;
+use cg_kernel::Kernel;
+use std::alloc::{AllocError, Global};
+
+/// The last interval that is tried.
+pub fn last_tried(arch: &Arch, asked: Option<u32>) -> u32
+    ensures { result ≡ spec.last_tried arch.now asked }
+{
+    match asked {
+        Some(ii) => ii,
+        None => arch.contexts(),
+    }
+}
+
+/// The first one.
+pub fn first_tried(
+    alloc: Global,
+    arch: &Arch,
+    kernel: &Kernel,
+    asked: Option<u32>,
+) -> Result<u32, AllocError>
+    requires { IsOpen arch.now kernel.now (spec.last_tried arch.now asked) }
+    ensures { IfOk result (IsFirst arch.now kernel.now asked) }
+{
+    match asked {
+        Some(ii) => Ok(ii),
+        None => match bound(alloc, arch, kernel)?.mii {
+            Some(least) => Ok(least),
+            None => unreachable!(),
+        },
+    }
+}

@@ -1,0 +1,217 @@
+-- What a search answers, and what its bytes do, whatever it searches by.
+use Rattle.std.proofs.Common.{◌≡◌, ℕ, ◌+◌, ◌<◌, ◌≤◌, List, [], ◌∷◌, length, refl, sym, ◌∙◌, ap, subst, ◌⊎◌, inl, inr, ⊎_elim, arith}
+use Rattle.std.specs.Prelude.{◌^◌, false}
+use Rattle.std.specs.Global.{Vec}
+use Rattle.cg_model.specs.Array.{Arch, IsArch}
+use Rattle.cg_model.specs.Kernel.{Kernel, IsKernel}
+use Rattle.cg_model.specs.Mapping.{Mapping, IsLegal}
+use Rattle.cg_ending.specs.declared.outcome.Status.{Status}
+use Rattle.cg_ending.specs.declared.outcome.Status.TheVariants.{Done, Impossible, BudgetSpent}
+use Rattle.cg_ending.specs.Outcome.{Name, Bytes, File, Outcome, names_of}
+use Rattle.cg_ending.specs.Ends.{Moment, Completed, Wrote}
+use Rattle.cg_ending.specs.Refusals.{reports}
+use Rattle.cg_files.specs.Held.{Holds, Appends}
+use Rattle.cg_bits.specs.Spelling.{AreBits}
+use Rattle.cg_check.specs.Legal.{Mapped}
+use Rattle.cg_bound.specs.declared.interval.Certificate.{Certificate}
+use Rattle.cg_bound.specs.Bound.{IsOpen, Shows}
+use Rattle.cg_hub.specs.Hub.{HubEnough}
+use Rattle.cg_task.specs.declared.answering.FoundBy.{FoundBy}
+use Rattle.cg_task.specs.declared.answering.Answer.{Answer}
+use Rattle.cg_task.specs.declared.answering.Answer.TheVariants as answer
+use Rattle.cg_task.specs.Intervals.{IsAsked, last_tried, IsFirst}
+use Rattle.cg_task.specs.Answers.{IsMapping}
+use Rattle.cg_task.proofs.Intervals.{last_positive}
+use Rattle.cg_model.specs.declared.request.Request.{Request}
+use Rattle.cg_model.specs.Request.{IsInRange}
+use Rattle.cg_inputs.specs.Sources.{Pair, GivesPair}
+use Rattle.cg_mapping_answers.specs.Emit.{config_of}
+use Rattle.cg_task_answers.specs.Searches.{IsSearchOver, IsWritten, IsImpossibleRun, is_above, map_writes, impossible_report}
+use Rattle.cg_task_answers.specs.Answered.{Words, IsOutcomeOf, IsAnswered, found_report, left_report}
+use Rattle.cg_task_answers.specs.Runs.{IsFoundRun, IsLeftRun}
+use Rattle.cg_inputs.proofs.Sound.{IsSound, IsNamed}
+use Rattle.cg_inputs.proofs.Wholes.{whole}
+use Rattle.cg_inputs.proofs.Paired.{valid_pair}
+use Rattle.cg_mapping_answers.proofs.Bitstream.{runs, some_run}
+use Rattle.cg_task_answers.proofs.Left.{held_writes, hold_pair, put_of, kept_of, quiet_of, left_impossible}
+use Rattle.cg_task_answers.proofs.Over.{asked, sound_over, named_over, agree_over, accepted_over, some_over, left_over}
+
+-- what is known of a search: why an interval is impossible, what holds of the mappings that it finds and of what it leaves, and
+-- that it has an answer, which is a mapping where the hub suffices
+pub record IsSearcher (Answers : Request → Pair → Answer → Type 0) (Found : Request → Pair → Mapped → FoundBy → Type 0) (Left : Request → Pair → ℕ → List ℕ → Type 0) : Type 0 where
+  pub shown : (s : Request) (p : Pair) (c : Certificate) → Answers s p (answer.Impossible c) → Shows p.arch p.kernel (last_tried p.arch s.ii) c
+  pub free : (s : Request) (p : Pair) (m : Mapped) (found_by : FoundBy) → Answers s p (answer.Mapped m found_by) → IsOpen p.arch p.kernel (last_tried p.arch s.ii)
+  pub legal : (s : Request) (p : Pair) (m : Mapped) (found_by : FoundBy) → IsArch p.arch → IsKernel p.kernel → IsAsked p.arch s.ii → Answers s p (answer.Mapped m found_by)
+      → (m.arch ≡ p.arch) × (m.kernel ≡ p.kernel) × IsLegal p.arch p.kernel m.mapping
+  pub found : (s : Request) (p : Pair) (m : Mapped) (found_by : FoundBy) → IsArch p.arch → IsKernel p.kernel → Answers s p (answer.Mapped m found_by) → Found s p m found_by
+  pub open_left : (s : Request) (p : Pair) (first : ℕ) (left : Vec ℕ) → Answers s p (answer.Spent first left) → IsOpen p.arch p.kernel (last_tried p.arch s.ii) × IsFirst p.arch p.kernel s.ii first
+  pub left : (s : Request) (p : Pair) (first : ℕ) (left : Vec ℕ) → Answers s p (answer.Spent first left) → Left s p first left.items
+  pub all : (s : Request) (p : Pair) (first : ℕ) (left : List ℕ) → Left s p first left → first + length left ≡ last_tried p.arch s.ii + 1
+  pub by_hub : (s : Request) (p : Pair) → IsArch p.arch → IsKernel p.kernel → IsAsked p.arch s.ii → HubEnough p.arch p.kernel (last_tried p.arch s.ii) → (a : Answer) → Answers s p a → IsMapping a
+  pub some : (s : Request) (p : Pair) → IsArch p.arch → IsKernel p.kernel → IsAsked p.arch s.ii → (a : Answer) × Answers s p a
+
+-- ---- status and writes
+
+named_writes : (outs : List Name) (m : Mapped) (bytes : Bytes) → (names_of (map_writes outs m bytes) ≡ outs) ⊎ (map_writes outs m bytes ≡ [])
+named_writes [] m bytes = inr refl
+named_writes (out ∷ []) m bytes = inl refl
+named_writes (out ∷ file ∷ []) m bytes = inl refl
+named_writes (out ∷ file ∷ other ∷ outs) m bytes = inr refl
+
+named_as : (outs : List Name) (m : Mapped) (bytes : Bytes) (o : Outcome) → o.writes ≡ map_writes outs m bytes → IsNamed outs o
+named_as outs m bytes o e = ⊎_elim (λ n. inl (ap names_of e ∙ n)) (λ n. inr (e ∙ n)) (named_writes outs m bytes)
+
+module _ (W : Words) (Answers : Request → Pair → Answer → Type 0) where
+  -- what is defined of a pair
+  abbrev pub Defines : Request → List Name → Pair → Outcome → Type 0
+  Defines s outs p o = IsAnswered W s outs p (Answers s p) o
+
+  -- and of two files
+  abbrev pub IsOver : Request → File → File → List Name → Outcome → Type 0
+  IsOver s arch kernel outs o = IsSearchOver (Defines s outs) s arch kernel o
+
+  module _ (s : Request) (outs : List Name) where
+    sound_of : (p : Pair) (a : Answer) (o : Outcome) → IsOutcomeOf W s outs p a o → IsSound o
+    sound_of p (answer.Impossible c) o e = subst IsSound (sym e) (record { own = refl; quiet = λ h. refl })
+    sound_of p (answer.Mapped m found_by) o w = subst IsSound (sym w.outcome) (record { own = refl; quiet = λ h. cc })
+    sound_of p (answer.Spent first left) o e = subst IsSound (sym e) (record { own = refl; quiet = λ h. refl })
+
+    pub sound : (arch kernel : File) (o : Outcome) → IsOver s arch kernel outs o → IsSound o
+    sound arch kernel o e = sound_over (Defines s outs) s arch kernel (λ p o f. sound_of p f.answer o f.outcome) o e
+
+    named_of : (p : Pair) (a : Answer) (o : Outcome) → IsOutcomeOf W s outs p a o → IsNamed outs o
+    named_of p (answer.Impossible c) o e = inr (ap (λ x. x.writes) e)
+    named_of p (answer.Mapped m found_by) o w = named_as outs m w.bytes o (ap (λ x. x.writes) w.outcome)
+    named_of p (answer.Spent first left) o e = inr (ap (λ x. x.writes) e)
+
+    pub named : (arch kernel : File) (o : Outcome) → IsOver s arch kernel outs o → IsNamed outs o
+    named arch kernel o e = named_over (Defines s outs) s arch kernel outs (λ p o f. named_of p f.answer o f.outcome) o e
+
+  -- without output files nothing is written
+  pub quiet : (s : Request) (arch kernel : File) (o : Outcome) → IsOver s arch kernel [] o → o.writes ≡ []
+  quiet s arch kernel o e = ⊎_elim (λ n. none o.writes n) (λ n. n) (named s [] arch kernel o e)
+    where
+      none : (files : List File) → names_of files ≡ [] → files ≡ []
+      none [] n = refl
+      none (f ∷ fs) n = absurd (cc)
+
+  -- the status of an answer that is a mapping
+  pub mapped_done : (s : Request) (outs : List Name) (p : Pair) (a : Answer) (o : Outcome) → IsMapping a → IsOutcomeOf W s outs p a o → o.status ≡ Done
+  mapped_done s outs p (answer.Mapped n by) o e f = ap (λ z. z.status) f.outcome
+  mapped_done s outs p (answer.Impossible c) o e f = absurd e
+  mapped_done s outs p (answer.Spent first left) o e f = absurd e
+
+  module _ (Found : Request → Pair → Mapped → FoundBy → Type 0) (Left : Request → Pair → ℕ → List ℕ → Type 0) (is_searcher : IsSearcher Answers Found Left) where
+    -- little is left
+    pub spent_few : (s : Request) (p : Pair) (first : ℕ) (left : Vec ℕ) → IsArch p.arch → IsInRange s → is_above s.ii p.arch ≡ false → Answers s p (answer.Spent first left) → first + length left.items < 2 ^ 32
+    spent_few s p first left arch range within found =
+        let (some, most) = last_positive p.arch p.kernel s.ii arch (asked s p.arch range within) in
+        let few = arch.small.contexts.1 in
+        let all = is_searcher.all s p first left.items (is_searcher.left s p first left found) in
+        omega (arith, most, few, all)
+
+    -- ---- what there is
+
+    some_of : (s : Request) (outs : List Name) (p : Pair) → IsArch p.arch → IsKernel p.kernel → IsAsked p.arch s.ii → (a : Answer) → Answers s p a → (o : Outcome) × IsOutcomeOf W s outs p a o
+    some_of s outs p valid good is (answer.Impossible c) found = (reports Impossible (impossible_report p s c), refl)
+    some_of s outs p valid good is (answer.Spent first left) found = (reports BudgetSpent (left_report W.left first left.items), refl)
+    some_of s outs p valid good is (answer.Mapped m found_by) found =
+        let (one, two, ok) = is_searcher.legal s p m found_by valid good is found in
+        let fine : IsKernel m.kernel = subst IsKernel (sym two) good in
+        let here : IsLegal m.arch m.kernel m.mapping = rw (one, two) ok in
+        let (bytes, spelled) = some_run m fine here.shape here in
+        (record { status = Done; report = found_report W.by m found_by; writes = map_writes outs m bytes }, record { bytes = bytes; spelled = spelled; outcome = refl })
+
+    pub some_outcome : (s : Request) (arch kernel : File) (outs : List Name) → IsInRange s → (o : Outcome) × IsOver s arch kernel outs o
+    some_outcome s arch kernel outs range =
+        some_over (Defines s outs) s arch kernel
+        (λ p valid good is.
+        let (a, found) = is_searcher.some s p valid good is in
+        let (o, f) = some_of s outs p valid good is a found in
+        (o, record { answer = a; is_answer = found; outcome = f }))
+        range
+
+    -- ---- what is accepted
+
+    pub accepted : (s : Request) (arch kernel : File) (outs : List Name) (p : Pair) → GivesPair arch.bytes kernel.bytes p → is_above s.ii p.arch ≡ false
+        → (IsArch p.arch → IsKernel p.kernel → IsAsked p.arch s.ii → (a : Answer) → Answers s p a → IsMapping a) → (o : Outcome) → IsOver s arch kernel outs o → o.status ≡ Done
+    accepted s arch kernel outs p given within each o f =
+        accepted_over (Defines s outs) s arch kernel p given within (λ valid good is o f. mapped_done s outs p f.answer o (each valid good is f.answer f.is_answer) f.outcome) o f
+
+    -- ---- what is left
+
+    module _ (s : Request) (arch kernel : Name) (outs : List Name) (f g : File) (before after : Moment) (arch_held : Holds before.held arch f.bytes) (kernel_held : Holds before.held kernel g.bytes) where
+      module _ (p : Pair) (given : GivesPair f.bytes g.bytes p) (is : IsAsked p.arch s.ii) where
+        valid : IsArch p.arch
+        valid = (valid_pair f.bytes g.bytes p given).0
+
+        good : IsKernel p.kernel
+        good = (valid_pair f.bytes g.bytes p given).1
+
+        impossible_of : (a : Answer) (o : Outcome) → Answers s p a → IsOutcomeOf W s outs p a o → o.status ≡ Impossible → Completed o before after Impossible → IsImpossibleRun s arch kernel before after
+        impossible_of (answer.Impossible c) o found e status done = left_impossible s arch kernel f g before after arch_held kernel_held p given c o (is_searcher.shown s p c found) e done
+        impossible_of (answer.Mapped m found_by) o found e status done = absurd (let z : Done ≡ Impossible = sym (ap (λ x. x.status) e.outcome) ∙ status in cc)
+        impossible_of (answer.Spent first left) o found e status done = absurd (let z : BudgetSpent ≡ Impossible = sym (ap (λ x. x.status) e) ∙ status in cc)
+
+        spent_of : (a : Answer) (o : Outcome) → Answers s p a → IsOutcomeOf W s outs p a o → o.status ≡ BudgetSpent → Completed o before after BudgetSpent → IsLeftRun W.left (Left s) s arch kernel before after
+        spent_of (answer.Spent first left) o found e status done =
+            let (free, is_first) = is_searcher.open_left s p first left found in
+            let report = reports BudgetSpent (left_report W.left first left.items) in
+            record {
+              pair = p;
+              read = hold_pair s arch kernel f g before after arch_held kernel_held p given;
+              free = free;
+              first = first;
+              is_first = is_first;
+              left = left.items;
+              is_left = is_searcher.left s p first left found;
+              no_hub = λ enough. is_searcher.by_hub s p valid good is enough (answer.Spent first left) found;
+              put = put_of s arch kernel f g before after arch_held kernel_held o report BudgetSpent e done;
+              kept = kept_of s arch kernel f g before after arch_held kernel_held o report BudgetSpent e done;
+              no_write = quiet_of s arch kernel f g before after arch_held kernel_held o report BudgetSpent e refl done;
+            }
+        spent_of (answer.Mapped m found_by) o found e status done = absurd (let z : Done ≡ BudgetSpent = sym (ap (λ x. x.status) e.outcome) ∙ status in cc)
+        spent_of (answer.Impossible c) o found e status done = absurd (let z : Impossible ≡ BudgetSpent = sym (ap (λ x. x.status) e) ∙ status in cc)
+
+        abbrev Here : Mapping → Mapped
+        Here M = record { arch = p.arch; kernel = p.kernel; mapping = M }
+
+        same : (n : Mapped) → n.arch ≡ p.arch → n.kernel ≡ p.kernel → n ≡ Here n.mapping
+        same n a k = subst (λ A. n ≡ record { arch = A; kernel = p.kernel; mapping = n.mapping }) a (subst (λ K. n ≡ record { arch = n.arch; kernel = K; mapping = n.mapping }) k refl)
+
+        run : {m : Mapped} (found_by : FoundBy) (o : Outcome) (found : Answers s p (answer.Mapped m found_by)) (e : IsWritten outs m (found_report W.by m found_by) o) → o.status ≡ Done → Completed o before after Done
+            → (M : Mapping) → m ≡ Here M → IsLegal p.arch p.kernel M → IsFoundRun W.by (Found s) s arch kernel outs before after
+        run {m} found_by o found e status done M m_is ok =
+            let answered : Answers s p (answer.Mapped (Here M) found_by) = subst (λ n. Answers s p (answer.Mapped n found_by)) m_is found in
+            let spelled : AreBits p.arch (config_of (Here M)) e.bytes = subst (λ n. AreBits n.arch (config_of n) e.bytes) m_is e.spelled in
+            let outcome : o ≡ record { status = Done; report = found_report W.by (Here M) found_by; writes = map_writes outs (Here M) e.bytes } = subst (λ n. o ≡ record { status = Done; report = found_report W.by n found_by; writes = map_writes outs n e.bytes }) m_is e.outcome in
+            record {
+              pair = p;
+              read = hold_pair s arch kernel f g before after arch_held kernel_held p given;
+              free = is_searcher.free s p (Here M) found_by answered;
+              mapping = M;
+              found_by = found_by;
+              found = is_searcher.found s p (Here M) found_by valid good answered;
+              bytes = e.bytes;
+              runs = runs (Here M) e.bytes valid good ok spelled;
+              written = held_writes outs (Here M) e.bytes before after (subst (λ fs. Wrote before.held fs after.held) (ap (λ x. x.writes) outcome) done.held);
+              put = subst (λ report. Appends before.taken report after.taken) (ap (λ x. x.report) outcome) (whole o.status o.report before after status done.put);
+            }
+
+        mapped_of : (a : Answer) (o : Outcome) → Answers s p a → IsOutcomeOf W s outs p a o → o.status ≡ Done → Completed o before after Done → IsFoundRun W.by (Found s) s arch kernel outs before after
+        mapped_of (answer.Impossible c) o found e status done = absurd (let z : Impossible ≡ Done = sym (ap (λ x. x.status) e) ∙ status in cc)
+        mapped_of (answer.Spent first left) o found e status done = absurd (let z : BudgetSpent ≡ Done = sym (ap (λ x. x.status) e) ∙ status in cc)
+        mapped_of (answer.Mapped m found_by) o found e status done =
+            let (one, two, ok) = is_searcher.legal s p m found_by valid good is found in
+            run found_by o found e status done m.mapping (same m one two) ok
+
+      -- ---- by what the files give
+
+      pub found_left : (o : Outcome) → IsOver s f g outs o → o.status ≡ Done → Completed o before after Done → IsFoundRun W.by (Found s) s arch kernel outs before after
+      found_left o is at done = left_over (Defines s outs) s f g Done before after (λ e. cc) (λ p given is o d. mapped_of p given is d.answer o d.is_answer d.outcome) o is at done
+
+      pub impossible_left : (o : Outcome) → IsOver s f g outs o → o.status ≡ Impossible → Completed o before after Impossible → IsImpossibleRun s arch kernel before after
+      impossible_left o is at done = left_over (Defines s outs) s f g Impossible before after (λ e. cc) (λ p given is o d. impossible_of p given is d.answer o d.is_answer d.outcome) o is at done
+
+      pub spent_left : (o : Outcome) → IsOver s f g outs o → o.status ≡ BudgetSpent → Completed o before after BudgetSpent → IsLeftRun W.left (Left s) s arch kernel before after
+      spent_left o is at done = left_over (Defines s outs) s f g BudgetSpent before after (λ e. cc) (λ p given is o d. spent_of p given is d.answer o d.is_answer d.outcome) o is at done

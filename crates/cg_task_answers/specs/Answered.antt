@@ -1,0 +1,54 @@
+-- What is reported and written of a search's answer.
+use Rattle.std.specs.Prelude.{◌≡◌, ℕ, ◌+◌, List, [], ◌∷◌, ◌++◌, codes, decimal}
+use Rattle.cg_ending.specs.declared.outcome.Status.TheVariants as status
+use Rattle.cg_ending.specs.Outcome.{Name, Bytes, Outcome, line_of}
+use Rattle.cg_ending.specs.Refusals.{reports}
+use Rattle.cg_check.specs.Legal.{Mapped as MappedValue}
+use Rattle.cg_task.specs.declared.answering.FoundBy.{FoundBy}
+use Rattle.cg_task.specs.declared.answering.FoundBy.TheVariants.{Hub, Moves}
+use Rattle.cg_task.specs.declared.answering.Answer.{Answer}
+use Rattle.cg_task.specs.declared.answering.Answer.TheVariants.{Impossible, Mapped, Spent}
+use Rattle.cg_model.specs.declared.request.Request.{Request}
+use Rattle.cg_inputs.specs.Sources.{Pair}
+use Rattle.cg_mapping_answers.specs.Emit.{emit_report}
+use Rattle.cg_task_answers.specs.Searches.{IsWritten, impossible_report}
+
+-- a command's own words: for how it finds mappings, and for what it leaves where it finds none
+pub record Words : Type 0 where
+  pub by : Bytes
+  pub left : Bytes
+
+-- ---- reports
+
+-- how a mapping was found
+abbrev pub found_line : Bytes → FoundBy → Bytes
+found_line by Hub = line_of (codes "by hub" ∷ [])
+found_line by (Moves count) = line_of (codes "by " ∷ by ∷ codes " " ∷ decimal count ∷ [])
+
+-- its interval, its stages, and how it was found
+abbrev pub found_report : Bytes → MappedValue → FoundBy → Bytes
+found_report by m found_by = emit_report m ++ found_line by found_by
+
+-- what is left at an interval
+abbrev pub left_line : Bytes → ℕ → ℕ → Bytes
+left_line word ii n = line_of (codes "ii " ∷ decimal ii ∷ codes " " ∷ word ∷ codes " " ∷ decimal n ∷ [])
+
+-- at each, from that interval on
+abbrev pub left_report : Bytes → ℕ → List ℕ → Bytes
+left_report word ii [] = []
+left_report word ii (n ∷ left) = left_line word ii n ++ left_report word (ii + 1) left
+
+-- ---- outcomes
+
+module _ (W : Words) (s : Request) (outs : List Name) (p : Pair) where
+  -- by the answer of the search
+  abbrev pub IsOutcomeOf : Answer → Outcome → Type 0
+  IsOutcomeOf (Impossible c) o = o ≡ reports status.Impossible (impossible_report p s c)
+  IsOutcomeOf (Mapped m found_by) o = IsWritten outs m (found_report W.by m found_by) o
+  IsOutcomeOf (Spent first left) o = o ≡ reports status.BudgetSpent (left_report W.left first left.items)
+
+  -- the search has one of these answers
+  pub record IsAnswered (Answers : Answer → Type 0) (o : Outcome) : Type 0 where
+    pub answer : Answer
+    pub is_answer : Answers answer
+    pub outcome : IsOutcomeOf answer o

@@ -1,0 +1,49 @@
+-- What a search leaves, where it finds a mapping and where its moves are spent.
+use Rattle.std.specs.Prelude.{◌≡◌, ℕ, List, []}
+use Rattle.cg_model.specs.Mapping.{Mapping}
+use Rattle.cg_ending.specs.declared.outcome.Status.TheVariants as status
+use Rattle.cg_files.specs.Held.{Appends}
+use Rattle.cg_ending.specs.Outcome.{Name, Bytes}
+use Rattle.cg_ending.specs.Ends.{Moment, IsPut, Wrote}
+use Rattle.cg_check.specs.Legal.{Mapped}
+use Rattle.cg_bound.specs.Bound.{IsOpen}
+use Rattle.cg_hub.specs.Hub.{HubEnough}
+use Rattle.cg_task.specs.declared.answering.FoundBy.{FoundBy}
+use Rattle.cg_task.specs.Intervals.{last_tried, IsFirst}
+use Rattle.cg_model.specs.declared.request.Request.{Request}
+use Rattle.cg_inputs.specs.Sources.{Pair, HoldPair}
+use Rattle.cg_mapping_answers.specs.Emit.{RunsMapping}
+use Rattle.cg_task_answers.specs.Searches.{HoldsMapped}
+use Rattle.cg_task_answers.specs.Answered.{found_report, left_report}
+
+-- Done: nothing forbids the last interval that is tried, and `Found` holds of a mapping. It is legal; no resource carries two of
+-- the turns' values in a cycle, and no unit begins two operations; and an array that runs the bytes that are written does what
+-- the turns of the kernel do one after the other, for every number of turns and every image on which the kernel's edges order the
+-- accesses that matter
+pub record IsFoundRun (by : Bytes) (Found : Pair → Mapped → FoundBy → Type 0) (s : Request) (arch kernel : Name) (outs : List Name) (before after : Moment) : Type 0 where
+  pub pair : Pair
+  pub read : HoldPair arch kernel before pair
+  pub free : IsOpen pair.arch pair.kernel (last_tried pair.arch s.ii)
+  pub mapping : Mapping
+  pub found_by : FoundBy
+  pub found : Found pair (record { arch = pair.arch; kernel = pair.kernel; mapping = mapping }) found_by
+  pub bytes : Bytes
+  pub runs : RunsMapping (record { arch = pair.arch; kernel = pair.kernel; mapping = mapping }) bytes
+  pub written : HoldsMapped outs (record { arch = pair.arch; kernel = pair.kernel; mapping = mapping }) bytes after
+  pub put : Appends before.taken (found_report by (record { arch = pair.arch; kernel = pair.kernel; mapping = mapping }) found_by) after.taken
+
+-- BudgetSpent: nothing forbids the last interval, and at none that was tried a mapping was found: `Left` holds of what is left at
+-- each. That was put, in part where the put failed. No write was made
+pub record IsLeftRun (word : Bytes) (Left : Pair → ℕ → List ℕ → Type 0) (s : Request) (arch kernel : Name) (before after : Moment) : Type 0 where
+  pub pair : Pair
+  pub read : HoldPair arch kernel before pair
+  pub free : IsOpen pair.arch pair.kernel (last_tried pair.arch s.ii)
+  pub first : ℕ
+  pub is_first : IsFirst pair.arch pair.kernel s.ii first
+  pub left : List ℕ
+  pub is_left : Left pair first left
+  -- the hub doesn't suffice there
+  pub no_hub : HubEnough pair.arch pair.kernel (last_tried pair.arch s.ii) → ⊥
+  pub put : IsPut status.BudgetSpent (left_report word first left) before after
+  pub kept : Wrote before.held [] after.held
+  pub no_write : after.write_faults ≡ before.write_faults

@@ -1,0 +1,51 @@
+//! A mapping that was found: what is said of it, and what is written.
+ghost use Rattle.std.specs.Prelude.{◌≡◌, IfOk, map, string_bytes};
+ghost use Rattle.cg_ending.specs.Outcome.{outcome_of};
+ghost use Rattle.cg_task_answers.specs.Searches.{IsWritten};
+ghost use Rattle.cg_task_answers.specs.Answered as spec;
+
+use crate::writing::written;
+use cg_check::LegalMapping;
+use cg_ending::Outcome;
+use cg_mapping_answers::emit_report;
+use cg_task::FoundBy;
+use std::alloc::{AllocError, Global};
+
+/// The outcome of a mapping that was found over the hub, or by a search that this word names.
+pub fn found(
+    alloc: Global,
+    by: &str,
+    mapping: &LegalMapping<'_>,
+    found_by: FoundBy,
+    outputs: &[String],
+) -> Result<Outcome, AllocError>
+    ensures { IfOk result (λ o. IsWritten (map string_bytes outputs.now) mapping.now (spec.found_report by.now mapping.now found_by) (outcome_of o)) }
+{
+    let report = found_report(alloc, by, mapping, found_by)?;
+    written(alloc, mapping, report, outputs)
+}
+
+/// The interval, the stages, and how the mapping was found.
+fn found_report(
+    alloc: Global,
+    by: &str,
+    mapping: &LegalMapping<'_>,
+    found_by: FoundBy,
+) -> Result<Vec<u8>, AllocError>
+    ensures { IfOk result (λ v. v.items ≡ spec.found_report by.now mapping.now found_by) }
+{
+    let mut report = emit_report(alloc, mapping)?;
+    let line = found_line(alloc, by, found_by)?;
+    report.extend_from_slice(line.as_bytes())?;
+    Ok(report)
+}
+
+/// How the mapping was found.
+fn found_line(alloc: Global, by: &str, found_by: FoundBy) -> Result<String, AllocError>
+    ensures { IfOk result (λ s. string_bytes s ≡ spec.found_line by.now found_by) }
+{
+    match found_by {
+        FoundBy::Hub => String::from_str(alloc, "by hub\n"),
+        FoundBy::Moves(count) => format!(in alloc; "by {by} {count}\n"),
+    }
+}
