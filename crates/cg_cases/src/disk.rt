@@ -1,6 +1,6 @@
 //! Calls over the files of the system and the standard output: what they write there.
 
-use cg_files::{DiskStore, StdSink};
+use cg_files::{DiskStore, StdSink, Store, StoreFail};
 use cg_top::run_line;
 use std::alloc::{AllocError, Global};
 use std::rt::Files;
@@ -64,4 +64,71 @@ fn words_of(alloc: Global, line: &str) -> Result<Vec<String>, AllocError> {
         words.push(String::from_str(alloc, word)?)?;
     }
     Ok(words)
+}
+
+/// The bytes that the system's store is to keep, one after another under one name.
+const LENGTHS: [u32; 4] = [11, 70_000, 10_000, 7];
+
+/// Writes texts over one another, and prints how many aren't given back as they were written; and of a file that isn't
+/// there and of one that can't be written whether that is said.
+pub(crate) fn keep_files<R: Files + Print + AllocGlobal>(rt: &R) -> io::Result<()> {
+    let mut store = DiskStore::new(rt);
+    let mut differing = 0u32;
+    for length in LENGTHS {
+        if !is_kept(rt.alloc(), &mut store, length)? {
+            differing = differing.saturating_add(1);
+        }
+    }
+    fs::remove_file(rt, KEPT)?;
+    if !says_what_failed(rt.alloc(), &mut store) || store.write_faults() != 1 {
+        differing = differing.saturating_add(1);
+    }
+    let line = format!(in rt.alloc(); "disk: 4 files and 2 faults, {differing} differ\n")?;
+    rt.print(line.as_str())
+}
+
+/// The name under which they are kept.
+const KEPT: &str = "kept.txt";
+
+/// Whether the store gives back a text of that length, and says of a lower limit that it is too long.
+fn is_kept<S: Store>(alloc: Global, store: &mut S, length: u32) -> Result<bool, AllocError> {
+    let text = text_of(alloc, length)?;
+    if store.write(alloc, KEPT, text.as_slice()).is_err() {
+        return Ok(false);
+    }
+    let limit = u64::from(length);
+    Ok(gives(alloc, store, text.as_slice(), limit) && is_too_long(alloc, store, limit))
+}
+
+/// A text of that length, in which the bytes that a piece apart differ.
+fn text_of(alloc: Global, length: u32) -> Result<Vec<u8>, AllocError> {
+    (0..length)
+        .map(|place| (place % 89) as u8 + 33)
+        .collect(alloc)
+}
+
+/// Whether the store gives these bytes, with that limit.
+fn gives<S: Store>(alloc: Global, store: &mut S, bytes: &[u8], limit: u64) -> bool {
+    match store.read(alloc, KEPT, limit) {
+        Ok(read) => read.as_slice() == bytes,
+        Err(_) => false,
+    }
+}
+
+/// Whether what is held is too long by one byte.
+fn is_too_long<S: Store>(alloc: Global, store: &mut S, length: u64) -> bool {
+    match store.read(alloc, KEPT, length.saturating_sub(1)) {
+        Err(StoreFail::TooLong(got)) => got == length,
+        _ => false,
+    }
+}
+
+/// Whether the store says that a file isn't there, and that one can't be written.
+fn says_what_failed<S: Store>(alloc: Global, store: &mut S) -> bool {
+    let missing = match store.read(alloc, "missing.txt", 7) {
+        Err(fail) => fail == StoreFail::Failed,
+        Ok(_) => false,
+    };
+    let nowhere = store.write(alloc, "missing/kept.txt", b"one") == Err(StoreFail::Failed);
+    missing && nowhere
 }

@@ -1,6 +1,6 @@
 //! Runs the transcripts that its arguments name: worked cases as data, each a call of `run_line` over files in memory
 //! and what it must leave. Prints a line a transcript, and before it what differs. At last some calls over the files of
-//! the system.
+//! the system, and what its store keeps.
 #![tactic(auto)]
 
 mod bench;
@@ -17,7 +17,8 @@ fn main(rt: HostRuntime) -> io::Result<()> {
     for name in env::args(&rt)?.skip(1) {
         run_file(&rt, name.as_str())?;
     }
-    disk::run_calls(&rt)
+    disk::run_calls(&rt)?;
+    disk::keep_files(&rt)
 }
 
 /// Runs the transcript that a file holds.

@@ -10,9 +10,6 @@ use std::io::{Read, Write};
 use std::rt::Files;
 use std::{fs, io};
 
-#[cfg(test)]
-mod tests;
-
 /// The files of the system. Each error of the system raises a count, and a missing file is one.
 #[derive(Drop)]
 pub struct DiskStore<'a, R: Files> {

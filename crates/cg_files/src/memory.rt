@@ -8,9 +8,6 @@ use crate::store::Store;
 use std::alloc::{AllocError, Global};
 use std::collections::BTreeMap;
 
-#[cfg(test)]
-mod tests;
-
 /// How many calls were counted, and the numbers of those that are to fail.
 #[derive(Drop)]
 struct Calls {
