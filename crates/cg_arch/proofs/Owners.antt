@@ -21,7 +21,7 @@ use Rattle.cg_arch.proofs.Places.{start, same_place}
 use Rattle.cg_arch.proofs.Units.{unit_at, units_before, unit_place, unit_get}
 use Rattle.cg_arch.proofs.Roles.{port_entry, port_of_unit, out_of_unit, own_role, unit_role, IsPortOf, IsOutOf}
 use Rattle.cg_arch.proofs.Resources.{built, resource_at, entry_at, shown_at, past}
-use Rattle.cg_arch.proofs.Valid.{eqb_same}
+use Rattle.std.proofs.lemmas.Bool.{eq-eqb}
 
 -- ---- units by number
 
@@ -174,7 +174,7 @@ first_owner : (r n x : ℕ) (us : List Unit) (k : ℕ) (u : Unit) → slice_get 
 first_owner r n x [] k u at is only h = let bad : None ≡ Some u = at in absurd (cc)
 first_owner r n x (w ∷ ws) zero u at is only h =
     let same : w ≡ u = cc in
-    let here : eqb w.out r ≡ true = ap (λ v. eqb v.out r) same ∙ ap (λ o. eqb o r) is ∙ eqb_same r in
+    let here : eqb w.out r ≡ true = ap (λ v. eqb v.out r) same ∙ ap (λ o. eqb o r) is ∙ eq-eqb r r refl in
     ap (λ b. cond b x (owner_from r ws (suc x))) here ∙ omega arith
 first_owner r n x (w ∷ ws) (suc k) u at is only h =
     ⊎_elim

@@ -92,12 +92,9 @@ among_later : (b : Bool) (c : Bool) → c ≡ true → (if b then true else c) �
 among_later true c e = refl
 among_later false c e = e
 
-pub eqb_same : (n : ℕ) → eqb n n ≡ true
-eqb_same n = grind (arith, nat_tests)
-
 among_get : (ops : List Op) (k : ℕ) (op : Op) → slice_get ops k ≡ Some op → among ops op ≡ true
 among_get [] k op at = let bad : None ≡ Some op = at in absurd (cc)
-among_get (o ∷ os) zero op at = let same : o ≡ op = cc in among_by (eqb (code o) (code op)) (among os op) (ap (λ x. eqb (code x) (code op)) same ∙ eqb_same (code op))
+among_get (o ∷ os) zero op at = let same : o ≡ op = cc in among_by (eqb (code o) (code op)) (among os op) (ap (λ x. eqb (code x) (code op)) same ∙ eq-eqb (code op) (code op) refl)
 among_get (o ∷ os) (suc k) op at = among_later (eqb (code o) (code op)) (among os op) (among_get os k op at)
 
 not_more : (a b : Bool) → (a && b) ≡ false → a ≡ true → b ≡ false

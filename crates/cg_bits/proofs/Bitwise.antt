@@ -9,6 +9,7 @@ use Rattle.std.proofs.Math.Nat.{mul_comm}
 use Rattle.std.proofs.Math.Pow.{pow_mono}
 use Rattle.cg_bits.specs.Numbers.{bits_of, number, number_after, number_at, bits_of_bytes}
 use Rattle.cg_bits.proofs.Numbers.{bits_of-split, number_after-append, number_after-bits, number_after-is, number_below}
+use Rattle.cg_bits.proofs.Fields.{number_at_below}
 use Rattle.cg_bits.proofs.Bytes.{length-bits_of_bytes}
 
 -- the upper bits of a number, and then the lower ones
@@ -122,10 +123,6 @@ both bits place m n inside =
     let long : length behind ≡ n = omega (arith, length-take n (drop m (drop place bits)), length-drop m (drop place bits), length-drop place bits) in
     ap number (take_plus m n (drop place bits)) ∙ number-append (take m (drop place bits)) behind ∙ ap (λ k. number (take m (drop place bits)) * 2 ^ k + number behind) long
     ∙ ap (λ z. number_at bits place m * 2 ^ n + number (take n z)) (drop-drop m place bits ∙ ap (λ k. drop k bits) (omega arith))
-
-pub number_at_below : (bits : List Bool) (place n : ℕ) → place + n ≤ length bits → number_at bits place n < 2 ^ n
-number_at_below bits place n inside =
-    subst (λ k. number_at bits place n < 2 ^ k) (omega (arith, length-take n (drop place bits), length-drop place bits)) (number_below (take n (drop place bits)))
 
 pub upper_part : (bits : List Bool) (place m n : ℕ) → place + (m + n) ≤ length bits → number_at bits place (m + n) / 2 ^ n ≡ number_at bits place m
 upper_part bits place m n inside =

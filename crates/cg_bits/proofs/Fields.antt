@@ -12,7 +12,6 @@ use Rattle.cg_bits.specs.Spelling.{arg_bits}
 use Rattle.cg_bits.specs.Reading.{arg_in}
 use Rattle.cg_bits.proofs.Numbers.{length-bits_of, number-bits, number_below, bits_of-number, digit_is}
 use Rattle.cg_bits.proofs.Parts.{Holds-left, Holds-right, Holds-both, Holds-part, Holds-joined, length-joined}
-use Rattle.cg_bits.proofs.Bitwise.{number_at_below}
 
 -- ---- numbers
 
@@ -29,6 +28,9 @@ Holds-read bits at w le =
     let long : length part ≡ w = length-part bits at w le in
     let same : bits_of w (number part) ≡ part = subst (λ k. bits_of k (number part) ≡ part) long (bits_of-number part) in
     (drop w (drop at bits), sym (take-append-drop w (drop at bits)) ∙ ap (λ z. z ++ drop w (drop at bits)) (sym same))
+
+pub number_at_below : (bits : List Bool) (at w : ℕ) → at + w ≤ length bits → number_at bits at w < 2 ^ w
+number_at_below bits at w le = subst (λ k. number (take w (drop at bits)) < 2 ^ k) (length-part bits at w le) (number_below (take w (drop at bits)))
 
 pub Holds-at : (bits : List Bool) (p q : ℕ) (part : List Bool) → p ≡ q → Holds bits p part → Holds bits q part
 Holds-at bits p q part e h = subst (λ z. Holds bits z part) e h

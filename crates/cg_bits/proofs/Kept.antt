@@ -16,7 +16,7 @@ use Rattle.cg_model.specs.Canonical.{AreFields, mode_right, count_right, word_ri
 use Rattle.cg_bits.specs.Faults.{unless, arg_breaches, unit_breaches}
 use Rattle.cg_bits.proofs.None.{none_both, both_none, none_unless, unless_none, none_joined, joined_none}
 use Rattle.cg_model.proofs.Canonical.{zero_mode, zero_count, zero_word}
-use Rattle.cg_bits.proofs.Bitwise.{number_at_below}
+use Rattle.cg_bits.proofs.Fields.{number_at_below}
 
 module _ (F : Format) (is : IsFormat F) (n : ℕ) (few : n ≤ 3) (bits : List Bool) (at : ℕ) (room : at + (args_at F + n * arg_len) ≤ length bits) where
   abbrev f : UnitFields

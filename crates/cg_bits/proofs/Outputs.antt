@@ -12,7 +12,7 @@ use Rattle.cg_bits.specs.Reading.{unit_in, unit_place}
 use Rattle.cg_bits.specs.Faults.{unless}
 use Rattle.cg_bits.specs.Checks.{gives_to, uses, port_fault, fields_there}
 use Rattle.cg_bits.proofs.Places.{unit_inside}
-use Rattle.cg_bits.proofs.Bitwise.{number_at_below}
+use Rattle.cg_bits.proofs.Fields.{number_at_below}
 
 pub fields_op : (F : Format) (n : ℕ) (bits : List Bool) (at : ℕ) → (unit_in F n bits at).op ≡ op_of F (number_at bits at F.op_bits)
 unfolding unit_in

@@ -9,7 +9,7 @@ use Rattle.cg_bits.proofs.Bytes.{length-bits_of_bytes}
 use Rattle.cg_bits.proofs.Outputs.{fields_op, fields_port, port_below, any_none, noted_more, free_is}
 use Rattle.cg_bits.proofs.ports.repeated_port_in.Goals as goal
 use Rattle.cg_model.proofs.Bools.{or_false}
-use Rattle.cg_bits.proofs.Bitwise.{number_at_below}
+use Rattle.cg_bits.proofs.Fields.{number_at_below}
 
 pub loop-x-init : goal.loop-x-init
 loop-x-init c =
