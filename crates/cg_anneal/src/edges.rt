@@ -4,7 +4,7 @@ ghost use Rattle.cg_walk.specs.State as states;
 ghost use Rattle.std.specs.List.{range_with_len};
 ghost use Rattle.cg_anneal.specs.Edges.{operand_edge, touching_of};
 
-use cg_kernel::{Kernel, Operand};
+use cg_model::{Kernel, Operand};
 use cg_walk::EdgeOperand;
 use std::alloc::{AllocError, Global};
 

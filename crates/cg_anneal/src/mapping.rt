@@ -3,8 +3,7 @@ ghost use Rattle.std.specs.Prelude.{◌≡◌, ◌++◌, OnOk};
 ghost use Rattle.cg_anneal.specs.Steps.{route_of};
 
 use crate::walk::Walk;
-use cg_mapping::Mapping;
-use cg_model::{Route, Words};
+use cg_model::{Mapping, Route, Words};
 use cg_walk::EdgeOperand;
 use std::alloc::{AllocError, Global};
 

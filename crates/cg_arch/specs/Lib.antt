@@ -1,4 +1,1 @@
-pub mod Flat
-pub mod Hub
 pub mod Kept
-pub mod Answer

@@ -10,8 +10,9 @@ use cg_model::Words;
 use sha2::{Digest, Sha256};
 use std::alloc::{AllocError, Global};
 
-/// The architecture with its digest, that order, and where selects and units begin in a slot.
-pub(crate) fn keep(alloc: Global, flat: Flat, order: Words) -> Result<Arch, AllocError>
+/// Makes the valid architecture of `flat`, with its digest, the order of evaluation `order`, and where selects and units
+/// begin in a slot.
+pub fn keep(alloc: Global, flat: Flat, order: Words) -> Result<Arch, AllocError>
     requires valid { IsArch flat }
     requires order { IsTopological flat.resources order }
     ensures { IfOk result (λ arch. arch ≡ flat) }

@@ -6,8 +6,7 @@ ghost use Rattle.cg_class.specs.Class.{offers_one, nodes_in, units_for};
 
 use cg_arch::Arch;
 use cg_edges::{EdgeId, find_edge};
-use cg_kernel::Kernel;
-use cg_model::{Node, Unit};
+use cg_model::{Kernel, Node, Unit};
 use cg_word::{Op, OpSet};
 
 /// The number of nodes whose operation is in a set.

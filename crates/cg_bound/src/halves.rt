@@ -9,7 +9,7 @@ use crate::interval::Certificate;
 use crate::overfull::overfull_at;
 use cg_arch::Arch;
 use cg_edges::latencies_are_small;
-use cg_kernel::Kernel;
+use cg_model::Kernel;
 use cg_recur::{Recur, recurrence};
 use cg_word::OpSet;
 use std::alloc::{AllocError, Global};

@@ -8,7 +8,7 @@ use crate::overfull::overfull_at;
 use crate::unoffered::first_unoffered;
 use cg_arch::Arch;
 use cg_edges::EdgeId;
-use cg_kernel::Kernel;
+use cg_model::Kernel;
 use cg_recur::{Recur, recurrence};
 use cg_word::{Op, OpSet};
 use std::alloc::{AllocError, Global};

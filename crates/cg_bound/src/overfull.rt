@@ -5,7 +5,7 @@ ghost use Rattle.cg_bound.specs.Bound.{HasNoOverfull};
 
 use cg_arch::Arch;
 use cg_class::{Assignment, assign};
-use cg_kernel::Kernel;
+use cg_model::Kernel;
 use cg_word::OpSet;
 use std::alloc::{AllocError, Global};
 

@@ -6,8 +6,7 @@ ghost use Rattle.cg_bound.specs.Bound.{AllOffered, IsFirstUnoffered};
 ghost use Rattle.cg_bound.specs.Search.{has_op, offers, is_unoffered};
 
 use cg_arch::Arch;
-use cg_kernel::Kernel;
-use cg_model::{Node, Unit};
+use cg_model::{Kernel, Node, Unit};
 use cg_word::Op;
 
 /// The operation of a node that no unit offers, if there is one: of all such the one of least code.

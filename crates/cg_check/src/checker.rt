@@ -11,7 +11,8 @@ use crate::routing::unbrought;
 use crate::rule::{Rule, RulePlace, Violation};
 use crate::slots::shared_slot;
 use crate::stop::Sharing;
-use cg_mapping::{Arch, Kernel, Mapping};
+use cg_arch::Arch;
+use cg_model::{Kernel, Mapping};
 use std::alloc::{AllocError, Global};
 
 /// What the checker says of a mapping.

@@ -7,7 +7,8 @@ ghost use Rattle.cg_model.specs.Mapping as mappings;
 use crate::edge::edge_into;
 use crate::model::{delay, leaves};
 use crate::stop::{Cell, Sharing, Stop};
-use cg_mapping::{Arch, Kernel, Mapping, Route};
+use cg_arch::Arch;
+use cg_model::{Kernel, Mapping, Route};
 
 /// Whether two values come from one resource, or both begin their paths.
 fn same_from(first: Option<u32>, second: Option<u32>) -> bool

@@ -7,7 +7,8 @@ ghost use Rattle.cg_check.specs.Rules.{violated};
 use crate::claims::claim_all;
 use crate::rule::RulePlace;
 use crate::stop::{Cell, Sharing};
-use cg_mapping::{Arch, Kernel, Mapping};
+use cg_arch::Arch;
+use cg_model::{Kernel, Mapping};
 use std::alloc::{AllocError, Global};
 
 /// A resource in a slot, where it has a clash.

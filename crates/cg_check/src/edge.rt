@@ -3,8 +3,7 @@ ghost use Rattle.std.specs.Prelude.{◌≡◌, slice_get};
 ghost use Rattle.cg_model.specs.Kernel.{node};
 ghost use Rattle.cg_check.specs.Edges.{data_edge};
 
-use cg_kernel::{Kernel, Operand};
-use cg_mapping::Route;
+use cg_model::{Kernel, Operand, Route};
 
 /// The source of a data edge, and how many turns ago it had the value.
 #[derive(Clone, Copy)]

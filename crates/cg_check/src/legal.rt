@@ -1,6 +1,7 @@
 //! Legal mappings.
 
-use cg_mapping::{Arch, Kernel, Mapping};
+use cg_arch::Arch;
+use cg_model::{Kernel, Mapping};
 use std::marker::Model;
 
 /// A legal mapping, with the architecture and the kernel that it is of.

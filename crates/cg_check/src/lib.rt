@@ -14,7 +14,8 @@ mod slots;
 mod stop;
 mod texts;
 
-pub use cg_mapping::{Arch, Kernel, Mapping, Place, Route};
+pub use cg_arch::Arch;
+pub use cg_model::{Kernel, Mapping, Place, Route};
 pub use checker::{CheckVerdict, check};
 pub use legal::LegalMapping;
 pub use rule::{Rule, RulePlace, Violation};

@@ -6,8 +6,7 @@ ghost use Rattle.cg_model.specs.Mapping.{place as place_of, leaves as leaves_of}
 ghost use Rattle.cg_check.specs.Rules.{drives as drives_of};
 
 use cg_arch::Arch;
-use cg_mapping::{Mapping, Place};
-use cg_model::Kind;
+use cg_model::{Kind, Mapping, Place};
 
 /// The place of a node.
 pub(crate) fn place(mapping: &Mapping, node: u32) -> Place

@@ -6,8 +6,8 @@ ghost use Rattle.cg_check.specs.Rules.{violated, L1, L2, L4, stands_well as stan
 
 use crate::model::place;
 use crate::rule::RulePlace;
-use cg_mapping::{Arch, Kernel, Mapping, Place};
-use cg_model::{LATEST_TIME, OrderEdge};
+use cg_arch::Arch;
+use cg_model::{Kernel, LATEST_TIME, Mapping, OrderEdge, Place};
 
 /// The mapping, where its interval isn't one of the architecture.
 #[tactic(auto, unfolding(crate::specs::Rules::violated))]

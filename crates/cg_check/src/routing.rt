@@ -6,7 +6,8 @@ use crate::edge::{DataEdge, edge_into};
 use crate::model::{delay, drives, leaves, out, place, port};
 use crate::rule::RulePlace;
 use crate::stop::At;
-use cg_mapping::{Arch, Kernel, Mapping, Route};
+use cg_arch::Arch;
+use cg_model::{Kernel, Mapping, Route};
 
 /// Whether a path goes on along links from a resource at a time, and ends on a port at a time.
 fn goes(arch: &Arch, start: At, path: &[u32], end: At) -> bool

@@ -6,7 +6,8 @@ ghost use Rattle.cg_check.specs.Rules.{violated, L3};
 ghost use Rattle.cg_check.specs.Slots.{first_shared};
 
 use crate::rule::RulePlace;
-use cg_mapping::{Arch, Mapping};
+use cg_arch::Arch;
+use cg_model::Mapping;
 use std::alloc::{AllocError, Global};
 
 /// The first node that shares its unit and slot with an earlier one.

@@ -5,7 +5,8 @@ ghost use Rattle.cg_model.specs.Kernel.{node as node_of};
 ghost use Rattle.cg_check.specs.Texts as spec;
 
 use crate::rule::{Rule, RulePlace};
-use cg_mapping::{Arch, Kernel};
+use cg_arch::Arch;
+use cg_model::Kernel;
 use std::alloc::{AllocError, Global};
 
 /// Code and place of a violation, as `L6 resource r0c0_r slot 0`.

@@ -5,7 +5,7 @@ ghost use Rattle.cg_class.specs.Class.{IsAnswer, IsOverfull};
 use crate::counts::{count_nodes, count_units};
 use crate::search::{Found, reach, shift};
 use cg_arch::Arch;
-use cg_kernel::Kernel;
+use cg_model::Kernel;
 use cg_word::OpSet;
 use std::alloc::{AllocError, Global};
 

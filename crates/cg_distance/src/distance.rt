@@ -1,8 +1,7 @@
 //! Least total distances of chains of edges.
 
 use crate::totals::all_totals;
-use cg_kernel::Kernel;
-use cg_model::Items;
+use cg_model::{Items, Kernel};
 use std::alloc::{AllocError, Global};
 use std::marker::Model;
 

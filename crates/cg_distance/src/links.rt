@@ -4,8 +4,7 @@ ghost use Rattle.cg_model.specs.Kernel.{size};
 ghost use Rattle.cg_model.specs.Order.{Links};
 ghost use Rattle.cg_distance.specs.Leaving.{HasLinks, Seen, leaving};
 
-use cg_kernel::{Kernel, Operand};
-use cg_model::Items;
+use cg_model::{Items, Kernel, Operand};
 use std::alloc::{AllocError, Global};
 
 /// A link to a node, at its end where it leaves another.

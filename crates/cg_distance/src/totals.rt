@@ -9,8 +9,7 @@ ghost use Rattle.cg_distance.specs.Table.{IsRow, IsTable};
 
 use crate::links::{Link, links};
 use crate::reach::{Reached, no_totals, reach};
-use cg_kernel::Kernel;
-use cg_model::Items;
+use cg_model::{Items, Kernel};
 use std::alloc::{AllocError, Global};
 use std::cmp::Reverse;
 use std::collections::BinaryHeap;

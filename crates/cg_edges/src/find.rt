@@ -5,7 +5,7 @@ ghost use Rattle.cg_edges.specs.Edges.{edge_of, data_edge_of, order_edge_of};
 use crate::edge::{Edge, EdgeId};
 use crate::least::latency;
 use cg_arch::Arch;
-use cg_kernel::{Kernel, Operand};
+use cg_model::{Kernel, Operand};
 
 /// The edge of that name, if the kernel has one.
 pub fn find_edge(arch: &Arch, kernel: &Kernel, id: EdgeId) -> Option<Edge>

@@ -7,7 +7,7 @@ mod least;
 mod list;
 
 pub use cg_arch::Arch;
-pub use cg_kernel::Kernel;
+pub use cg_model::Kernel;
 pub use edge::{Edge, EdgeId};
 pub use find::find_edge;
 pub use least::{latencies_are_small, latency};

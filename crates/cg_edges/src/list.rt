@@ -8,7 +8,7 @@ ghost use Rattle.cg_edges.specs.Listed.{AreSoFar, IsAdded};
 use crate::edge::{Edge, EdgeId};
 use crate::find::find_edge;
 use cg_arch::Arch;
-use cg_kernel::Kernel;
+use cg_model::Kernel;
 use std::alloc::{AllocError, Global};
 
 /// The edges of a kernel by number, and the name of each.

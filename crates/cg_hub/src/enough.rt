@@ -7,7 +7,7 @@ ghost use Rattle.cg_hub.specs.Hub.{HubEnough};
 use crate::hosts::host;
 use crate::registers::registers_before;
 use cg_arch::Arch;
-use cg_kernel::Kernel;
+use cg_model::Kernel;
 
 /// The cycles that all nodes of a kernel take one after another, each on the lowest-numbered unit that offers its
 /// operation and a cycle more than the latency of that unit. None where some operation is offered by no unit.

@@ -12,6 +12,6 @@ mod way;
 
 pub use cg_arch::Arch;
 pub use cg_check::LegalMapping;
-pub use cg_kernel::Kernel;
+pub use cg_model::Kernel;
 pub use enough::{hub_enough, serial};
 pub use mapping::hub_mapping;

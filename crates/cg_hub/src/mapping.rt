@@ -5,7 +5,7 @@ ghost use Rattle.cg_hub.specs.Hub.{HubEnough, hub_map};
 use crate::schedule::Schedule;
 use cg_arch::Arch;
 use cg_check::LegalMapping;
-use cg_kernel::Kernel;
+use cg_model::Kernel;
 use std::alloc::{AllocError, Global};
 
 /// The mapping over the hub, at an interval at which it suffices.

@@ -3,8 +3,7 @@ ghost use Rattle.std.specs.Prelude.{◌≡◌, ◌≤◌};
 ghost use Rattle.cg_model.specs.Kernel.{size};
 ghost use Rattle.cg_hub.specs.Hub as spec;
 
-use cg_kernel::Kernel;
-use cg_model::{Node, Operand};
+use cg_model::{Kernel, Node, Operand};
 
 /// How many registers an operand needs for the value of a node.
 fn needs(operand: &Operand, node: u32) -> usize

@@ -9,9 +9,7 @@ use crate::hosts::host;
 use crate::registers::registers_before;
 use crate::way::way;
 use cg_arch::{Arch, Unit};
-use cg_kernel::Kernel;
-use cg_mapping::Mapping;
-use cg_model::{Items, Operand, Place, Route};
+use cg_model::{Items, Kernel, Mapping, Operand, Place, Route};
 use std::alloc::{AllocError, Global};
 use std::marker::Model;
 

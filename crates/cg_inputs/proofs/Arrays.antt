@@ -5,10 +5,10 @@ use Rattle.cg_model.specs.Array.{Arch, IsArch}
 use Rattle.cg_level.proofs.Solved.{order_or_loop}
 use Rattle.cg_parts.specs.declared.parts.Parts.{Parts}
 use Rattle.cg_flat.specs.Text.{text_of}
-use Rattle.cg_arch.specs.Flat.{arch_of}
+use Rattle.cg_validate.specs.Flat.{arch_of}
 use Rattle.cg_arch.specs.Kept.{digest_of}
-use Rattle.cg_arch.specs.Answer.{AreValid}
-use Rattle.cg_arch.proofs.Answered.{drivers_known, valid_by}
+use Rattle.cg_validate.specs.Answer.{AreValid}
+use Rattle.cg_validate.proofs.Answered.{drivers_known, valid_by}
 use Rattle.cg_tiles.specs.Answer.{AreValidBytes}
 
 -- bytes give one architecture

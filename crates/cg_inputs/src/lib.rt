@@ -4,9 +4,10 @@
 
 mod readers;
 
+pub use cg_arch::Arch;
 pub use cg_check::LegalMapping;
 pub use cg_ending::{File, Outcome, Stop};
-pub use cg_mapping::{Arch, Kernel, Mapping};
+pub use cg_model::{Kernel, Mapping};
 pub use cg_pad::Image;
 pub use cg_view::ConfigView;
 pub use readers::{arch_in, config_in, image_in, kernel_in, mapping_in};

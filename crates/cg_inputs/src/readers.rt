@@ -14,9 +14,11 @@ ghost use Rattle.cg_pad.specs.Bytes as images;
 ghost use Rattle.cg_bits.specs.Answers as bits;
 ghost use Rattle.cg_inputs.specs.Refused.{RefusesArch, RefusesBits, RefusesImage, RefusesKernel, RefusesMapping};
 
+use cg_arch::Arch;
 use cg_ending::{File, Stop, refusal};
-use cg_kernel::{Kernel, KernelFault, kernel_fault_text, read_kernel};
-use cg_mapping::{Arch, Mapping, MappingFault, mapping_fault_text, read_mapping};
+use cg_kernel::{KernelFault, kernel_fault_text, read_kernel};
+use cg_mapping::{MappingFault, mapping_fault_text, read_mapping};
+use cg_model::{Kernel, Mapping};
 use cg_pad::{Image, ImageFault, image_fault_text, read_image};
 use cg_tiles::{TilesFault, read_arch, tiles_fault_text};
 use cg_view::{BitsFault, ConfigView, bits_fault_text};

@@ -1,7 +1,7 @@
 -- What readers of formats ask of a JSON value.
 use Rattle.std.specs.Prelude.{ℕ, ◌^◌, Bool, false, List, [], ◌∷◌, Option, Some, None, nat_lt, option_map, option_and_then, if◌then◌else◌}
 use Rattle.std.specs.Option.{option_map_or}
-use Rattle.serde_json.specs.Data.{Data, Items, no_items, item, Members, no_members, member}
+use Rattle.serde_json.specs.Data.{Data, number, unsigned, Items, no_items, item, Members, no_members, member}
 use Rattle.serde_json.specs.Find.{get, as_number, as_u64, as_str, as_array, as_object}
 use Rattle.cg_reading.specs.Keys.{has_other}
 
@@ -12,6 +12,10 @@ fitting n = if nat_lt n (2 ^ 32) then Some n else None
 -- a JSON integer from 0 to 4,294,967,295
 abbrev pub word_in : Data → Option ℕ
 word_in d = option_and_then fitting (option_and_then as_u64 (as_number d))
+
+-- the value that a word is printed as
+abbrev pub word_data : ℕ → Data
+word_data w = number (unsigned w)
 
 -- the word at a key, and the default where the key is missing
 abbrev pub word_or : List ℕ → ℕ → Data → Option ℕ

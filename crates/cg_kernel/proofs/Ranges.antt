@@ -9,6 +9,7 @@ use Rattle.cg_word.specs.Word.{words}
 use Rattle.cg_reading.specs.Items.{all_of, all_or_first, and_rest}
 use Rattle.cg_reading.specs.declared.misfit.Misfit.{Misfit}
 use Rattle.cg_reading.specs.Reads.{IsReadAt}
+use Rattle.cg_json.proofs.Elements.{read_item}
 use Rattle.cg_json.specs.Members.{fitting, word_in, items_at, items_or_none, has_other_keys}
 use Rattle.cg_kernel.specs.Written.{KernelPlace, Format, WrittenArg, WrittenNode, WrittenEdge, WrittenKernel, arg_in, source_in, source_from, node_in, node_from, joined, written_from, format_in, written_of}
 use Rattle.cg_kernel.specs.declared.fault.KernelPlace.TheVariants as place
@@ -16,12 +17,6 @@ use Rattle.cg_kernel.specs.declared.written.WrittenArg.TheVariants.{Number, Sour
 use Rattle.cg_kernel.specs.Words.{HasWords, HasAllWords}
 
 -- ---- each item of a list was read
-
-pub read_item : {T : Type 0} (o : Option T) (rest : Option (List T)) (xs : List T) → option_and_then (λ x. option_map (λ ys. x ∷ ys) rest) o ≡ Some xs
-    → (x : T) × ((ys : List T) × ((o ≡ Some x) × (rest ≡ Some ys) × (x ∷ ys ≡ xs)))
-read_item None rest xs e = let bad : None ≡ Some xs = e in absurd (cc)
-read_item (Some x) None xs e = let bad : None ≡ Some xs = e in absurd (cc)
-read_item (Some x) (Some ys) xs e = (x, (ys, (refl, refl, (cc))))
 
 pub all_of-item : {T : Type 0} (read : Data → Option T) (items : List Data) (xs : List T) (i : ℕ) (x : T) → all_of read items ≡ Some xs → slice_get xs i ≡ Some x → (d : Data) × (read d ≡ Some x)
 all_of-item read [] xs i x all at =

@@ -6,10 +6,9 @@ ghost use Rattle.cg_model.specs.Limits.{most_nodes};
 ghost use Rattle.cg_kernel.specs.Numbers.{IsIndex};
 ghost use Rattle.cg_kernel.specs.Answer as spec;
 
-use crate::kernel::Kernel;
 use crate::rules::op_of;
 use crate::written::{WrittenArg, WrittenEdge, WrittenKernel, WrittenNode};
-use cg_model::{Items, Name, Node, Operand, OrderEdge, Words};
+use cg_model::{Items, Kernel, Name, Node, Operand, OrderEdge, Words};
 use cg_names::{Numbers, number_in};
 use cg_word::Op;
 use std::alloc::{AllocError, Global};

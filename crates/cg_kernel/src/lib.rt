@@ -4,7 +4,6 @@
 mod build;
 mod fault;
 mod first;
-mod kernel;
 mod read;
 mod reading;
 mod rule;
@@ -12,9 +11,8 @@ mod rules;
 mod texts;
 mod written;
 
-pub use cg_model::{Items, Name, Node, Operand, Operands, OrderEdge, Words};
+pub use cg_model::{Items, Kernel, Name, Node, Operand, Operands, OrderEdge, Words};
 pub use cg_word::Op;
 pub use fault::{KernelFault, KernelPlace};
-pub use kernel::Kernel;
 pub use read::read_kernel;
 pub use texts::kernel_fault_text;

@@ -2,7 +2,6 @@
 use Rattle.std.proofs.Common.{◌≡◌, ℕ, ◌<◌, ◌≤◌, ◌^◌, List, [], ◌∷◌, map, codes, Some, None, Ok, Bool, true, false, cond, refl, ap, ◌∙◌, arith, lit<}
 use Rattle.std.specs.Prelude.{slice_get, slice_index}
 use Rattle.std.specs.Option.{option_map, option_map_or, option_or}
-use Rattle.std.proofs.lemmas.Bool.{lt-ltb}
 use Rattle.std.proofs.lemmas.Option.{slice_get_within, get_or_from_slice_get}
 use Rattle.serde_json.specs.Data.{no_members, member, array, object, string}
 use Rattle.serde_json.specs.Find.{get_member}
@@ -24,7 +23,7 @@ use Rattle.cg_kernel.specs.Written.{arg_in, source_from, node_in, node_from, edg
 use Rattle.cg_kernel.specs.declared.written.Format.TheVariants.{Second}
 use Rattle.cg_kernel.specs.declared.written.WrittenArg.TheVariants.{Number, Source}
 use Rattle.cg_kernel_text.specs.Printed.{word_data, name_at, operand_data, node_data, edge_data, data_of}
-use Rattle.cg_kernel_text.proofs.Elements.{all_of-map, all_or_first-map, map-same}
+use Rattle.cg_json.proofs.Elements.{all_of-map, all_or_first-map, map-same, word_back}
 
 -- ---- what is written of a kernel
 
@@ -56,9 +55,6 @@ below K v n at = slice_get_within K.nodes v n at
 
 small : (n m : ℕ) → n ≤ m → m < 2 ^ 32 → n < 2 ^ 32
 small n m h k = omega (arith, h, k)
-
-pub word_back : (w : ℕ) → w < 2 ^ 32 → word_in (word_data w) ≡ Some w
-word_back w h = ap (λ b. cond b (Some w) None) (lt-ltb w (2 ^ 32) h)
 
 words_back : (ws : List ℕ) → ((i w : ℕ) → slice_get ws i ≡ Some w → w < 2 ^ 32) → all_of word_in (listed (items_of (map word_data ws))) ≡ Some ws
 words_back ws h = all_of-map word_in word_data (λ w. w) ws (λ i w at. word_back w (h i w at)) ∙ ap Some (map-same (λ w. w) ws (λ _ _ _. refl))

@@ -31,7 +31,7 @@ use Rattle.cg_kernel.specs.Answer.{node_number, operand_of, node_of, edge_of, ke
 use Rattle.serde_json.specs.Read.{read}
 use Rattle.cg_json.proofs.Reading.{value_of-read}
 use Rattle.cg_kernel_text.specs.Printed.{name_at, data_of}
-use Rattle.cg_kernel_text.proofs.Elements.{list_any-none, take_get-back, map-back}
+use Rattle.cg_json.proofs.Elements.{list_any-none, take_get-back, map-back}
 use Rattle.cg_kernel_text.proofs.Back.{written_arg, written_node, written_edge, written, node_is, has, below, written_of-data_of}
 use Rattle.cg_model.proofs.Bools.{and_not}
 use Rattle.cg_model.proofs.Lookups.{get_map, first_from-none}

@@ -3,16 +3,13 @@ use Rattle.std.proofs.Common.{◌≡◌, ℕ, ◌≤◌, ◌||◌, List, [], ◌
 use Rattle.serde_json.specs.Data.{Data, no_members, member, depth, items_depth, members_depth}
 use Rattle.serde_json.specs.View.{items_of}
 use Rattle.serde_json.specs.Written.{has_float, items_have_float, members_have_float}
+use Rattle.cg_json.proofs.Depths.{items_no_float, items_depth-at_most}
 use Rattle.cg_word.specs.Word as word
 use Rattle.cg_model.specs.Kernel.{Kernel}
 use Rattle.cg_model.specs.declared.kernel.Node.{Node}
 use Rattle.cg_model.specs.declared.kernel.Operand.{Operand}
 use Rattle.cg_model.specs.declared.kernel.Operand.TheVariants.{Const, Edge}
 use Rattle.cg_kernel_text.specs.Printed.{word_data, operand_data, port_members, node_data, edge_data, data_of}
-
-pub items_no_float : {X : Type 0} (f : X → Data) (xs : List X) → ((x : X) → has_float (f x) ≡ false) → items_have_float (items_of (map f xs)) ≡ false
-items_no_float f [] h = refl
-items_no_float f (x ∷ xs) h = ap (λ b. b || items_have_float (items_of (map f xs))) (h x) ∙ items_no_float f xs h
 
 operand_no_float : (nodes : List Node) (o : Operand) → has_float (operand_data nodes o) ≡ false
 operand_no_float nodes (Const c) = refl
@@ -30,10 +27,6 @@ unfolding data_of
 data_of-no_float K =
     ap (λ b. b || (items_have_float (items_of (map (edge_data K.nodes) K.order)) || false)) (items_no_float (node_data K.nodes) K.nodes (node_no_float K.nodes))
     ∙ ap (λ b. b || false) (items_no_float (edge_data K.nodes) K.order (λ _. refl))
-
-pub items_depth-at_most : {X : Type 0} (f : X → Data) (m : ℕ) (xs : List X) → ((x : X) → depth (f x) ≤ m) → items_depth (items_of (map f xs)) ≤ m
-items_depth-at_most f m [] h = omega arith
-items_depth-at_most f m (x ∷ xs) h = let here = h x in let rest = items_depth-at_most f m xs h in omega (arith, here, rest)
 
 operand_depth : (nodes : List Node) (o : Operand) → depth (operand_data nodes o) ≤ 2
 operand_depth nodes (Const c) = omega arith

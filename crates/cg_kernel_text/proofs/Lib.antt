@@ -1,4 +1,3 @@
 pub mod Back
 pub mod Clear
 pub mod Depths
-pub mod Elements

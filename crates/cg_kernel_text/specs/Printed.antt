@@ -1,16 +1,14 @@
 -- The JSON value that a kernel is printed as.
 use Rattle.std.specs.Prelude.{ℕ, List, map, codes, slice_index_or, if◌then◌else◌}
-use Rattle.serde_json.specs.Data.{Data, number, unsigned, string, array, object, Members, no_members, member}
+use Rattle.serde_json.specs.Data.{Data, string, array, object, Members, no_members, member}
 use Rattle.serde_json.specs.View.{items_of}
+pub use Rattle.cg_json.specs.Members.{word_data}
 use Rattle.cg_word.specs.Word as word
 use Rattle.cg_model.specs.Kernel.{Kernel, no_node}
 use Rattle.cg_model.specs.declared.kernel.Node.{Node}
 use Rattle.cg_model.specs.declared.kernel.Operand.{Operand}
 use Rattle.cg_model.specs.declared.kernel.Operand.TheVariants.{Const, Edge}
 use Rattle.cg_model.specs.declared.kernel.OrderEdge.{OrderEdge}
-
-abbrev pub word_data : ℕ → Data
-word_data w = number (unsigned w)
 
 -- the name of node v
 abbrev pub name_at : List Node → ℕ → List ℕ

@@ -8,7 +8,7 @@ ghost use Rattle.cg_kernel.specs.Answer.{answer_of};
 ghost use Rattle.cg_word.specs.Word as word;
 ghost use Rattle.cg_kernel_text.specs.Printed as spec;
 
-use cg_kernel::{Kernel, Node, Operand, OrderEdge};
+use cg_model::{Kernel, Node, Operand, OrderEdge};
 use serde_json::{Value, json};
 use std::alloc::{AllocError, Global};
 

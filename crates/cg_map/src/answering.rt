@@ -9,8 +9,7 @@ ghost use Rattle.cg_map.specs.Tried.{IsAnswer, IsTried};
 use crate::trying::{Attempt, try_task};
 use cg_arch::Arch;
 use cg_bound::{IntervalVerdict, verdict};
-use cg_kernel::Kernel;
-use cg_model::Request;
+use cg_model::{Kernel, Request};
 use cg_task::{Answer, Task, first_tried, last_tried};
 use std::alloc::{AllocError, Global};
 

@@ -22,7 +22,7 @@ use Rattle.cg_reading.specs.Items as items
 use Rattle.cg_names.specs.Numbers.{has_name}
 use Rattle.cg_mapping.specs.Written.{MappingPlace, WrittenMapping, written_of}
 use Rattle.cg_mapping.specs.Rules.{NodePlace, NamedMapping, is_late, is_long, too_large, unknown_key}
-use Rattle.cg_mapping.proofs.EdgeOperands.{operands_few}
+use Rattle.cg_model.proofs.Mappings.{operands_few}
 use Rattle.cg_mapping.specs.Names.{is_edge, node_number, unit_number, resource_number, takes_edge, place_at, place_of, end_at, route_at, route_of, joined, named_of}
 use Rattle.cg_mapping.specs.Complete.{MappingFault, only_such, is_of_node, only_place, ends_at, only_route, and_rest, each_or_fault, node_fault, arg_fault, places_of, routes_of, mapping_from, mapping_of}
 use Rattle.cg_mapping.specs.Answer.{answer_within, answer_named, answer_known, answer_written, answer_in, answer_of}
@@ -31,7 +31,7 @@ use Rattle.cg_mapping.specs.Sound.{NamesParts, IsWithinLimits}
 use Rattle.cg_mapping.specs.Ends.{AreShort}
 use Rattle.cg_mapping.specs.declared.fault.MappingPlace.TheVariants as at
 use Rattle.cg_mapping.specs.declared.fault.MappingFault.TheVariants as fault
-use Rattle.cg_kernel.proofs.Ranges.{read_item}
+use Rattle.cg_json.proofs.Elements.{read_item}
 
 -- ---- each item of a list was read
 

@@ -22,7 +22,7 @@ use Rattle.cg_model.specs.declared.mapping.Route.{Route}
 use Rattle.cg_reading.specs.Items.{all_of, all_or_first, and_rest}
 use Rattle.cg_json.specs.Members.{word_in, listed}
 use Rattle.cg_json.proofs.Reading.{value_of-read, listed-items_of}
-use Rattle.cg_kernel_text.proofs.Elements.{all_of-map, all_or_first-map}
+use Rattle.cg_json.proofs.Elements.{all_of-map, all_or_first-map, word_back}
 use Rattle.cg_mapping.specs.Written.{WrittenPlace, WrittenRoute, WrittenMapping, place_in, place_from, route_in, route_from, joined, written_from, written_of}
 use Rattle.cg_mapping.specs.Rules.{NodePlace, NamedMapping, first_of, place_has_other, route_has_other, is_late, is_long, unknown_key, too_large}
 use Rattle.cg_mapping.specs.Names as names
@@ -35,7 +35,6 @@ use Rattle.cg_mapping.specs.Printed.{word_data, unit_name, resource_name, places
 use Rattle.cg_mapping.proofs.Answered.{edge_few}
 use Rattle.cg_mapping.proofs.Once.{number_back, only_back, each_back, edge_from, ends_once}
 use Rattle.cg_model.proofs.Lookups.{get_map}
-use Rattle.cg_kernel_text.proofs.Back.{word_back}
 
 -- ---- what is written of a mapping
 

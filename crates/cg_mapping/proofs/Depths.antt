@@ -12,7 +12,7 @@ use Rattle.cg_model.specs.declared.kernel.Node.{Node}
 use Rattle.cg_model.specs.declared.mapping.Place.{Place}
 use Rattle.cg_model.specs.declared.mapping.Route.{Route}
 use Rattle.cg_mapping.specs.Printed.{step_data, places_data, route_data, data_of}
-use Rattle.cg_kernel_text.proofs.Depths.{items_no_float, items_depth-at_most}
+use Rattle.cg_json.proofs.Depths.{items_no_float, items_depth-at_most}
 
 places_no_float : (nodes : List Node) (units : List Unit) (v : ℕ) (ps : List Place) → items_have_float (items_of (places_data nodes units v ps)) ≡ false
 places_no_float nodes units v [] = refl

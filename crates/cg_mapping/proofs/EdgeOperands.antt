@@ -1,11 +1,8 @@
 -- The edge operands of a kernel: their numbers, and that no two are equal.
 use Rattle.std.proofs.Common.{◌≡◌, ℕ, zero, suc, ◌+◌, ◌*◌, ◌<◌, ◌≤◌, ◌⊎◌, inl, inr, ⊎_elim, List, [], ◌∷◌, ◌++◌, length, map, get_or, Some, None, refl, ap, sym, ◌∙◌, arith}
 use Rattle.std.specs.Prelude.{slice_get}
-use Rattle.std.proofs.lemmas.Option.{slice_get_within, slice_get-get_or, get_or_from_slice_get}
-use Rattle.cg_word.specs.declared.op.Op.{Op}
-use Rattle.cg_word.specs.declared.op.Op.TheVariants.{Const, Iter, Input, Add, Sub, Mul, And, Or, Xor, Shl, Shr, Sar, Eq, Ne, Lts, Ltu, Mins, Maxs, Select, Load, Store, Output, LoadIf, StoreIf, OutputIf}
-use Rattle.cg_word.specs.Word.{arity}
-use Rattle.cg_model.specs.Kernel.{Kernel, IsKernel, size, node, no_node}
+use Rattle.std.proofs.lemmas.Option.{slice_get-get_or}
+use Rattle.cg_model.specs.Kernel.{Kernel, IsKernel}
 use Rattle.cg_model.specs.declared.kernel.Node.{Node}
 use Rattle.cg_model.specs.declared.kernel.Operand.{Operand}
 use Rattle.cg_model.specs.declared.kernel.Operand.TheVariants.{Const as Constant, Edge}
@@ -13,7 +10,7 @@ use Rattle.cg_model.specs.Mapping.{End, ends_of, ends_from}
 use Rattle.cg_mapping.specs.Ends.{EdgeOperand, as_end, AreWithin}
 use Rattle.cg_mapping.proofs.Steps.{Has}
 use Rattle.cg_model.proofs.Lookups.{get_map}
-use Rattle.cg_word.proofs.Arity.{arity_few}
+use Rattle.cg_model.proofs.Mappings.{operands_few}
 
 -- an item of two lists is one of them
 pub get_either : {X : Type 0} (xs ys : List X) (i : ℕ) (x : X) → slice_get (xs ++ ys) i ≡ Some x → (slice_get xs i ≡ Some x) ⊎ ((j : ℕ) × (slice_get ys j ≡ Some x))
@@ -41,13 +38,6 @@ ends_from_bound v m (n ∷ ns) i e few at = ⊎_elim
     (get_either (ends_of v 0 n.operands) (ends_from (suc v) ns) i e at)
 
 -- ---- of a kernel
-
-pub operands_few : (K : Kernel) → IsKernel K → (v : ℕ) (n : Node) → slice_get K.nodes v ≡ Some n → length n.operands ≤ 3
-operands_few K valid v n at =
-    let is = ap (λ m. length m.operands) (get_or_from_slice_get K.nodes v n no_node at) in
-    let exact = valid.arities v (slice_get_within K.nodes v n at) in
-    let most = arity_few (node K v).op in
-    omega (arith, is, exact, most)
 
 end_bound : (K : Kernel) → IsKernel K → (nodes : List Node) (ends : List EdgeOperand) → nodes ≡ K.nodes → map as_end ends ≡ ends_from 0 nodes → (i : ℕ) (e : EdgeOperand) → slice_get ends i ≡ Some e → Bounds 0 (0 + length nodes) 3 (as_end e)
 end_bound K valid nodes ends same is i e at =

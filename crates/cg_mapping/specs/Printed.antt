@@ -1,7 +1,8 @@
 -- The JSON value that a mapping is printed as.
 use Rattle.std.specs.Prelude.{ℕ, ◌+◌, List, [], ◌∷◌, map, codes, slice_index_or}
-use Rattle.serde_json.specs.Data.{Data, number, unsigned, string, array, object, no_members, member}
+use Rattle.serde_json.specs.Data.{Data, string, array, object, no_members, member}
 use Rattle.serde_json.specs.View.{items_of}
+pub use Rattle.cg_json.specs.Members.{word_data}
 use Rattle.cg_model.specs.Array.{Arch}
 use Rattle.cg_model.specs.declared.array.Kind.TheVariants.{Wire}
 use Rattle.cg_model.specs.declared.array.Resource.{Resource}
@@ -12,9 +13,6 @@ use Rattle.cg_model.specs.declared.kernel.Node.{Node}
 use Rattle.cg_model.specs.declared.mapping.Place.{Place}
 use Rattle.cg_model.specs.declared.mapping.Route.{Route}
 use Rattle.cg_mapping.specs.Complete.{name_at}
-
-abbrev pub word_data : ℕ → Data
-word_data w = number (unsigned w)
 
 -- the name of unit x, and of resource r
 abbrev pub unit_name : List Unit → ℕ → List ℕ

@@ -7,11 +7,9 @@ ghost use Rattle.cg_mapping.specs.Complete as spec;
 
 use crate::ends::{EdgeOperand, ends_of};
 use crate::fault::{Gap, MappingFault};
-use crate::mapping::Mapping;
 use crate::named::{NamedMapping, NodePlace};
 use crate::tally::{Seen, picked, tally};
-use cg_kernel::Kernel;
-use cg_model::{Items, Name, Node, Place, Route, Words};
+use cg_model::{Items, Kernel, Mapping, Name, Node, Place, Route, Words};
 use std::alloc::{AllocError, Global};
 
 /// The most operands of a node.

@@ -1,8 +1,7 @@
 //! The numbers of nodes, units and resources by their names.
 
 use cg_arch::Arch;
-use cg_kernel::Kernel;
-use cg_model::{Node, Operand, Resource, Unit};
+use cg_model::{Kernel, Node, Operand, Resource, Unit};
 use cg_names::{Numbers, add_first, number_in};
 use std::alloc::{AllocError, Global};
 use std::marker::Model;

@@ -1,11 +1,10 @@
-//! Mappings of kernels on architectures: their type and their text.
+//! The text of mappings of kernels on architectures: its reader, its faults and its printer.
 #![tactic(auto)]
 
 mod complete;
 mod directory;
 mod ends;
 mod fault;
-mod mapping;
 mod named;
 mod names;
 mod print;
@@ -17,10 +16,8 @@ mod texts;
 mod written;
 
 pub use cg_arch::Arch;
-pub use cg_kernel::Kernel;
-pub use cg_model::{Items, Name, Place, Route, Words};
+pub use cg_model::{Items, Kernel, Mapping, Name, Place, Route, Words};
 pub use fault::{Gap, MappingFault, MappingPlace};
-pub use mapping::Mapping;
 pub use print::print_mapping;
 pub use read::read_mapping;
 pub use texts::mapping_fault_text;

@@ -9,10 +9,8 @@ ghost use Rattle.cg_mapping.specs.Printed as spec;
 ghost use Rattle.cg_mapping.specs.Sound.{NamesParts, IsWithinLimits};
 
 use crate::complete::name_at;
-use crate::mapping::Mapping;
 use cg_arch::Arch;
-use cg_kernel::Kernel;
-use cg_model::{Node, Place, Resource, Route, Unit};
+use cg_model::{Kernel, Mapping, Node, Place, Resource, Route, Unit};
 use serde_json::{Value, json};
 use std::alloc::{AllocError, Global};
 

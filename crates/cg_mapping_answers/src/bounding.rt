@@ -9,7 +9,7 @@ use cg_arch::Arch;
 use cg_bound::{LeastInterval, bound as least_interval, certificate_text};
 use cg_ending::{File, Outcome, Status, Stop};
 use cg_inputs::{arch_in, kernel_in};
-use cg_kernel::Kernel;
+use cg_model::Kernel;
 use std::alloc::{AllocError, Global};
 
 /// The least interval of the kernel that the second file gives on the architecture of the first.

@@ -1,11 +1,14 @@
 -- Facts of kernels and mappings: where values come from, and the links of paths.
 use Rattle.std.proofs.Common.{◌≡◌, ℕ, true, Option, Some, None, refl, ap, eqb-true, eq-eqb, ◌<◌, ⊎_elim, length, Contains, subst, ◌+◌, ◌≤◌, List, [], ◌∷◌, arith, ◌*◌, ◌/◌, ◌%◌, sym, ◌∙◌}
-use Rattle.std.specs.Prelude.{eqb}
+use Rattle.std.specs.Prelude.{eqb, slice_get}
 use Rattle.cg_model.specs.Mapping.{same_from, Goes}
 use Rattle.std.proofs.lemmas.List.{get_or_past}
 use Rattle.std.proofs.lemmas.Bool.{cases_lt}
+use Rattle.std.proofs.lemmas.Option.{slice_get_within, get_or_from_slice_get}
+use Rattle.cg_word.proofs.Arity.{arity_few}
+use Rattle.cg_model.specs.declared.kernel.Node.{Node}
 use Rattle.cg_model.specs.declared.kernel.Operand.{Operand}
-use Rattle.cg_model.specs.Kernel.{Kernel, HasOperand, no_node, node, size}
+use Rattle.cg_model.specs.Kernel.{Kernel, IsKernel, HasOperand, no_node, node, size}
 use Rattle.cg_model.specs.declared.array.Resource.{Resource}
 use Rattle.cg_model.specs.Array.{Arch, resource, delay}
 use Rattle.cg_model.proofs.Lookups.{Contains-nil}
@@ -25,6 +28,14 @@ same_from_itself (Some q) = eq-eqb q q refl
 pub operand_within : (K : Kernel) (v p : ℕ) (o : Operand) → HasOperand K v p o → v < size K
 operand_within K v p o h =
     ⊎_elim (λ l. l) (λ l. let e : node K v ≡ no_node = get_or_past K.nodes v no_node l in let h' = rw e at h in absurd (cc)) (cases_lt v (size K))
+
+-- a node of a valid kernel has at most three operands
+pub operands_few : (K : Kernel) → IsKernel K → (v : ℕ) (n : Node) → slice_get K.nodes v ≡ Some n → length n.operands ≤ 3
+operands_few K valid v n at =
+    let is = ap (λ m. length m.operands) (get_or_from_slice_get K.nodes v n no_node at) in
+    let exact = valid.arities v (slice_get_within K.nodes v n at) in
+    let most = arity_few (node K v).op in
+    omega (arith, is, exact, most)
 
 -- what has a driver is a resource
 pub driven_known : (A : Arch) (r q : ℕ) → Contains (resource A r).drivers q → r < length A.resources

@@ -14,13 +14,13 @@ mod request;
 
 pub use array::{Kind, Resource, Unit};
 pub use config::{ArgFields, UnitFields};
-pub use kernel::{Node, Operand, OrderEdge};
+pub use kernel::{Kernel, Node, Operand, OrderEdge};
 pub use limits::{
     LAST_PORT, LATEST_TIME, LONGEST_NAME, LONGEST_NODE_NAME, MOST_CONTEXTS, MOST_DISTANCE,
     MOST_LINKS, MOST_MEMORY, MOST_MOVES, MOST_NODES, MOST_ORDER_DISTANCE, MOST_ORDER_EDGES,
     MOST_RESOURCES, MOST_SIDE, MOST_STREAM, MOST_TURNS, MOST_UNITS, PORTS,
 };
 pub use lists::{Items, Name, Operands, Words};
-pub use mapping::{Place, Route};
+pub use mapping::{Mapping, Place, Route};
 pub use names::{is_identifier, is_name};
 pub use request::Request;

@@ -12,8 +12,7 @@ mod reservations;
 mod touching;
 
 pub use cg_arch::Arch;
-pub use cg_kernel::Kernel;
-pub use cg_model::Place;
+pub use cg_model::{Kernel, Place};
 pub use moves::Move;
 pub use offers::is_offered;
 pub use placement::Placement;

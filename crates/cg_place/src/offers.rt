@@ -6,7 +6,7 @@ ghost use Rattle.cg_model.specs.Limits.{most_units};
 ghost use Rattle.cg_place.specs.Placed.{IsOffered, offering};
 
 use cg_arch::{Arch, Op};
-use cg_kernel::Kernel;
+use cg_model::Kernel;
 
 /// Whether a unit offers an operation.
 fn offers(arch: &Arch, x: usize, op: Op) -> bool

@@ -4,8 +4,7 @@ use crate::places::{drawn, first_places};
 use crate::reservations::{Reservations, entry};
 use crate::touching::{count_broken, touching};
 use cg_arch::Arch;
-use cg_kernel::Kernel;
-use cg_model::{Items, OrderEdge, Place};
+use cg_model::{Items, Kernel, OrderEdge, Place};
 use std::alloc::{AllocError, Global};
 use std::marker::Model;
 

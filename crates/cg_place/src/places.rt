@@ -9,8 +9,7 @@ use crate::draws::draw;
 use crate::moves::Move;
 use crate::offers::{count_offering, offering_unit};
 use cg_arch::Arch;
-use cg_kernel::Kernel;
-use cg_model::{LATEST_TIME, Place};
+use cg_model::{Kernel, LATEST_TIME, Place};
 use std::alloc::{AllocError, Global};
 
 /// Whether these are a time for each node, none too late for a mapping.

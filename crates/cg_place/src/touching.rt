@@ -5,8 +5,7 @@ ghost use Rattle.cg_model.specs.Limits.{most_order_edges};
 ghost use Rattle.cg_place.specs.Counts as spec;
 ghost use Rattle.cg_place.specs.Touching.{AreKnown, AreTouching, IsAdded, list_of};
 
-use cg_kernel::Kernel;
-use cg_model::{Items, OrderEdge, Place};
+use cg_model::{Items, Kernel, OrderEdge, Place};
 use std::alloc::{AllocError, Global};
 
 /// For each node the order edges that begin or end there.

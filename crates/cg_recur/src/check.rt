@@ -6,7 +6,7 @@ ghost use Rattle.cg_edges.specs.Edges.{edge_of};
 
 use cg_arch::Arch;
 use cg_edges::{EdgeId, find_edge};
-use cg_kernel::Kernel;
+use cg_model::Kernel;
 
 /// Whether these are the edges of a closed chain whose latencies exceed the interval times its
 /// distances.

@@ -6,7 +6,7 @@ use crate::moments::times;
 use crate::rounds::{Numbered, longest_chains, make_rounds};
 use cg_arch::Arch;
 use cg_edges::{EdgeId, edges_of, latencies_are_small};
-use cg_kernel::Kernel;
+use cg_model::Kernel;
 use std::alloc::{AllocError, Global};
 
 /// What the recurrences of a kernel say of an interval.

@@ -3,9 +3,7 @@ ghost use Rattle.std.specs.Prelude.{◌≡◌, ◌<◌, ◌++◌, ◌∷◌, [],
 ghost use Rattle.cg_model.specs.Kernel.{size};
 ghost use Rattle.cg_model.specs.Mapping.{IsShaped, end_of, ends_of, ends_from};
 
-use cg_kernel::Kernel;
-use cg_mapping::Mapping;
-use cg_model::{Items, Operand, Place, Route, Words};
+use cg_model::{Items, Kernel, Mapping, Operand, Place, Route, Words};
 use cg_respond_state::{Places, Routes, State, count};
 use std::alloc::{AllocError, Global};
 

@@ -2,8 +2,7 @@
 
 use crate::lists::{Lists, count, number_at};
 use cg_arch::Arch;
-use cg_kernel::Kernel;
-use cg_model::{Node, Unit};
+use cg_model::{Kernel, Node, Unit};
 use std::alloc::{AllocError, Global};
 
 /// A unit: its latency in cycles, and the resource numbers of its out and its ports.

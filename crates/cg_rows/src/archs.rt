@@ -1,9 +1,9 @@
 //! What no architecture file reaches: names that begin with no letter of a cell, and the slot of an architecture.
 
-use cg_arch::{
-    Arch, ArchFault, Element, Name, NamePlace, Names, Op, OpSet, Parts, flat_text, validate,
-};
+use cg_arch::{Arch, Name, Op, OpSet, flat_text};
 use cg_model::Items;
+use cg_parts::{ArchFault, Element, NamePlace, Names, Parts};
+use cg_validate::validate;
 use std::alloc::{AllocError, Global};
 
 fn name(alloc: Global, text: &str) -> Result<Name, AllocError> {

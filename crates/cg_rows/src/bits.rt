@@ -3,7 +3,7 @@ ghost use Rattle.cg_model.specs.Canonical.{IsCanonical};
 
 use cg_arch::Arch;
 use cg_bits::{BitsFault, Config, Contexts, read_bits, write_bits};
-use cg_kernel::Kernel;
+use cg_model::Kernel;
 use cg_pad::{Image, write_image};
 use cg_sim::{Sim, SimFault};
 use cg_turns::{TurnsFault, run_turns};

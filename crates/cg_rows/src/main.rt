@@ -13,7 +13,8 @@ mod walks;
 
 use cg_arch::Arch;
 use cg_hub::serial;
-use cg_kernel::{Kernel, read_kernel};
+use cg_kernel::read_kernel;
+use cg_model::Kernel;
 use cg_tiles::read_arch;
 use cg_trial::TrialParts;
 use std::rt::Files;

@@ -6,7 +6,7 @@ ghost use Rattle.cg_model.specs.Kernel.{size};
 ghost use Rattle.cg_place.specs.Placed.{IsMove};
 
 use cg_arch::Arch;
-use cg_kernel::Kernel;
+use cg_model::Kernel;
 use cg_place::laws::PlainPlacement;
 use cg_place::{Move, Place, Placement, are_early, is_offered};
 use std::alloc::{AllocError, Global};

@@ -1,9 +1,9 @@
 //! Kernels and mappings as text.
 
 use cg_arch::Arch;
-use cg_kernel::Kernel;
 use cg_kernel_text::print_kernel;
 use cg_mapping::{MappingFault, print_mapping, read_mapping};
+use cg_model::Kernel;
 use std::alloc::{AllocError, Global};
 
 /// Whether the kernel is printed so.

@@ -11,11 +11,12 @@ use cg_arch::Arch;
 use cg_bits::read_bits;
 use cg_emit::emit;
 use cg_hub::hub_mapping;
-use cg_kernel::{Op, Operand};
+use cg_model::Operand;
 use cg_pad::{Image, write_image};
 use cg_trial::{Kernel, TrialParts, laws, trial_parts};
 use cg_turns::{TurnsFault, run_turns};
 use cg_view::ConfigView;
+use cg_word::Op;
 use sha2::{Digest, Sha256};
 use std::alloc::{AllocError, Global};
 

@@ -9,7 +9,7 @@ ghost use Rattle.cg_run_answers.specs.TurnsOnImage.{IsImaged, IsTurnsOnImage, im
 use crate::running::run;
 use cg_ending::{File, Outcome, Status, Stop};
 use cg_inputs::{image_in, kernel_in};
-use cg_kernel::Kernel;
+use cg_model::Kernel;
 use cg_pad::{Image, write_image};
 use cg_turns::UnorderedPair;
 use std::alloc::{AllocError, Global};

@@ -5,7 +5,7 @@ ghost use Rattle.cg_model.specs.Turns.{turns_left};
 ghost use Rattle.cg_turns.specs.Done.{left_of, IsSmall};
 ghost use Rattle.cg_turns.specs.Pairs.{IsPairOf};
 
-use cg_kernel::Kernel;
+use cg_model::Kernel;
 use cg_pad::Image;
 use cg_turns::{TurnsDone, TurnsFault, run_turns};
 use std::alloc::{AllocError, Global};

@@ -2,8 +2,7 @@
 ghost use Rattle.std.specs.Prelude.{◌≡◌, ◌<◌, ◌++◌, IfOk, OnOk, length};
 ghost use Rattle.cg_run_answers.specs.Turns.{outputs_to, stream_line, port_report, streams_report};
 
-use cg_kernel::Kernel;
-use cg_model::Words;
+use cg_model::{Kernel, Words};
 use std::alloc::{AllocError, Global};
 
 /// A line for each port that the kernel's outputs name, ascending.

@@ -9,7 +9,7 @@ use crate::running::run;
 use crate::streams::streams_report;
 use cg_ending::{File, Outcome, Status, Stop};
 use cg_inputs::kernel_in;
-use cg_kernel::Kernel;
+use cg_model::Kernel;
 use cg_pad::Image;
 use std::alloc::Global;
 

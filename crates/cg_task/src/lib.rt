@@ -10,6 +10,6 @@ pub use answering::{Answer, FoundBy};
 pub use cg_arch::Arch;
 pub use cg_bound::Certificate;
 pub use cg_check::LegalMapping;
-pub use cg_kernel::Kernel;
+pub use cg_model::Kernel;
 pub use posing::Task;
 pub use tried::{first_tried, last_tried};

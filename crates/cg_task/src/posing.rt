@@ -1,7 +1,7 @@
 //! A kernel on an architecture, at an interval.
 
 use cg_arch::Arch;
-use cg_kernel::Kernel;
+use cg_model::Kernel;
 use cg_recur::earliest_times;
 use std::alloc::{AllocError, Global};
 use std::marker::Model;

@@ -6,7 +6,7 @@ ghost use Rattle.cg_task.specs.Intervals.{IsFirst};
 
 use cg_arch::Arch;
 use cg_bound::bound;
-use cg_kernel::Kernel;
+use cg_model::Kernel;
 use std::alloc::{AllocError, Global};
 
 /// The last interval that is tried.

@@ -8,8 +8,7 @@ ghost use Rattle.cg_task_answers.specs.Searches.{is_above, above_contexts, impos
 use cg_arch::Arch;
 use cg_bound::{Certificate, certificate_text};
 use cg_ending::{Outcome, Status, malformed};
-use cg_kernel::Kernel;
-use cg_model::Request;
+use cg_model::{Kernel, Request};
 use cg_task::last_tried;
 use std::alloc::{AllocError, Global};
 

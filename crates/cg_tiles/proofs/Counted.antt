@@ -18,7 +18,7 @@ use Rattle.cg_grid.specs.declared.grid.Grid.{Grid}
 use Rattle.cg_tiles.specs.Elements.{element_of, driver_of, drivers_of, flat_name, parts_for, row_elements, grid_elements}
 use Rattle.cg_tiles.specs.Counts.{resources_of, part_resources, row_resources, grid_resources, list_links, links_of, part_links, row_links, grid_links}
 use Rattle.cg_tiles.proofs.Distinct.{distinct_distinct}
-use Rattle.cg_arch.proofs.Roles.{length-port_entries}
+use Rattle.cg_validate.proofs.Roles.{length-port_entries}
 
 entries-append : (xs ys : List Element) → entries (xs ++ ys) ≡ entries xs ++ entries ys
 unfolding entries

@@ -14,7 +14,7 @@ use Rattle.cg_parts.specs.declared.fault.NamePlace.TheVariants as place
 use Rattle.cg_model.proofs.Options.{cond_none}
 use Rattle.cg_parts.specs.Parts.{entries}
 use Rattle.cg_parts.specs.Rules.{links, too_large, bad_name, has_bad_name, repeated_name, wrong_driver, fault_before_loops}
-use Rattle.cg_arch.specs.Answer.{IsFault, AreValid, early, a_loop, late}
+use Rattle.cg_validate.specs.Answer.{IsFault, AreValid, early, a_loop, late}
 use Rattle.cg_grid.specs.declared.written.Part.{Part}
 use Rattle.cg_grid.specs.declared.written.WrittenPart.{WrittenPart}
 use Rattle.cg_grid.specs.declared.written.Tile.{Tile}

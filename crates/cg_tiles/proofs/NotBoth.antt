@@ -3,7 +3,7 @@ use Rattle.std.proofs.Common.{◌≡◌, List, ℕ, Some, None, Ok, sym, ◌∙�
 use Rattle.cg_model.specs.Array.{Arch}
 use Rattle.cg_parts.specs.declared.parts.Parts.{Parts}
 use Rattle.cg_parts.specs.declared.fault.ArchFault.{ArchFault}
-use Rattle.cg_arch.specs.Answer.{IsFault, AreValid, early, a_loop, late}
+use Rattle.cg_validate.specs.Answer.{IsFault, AreValid, early, a_loop, late}
 use Rattle.cg_grid.specs.declared.fault.TilesFault.{TilesFault}
 use Rattle.cg_tiles.specs.Answer.{AreValidBytes, IsRefused, parts_spelled}
 

@@ -7,8 +7,8 @@ use Rattle.cg_parts.specs.declared.parts.Parts.{Parts}
 use Rattle.cg_parts.specs.declared.fault.ArchFault.{ArchFault}
 use Rattle.cg_parts.specs.declared.fault.ArchFault.TheVariants as arch
 use Rattle.cg_parts.specs.declared.fault.TooLargePlace.TheVariants as large
-use Rattle.cg_arch.specs.Answer as parts_answer
-use Rattle.cg_arch.proofs.Solved as parts_solved
+use Rattle.cg_validate.specs.Answer as parts_answer
+use Rattle.cg_validate.proofs.Solved as parts_solved
 use Rattle.cg_toml.specs.Bytes.{table_of}
 use Rattle.cg_grid.specs.declared.fault.PartPlace.{PartPlace}
 use Rattle.cg_grid.specs.declared.fault.TilesPlace.{TilesPlace}

@@ -7,7 +7,7 @@ use Rattle.cg_parts.specs.declared.fault.TooLargePlace.{TooLargePlace}
 use Rattle.cg_parts.specs.declared.fault.TooLargePlace.TheVariants as large
 use Rattle.cg_parts.specs.Parts.{entries}
 use Rattle.cg_parts.specs.Rules.{links, too_large, fault_before_loops, bad_name, repeated_name, wrong_driver}
-use Rattle.cg_arch.specs.Answer.{early}
+use Rattle.cg_validate.specs.Answer.{early}
 use Rattle.cg_model.specs.Limits.{most_resources, most_links}
 use Rattle.cg_grid.specs.declared.written.WrittenArch.{WrittenArch}
 use Rattle.cg_grid.specs.Rules.{first_fault}

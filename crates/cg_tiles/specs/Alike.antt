@@ -2,7 +2,7 @@
 use Rattle.cg_model.specs.Array.{Arch}
 use Rattle.cg_parts.specs.declared.parts.Parts.{Parts}
 use Rattle.cg_parts.specs.declared.fault.ArchFault.{ArchFault}
-use Rattle.cg_arch.specs.Answer.{IsFault, AreValid}
+use Rattle.cg_validate.specs.Answer.{IsFault, AreValid}
 
 -- what the parts are, or have, others are or have too
 pub record AnswersFor (parts others : Parts) : Type 0 where

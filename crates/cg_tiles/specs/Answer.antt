@@ -5,7 +5,7 @@ use Rattle.cg_model.specs.Array.{Arch}
 use Rattle.cg_parts.specs.declared.parts.Parts.{Parts}
 use Rattle.cg_parts.specs.declared.fault.ArchFault.{ArchFault}
 use Rattle.cg_parts.specs.declared.fault.ArchFault.TheVariants as arch
-use Rattle.cg_arch.specs.Answer.{IsFault, AreValid}
+use Rattle.cg_validate.specs.Answer.{IsFault, AreValid}
 use Rattle.cg_toml.specs.Bytes.{table_of}
 use Rattle.cg_grid.specs.declared.written.WrittenArch.{WrittenArch}
 use Rattle.cg_grid.specs.declared.fault.TilesPlace.{TilesPlace}

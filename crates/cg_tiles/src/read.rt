@@ -11,11 +11,12 @@ use crate::counting::has_many_resources;
 use crate::elements::parts_of;
 use crate::lean::lean;
 use crate::room::MakingFault;
-use cg_arch::{Arch, validate};
+use cg_arch::Arch;
 use cg_grid::{TilesFault, WrittenArch, first_fault, written_of};
 use cg_parts::{ArchFault, Parts, TooLargePlace};
 use cg_reading::Misfit;
 use cg_toml::{TomlFault, toml_table};
+use cg_validate::validate;
 use std::alloc::Global;
 use toml::Value;
 

@@ -15,7 +15,7 @@ use Rattle.cg_parts.specs.declared.parts.Element.{Element}
 use Rattle.cg_parts.specs.declared.entry.Entry.{Entry}
 use Rattle.cg_parts.specs.Parts.{distinct, port_name, out_name}
 use Rattle.cg_parts.specs.Numbers.{is_named}
-use Rattle.cg_arch.specs.Flat.{arch_of, number_in, resource_of, units_from}
+use Rattle.cg_validate.specs.Flat.{arch_of, number_in, resource_of, units_from}
 use Rattle.cg_place.specs.Placed.{offering}
 use Rattle.cg_hub.specs.Hub.{HubEnough}
 use Rattle.cg_trial.specs.Words.{generator}

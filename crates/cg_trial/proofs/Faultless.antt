@@ -27,10 +27,10 @@ use Rattle.cg_parts.specs.declared.fault.DriverPlace.{DriverPlace}
 use Rattle.cg_parts.specs.declared.drivers.DriverRule.{DriverRule}
 use Rattle.cg_parts.specs.declared.drivers.DriverRule.TheVariants.{UnknownDriver, PortDrives}
 use Rattle.cg_parts.specs.Rules.{links, is_unit, too_large, has_bad_name, bad_name, repeats_by, repeated_name, is_port, is_port_at, is_wrong, first_driver, wrong_driver, fault_before_loops, is_bad_unit, unit_or_contexts_fault}
-use Rattle.cg_arch.specs.Flat.{arch_of}
-use Rattle.cg_arch.specs.Hub.{is_register, is_register_at, names_register, first_bad_entry, first_missing, missing, missing_link, hub_fault}
-use Rattle.cg_arch.specs.Answer.{HasNoCombinationalLoop, IsFault, early, a_loop, late, fault_after_loops}
-use Rattle.cg_arch.proofs.Places.{get_right}
+use Rattle.cg_validate.specs.Flat.{arch_of}
+use Rattle.cg_validate.specs.Hub.{is_register, is_register_at, names_register, first_bad_entry, first_missing, missing, missing_link, hub_fault}
+use Rattle.cg_validate.specs.Answer.{HasNoCombinationalLoop, IsFault, early, a_loop, late, fault_after_loops}
+use Rattle.cg_validate.proofs.Places.{get_right}
 use Rattle.cg_trial.specs.Trial.{unit_names, out_names, register_name, register_names, register_part, unit_part, parts_with}
 use Rattle.cg_trial.proofs.Numerals.{numbered}
 use Rattle.cg_trial.proofs.Scans.{past, first_from_range, position_from_range, position_from_found, first_such_range, first_such-append, any_last}

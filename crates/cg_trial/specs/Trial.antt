@@ -9,7 +9,7 @@ use Rattle.cg_parts.specs.declared.parts.Element.{Element}
 use Rattle.cg_parts.specs.declared.parts.Element.TheVariants as element
 use Rattle.cg_parts.specs.declared.parts.Parts.{Parts}
 use Rattle.cg_parts.specs.Parts.{out_name}
-use Rattle.cg_arch.specs.Flat.{arch_of}
+use Rattle.cg_validate.specs.Flat.{arch_of}
 
 -- ---- the architecture: four units and the registers of a hub, without any other resource
 

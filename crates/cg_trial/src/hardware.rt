@@ -5,8 +5,10 @@ ghost use Rattle.cg_word.specs.Sets.{with_op};
 ghost use Rattle.cg_model.specs.Array.{IsArch};
 ghost use Rattle.cg_trial.specs.Trial as spec;
 
-use cg_arch::{Arch, ArchFault, Element, Name, Names, Op, OpSet, Parts, validate};
+use cg_arch::{Arch, Name, Op, OpSet};
 use cg_model::Items;
+use cg_parts::{ArchFault, Element, Names, Parts};
+use cg_validate::validate;
 use std::alloc::{AllocError, Global};
 
 /// The registers of the hub.

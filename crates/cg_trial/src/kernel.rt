@@ -4,7 +4,8 @@ ghost use Rattle.cg_trial.specs.Words.{rest};
 ghost use Rattle.cg_trial.specs.Drawn as spec;
 
 use crate::draws::{below, generator, next, words};
-use cg_kernel::{Kernel, Name, Node, Op, Operand, Operands, OrderEdge, Words};
+use cg_model::{Kernel, Name, Node, Operand, Operands, OrderEdge, Words};
+use cg_word::Op;
 use rand_pcg::Lcg64Xsh32;
 use std::alloc::{AllocError, Global};
 

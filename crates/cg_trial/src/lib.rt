@@ -8,6 +8,6 @@ pub mod laws;
 mod trial;
 
 pub use cg_arch::Arch;
-pub use cg_kernel::Kernel;
+pub use cg_model::Kernel;
 pub use cg_pad::Image;
 pub use trial::{TrialParts, trial_parts};

@@ -7,7 +7,7 @@ ghost use Rattle.cg_trial.specs.Trial.{trial_arch, trial_image};
 use crate::hardware::trial_arch as arch_of_trial;
 use crate::kernel::trial_kernel as kernel_of_trial;
 use cg_arch::Arch;
-use cg_kernel::Kernel;
+use cg_model::Kernel;
 use cg_pad::{Image, Words, empty_streams};
 use std::alloc::{AllocError, Global};
 

@@ -13,7 +13,7 @@ ghost use Rattle.cg_trial_run.specs.Report.{trial_turns};
 
 use cg_arch::Arch;
 use cg_check::LegalMapping;
-use cg_kernel::Kernel;
+use cg_model::Kernel;
 use cg_pad::{Image, write_image};
 use cg_sim::{Sim, SimFault};
 use cg_turns::{TurnsDone, TurnsFault, run_turns};

@@ -10,8 +10,7 @@ use crate::pair::Access;
 use crate::watch::{Watch, reached, watch_step};
 use crate::window::{ROWS, Turn, Window, argument};
 use cg_distance::DistanceTable;
-use cg_kernel::Kernel;
-use cg_model::Words;
+use cg_model::{Kernel, Words};
 use cg_pad::{Image, Scratchpad, Work, empty_streams};
 use std::alloc::{AllocError, Global};
 

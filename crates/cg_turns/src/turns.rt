@@ -11,8 +11,7 @@ use crate::pair::UnorderedPair;
 use crate::watch::unwatched;
 use crate::window::Turn;
 use cg_distance::min_distance;
-use cg_kernel::Kernel;
-use cg_model::MOST_TURNS;
+use cg_model::{Kernel, MOST_TURNS};
 use cg_pad::{Image, Streams};
 use std::alloc::{AllocError, Global};
 

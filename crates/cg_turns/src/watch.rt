@@ -12,7 +12,7 @@ ghost use Rattle.cg_pad.specs.Work.{work_of};
 use crate::last::LastAccesses;
 use crate::pair::{Access, UnorderedPair, paired};
 use cg_distance::DistanceTable;
-use cg_kernel::Kernel;
+use cg_model::Kernel;
 use cg_pad::Work;
 use std::alloc::{AllocError, Global};
 

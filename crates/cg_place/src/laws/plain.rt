@@ -5,8 +5,7 @@ use crate::moves::Move;
 use crate::places::{drawn, first_places};
 use crate::touching::count_broken;
 use cg_arch::Arch;
-use cg_kernel::Kernel;
-use cg_model::Place;
+use cg_model::{Kernel, Place};
 use std::alloc::{AllocError, Global};
 use std::marker::Model;
 

@@ -7,7 +7,7 @@ use Rattle.serde_json.specs.Written.{compact_text, has_float}
 use Rattle.cg_kernel_text.specs.Printed.{data_of, kernel_data}
 use Rattle.cg_kernel_text.proofs.Clear.{answer-back}
 use Rattle.cg_kernel_text.proofs.Depths.{data_of-no_float, data_of-depth}
-use Rattle.cg_kernel_text.proofs.Elements.{if_ok_both}
+use Rattle.cg_json.proofs.Elements.{if_ok_both}
 use Rattle.cg_kernel_text.proofs.print.print_kernel.Goals as goal
 
 pub returns-clause-text : goal.returns-clause-text

@@ -4,7 +4,7 @@ use Rattle.serde_json.specs.Data.{depth}
 use Rattle.serde_json.specs.Read.{read, max_depth}
 use Rattle.serde_json.specs.View.{view}
 use Rattle.serde_json.specs.Written.{compact_text, has_float}
-use Rattle.cg_kernel_text.proofs.Elements.{if_ok_both}
+use Rattle.cg_json.proofs.Elements.{if_ok_both}
 use Rattle.cg_mapping.specs.Printed.{data_of, mapping_data}
 use Rattle.cg_mapping.proofs.Back.{answer-back}
 use Rattle.cg_mapping.proofs.Depths.{data_of-no_float, data_of-depth}

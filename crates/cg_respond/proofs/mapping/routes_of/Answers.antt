@@ -3,7 +3,7 @@ use Rattle.std.proofs.lemmas.Option.{slice_get-get_or}
 use Rattle.cg_model.specs.declared.kernel.Node.{Node}
 use Rattle.cg_model.specs.Kernel.{no_node, node, size}
 use Rattle.cg_edges.proofs.Listed.{operands_count}
-use Rattle.cg_mapping.proofs.EdgeOperands.{operands_few}
+use Rattle.cg_model.proofs.Mappings.{operands_few}
 use Rattle.cg_respond.proofs.mapping.routes_of.Goals as goal
 
 pub add_routes-requires : goal.add_routes-requires

@@ -1,5 +1,5 @@
 use Rattle.std.proofs.Common.{refl, subst}
-use Rattle.cg_arch.specs.Answer.{IsFault}
+use Rattle.cg_validate.specs.Answer.{IsFault}
 use Rattle.cg_trial.proofs.Faultless.{no_fault}
 use Rattle.cg_trial.proofs.hardware.trial_arch.Goals as goal
 

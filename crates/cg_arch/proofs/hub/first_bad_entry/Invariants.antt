@@ -1,6 +1,0 @@
-use Rattle.std.proofs.Common.{◌≡◌, [], take, drop}
-use Rattle.cg_arch.specs.Hub.{first_bad_entry}
-use Rattle.cg_arch.proofs.hub.first_bad_entry.Given as goal
-
-abbrev pub invariant-loop-place : goal.invariant-loop-place
-invariant-loop-place l = first_bad_entry l.resources (take l.place l.names) (drop l.place l.names) ≡ first_bad_entry l.resources [] l.names

@@ -1,6 +1,0 @@
-use Rattle.std.proofs.Common.{◌≡◌, drop}
-use Rattle.cg_arch.specs.Hub.{first_missing}
-use Rattle.cg_arch.proofs.hub.first_missing.Given as goal
-
-abbrev pub invariant-loop-target : goal.invariant-loop-target
-invariant-loop-target l = first_missing l.flat l.sources (drop l.target-index l.targets) ≡ first_missing l.flat l.sources l.targets

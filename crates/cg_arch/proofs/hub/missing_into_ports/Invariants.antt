@@ -1,6 +1,0 @@
-use Rattle.std.proofs.Common.{◌≡◌, drop, flat_map}
-use Rattle.cg_arch.specs.Hub.{first_missing}
-use Rattle.cg_arch.proofs.hub.missing_into_ports.Given as goal
-
-abbrev pub invariant-loop-unit : goal.invariant-loop-unit
-invariant-loop-unit l = first_missing l.flat l.flat.hub (flat_map (λ u. u.ports) (drop l.unit-index l.units)) ≡ first_missing l.flat l.flat.hub (flat_map (λ u. u.ports) l.units)

@@ -1,6 +1,0 @@
-use Rattle.std.proofs.Common.{◌≡◌, take}
-use Rattle.cg_arch.specs.Answer.{names_of}
-use Rattle.cg_arch.proofs.validation.names_of.Given as goal
-
-abbrev pub invariant-loop-number : goal.invariant-loop-number
-invariant-loop-number l = l.names.items ≡ names_of l.flat (take l.number-index l.numbers)

@@ -1,0 +1,3 @@
+pub mod Flat
+pub mod Hub
+pub mod Answer
