@@ -14,7 +14,7 @@ use Rattle.cg_claims.proofs.Uses.{uses_append}
 use Rattle.cg_place.specs.Placed.{Placed, MayStand, place_in}
 use Rattle.cg_place.specs.Counts.{order_violations, unit_excess}
 use Rattle.cg_walk.specs.declared.edge.EdgeOperand.{EdgeOperand}
-use Rattle.cg_walk.specs.State.{State, edges, positions_by, positions_of_all, state_positions, table_of_state, missing, cost}
+use Rattle.cg_walk.specs.State.{edges, positions_by, positions_of_all, state_positions, table_of_state, missing, cost}
 use Rattle.cg_walk.specs.Walk.{edge}
 use Rattle.cg_walk.proofs.Alike.{excess_same}
 use Rattle.cg_walk.proofs.Small.{room}

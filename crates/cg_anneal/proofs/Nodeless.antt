@@ -1,9 +1,8 @@
 -- A kernel without nodes costs nothing.
 use Rattle.std.proofs.Common.{◌≡◌, ℕ, ◌*◌, ◌<◌, ◌≤◌, List, [], ◌∷◌, length, Some, refl, ap, ◌∙◌, arith, ⊎_elim}
-use Rattle.std.specs.Prelude.{slice_get, count_by, sum_by}
+use Rattle.std.specs.Prelude.{slice_get, count_by}
 use Rattle.std.specs.List.{range_with_len}
 use Rattle.std.proofs.lemmas.Bool.{cases_lt}
-use Rattle.std.proofs.lemmas.List.Sums.{sum_by-cons}
 use Rattle.cg_model.specs.declared.kernel.OrderEdge.{OrderEdge}
 use Rattle.cg_model.specs.Kernel.{Kernel, IsKernel, size}
 use Rattle.cg_model.specs.Array.{Arch}

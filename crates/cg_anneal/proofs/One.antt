@@ -1,10 +1,10 @@
 -- How the walk ends is determined.
-use Rattle.std.proofs.Common.{◌≡◌, ◌≢◌, ℕ, suc, ◌+◌, ◌*◌, ◌<◌, ◌≤◌, List, length, get_or, refl, sym, ap, ◌∙◌, subst, arith}
+use Rattle.std.proofs.Common.{◌≡◌, ℕ, ◌<◌, ◌≤◌, List, get_or, refl, sym, ap, ◌∙◌, subst, arith}
 use Rattle.std.proofs.lemmas.List.{ext_get_or}
 use Rattle.rand_pcg.specs.Lcg.{Lcg}
 use Rattle.cg_model.specs.Kernel.{Kernel, size}
 use Rattle.cg_model.specs.Array.{Arch}
-use Rattle.cg_model.specs.Mapping.{Mapping, IsLegal}
+use Rattle.cg_model.specs.Mapping.{IsLegal}
 use Rattle.cg_edges.specs.Edges.{edge_of}
 use Rattle.cg_recur.specs.Recurrences.{AreEarliest}
 use Rattle.cg_recur.proofs.Chains.{one_early}

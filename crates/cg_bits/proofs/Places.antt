@@ -9,7 +9,7 @@ use Rattle.cg_model.specs.declared.array.Unit.{Unit}
 use Rattle.cg_model.specs.Array.{Arch, resource, unit}
 use Rattle.cg_model.specs.Canonical.{greatest_of, is_on, stage_of}
 use Rattle.cg_flat.specs.Slots as flat
-use Rattle.cg_flat.specs.Slots.{total, select_bits, select_at, IsWidth}
+use Rattle.cg_flat.specs.Slots.{total, select_bits, IsWidth}
 use Rattle.cg_flat.proofs.Lists.{item_at}
 use Rattle.cg_bits.specs.declared.format.Format.{Format}
 use Rattle.cg_bits.specs.Numbers.{digit, number, number_after, number_at}

@@ -6,9 +6,9 @@ use Rattle.std.proofs.lemmas.Bool.{cases_Bool, cond-true, cond-false, and_from, 
 use Rattle.std.proofs.lemmas.List.Folds.{list_any_at}
 use Rattle.cg_word.specs.declared.op.Op.{Op}
 use Rattle.cg_word.specs.declared.op.Op.TheVariants.{Const, Iter, Input, Add, Sub, Mul, And, Or, Xor, Shl, Shr, Sar, Eq, Ne, Lts, Ltu, Mins, Maxs, Select, Load, Store, Output, LoadIf, StoreIf, OutputIf}
-use Rattle.cg_word.specs.Word.{all_ops, code, op_of}
+use Rattle.cg_word.specs.Word.{all_ops, code}
 use Rattle.cg_word.specs.Sets.{among, with_op, all_among}
-use Rattle.cg_word.proofs.Codes.{same_code, op_again}
+use Rattle.cg_word.proofs.Codes.{same_code}
 use Rattle.cg_model.specs.declared.kernel.Node.{Node}
 use Rattle.cg_model.specs.declared.array.Unit.{Unit}
 use Rattle.cg_model.specs.Kernel.{Kernel, node, no_node, size}

@@ -1,10 +1,10 @@
 -- Facts on lists, and on the first place at which a test holds.
 use Rattle.std.proofs.Common.{◌≡◌, ℕ, zero, suc, ◌+◌, ◌<◌, ◌≤◌, Bool, true, false, cond, List, [], ◌∷◌, take, Option, Some, None, Contains, refl, sym, ap, ◌∙◌, subst, arith, ⊎_elim, add-one}
-use Rattle.std.specs.Prelude.{◌||◌, ◌&&◌, slice_get}
+use Rattle.std.specs.Prelude.{◌||◌, slice_get}
 use Rattle.std.specs.Option.{option_or, is_some}
 use Rattle.std.specs.List.{list_any}
 use Rattle.std.proofs.lemmas.Bool.{cases_lt, or_parts, or_cases, or_left, or_right, cond-false}
-use Rattle.cg_model.specs.First.{first_from, first_such}
+use Rattle.cg_model.specs.First.{first_such}
 use Rattle.cg_overlap.proofs.Facts.{Contains-first, Contains-later, Contains-cases}
 use Rattle.cg_check.specs.Rules.{first_below}
 use Rattle.cg_model.proofs.Lookups.{Contains-nil}

@@ -8,7 +8,7 @@ use Rattle.cg_model.specs.declared.kernel.Operand.{Operand}
 use Rattle.cg_model.specs.declared.kernel.Operand.TheVariants.{Const as Constant, Edge}
 use Rattle.cg_model.specs.declared.mapping.Route.{Route}
 use Rattle.cg_model.specs.declared.array.Kind.TheVariants.{Wire, Out}
-use Rattle.cg_model.specs.Kernel.{Kernel, IsKernel, HasOperand, size, node}
+use Rattle.cg_model.specs.Kernel.{Kernel, IsKernel, node}
 use Rattle.cg_model.specs.Array.{Arch, IsArch, resource, unit, delay}
 use Rattle.cg_model.specs.Mapping.{Mapping, Position, Goes, Brings, place, positions, positions_after, positions_on, of_operand, of_route, leaves}
 use Rattle.cg_overlap.proofs.Facts.{Contains-cases, Contains-flat_map_from}

@@ -2,7 +2,7 @@
 -- Ebeling 1995): each position of a path claims the node of its resource in the slot of its time.
 -- Positions of one source, one time and one predecessor make the same claim, which is then used more
 -- than once; claims that differ are in each other's way.
-use Rattle.std.specs.Prelude.{ℕ, ◌-◌, ◌*◌, ◌%◌, eqb, ◌&&◌, if◌then◌else◌, Bool, true, false, List, [], ◌∷◌, length, Option, Some, None, filter, count_by, sum_by}
+use Rattle.std.specs.Prelude.{ℕ, ◌-◌, ◌*◌, ◌%◌, eqb, ◌&&◌, if◌then◌else◌, Bool, List, [], ◌∷◌, length, filter, count_by, sum_by}
 use Rattle.std.specs.List.{range_with_len, list_any}
 use Rattle.cg_model.specs.Mapping.{Position, same_from}
 use Rattle.cg_mrrg.specs.declared.links.MNode.{MNode}

@@ -1,5 +1,5 @@
 -- What a word of digits is read as.
-use Rattle.std.proofs.Common.{◌≡◌, ℕ, ◌<◌, ◌&&◌, ◌^◌, true, false, List, Bool, Result, Err, None, length, refl, subst, arith, ⊎_elim, nat_lt, nat_le}
+use Rattle.std.proofs.Common.{◌≡◌, ℕ, ◌<◌, ◌&&◌, ◌^◌, true, List, Result, Err, None, length, refl, subst, arith, ⊎_elim, nat_lt, nat_le}
 use Rattle.std.specs.Result.{OkIff}
 use Rattle.std.specs.Char.{is_ascii_digit}
 use Rattle.std.specs.List.{list_all}

@@ -1,12 +1,9 @@
 -- Facts about canonical configurations: fields that are all zero keep the rules, stages have room, and greatest numbers.
-use Rattle.std.proofs.Common.{◌≡◌, ℕ, zero, suc, ◌<◌, ◌≤◌, true, max, not, eqb, leb, List, refl, ap, ◌∙◌, arith}
-use Rattle.std.specs.Prelude.{slice_index}
-use Rattle.std.proofs.lemmas.Bool.{leb-true, and_parts, or_left, and_from}
-use Rattle.std.proofs.lemmas.List.{get_or-replicate}
+use Rattle.std.proofs.Common.{◌≤◌, true, leb, List}
+use Rattle.std.proofs.lemmas.Bool.{leb-true, and_parts}
 use Rattle.cg_word.specs.declared.op.Op.{Op}
 use Rattle.cg_model.specs.declared.config.UnitFields.{UnitFields}
-use Rattle.cg_model.specs.Config.{no_arg, arg}
-use Rattle.cg_model.specs.Canonical.{AreFields, mode_right, count_right, word_right, greatest_of}
+use Rattle.cg_model.specs.Canonical.{AreFields}
 
 -- a stage has room in 16 bits, and so does one more
 pub stage_fits : (ops : List Op) (f : UnitFields) → AreFields ops f → f.stage ≤ 65534

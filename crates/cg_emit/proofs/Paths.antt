@@ -1,8 +1,7 @@
 -- Paths that go along links.
 use Rattle.std.proofs.Common.{◌≡◌, ℕ, suc, ◌+◌, ◌%◌, ◌<◌, ◌≤◌, ◌^◌, List, [], ◌∷◌, length, drop, get_or, eqb, Contains, sym, ap, subst, ◌∙◌, arith, ⊎_elim}
-use Rattle.std.proofs.lemmas.Bool.{cases_lt, cond_both, true≢false, eq-eqb}
+use Rattle.std.proofs.lemmas.Bool.{cond_both, true≢false, eq-eqb}
 use Rattle.std.proofs.Math.Seq.{drop-cons}
-use Rattle.std.proofs.lemmas.List.{get_or_past}
 use Rattle.cg_model.specs.declared.array.Resource.{Resource}
 use Rattle.cg_model.specs.declared.array.Kind.TheVariants.{Wire}
 use Rattle.cg_model.specs.Array.{Arch, IsArch, resource, delay}

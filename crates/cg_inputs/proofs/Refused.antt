@@ -1,7 +1,7 @@
 -- What is known of a file that is refused.
 use Rattle.std.proofs.Common.{◌≡◌, ◌≢◌, Result, Err, ◌∙◌, ap}
 use Rattle.cg_ending.specs.declared.read.Stop.{Stop}
-use Rattle.cg_ending.specs.Outcome.{Name, Bytes, Outcome}
+use Rattle.cg_ending.specs.Outcome.{Name, Bytes}
 use Rattle.cg_ending.specs.Allowed.{EndsBy}
 use Rattle.cg_ending.specs.Refusals.{malformed_of}
 use Rattle.cg_ending.proofs.Allowed.{ends_weaker}

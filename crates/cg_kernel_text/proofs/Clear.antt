@@ -1,5 +1,5 @@
 -- In what a valid kernel is written as, no fault applies.
-use Rattle.std.proofs.Common.{◌≡◌, ℕ, zero, suc, ◌<◌, ◌≤◌, ◌==◌, ◌||◌, ◌&&◌, not, map, take, List, [], ◌∷◌, length, Option, Some, None, Ok, Bool, true, false, cond, refl, ap, ◌∙◌, sym, arith, bytes_eq, subst, IsUtf8}
+use Rattle.std.proofs.Common.{◌≡◌, ℕ, ◌<◌, ◌≤◌, ◌==◌, ◌||◌, not, map, take, List, [], ◌∷◌, length, Option, Some, None, Ok, Bool, true, false, cond, refl, ap, ◌∙◌, sym, arith, bytes_eq, subst, IsUtf8}
 use Rattle.std.specs.Prelude.{nat_lt, slice_get, unwrap_or, count_by}
 use Rattle.std.specs.Option.{is_none, option_map, option_and_then, option_map_or, option_or}
 use Rattle.std.specs.List.{list_any}

@@ -1,6 +1,6 @@
 -- What is printed has no float, and is shallow.
-use Rattle.std.proofs.Common.{◌≡◌, ℕ, ◌≤◌, ◌||◌, List, [], ◌∷◌, map, Bool, true, false, cond, codes, refl, ap, ◌∙◌, arith}
-use Rattle.serde_json.specs.Data.{Data, no_members, member, depth, items_depth, members_depth}
+use Rattle.std.proofs.Common.{◌≡◌, ℕ, ◌≤◌, ◌||◌, List, map, Bool, true, false, cond, codes, refl, ap, ◌∙◌, arith}
+use Rattle.serde_json.specs.Data.{no_members, member, depth, items_depth, members_depth}
 use Rattle.serde_json.specs.View.{items_of}
 use Rattle.serde_json.specs.Written.{has_float, items_have_float, members_have_float}
 use Rattle.cg_json.proofs.Depths.{items_no_float, items_depth-at_most}

@@ -1,5 +1,5 @@
 -- All answers are alike, and a mapping that is answered is legal.
-use Rattle.std.proofs.Common.{rules, ◌≡◌, ℕ, suc, ◌+◌, ◌-◌, ◌<◌, ◌≤◌, List, [], ◌∷◌, length, Option, Some, None, refl, sym, ap, ◌∙◌, subst, arith, inl, inr, ⊎_elim}
+use Rattle.std.proofs.Common.{◌≡◌, ℕ, ◌+◌, ◌-◌, ◌<◌, List, length, Option, sym, ap, ◌∙◌, subst, arith, ⊎_elim}
 use Rattle.std.specs.Prelude.{slice_index}
 use Rattle.std.proofs.lemmas.Bool.{cases_lt}
 use Rattle.cg_model.specs.Kernel.{Kernel, IsKernel}
@@ -19,7 +19,7 @@ use Rattle.cg_hub.proofs.Legal.{hub_legal}
 use Rattle.cg_hub.proofs.Hubs.{hub_interval}
 use Rattle.cg_hub.specs.Hub.{HubEnough, hub_map}
 use Rattle.cg_bound.proofs.Legal.{excluded}
-use Rattle.cg_task.proofs.Intervals.{not_both, shown_forbids, one_first, first_within, last_positive, open_from}
+use Rattle.cg_task.proofs.Intervals.{shown_forbids, one_first, first_within, last_positive, open_from}
 use Rattle.cg_map.proofs.Attempts.{not_left, one_mapped, left_at, one_costs, legal_attempt}
 
 module _ (A : Arch) (K : Kernel) (arch : IsArch A) (kernel : IsKernel K) (asked : Option ℕ) (seed moves : ℕ) where

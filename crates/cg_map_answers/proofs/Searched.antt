@@ -1,5 +1,5 @@
 -- What `map` answers, and what its bytes do.
-use Rattle.std.proofs.Common.{◌≡◌, ℕ, List, [], refl, sym, ◌∙◌, ap, subst, ⊎_elim}
+use Rattle.std.proofs.Common.{◌≡◌, List, [], sym, ◌∙◌, ap, subst, ⊎_elim}
 use Rattle.cg_model.specs.Array.{IsArch}
 use Rattle.cg_model.specs.Kernel.{IsKernel}
 use Rattle.cg_ending.specs.declared.outcome.Status.TheVariants.{Done, Impossible, BudgetSpent}

@@ -3,7 +3,7 @@ use Rattle.std.proofs.Common.{◌≡◌, ℕ, zero, suc, ◌+◌, ◌<◌, ◌�
 use Rattle.std.specs.Prelude.{slice_get}
 use Rattle.std.specs.Option.{option_map, option_and_then, option_map_or}
 use Rattle.std.specs.List.{position_from, range_with_len}
-use Rattle.std.proofs.lemmas.Bool.{lt-ltb, le-ltb, eq-eqb, eqb-true, and_parts, and_from}
+use Rattle.std.proofs.lemmas.Bool.{le-ltb, eq-eqb, eqb-true, and_parts, and_from}
 use Rattle.std.proofs.lemmas.List.{length-map}
 use Rattle.std.proofs.lemmas.List.FromFn.{length-range_with_len}
 use Rattle.std.proofs.lemmas.Option.{slice_get_within, slice_get-get_or, get_or_from_slice_get}
@@ -20,7 +20,7 @@ use Rattle.cg_model.specs.declared.kernel.Node.{Node}
 use Rattle.cg_model.specs.declared.mapping.Place.{Place}
 use Rattle.cg_model.specs.declared.mapping.Route.{Route}
 use Rattle.cg_reading.specs.Items.{all_of, all_or_first, and_rest}
-use Rattle.cg_json.specs.Members.{word_in, listed}
+use Rattle.cg_json.specs.Members.{listed}
 use Rattle.cg_json.proofs.Reading.{value_of-read, listed-items_of}
 use Rattle.cg_json.proofs.Elements.{all_of-map, all_or_first-map, word_back}
 use Rattle.cg_mapping.specs.Written.{WrittenPlace, WrittenRoute, WrittenMapping, place_in, place_from, route_in, route_from, joined, written_from, written_of}
@@ -31,7 +31,7 @@ use Rattle.cg_mapping.specs.Complete.{is_of_node, only_place, ends_at, only_rout
 use Rattle.cg_mapping.specs.Answer.{answer_within, answer_named, answer_known, answer_written, answer_in, answer_of}
 use Rattle.cg_mapping.specs.Limits.{greatest_interval, longest_path}
 use Rattle.cg_mapping.specs.Sound.{NamesParts, IsWithinLimits}
-use Rattle.cg_mapping.specs.Printed.{word_data, unit_name, resource_name, places_data, step_data, route_data, data_of}
+use Rattle.cg_mapping.specs.Printed.{unit_name, resource_name, places_data, step_data, route_data, data_of}
 use Rattle.cg_mapping.proofs.Answered.{edge_few}
 use Rattle.cg_mapping.proofs.Once.{number_back, only_back, each_back, edge_from, ends_once}
 use Rattle.cg_model.proofs.Lookups.{get_map}

@@ -12,7 +12,7 @@ use Rattle.cg_mapping.specs.Answer as mappings
 use Rattle.cg_check.specs.Legal.{Mapped}
 use Rattle.cg_check.specs.Rules.{violation}
 use Rattle.cg_inputs.specs.Refused.{RefusesArch, RefusesKernel, RefusesMapping}
-use Rattle.cg_inputs.specs.Sources.{AreMapped, ArePaired}
+use Rattle.cg_inputs.specs.Sources.{ArePaired}
 use Rattle.cg_inputs.proofs.Read.{arch_refused, kernel_refused, both_given, pair_refused, mapping_refused, all_given}
 use Rattle.cg_mapping_answers.specs.Bound.{IsBoundOf, IsBounded}
 use Rattle.cg_mapping_answers.specs.Check.{IsCheck, checked_by}

@@ -1,11 +1,11 @@
 -- What is ordered begins in rising cycles.
-use Rattle.std.proofs.Common.{◌≡◌, ℕ, ◌+◌, ◌-◌, ◌*◌, ◌<◌, ◌≤◌, List, [], ◌∷◌, arith, inl, inr}
+use Rattle.std.proofs.Common.{◌≡◌, ℕ, ◌+◌, ◌-◌, ◌*◌, ◌<◌, ◌≤◌, List, arith, inl, inr}
 use Rattle.std.proofs.Math.Nat.{mul-lt-mul_of_pos_right}
 use Rattle.cg_model.specs.declared.kernel.Operand.TheVariants.{Edge}
 use Rattle.cg_model.specs.Kernel.{Kernel, HasOperand, IsKernel, size}
 use Rattle.cg_model.specs.Order.{Links, by_data, by_order, Chain, one, more, IsOrdered}
-use Rattle.cg_model.specs.Array.{Arch, IsArch, unit, delay}
-use Rattle.cg_model.specs.Mapping.{Mapping, place, leaves, Goes, IsLegal}
+use Rattle.cg_model.specs.Array.{Arch, IsArch, unit}
+use Rattle.cg_model.specs.Mapping.{Mapping, place, leaves, IsLegal}
 use Rattle.cg_overlap.proofs.Shape.{routed}
 use Rattle.cg_model.proofs.Mappings.{goes_on}
 

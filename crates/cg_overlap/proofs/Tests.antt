@@ -1,11 +1,10 @@
 -- Tests over finite ranges and lists, each with what it shows: the parts of the tests that decide worked rows.
-use Rattle.std.proofs.Common.{◌≡◌, ℕ, zero, suc, ◌<◌, Bool, true, false, List, [], ◌∷◌, length, Option, Some, None, Contains, refl, sym, ap, ◌∙◌, subst, arith, ⊎_elim, eqb-true, eq-eqb}
+use Rattle.std.proofs.Common.{◌≡◌, ℕ, zero, suc, ◌<◌, Bool, true, false, List, [], ◌∷◌, length, Contains, refl, sym, ◌∙◌, subst, arith, ⊎_elim, eqb-true, eq-eqb}
 use Rattle.std.specs.Prelude.{◌&&◌, ◌||◌, eqb, if◌then◌else◌, not, slice_index, slice_index_or}
 use Rattle.std.proofs.lemmas.Bool.{and_parts, cond-true, cases_lt, or_cases, or_left, or_right}
 use Rattle.cg_model.specs.Canonical.{any_below}
 use Rattle.cg_model.specs.declared.array.Kind.{Kind}
 use Rattle.cg_model.specs.declared.array.Kind.TheVariants.{Wire, Register, Port, Out}
-use Rattle.cg_model.specs.Mapping.{same_from}
 
 -- ---- lists
 

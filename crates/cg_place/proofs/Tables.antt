@@ -5,7 +5,7 @@ use Rattle.std.proofs.lemmas.Bool.{and_parts, and_from, cases_Bool, both_ways, c
 use Rattle.std.proofs.lemmas.List.{get_or-set_same, get_or-set_other, length-set}
 use Rattle.std.proofs.lemmas.List.Sums.{sum_by-set, sum_by-le, sum_by_more, get_or-le-sum_by, count_by-le-length}
 use Rattle.std.proofs.lemmas.List.Elements.{All-from_get_or}
-use Rattle.std.proofs.lemmas.Nat.{div-mul-add, mod-mul-add, mul-add-lt, mod_below, mul-le}
+use Rattle.std.proofs.lemmas.Nat.{mul-add-lt, mod_below, mul-le}
 use Rattle.std.proofs.Math.Nat.{mul_comm, div-add-mod'}
 use Rattle.cg_model.specs.declared.mapping.Place.{Place}
 use Rattle.cg_place.specs.Placed.{place_in}

@@ -1,14 +1,11 @@
 -- Where each resource stands in the order: each at one place, and before those that it drives without
 -- delay.
-use Rattle.std.proofs.Common.{◌≡◌, ℕ, zero, suc, ◌<◌, ◌≤◌, eqb, nat_lt, List, [], ◌∷◌, length, get_or, take, if◌then◌else◌, refl, sym, ap, ◌∙◌, subst, arith, ⊎_elim, inr, eqb-true}
+use Rattle.std.proofs.Common.{◌≡◌, ℕ, zero, suc, ◌<◌, ◌≤◌, eqb, nat_lt, List, [], ◌∷◌, length, get_or, take, if◌then◌else◌, refl, sym, ap, ◌∙◌, subst, arith, ⊎_elim, inr}
 use Rattle.std.specs.Prelude.{Contains, map, slice_index}
 use Rattle.std.specs.List.{range_with_len}
-use Rattle.std.proofs.lemmas.Bool.{cases_lt, cases_eq, eq-eqb, ne_eqb, lt-ltb, le-ltb, cases_Bool}
+use Rattle.std.proofs.lemmas.Bool.{cases_lt, cases_eq, eq-eqb, ne_eqb, lt-ltb, le-ltb}
 use Rattle.std.proofs.lemmas.List.{get_or-take, get_or_default, get_or_past, length-take}
 use Rattle.std.proofs.lemmas.List.FromFn.{get_or-map-range_with_len, length-map-range_with_len}
-use Rattle.std.proofs.lemmas.Map.Steps.{length-le_from_distinct_below}
-use Rattle.std.proofs.lemmas.Map.Keys.{IsDistinct-from_apart}
-use Rattle.std.proofs.lemmas.Map.Views.{Contains-from_any}
 use Rattle.cg_model.specs.declared.array.Resource.{Resource}
 use Rattle.cg_model.specs.declared.array.Kind.TheVariants.{Wire}
 use Rattle.cg_level.specs.Topological.{Passes}

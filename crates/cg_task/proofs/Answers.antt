@@ -1,5 +1,5 @@
 -- All answers of a search are of one kind where a certificate is among them, and some may come.
-use Rattle.std.proofs.Common.{◌≡◌, ℕ, ◌+◌, ◌-◌, ◌^◌, ◌<◌, ◌≤◌, List, length, Option, Some, None, refl, arith}
+use Rattle.std.proofs.Common.{ℕ, ◌^◌, ◌<◌, List, length, Option, Some, None, refl, arith}
 use Rattle.std.specs.Global.{Vec}
 use denote.RawPtr.{null_ptr}
 use Rattle.cg_model.specs.Kernel.{Kernel, IsKernel}

@@ -1,19 +1,18 @@
 -- The intervals that are tried are open, and an open interval has a unit for each operation.
-use Rattle.std.proofs.Common.{rules, ◌≡◌, ℕ, zero, suc, ◌+◌, ◌<◌, ◌≤◌, List, [], ◌∷◌, length, Bool, true, false, cond, Option, Some, None, refl, sym, ap, ◌∙◌, subst, arith, inl, inr, ⊎_elim}
-use Rattle.std.specs.Prelude.{filter, slice_index_or, IfSome}
+use Rattle.std.proofs.Common.{◌≡◌, ℕ, zero, suc, ◌+◌, ◌<◌, ◌≤◌, List, [], ◌∷◌, length, Bool, true, false, cond, Option, Some, None, refl, sym, ap, ◌∙◌, subst, arith, inl, inr, ⊎_elim}
+use Rattle.std.specs.Prelude.{filter}
 use Rattle.std.specs.List.{range_with_len}
 use Rattle.std.proofs.lemmas.Bool.{cases_lt}
 use Rattle.cg_word.specs.declared.op.Op.{Op}
 use Rattle.cg_word.specs.Sets.{among}
-use Rattle.cg_model.specs.Kernel.{Kernel, size, node}
+use Rattle.cg_model.specs.Kernel.{Kernel, node}
 use Rattle.cg_model.specs.Array.{Arch, IsArch, unit}
 use Rattle.cg_bound.specs.declared.interval.Certificate.{Certificate}
 use Rattle.cg_bound.specs.declared.interval.Certificate.TheVariants.{Cycle, Class}
-use Rattle.cg_bound.specs.Bound.{IsForbidden, IsOpen, IsMii, AllOffered, IsUnoffered, IsBoundBy, Certifies, Shows}
+use Rattle.cg_bound.specs.Bound.{IsForbidden, IsOpen, AllOffered, IsBoundBy, Certifies, Shows}
 use Rattle.cg_bound.proofs.Intervals.{one_mii, exactly_below, certifies}
 use Rattle.cg_bound.proofs.Offers.{unit_for, never_open}
-use Rattle.cg_class.specs.Search.{ops_at}
-use Rattle.cg_place.specs.Placed.{IsOffered, offering}
+use Rattle.cg_place.specs.Placed.{IsOffered}
 use Rattle.cg_task.specs.Intervals.{IsAsked, last_tried, IsFirst}
 
 -- nothing forbids an open interval

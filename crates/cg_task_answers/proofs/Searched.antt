@@ -1,11 +1,10 @@
 -- What a search answers, and what its bytes do, whatever it searches by.
-use Rattle.std.proofs.Common.{◌≡◌, ℕ, ◌+◌, ◌<◌, ◌≤◌, List, [], ◌∷◌, length, refl, sym, ◌∙◌, ap, subst, ◌⊎◌, inl, inr, ⊎_elim, arith}
+use Rattle.std.proofs.Common.{◌≡◌, ℕ, ◌+◌, ◌<◌, List, [], ◌∷◌, length, refl, sym, ◌∙◌, ap, subst, ◌⊎◌, inl, inr, ⊎_elim, arith}
 use Rattle.std.specs.Prelude.{◌^◌, false}
 use Rattle.std.specs.Global.{Vec}
 use Rattle.cg_model.specs.Array.{Arch, IsArch}
 use Rattle.cg_model.specs.Kernel.{Kernel, IsKernel}
 use Rattle.cg_model.specs.Mapping.{Mapping, IsLegal}
-use Rattle.cg_ending.specs.declared.outcome.Status.{Status}
 use Rattle.cg_ending.specs.declared.outcome.Status.TheVariants.{Done, Impossible, BudgetSpent}
 use Rattle.cg_ending.specs.Outcome.{Name, Bytes, File, Outcome, names_of}
 use Rattle.cg_ending.specs.Ends.{Moment, Completed, Wrote}
@@ -34,7 +33,7 @@ use Rattle.cg_inputs.proofs.Wholes.{whole}
 use Rattle.cg_inputs.proofs.Paired.{valid_pair}
 use Rattle.cg_mapping_answers.proofs.Bitstream.{runs, some_run}
 use Rattle.cg_task_answers.proofs.Left.{held_writes, hold_pair, put_of, kept_of, quiet_of, left_impossible}
-use Rattle.cg_task_answers.proofs.Over.{asked, sound_over, named_over, agree_over, accepted_over, some_over, left_over}
+use Rattle.cg_task_answers.proofs.Over.{asked, sound_over, named_over, accepted_over, some_over, left_over}
 
 -- what is known of a search: why an interval is impossible, what holds of the mappings that it finds and of what it leaves, and
 -- that it has an answer, which is a mapping where the hub suffices

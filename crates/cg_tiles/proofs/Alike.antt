@@ -18,7 +18,7 @@ use Rattle.cg_grid.specs.declared.grid.Cell.{Cell}
 use Rattle.cg_tiles.specs.Elements.{flat_name}
 use Rattle.cg_tiles.specs.Lean.{short_name}
 use Rattle.cg_tiles.proofs.Counted.{entries-cons, links-append}
-use Rattle.cg_validate.proofs.Roles.{length-port_entries, unit_long}
+use Rattle.cg_validate.proofs.Roles.{unit_long}
 
 -- ---- bad names
 

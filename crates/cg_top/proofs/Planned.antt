@@ -1,5 +1,5 @@
 -- What a planned command answers.
-use Rattle.std.proofs.Common.{List, inr}
+use Rattle.std.proofs.Common.{inr}
 use Rattle.cg_files.specs.Held.{Held}
 use Rattle.cg_ending.specs.declared.read.Stop.{Stop}
 use Rattle.cg_ending.specs.declared.read.Stop.TheVariants.{Ended, Memory}

@@ -7,7 +7,7 @@ use Rattle.std.proofs.lemmas.Bool.{cases_lt, le-ltb, eq-eqb}
 use Rattle.std.proofs.lemmas.List.{get_or-append_right}
 use Rattle.std.proofs.Math.Bool.{or-true}
 use Rattle.std.proofs.Math.ListN.{get_or-append}
-use Rattle.std.proofs.lemmas.List.FromFn.{length-map-range_with_len, length-range_with_len, get_or-map-range_with_len, get_or-range_with_len}
+use Rattle.std.proofs.lemmas.List.FromFn.{length-map-range_with_len, get_or-map-range_with_len}
 use Rattle.cg_model.specs.declared.array.Kind.{Kind}
 use Rattle.cg_model.specs.declared.array.Kind.TheVariants.{Wire, Register, Port, Out}
 use Rattle.cg_model.specs.declared.array.Resource.{Resource}

@@ -5,7 +5,6 @@ use Rattle.std.specs.List.{range_with_len}
 use Rattle.std.proofs.lemmas.Option.{slice_get-get_or, slice_get_within, get_or_from_slice_get}
 use Rattle.std.proofs.lemmas.List.FromFn.{length-range_with_len, get_or-range_with_len}
 use Rattle.std.proofs.lemmas.Bool.{cases_lt, cases_Bool}
-use Rattle.std.proofs.lemmas.Bool.Decides.{nat_tests}
 use Rattle.cg_word.specs.declared.op.Op.{Op}
 use Rattle.cg_model.specs.declared.array.Kind.{Kind}
 use Rattle.cg_model.specs.declared.array.Kind.TheVariants.{Wire, Register, Port, Out}

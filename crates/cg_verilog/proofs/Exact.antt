@@ -1,7 +1,6 @@
 -- The table is right for the grammar.
 use Rattle.std.proofs.Common.{◌≡◌, ◌<◌, ◌-◌, ℕ, suc, lit<, arith, Bool, true, false, cond, List, [], ◌∷◌, ◌++◌, codes, Some, None, ◌⊎◌, inl, inr, ⊎_elim, refl, sym, ◌∙◌, ap, subst, append_assoc, append-nil, map}
 use Rattle.std.specs.List.{flat_map, AllByRecursion}
-use Rattle.std.specs.Cmp.Lexicographic.{same_text}
 use Rattle.std.proofs.lemmas.Cmp.{nat_list_eq_equiv}
 use Rattle.std.specs.Prelude.{decimal}
 use Rattle.cg_verilog.proofs.Numbers.{top_is, top_small, number_top, same_is}

@@ -1,4 +1,4 @@
-use Rattle.std.proofs.Common.{◌≡◌, sym, ap, subst, refl}
+use Rattle.std.proofs.Common.{◌≡◌, sym, subst, refl}
 use Rattle.cg_walk.specs.Walk.{unrouted_start}
 use Rattle.cg_anneal.specs.Walking.{Walking}
 use Rattle.cg_anneal.proofs.Reached.{starts}

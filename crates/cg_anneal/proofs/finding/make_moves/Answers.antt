@@ -1,5 +1,4 @@
 use Rattle.std.proofs.Common.{◌≡◌, ◌∙◌, ◌<◌, length, inl, inr, sym, ap, subst, arith, refl}
-use Rattle.cg_model.specs.Kernel.{IsKernel}
 use Rattle.cg_walk.specs.State.{cost}
 use Rattle.cg_walk.specs.Words.{generator}
 use Rattle.cg_walk.specs.Walk.{Walked, start}

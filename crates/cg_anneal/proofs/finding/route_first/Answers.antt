@@ -1,7 +1,7 @@
-use Rattle.std.proofs.Common.{◌≡◌, ◌∙◌, ◌<◌, length, sym, subst}
+use Rattle.std.proofs.Common.{◌∙◌, ◌<◌, length, sym, subst}
 use Rattle.std.specs.Prelude.{All, OnOk}
 use Rattle.cg_walk.specs.State.{State, edges}
-use Rattle.cg_walk.specs.Walk.{all_edges, unrouted_start}
+use Rattle.cg_walk.specs.Walk.{unrouted_start}
 use Rattle.cg_walk.specs.Pending.{Rising, Pending}
 use Rattle.cg_walk.proofs.Uses.{all_known}
 use Rattle.cg_walk.proofs.Pending.{all_rising, pending_start}

@@ -1,7 +1,6 @@
 use Rattle.std.proofs.Common.{◌≡◌, ◌+◌, ◌-◌, sym, ap, ◌∙◌, arith, ⊎_elim}
 use Rattle.cg_word.specs.declared.op.Op.TheVariants.{Const}
 use Rattle.cg_word.specs.Word as operations
-use Rattle.cg_word.specs.Word.{all_ops}
 use Rattle.cg_bits.specs.Format.{op_of}
 use Rattle.cg_bits.proofs.Codes.{none_coded, op_there, op_within, op_above}
 use Rattle.cg_bits.proofs.reading.op_of.Goals as goal

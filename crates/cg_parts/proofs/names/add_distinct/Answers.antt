@@ -1,4 +1,4 @@
-use Rattle.std.proofs.Common.{◌≡◌, ◌∙◌, ◌∷◌, [], ◌++◌, true, false, Bool, not, cond, ap, sym, refl, bytes_eq}
+use Rattle.std.proofs.Common.{◌∙◌, ◌∷◌, [], ◌++◌, true, false, not, cond, ap, sym, bytes_eq}
 use Rattle.std.specs.List.{list_any}
 use Rattle.cg_parts.proofs.Lists.{list_any-texts}
 use Rattle.cg_parts.proofs.names.add_distinct.Goals as goal

@@ -1,4 +1,4 @@
-use Rattle.std.proofs.Common.{List, length, map, refl, ap, sym, subst}
+use Rattle.std.proofs.Common.{List, length, refl, ap}
 use Rattle.cg_model.specs.declared.kernel.Node.{Node}
 use Rattle.cg_recur.proofs.Named.{within, listed, none_numbered, times_named}
 use Rattle.cg_recur.proofs.Made as made

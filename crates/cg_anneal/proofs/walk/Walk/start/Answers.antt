@@ -4,7 +4,6 @@ use Rattle.cg_walk.specs.declared.edge.EdgeOperand.{EdgeOperand}
 use Rattle.cg_walk.specs.Walk.{unrouted_start}
 use Rattle.cg_walk.proofs.Small.{edges_few}
 use Rattle.cg_task.specs.Posed.{Posed, IsTask}
-use Rattle.cg_anneal.specs.Walking.{Walking}
 use Rattle.cg_anneal.proofs.Ready.{ready, posed}
 use Rattle.cg_anneal.proofs.Keeping as keeping
 use Rattle.cg_anneal.proofs.walk.Walk.start.Goals as goal
