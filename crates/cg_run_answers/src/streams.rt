@@ -6,7 +6,7 @@ use cg_kernel::Kernel;
 use cg_model::Words;
 use std::alloc::{AllocError, Global};
 
-/// A line for each port that the kernel's outputs name, ascending.
+/// Returns a line for each port that the kernel's outputs name, ascending.
 pub(crate) fn streams_report(
     alloc: Global,
     kernel: &Kernel,
@@ -22,7 +22,7 @@ pub(crate) fn streams_report(
     Ok(report)
 }
 
-/// Adds the line of a port, where an output names it.
+/// Adds the line of `port` to `report`, where an output names it.
 fn push_port(
     alloc: Global,
     report: &mut Vec<u8>,
@@ -40,7 +40,7 @@ fn push_port(
     Ok(())
 }
 
-/// Whether a node gives output to the port.
+/// Checks whether a node gives output to `port`.
 fn outputs_to(kernel: &Kernel, port: u32) -> bool
     ensures { result ≡ outputs_to kernel.now port }
 {
@@ -50,7 +50,7 @@ fn outputs_to(kernel: &Kernel, port: u32) -> bool
         .any(|node| node.op.is_output() && node.port == port)
 }
 
-/// Adds the line of a stream: its port, and its words, each after a blank.
+/// Adds the line of a stream to `report`: its `port`, and its `words`, each after a blank.
 fn push_line(
     alloc: Global,
     report: &mut Vec<u8>,
