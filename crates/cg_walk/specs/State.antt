@@ -87,7 +87,8 @@ is_missing (Some path) = false
 abbrev pub missing : State → ℕ
 missing S = count_by is_missing S.routes
 
--- what weighs more than claims
+-- the cost of each edge operand without a route, each broken order edge and each node beyond one in a slot of a unit; a
+-- claim beyond one costs 1
 abbrev pub weight : ℕ
 weight = 1000
 
