@@ -69,8 +69,8 @@ fn words_of(alloc: Global, line: &str) -> Result<Vec<String>, AllocError> {
 /// The bytes that the system's store is to keep, one after another under one name.
 const LENGTHS: [u32; 4] = [11, 70_000, 10_000, 7];
 
-/// Writes texts over one another, and prints how many aren't read back as they were written, or whether the store
-/// doesn't say that a file isn't there or that one can't be written.
+/// Writes texts over one another, and prints how many checks differ: whether each text is read back as it was written,
+/// and whether the store says that it failed at a file that isn't there and at one that can't be written.
 pub(crate) fn keep_files<R: Files + Print + AllocGlobal>(rt: &R) -> io::Result<()> {
     let mut store = DiskStore::new(rt);
     let mut differing = 0u32;

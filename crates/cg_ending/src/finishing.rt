@@ -63,7 +63,8 @@ fn write_all<S: Store>(alloc: Global, files: &[File], store: &mut S) -> Result<(
     Ok(())
 }
 
-/// Puts the report `bytes` into `out`, unless it is empty, and returns the status: `status`, or that of a failed put.
+/// Puts the report `bytes` into `out`, unless it is empty, and returns the status: `status`, `Memory` where memory runs
+/// out, or `WriteFault` where the put fails after `Done`.
 fn report<O: Sink>(alloc: Global, status: Status, bytes: &[u8], out: &mut O) -> Status
     ensures ends { Reported status bytes.now (O.taken out.old) (O.faults out.old)
         (O.taken out.new) (O.faults out.new) result }

@@ -61,7 +61,8 @@ fn pull_by_order(ii: u32, order: &[OrderEdge], late: &mut [u32]) {
     }
 }
 
-/// Makes `source` begin `cycles` cycles before `target`, whose turn begins `turns` cycles later.
+/// Makes the latest time of `source` at most `cycles` cycles before that of `target`, whose turn begins `turns` cycles
+/// later.
 fn pull(late: &mut [u32], source: u32, target: u32, turns: u32, cycles: u32) {
     let end = number_at(late, target as usize).saturating_add(turns);
     let time = end.saturating_sub(cycles);

@@ -9,7 +9,7 @@ pub struct Lists {
 }
 
 impl Lists {
-    /// Returns empty lists for the things below `things`.
+    /// Returns an empty list for each of `things` things.
     pub fn new(alloc: Global, things: u32) -> Result<Lists, AllocError> {
         let mut lists = Vec::new(alloc);
         for _ in 0..things {
@@ -35,7 +35,7 @@ impl Lists {
     }
 }
 
-/// Returns the number of the entries of `list`, or the greatest word where that is none.
+/// Returns the number of the entries of `list`, or the greatest word where it has more.
 pub fn count<T>(list: &[T]) -> u32 {
     list.len().min(u32::MAX as usize) as u32
 }

@@ -123,7 +123,7 @@ impl Routes {
         }
     }
 
-    /// Finds the least prices to `port` at the time `end`, over `last` layers.
+    /// Finds the least prices to `port` at the time `end`, up to the layer `last`.
     pub fn backward(
         &mut self,
         problem: &Problem,
