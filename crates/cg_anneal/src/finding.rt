@@ -19,7 +19,7 @@ use std::alloc::{AllocError, Global};
 /// How a walk ends.
 #[derive(Drop)]
 pub enum Found<'a> {
-    /// At a legal mapping, after that many moves.
+    /// At a legal mapping, after that number of moves.
     Mapped(LegalMapping<'a>, u32),
     /// At that cost, after all moves.
     Spent(u64),
@@ -28,7 +28,7 @@ pub enum Found<'a> {
 /// Where a walk stands after its moves.
 #[derive(Clone, Copy, Drop)]
 pub(crate) enum Reached {
-    /// At a state of cost 0, after that many moves.
+    /// At a state of cost 0, after that number of moves.
     Zero(u32),
     /// At that cost, after all moves.
     Cost(u64),

@@ -8,8 +8,8 @@ use cg_arch::Arch;
 use cg_edges::{EdgeId, find_edge};
 use cg_kernel::Kernel;
 
-/// Checks whether `cycle` names the edges of a closed chain whose latencies exceed the interval `ii` times its
-/// distances.
+/// Checks whether `cycle` names the edges of a closed chain whose latencies exceed the interval
+/// `ii` times its distances.
 pub fn check_cycle(arch: &Arch, kernel: &Kernel, ii: u32, cycle: &[EdgeId]) -> bool
     ensures { IsTrue result ↔ IsRecurrence arch.now kernel.now ii cycle.now }
 {

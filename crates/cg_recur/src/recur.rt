@@ -19,8 +19,8 @@ pub enum Recur {
     Times(Vec<u32>),
 }
 
-/// Returns a closed chain of edges whose latencies exceed the interval `ii` times its distances, where there is one,
-/// and else the earliest times of the nodes, in cycles.
+/// Returns a closed chain of edges whose latencies exceed the interval `ii` times its distances,
+/// where there is one, and else the earliest times of the nodes, in cycles.
 pub fn recurrence(alloc: Global, arch: &Arch, kernel: &Kernel, ii: u32) -> Result<Recur, AllocError>
     ensures { IfOk result (λ r. IsAnswer arch.now kernel.now ii r) }
 {
@@ -33,8 +33,8 @@ pub fn recurrence(alloc: Global, arch: &Arch, kernel: &Kernel, ii: u32) -> Resul
     }
 }
 
-/// Returns the earliest times of the nodes, in cycles, at an interval `ii` for which no closed chain of edges is too
-/// long.
+/// Returns the earliest times of the nodes, in cycles, at an interval `ii` for which no closed
+/// chain of edges is too long.
 pub fn earliest_times(
     alloc: Global,
     arch: &Arch,

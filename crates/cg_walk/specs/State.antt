@@ -43,9 +43,9 @@ pub record State : Type 0 where
   pub routes : List (Option (List ℕ))
   pub history : List ℕ
 
--- where and when the route of an edge operand begins and ends: with the out of the source's unit when
--- the value leaves it, and on the port of that argument when the node that takes it begins, that many
--- turns later
+-- where and when the route of an edge operand begins and ends: with the out of the source's unit when the value leaves
+-- it, and on the port of that argument when the node that takes it begins, as many turns later as the edge's distance
+-- says
 abbrev pub ends_of : Arch → ℕ → List Place → EdgeOperand → Ends
 ends_of A ii places e =
     let from = place_in places e.source in
