@@ -5,7 +5,7 @@ ghost use Rattle.cg_walk.specs.Walk as spec;
 /// How much hotter the walk is at its start than at its end.
 const HOTTEST: u64 = 64;
 
-/// How hot the walk is at a move.
+/// Returns how hot the walk is at its move `k` of `moves`.
 fn heat(moves: u32, k: u32) -> u64
     requires { k < moves }
     ensures value { result ≡ spec.heat moves k }
@@ -14,7 +14,8 @@ fn heat(moves: u32, k: u32) -> u64
     1 + HOTTEST * u64::from(moves - k) / u64::from(moves)
 }
 
-/// Whether a move stands that takes the cost from `before` to `after`, by a word.
+/// Checks whether a move that takes the cost from `before` to `after` stands, by the drawn `word`. It is move `k` of
+/// `moves`.
 pub(crate) fn is_taken(moves: u32, k: u32, before: u64, after: u64, word: u32) -> bool
     requires { k < moves }
     ensures { result ≡ spec.is_taken moves k before after word }

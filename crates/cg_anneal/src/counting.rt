@@ -16,7 +16,7 @@ impl<'g, 'a> Walk<'g, 'a> {
     ghost use Rattle.std.specs.Prelude.{◌≡◌, IfOk};
     ghost use Rattle.cg_walk.specs.State.{cost};
 
-    /// What the state costs.
+    /// Returns the cost of the state, counted as `counting` says. Only counting it anew takes memory.
     pub(crate) fn cost_by(&self, alloc: Global, counting: Counting) -> Result<u64, AllocError>
         ensures { IfOk result (λ c. c ≡ cost self.now.arch self.now.kernel self.now.ii self.now.state) }
     {

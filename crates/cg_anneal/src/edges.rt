@@ -8,7 +8,7 @@ use cg_model::{Kernel, Operand};
 use cg_walk::EdgeOperand;
 use std::alloc::{AllocError, Global};
 
-/// The edge operands of a kernel, in the order of node and argument.
+/// Returns the edge operands of `kernel`, in the order of node and argument.
 pub(crate) fn edges_of_kernel(
     alloc: Global,
     kernel: &Kernel,
@@ -23,7 +23,7 @@ pub(crate) fn edges_of_kernel(
     Ok(edges)
 }
 
-/// Adds those of a node.
+/// Adds to `edges` the edge operands of `node`, whose operands are `operands`.
 fn add_operands(
     edges: &mut Vec<EdgeOperand>,
     node: u32,
@@ -38,7 +38,7 @@ fn add_operands(
     Ok(())
 }
 
-/// Adds one, if it is an edge.
+/// Adds operand `arg` of `node` to `edges` if it is an edge.
 fn add_operand(
     edges: &mut Vec<EdgeOperand>,
     node: u32,
@@ -61,14 +61,14 @@ fn add_operand(
     }
 }
 
-/// Whether an edge operand is one of a node, or has it for its source.
+/// Checks whether `edge` is an operand of `node`, or has it for its source.
 fn touches(edge: EdgeOperand, node: u32) -> bool
     ensures { result ≡ (eqb edge.node node || eqb edge.source node) }
 {
     edge.node == node || edge.source == node
 }
 
-/// Adds a number, if it is wanted.
+/// Adds `number` to `numbers` if it is `wanted`.
 fn add_if(numbers: &mut Vec<u32>, number: u32, wanted: bool) -> Result<(), AllocError>
     ensures { OnOk result (numbers.new.items ≡ numbers.old.items ++ (if wanted then number ∷ [] else [])) }
 {
@@ -78,7 +78,7 @@ fn add_if(numbers: &mut Vec<u32>, number: u32, wanted: bool) -> Result<(), Alloc
     Ok(())
 }
 
-/// The numbers of the edge operands of a node, and of those whose source it is.
+/// Returns the numbers of the `edges` that are operands of `node` or have it for their source, ascending.
 pub(crate) fn touching(
     alloc: Global,
     edges: &[EdgeOperand],
@@ -95,7 +95,7 @@ pub(crate) fn touching(
     Ok(numbers)
 }
 
-/// The numbers of all edge operands.
+/// Returns the numbers of all `edges`, ascending.
 pub(crate) fn all(alloc: Global, edges: &[EdgeOperand]) -> Result<Vec<u32>, AllocError>
     requires few { length edges.now < 2 ^ 32 }
     ensures { IfOk result (λ v. v.items ≡ range_with_len 0 (length edges.now)) }

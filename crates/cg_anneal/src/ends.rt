@@ -17,7 +17,7 @@ pub(crate) struct RouteEnds {
     pub(crate) end: u32,
 }
 
-/// The ends of the route of an edge operand, by the places of its source and its node.
+/// Returns the ends of the route of `edge` at interval `ii`, where its source stands at `from` and its node at `to`.
 pub(crate) fn ends_between(
     arch: &Arch,
     ii: u32,

@@ -19,7 +19,7 @@ use std::alloc::{AllocError, Global};
 /// How a walk ends.
 #[derive(Drop)]
 pub enum Found<'a> {
-    /// At a legal mapping, after that many moves.
+    /// At a legal mapping, after that number of moves.
     Mapped(LegalMapping<'a>, u32),
     /// At that cost, after all moves.
     Spent(u64),
@@ -28,13 +28,13 @@ pub enum Found<'a> {
 /// Where a walk stands after its moves.
 #[derive(Clone, Copy, Drop)]
 pub(crate) enum Reached {
-    /// At a state of cost 0, after that many moves.
+    /// At a state of cost 0, after that number of moves.
     Zero(u32),
     /// At that cost, after all moves.
     Cost(u64),
 }
 
-/// Makes the walk of a task, with the seed and no more moves than are asked.
+/// Makes the walk of `task` with the seed of `request` and at most its moves.
 pub fn search<'a>(alloc: Global, task: &Task<'a>, request: Request) -> Result<Found<'a>, AllocError>
     requires few { request.moves ≤ most_moves }
     ensures { IfOk result (IsWalked task.now.arch task.now.kernel task.now.ii request.seed request.moves) }
@@ -42,7 +42,7 @@ pub fn search<'a>(alloc: Global, task: &Task<'a>, request: Request) -> Result<Fo
     search_by(alloc, Counting::Kept, task, request)
 }
 
-/// Makes it, and counts the costs of states so.
+/// Makes the walk of `task`, with the costs of states counted as `counting` says.
 pub(crate) fn search_by<'a>(
     alloc: Global,
     counting: Counting,
@@ -58,7 +58,7 @@ pub(crate) fn search_by<'a>(
     Ok(found)
 }
 
-/// Makes it over the task's modulo routing resource graph.
+/// Makes the walk of `task` over `graph`, its modulo routing resource graph.
 fn walk_over<'g, 'a>(
     alloc: Global,
     counting: Counting,
@@ -74,7 +74,7 @@ fn walk_over<'g, 'a>(
     end_of(alloc, counting, &mut walk, request)
 }
 
-/// Where a walk comes to from its start on.
+/// Makes the moves of `walk` from its start on, and returns how it ends.
 fn end_of<'g, 'a>(
     alloc: Global,
     counting: Counting,
@@ -94,7 +94,7 @@ fn end_of<'g, 'a>(
     }
 }
 
-/// The walk at its start.
+/// Returns the walk of `task` over `graph` at its start, with all edge operands routed that find a way.
 fn begin<'g, 'a>(
     alloc: Global,
     graph: &'g Mrrg<'a>,
@@ -109,7 +109,7 @@ fn begin<'g, 'a>(
     Ok(walk)
 }
 
-/// Routes all edge operands of a walk at its start.
+/// Routes all edge operands of `walk` at its start.
 fn route_first(alloc: Global, walk: &mut Walk) -> Result<(), AllocError>
     requires { walk.old.state ≡ unrouted_start walk.old.arch walk.old.kernel walk.old.ii walk.old.early }
     ensures { OnOk result (IsRoutedBy (all_edges walk.old.kernel) walk.old walk.new) }
@@ -118,7 +118,7 @@ fn route_first(alloc: Global, walk: &mut Walk) -> Result<(), AllocError>
     walk.route_all(alloc, &list)
 }
 
-/// Makes moves until a state costs nothing, all of them else.
+/// Makes moves until a state of `walk` has cost 0, and else all moves of `request`.
 fn make_moves(
     alloc: Global,
     counting: Counting,
@@ -148,7 +148,7 @@ fn make_moves(
     Ok(Reached::Cost(left))
 }
 
-/// The mapping that a state of cost 0 stands for.
+/// Takes the legal mapping out of `walk`, whose state has cost 0 after `k` moves.
 fn legal_end<'g, 'a>(
     alloc: Global,
     walk: &mut Walk<'g, 'a>,

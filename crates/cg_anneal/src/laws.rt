@@ -5,14 +5,14 @@ mod plain;
 
 pub use plain::plain_search;
 
-/// The walk has one end: a kernel has one list of earliest times at an interval, and with these the walk ends
-/// in one way. So `search` gives one answer.
+/// States that the walk has one end: a kernel has one list of earliest times at an interval, and with these the walk
+/// ends in one way. So `search` gives one answer.
 pub fn one_answer()
     ensures times { IsOneTime }
     ensures answer { IsOneAnswer }
 {}
 
-/// What `search` finds is a legal mapping of the kernel on the architecture at that interval.
+/// States that what `search` finds is a legal mapping of the kernel on the architecture at that interval.
 pub fn legal_end()
     ensures { IsLegalEnd }
 {}

@@ -7,7 +7,7 @@ use cg_model::{Mapping, Route, Words};
 use cg_walk::EdgeOperand;
 use std::alloc::{AllocError, Global};
 
-/// Adds the route of an edge operand, where there is one.
+/// Adds the route of `edge` to `routes`, where there is one.
 fn add_route(
     routes: &mut Vec<Route>,
     edge: EdgeOperand,
@@ -32,7 +32,7 @@ impl<'g, 'a> Walk<'g, 'a> {
     ghost use Rattle.std.specs.Prelude.{◌≡◌, IfOk};
     ghost use Rattle.cg_walk.specs.State.{edges, routes_by, mapping_of};
 
-    /// Takes all routes out, in the order of edge operands.
+    /// Takes all routes out of the walk, in the order of edge operands.
     fn take_routes(&mut self, alloc: Global) -> Result<Vec<Route>, AllocError>
         ensures { IfOk result (λ v. v.items ≡ routes_by (edges self.old.kernel) self.old.state.routes) }
     {
@@ -46,7 +46,7 @@ impl<'g, 'a> Walk<'g, 'a> {
         Ok(routes)
     }
 
-    /// Takes the mapping out that the state stands for.
+    /// Takes the mapping that the state stands for out of the walk.
     pub(crate) fn take_mapping(&mut self, alloc: Global) -> Result<Mapping, AllocError>
         ensures { IfOk result (λ m. m ≡ mapping_of self.old.kernel self.old.ii self.old.state) }
     {

@@ -31,7 +31,7 @@ struct Drawn {
     stands: u32,
 }
 
-/// The next word of a generator.
+/// Returns the next word of `generator`.
 fn next(generator: &mut Lcg64Xsh32) -> u32
     ensures word { result ≡ (pcg32 generator.old).0 }
     ensures next { generator.new ≡ (pcg32 generator.old).1 }
@@ -39,7 +39,7 @@ fn next(generator: &mut Lcg64Xsh32) -> u32
     generator.next_word()
 }
 
-/// The next four words of a generator.
+/// Draws the next four words of `generator`.
 fn draw(generator: &mut Lcg64Xsh32) -> Drawn
     ensures node { result.node ≡ words.word 0 generator.old }
     ensures unit { result.unit ≡ words.word 1 generator.old }
@@ -67,8 +67,8 @@ impl<'g, 'a> Walk<'g, 'a> {
     ghost use Rattle.cg_anneal.specs.Walking as spec;
     ghost use Rattle.cg_anneal.specs.Steps.{IsAttempt, IsStep};
 
-    /// Tries a move, with the edge operands that touch its node. Where it doesn't stand, the new routes are taken away, the
-    /// node is placed as before, and the old routes are put back.
+    /// Tries the move `change`, with `list` the edge operands that touch its node. Where it doesn't stand by `word`,
+    /// the new routes are taken away, the node is placed as before, and the old routes are put back.
     fn attempt(
         &mut self,
         alloc: Global,
@@ -97,7 +97,7 @@ impl<'g, 'a> Walk<'g, 'a> {
         Ok(())
     }
 
-    /// Lets histories grow, where so many moves were made.
+    /// Lets histories grow after move `k`, where the number of moves made, `k + 1`, is a multiple of `PERIOD`.
     fn rest(&mut self, k: u32)
         requires left { k < 1000000 }
         requires small { All (λ h. h < 4294967295) self.old.state.history }
@@ -108,7 +108,7 @@ impl<'g, 'a> Walk<'g, 'a> {
         }
     }
 
-    /// Makes a move, by the generator's next four words.
+    /// Makes a move, by the next four words of `generator`.
     pub(crate) fn step(
         &mut self,
         alloc: Global,

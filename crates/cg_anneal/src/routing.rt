@@ -13,7 +13,7 @@ impl<'g, 'a> Walk<'g, 'a> {
     ghost use Rattle.cg_anneal.specs.Steps.{put_back};
     ghost use Rattle.cg_anneal.specs.Walking as spec;
 
-    /// Routes an edge operand without a route.
+    /// Routes edge operand `i`, which has no route, if a way is found.
     fn route(&mut self, alloc: Global, i: u32) -> Result<(), AllocError>
         requires known { i < length (edges self.old.kernel) }
         requires none { slice_get self.old.state.routes i ≡ Some None }
@@ -25,7 +25,7 @@ impl<'g, 'a> Walk<'g, 'a> {
         }
     }
 
-    /// Routes edge operands without routes one after another.
+    /// Routes the edge operands of `list`, which have no routes, one after another.
     pub(crate) fn route_all(&mut self, alloc: Global, list: &[u32]) -> Result<(), AllocError>
         requires known { All (λ i. i < length (edges self.old.kernel)) list.now }
         requires rising { Rising list.now }
@@ -38,7 +38,7 @@ impl<'g, 'a> Walk<'g, 'a> {
         Ok(())
     }
 
-    /// Takes the routes of edge operands away, and gives them in that order.
+    /// Takes the routes of the edge operands of `list` away, and returns them in that order.
     pub(crate) fn take_all(
         &mut self,
         alloc: Global,
@@ -57,7 +57,7 @@ impl<'g, 'a> Walk<'g, 'a> {
         Ok(routes)
     }
 
-    /// Takes the routes of edge operands away.
+    /// Takes the routes of the edge operands of `list` away.
     pub(crate) fn drop_all(&mut self, list: &[u32])
         requires known { All (λ i. i < length (edges self.old.kernel)) list.now }
         ensures { self.new ≡ spec.at_state self.old (unrouted list.now self.old.state) }
@@ -67,7 +67,7 @@ impl<'g, 'a> Walk<'g, 'a> {
         }
     }
 
-    /// Gives a route, or none, to an edge operand without one.
+    /// Gives `route` to edge operand `i`, which has none. None leaves it without one.
     fn put(&mut self, i: u32, route: Option<Words>) -> Result<(), AllocError>
         requires known { i < length (edges self.old.kernel) }
         requires none { slice_get self.old.state.routes i ≡ Some None }
@@ -80,7 +80,7 @@ impl<'g, 'a> Walk<'g, 'a> {
         }
     }
 
-    /// Gives edge operands without routes these.
+    /// Gives `routes` to the edge operands of `list`, which have none, in that order.
     pub(crate) fn put_all(
         &mut self,
         list: &[u32],

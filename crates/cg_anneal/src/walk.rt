@@ -56,7 +56,7 @@ impl<'g, 'a> Walk<'g, 'a> {
     ghost use Rattle.cg_walk.specs.Ranges.{AreInRange};
     ghost use Rattle.cg_anneal.specs.Walking as spec;
 
-    /// The source of an edge operand, and the ends of its route.
+    /// Returns the source of edge operand `i`, and the ends of its route by the places as they stand.
     fn ends(&self, i: u32) -> RouteEnds
         requires { i < length (edges self.now.kernel) }
         ensures source { result.source ≡ (edge self.now.kernel i).source }
@@ -70,7 +70,7 @@ impl<'g, 'a> Walk<'g, 'a> {
         ends_between(self.arch, self.ii, edge, from, to)
     }
 
-    /// The least path for an edge operand.
+    /// Returns the least path for edge operand `i`, None where none is found.
     pub(crate) fn find(&self, alloc: Global, i: u32) -> Result<Option<Words>, AllocError>
         requires { i < length (edges self.now.kernel) }
         ensures found { IfOk result (λ found. IsFoundFor self.now.arch self.now.kernel self.now.ii self.now.state i found) }
@@ -92,7 +92,7 @@ impl<'g, 'a> Walk<'g, 'a> {
         }
     }
 
-    /// Gives a route to an edge operand without one.
+    /// Gives the route `path` to edge operand `i`, which has none, and counts its claims.
     pub(crate) fn set(&mut self, i: u32, path: Words) -> Result<(), AllocError>
         requires known { i < length (edges self.old.kernel) }
         requires none { slice_get self.old.state.routes i ≡ Some None }
@@ -106,7 +106,7 @@ impl<'g, 'a> Walk<'g, 'a> {
         Ok(())
     }
 
-    /// Takes the route of an edge operand away.
+    /// Takes the route of edge operand `i` away with its claims, and returns it.
     pub(crate) fn take(&mut self, i: u32) -> Option<Words>
         requires known { i < length (edges self.old.kernel) }
         ensures new { self.new ≡ spec.at_state self.old (with_route self.old.state i None) }
@@ -123,7 +123,7 @@ impl<'g, 'a> Walk<'g, 'a> {
         }
     }
 
-    /// What the state costs.
+    /// Returns the cost of the state.
     pub(crate) fn cost(&self) -> u64
         ensures { result ≡ cost self.now.arch self.now.kernel self.now.ii self.now.state }
     {
@@ -133,7 +133,7 @@ impl<'g, 'a> Walk<'g, 'a> {
         WEIGHT * heavy + self.usage.excess()
     }
 
-    /// The number of edge operands without a route, counted anew.
+    /// Counts the edge operands without a route anew.
     pub(crate) fn missing_anew(&self) -> u64
         ensures value { result ≡ missing self.now.state }
         ensures few { result < 2 ^ 31 }
@@ -141,7 +141,7 @@ impl<'g, 'a> Walk<'g, 'a> {
         self.routes.iter().filter(|route| route.is_none()).count() as u64
     }
 
-    /// Adds the claims of the route of an edge operand to a use table, where there is one.
+    /// Adds the claims of the route of edge operand `i` to `usage`, where there is one.
     pub(crate) fn add_to(&self, usage: &mut PlainUsage, i: u32) -> Result<(), AllocError>
         requires known { i < length (edges self.now.kernel) }
         requires arch { usage.old.arch ≡ self.now.arch }
@@ -155,7 +155,7 @@ impl<'g, 'a> Walk<'g, 'a> {
         }
     }
 
-    /// Places a node of which no edge operand has a route, and gives the move that undoes it.
+    /// Places a node of which no edge operand has a route, as `change` says, and returns the move that undoes it.
     pub(crate) fn place(&mut self, change: Move) -> Move
         requires may { spec.MayPlace self.old change }
         requires alone { spec.IsAlone self.old change.node }
@@ -166,7 +166,7 @@ impl<'g, 'a> Walk<'g, 'a> {
         self.placement.apply(change)
     }
 
-    /// A walk at its start, before edge operands are routed.
+    /// Returns the walk of `task` over `graph` at its start, before edge operands are routed.
     pub(crate) fn start(
         alloc: Global,
         graph: &'g Mrrg<'a>,
@@ -197,42 +197,42 @@ impl<'g, 'a> Walk<'g, 'a> {
         })
     }
 
-    /// The architecture.
+    /// Returns the architecture.
     pub(crate) fn arch(&self) -> &'a Arch
         ensures { result.now ≡ self.now.arch }
     {
         self.arch
     }
 
-    /// The kernel.
+    /// Returns the kernel.
     pub(crate) fn kernel(&self) -> &'a Kernel
         ensures { result.now ≡ self.now.kernel }
     {
         self.kernel
     }
 
-    /// The architecture's modulo routing resource graph at the interval.
+    /// Returns the architecture's modulo routing resource graph at the interval.
     pub(crate) fn graph(&self) -> &'g Mrrg<'a>
         ensures { result.now ≡ record { arch = self.now.arch; interval = self.now.ii } }
     {
         self.graph
     }
 
-    /// The interval, in cycles.
+    /// Returns the interval, in cycles.
     pub(crate) fn interval(&self) -> u32
         ensures { result ≡ self.now.ii }
     {
         self.ii
     }
 
-    /// The number of edge operands.
+    /// Returns the number of edge operands.
     pub(crate) fn count(&self) -> u32
         ensures { result ≡ length (edges self.now.kernel) }
     {
         self.edges.len() as u32
     }
 
-    /// An edge operand.
+    /// Returns edge operand `i`.
     pub(crate) fn operand(&self, i: u32) -> EdgeOperand
         requires { i < length (edges self.now.kernel) }
         ensures { result ≡ edge self.now.kernel i }
@@ -240,7 +240,7 @@ impl<'g, 'a> Walk<'g, 'a> {
         self.edges[i as usize]
     }
 
-    /// The place of a node.
+    /// Returns the place of `node`.
     pub(crate) fn place_of(&self, node: u32) -> Place
         requires { node < size self.now.kernel }
         ensures { result ≡ place_in self.now.state.places node }
@@ -248,7 +248,7 @@ impl<'g, 'a> Walk<'g, 'a> {
         self.placement.place(node)
     }
 
-    /// The places of all nodes.
+    /// Returns the places of all nodes, in their order.
     pub(crate) fn places(&self, alloc: Global) -> Result<Vec<Place>, AllocError>
         ensures { IfOk result (λ v. v.items ≡ self.now.state.places) }
     {
@@ -259,28 +259,28 @@ impl<'g, 'a> Walk<'g, 'a> {
         Ok(places)
     }
 
-    /// What holds of it; the call does nothing.
+    /// States what holds of the walk; the call does nothing.
     pub(crate) fn holds(&self)
         ensures { spec.IsWalking self.now }
     {
         let _ = &self.graph;
     }
 
-    /// The edge operands that touch a node, by number.
+    /// Returns the numbers of the edge operands that touch `node`.
     pub(crate) fn touching(&self, alloc: Global, node: u32) -> Result<Vec<u32>, AllocError>
         ensures { IfOk result (λ v. v.items ≡ touching_of_kernel self.now.kernel node) }
     {
         touching(alloc, &self.edges, node)
     }
 
-    /// All edge operands, by number.
+    /// Returns the numbers of all edge operands.
     pub(crate) fn all(&self, alloc: Global) -> Result<Vec<u32>, AllocError>
         ensures { IfOk result (λ v. v.items ≡ all_edges self.now.kernel) }
     {
         all(alloc, &self.edges)
     }
 
-    /// A move that three words draw.
+    /// Returns the move that the words `w1`, `w2` and `w3` draw: node, unit and time.
     pub(crate) fn propose(&self, w1: u32, w2: u32, w3: u32) -> Move
         requires { 0 < size self.now.kernel }
         ensures value { result ≡ drawn_move self.now.arch self.now.kernel self.now.ii self.now.early w1 w2 w3 }
@@ -298,7 +298,7 @@ impl<'g, 'a> Walk<'g, 'a> {
     }
 }
 
-/// That many routes that are not there.
+/// Returns a list of `count` routes that aren't there.
 fn no_routes(alloc: Global, count: usize) -> Result<Vec<Option<Words>>, AllocError>
     ensures { IfOk result (λ v. v.items ≡ replicate count None) }
 {

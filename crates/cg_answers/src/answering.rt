@@ -10,7 +10,7 @@ use cg_command::{Command, Plan};
 use cg_ending::{File, Outcome, Stop};
 use std::alloc::Global;
 
-/// The command's outcome over its input files.
+/// Returns the outcome of the command of `plan` over `files`, its input files in the order of reading.
 pub fn answer(alloc: Global, plan: &Plan, files: &[File]) -> Result<Outcome, Stop>
     requires { HasShape plan.now.command (length files.now) (length plan.now.outputs.items) }
     ensures { Allows (IsAnswer plan.now.command (map file_of files.now) (map string_bytes plan.now.outputs.items)) result }

@@ -10,7 +10,8 @@ use cg_inputs::arch_in;
 use cg_netlist::{NetGraph, netlist, verilog as text_of};
 use std::alloc::{AllocError, Global};
 
-/// The netlist of the architecture that a file gives, under the name `out`.
+/// Returns the outcome of `verilog`: the netlist of the architecture that `file` gives, to be written under the name
+/// `out`.
 pub(crate) fn verilog(alloc: Global, file: &File, out: &str) -> Result<Outcome, Stop>
     ensures { Allows (IsVerilog (file_of file.now) out.now) result }
 {
@@ -18,7 +19,7 @@ pub(crate) fn verilog(alloc: Global, file: &File, out: &str) -> Result<Outcome, 
     netlisted(alloc, &arch, out)
 }
 
-/// The text of an architecture's netlist, and what the report says of it.
+/// Returns the outcome for `arch`: the text of its netlist, to be written under `out`, and the report on it.
 fn netlisted(alloc: Global, arch: &Arch, out: &str) -> Result<Outcome, Stop>
     ensures { Allows (λ o. o ≡ netlisted arch.now out.now) result }
 {
@@ -28,7 +29,7 @@ fn netlisted(alloc: Global, arch: &Arch, out: &str) -> Result<Outcome, Stop>
     Ok(Outcome::with_file(alloc, Status::Done, report, out, text)?)
 }
 
-/// How many nets and cells there are.
+/// Returns the report on `graph`: how many nets and cells it has.
 fn verilog_report(alloc: Global, graph: &NetGraph) -> Result<Vec<u8>, AllocError>
     ensures { IfOk result (λ v. v.items ≡ verilog_report graph.now) }
 {

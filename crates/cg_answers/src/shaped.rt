@@ -11,7 +11,7 @@ use cg_ending::{File, Outcome, Status, Stop};
 use cg_model::Request;
 use std::alloc::Global;
 
-/// `turns KERNEL TURNS`.
+/// Answers `turns KERNEL TURNS` over `files`.
 pub(crate) fn turns(
     alloc: Global,
     turns: u32,
@@ -24,7 +24,7 @@ pub(crate) fn turns(
     cg_run_answers::turns(alloc, turns, &files[0])
 }
 
-/// `turns KERNEL TURNS IN OUT`.
+/// Answers `turns KERNEL TURNS IN OUT` over `files`; `outputs` is the name of the result image.
 pub(crate) fn turns_on_image(
     alloc: Global,
     turns: u32,
@@ -37,7 +37,7 @@ pub(crate) fn turns_on_image(
     cg_run_answers::turns_on_image(alloc, turns, &files[0], &files[1], outputs[0].as_str())
 }
 
-/// `flat ARCH OUT`.
+/// Answers `flat ARCH OUT` over `files`; `outputs` is the name of the flat text.
 pub(crate) fn flat(alloc: Global, files: &[File], outputs: &[String]) -> Result<Outcome, Stop>
     requires { HasShape (Command.Flat) (length files.now) (length outputs.now) }
     ensures { Allows (IsAnswer (Command.Flat) (map file_of files.now) (map string_bytes outputs.now)) result }
@@ -45,7 +45,7 @@ pub(crate) fn flat(alloc: Global, files: &[File], outputs: &[String]) -> Result<
     cg_run_answers::flat(alloc, &files[0], outputs[0].as_str())
 }
 
-/// `run ARCH BITS TURNS IN OUT`.
+/// Answers `run ARCH BITS TURNS IN OUT` over `files`; `outputs` is the name of the result image.
 pub(crate) fn run(
     alloc: Global,
     turns: u32,
@@ -65,7 +65,7 @@ pub(crate) fn run(
     )
 }
 
-/// `bound ARCH KERNEL`.
+/// Answers `bound ARCH KERNEL` over `files`.
 pub(crate) fn bound(alloc: Global, files: &[File], outputs: &[String]) -> Result<Outcome, Stop>
     requires { HasShape (Command.Bound) (length files.now) (length outputs.now) }
     ensures { Allows (IsAnswer (Command.Bound) (map file_of files.now) (map string_bytes outputs.now)) result }
@@ -73,7 +73,7 @@ pub(crate) fn bound(alloc: Global, files: &[File], outputs: &[String]) -> Result
     cg_mapping_answers::bound(alloc, &files[0], &files[1])
 }
 
-/// `check ARCH KERNEL MAPPING`.
+/// Answers `check ARCH KERNEL MAPPING` over `files`.
 pub(crate) fn check(alloc: Global, files: &[File], outputs: &[String]) -> Result<Outcome, Stop>
     requires { HasShape (Command.Check) (length files.now) (length outputs.now) }
     ensures { Allows (IsAnswer (Command.Check) (map file_of files.now) (map string_bytes outputs.now)) result }
@@ -81,7 +81,7 @@ pub(crate) fn check(alloc: Global, files: &[File], outputs: &[String]) -> Result
     cg_mapping_answers::check(alloc, &files[0], &files[1], &files[2])
 }
 
-/// `emit ARCH KERNEL MAPPING OUT`.
+/// Answers `emit ARCH KERNEL MAPPING OUT` over `files`; `outputs` is the name of the bits.
 pub(crate) fn emit(alloc: Global, files: &[File], outputs: &[String]) -> Result<Outcome, Stop>
     requires { HasShape (Command.Emit) (length files.now) (length outputs.now) }
     ensures { Allows (IsAnswer (Command.Emit) (map file_of files.now) (map string_bytes outputs.now)) result }
@@ -89,7 +89,8 @@ pub(crate) fn emit(alloc: Global, files: &[File], outputs: &[String]) -> Result<
     cg_mapping_answers::emit(alloc, &files[0], &files[1], &files[2], outputs[0].as_str())
 }
 
-/// `map ARCH KERNEL OUT`, maybe with a file for the mapping.
+/// Answers `map ARCH KERNEL OUT` over `files`; `outputs` are the name of the bits and, where it is given, that of the
+/// mapping.
 pub(crate) fn map(
     alloc: Global,
     request: Request,
@@ -102,7 +103,8 @@ pub(crate) fn map(
     cg_map_answers::map(alloc, request, &files[0], &files[1], outputs)
 }
 
-/// `search ARCH KERNEL OUT`, maybe with a file for the mapping.
+/// Answers `search ARCH KERNEL OUT` over `files`; `outputs` are the name of the bits and, where it is given, that of
+/// the mapping.
 pub(crate) fn search(
     alloc: Global,
     request: Request,
@@ -115,7 +117,7 @@ pub(crate) fn search(
     cg_search_answers::search(alloc, request, &files[0], &files[1], outputs)
 }
 
-/// `trial SEED`.
+/// Answers `trial SEED`, which reads and writes no file.
 pub(crate) fn trial(
     alloc: Global,
     seed: u64,
@@ -129,7 +131,7 @@ pub(crate) fn trial(
     Ok(Outcome::new(alloc, Status::Done, report))
 }
 
-/// `verilog ARCH OUT`.
+/// Answers `verilog ARCH OUT` over `files`; `outputs` is the name of the netlist.
 pub(crate) fn verilog(alloc: Global, files: &[File], outputs: &[String]) -> Result<Outcome, Stop>
     requires { HasShape (Command.Verilog) (length files.now) (length outputs.now) }
     ensures { Allows (IsAnswer (Command.Verilog) (map file_of files.now) (map string_bytes outputs.now)) result }

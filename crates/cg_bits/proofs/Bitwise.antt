@@ -116,7 +116,7 @@ eight_are xs eight small =
 
 -- ---- two fields, one behind the other
 
--- so many bits at a place, and those behind them
+-- the m bits at a place, and the n bits behind them
 both : (bits : List Bool) (place m n : ℕ) → place + (m + n) ≤ length bits → number_at bits place (m + n) ≡ number_at bits place m * 2 ^ n + number_at bits (place + m) n
 both bits place m n inside =
     let behind = take n (drop m (drop place bits)) in

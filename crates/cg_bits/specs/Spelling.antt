@@ -17,7 +17,7 @@ use Rattle.cg_bits.specs.Format.{cgb2, code_of, ports}
 abbrev pub arg_bits : ArgFields → List Bool
 arg_bits a = bits_of 1 (digit a.fixed) ++ (bits_of 3 a.count ++ joined (λ k. bits_of 32 (slice_index a.init k)) 4)
 
--- the bits of a unit with that many ports: operation, stage, port, immediate, and an argument for each port
+-- the bits of a unit with n ports: operation, stage, port, immediate, and an argument for each port
 unfoldable pub unit_bits : Format → ℕ → UnitFields → List Bool
 unit_bits F n f =
     bits_of F.op_bits (code_of f.op)

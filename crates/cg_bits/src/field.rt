@@ -2,8 +2,8 @@
 ghost use Rattle.std.specs.Prelude.{◌≡◌, ◌+◌, ◌*◌, ◌/◌, ◌%◌, ◌≤◌, ◌<◌, ◌^◌, length};
 ghost use Rattle.cg_bits.specs.Numbers.{number, number_at, bits_of_bytes};
 
-/// The number of so many bits at a place in the bytes, counted in bits. It reads eight bytes at once where there are as many
-/// from the field's first one on, and else those that the field lies in, at most five.
+/// Returns the number of `width` bits at `place` in `bytes`, counted in bits. It reads eight bytes at once where there
+/// are as many from the field's first one on, and else those that the field lies in, at most five.
 pub fn number_at(bytes: &[u8], place: usize, width: u32) -> u32
     requires narrow { width ≤ 32 }
     requires inside { place + width ≤ 8 * length bytes.now }
@@ -23,7 +23,7 @@ pub fn number_at(bytes: &[u8], place: usize, width: u32) -> u32
     cut(few_bytes(&bytes[first..last]), last * 8 - end, width)
 }
 
-/// So many bits of a word, those that so many others stand behind.
+/// Returns the `width` bits of `word` behind which `behind` others stand.
 fn cut(word: u64, behind: usize, width: u32) -> u32
     requires narrow { width ≤ 32 }
     requires inside { behind < 64 }

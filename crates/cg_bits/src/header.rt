@@ -44,7 +44,7 @@ pub(crate) fn slot_len(format: Format, arch: &Arch) -> usize
     arch.slot_bits() as usize - arch.units().len() * (6 - format.op_bits as usize)
 }
 
-/// The bytes of the header and of so many slots, of so many bits each.
+/// Returns the number of bytes of the header and of `ii` slots of `len` bits each.
 pub(crate) fn size(ii: u32, len: usize) -> usize
     requires many { ii < 65536 }
     requires long { len < 2 ^ 32 }
@@ -102,8 +102,8 @@ fn check_header(
     Ok(())
 }
 
-/// The header against an architecture, whose digest is given, and whether the bytes hold the slots that it says, of so many
-/// bits each.
+/// Checks the header in `bytes` against `arch`, whose digest is `digest`, and whether the bytes hold the number of
+/// slots that it says, of `len` bits each.
 pub(crate) fn check_start(
     format: Format,
     arch: &Arch,

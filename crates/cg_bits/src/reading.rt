@@ -40,7 +40,7 @@ pub fn arg_at(bytes: &[u8], at: usize) -> ArgFields
     }
 }
 
-/// The fields of a unit with that many ports, at a place in the bits.
+/// Returns the fields of a unit with `ports` ports, at place `at` in the bits.
 pub fn unit_at(format: Format, bytes: &[u8], at: usize, ports: usize) -> UnitFields
     requires known { IsFormat format }
     requires few { ports ≤ 3 }

@@ -115,7 +115,7 @@ fn args_breach(fields: &UnitFields, ports: usize, at: usize) -> Option<usize>
     None
 }
 
-/// The first field of a unit with that many ports that breaks a rule, by its bit; the unit begins at a place.
+/// Returns the first field of a unit with `ports` ports that breaks a rule, by its bit; the unit begins at place `at`.
 pub(crate) fn unit_breach(
     format: Format,
     ports: usize,

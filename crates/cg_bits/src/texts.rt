@@ -6,7 +6,7 @@ ghost use Rattle.cg_bits.specs.Texts.{bits_fault_text};
 use crate::fault::BitsFault;
 use std::alloc::{AllocError, Global};
 
-/// Code, name and place of a fault, as `B8 NotCanonical bit 48`. Want of memory has none of them.
+/// Returns code, name and place of `fault`, as `B8 NotCanonical bit 48`. Out of memory has none of them.
 pub fn bits_fault_text(alloc: Global, fault: BitsFault) -> Result<String, AllocError>
     ensures { IfOk result (λ s. string_bytes s ≡ bits_fault_text fault) }
 {

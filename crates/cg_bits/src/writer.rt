@@ -36,7 +36,7 @@ impl BitWriter {
         }
     }
 
-    /// Writes a number in that many bits.
+    /// Writes `number` in `width` bits.
     pub fn push(&mut self, number: u32, width: u32) -> Result<(), AllocError>
         requires narrow { width ≤ 32 }
         requires fits { number < 2 ^ width }

@@ -40,7 +40,7 @@ fn push_arg(writer: &mut BitWriter, arg: &ArgFields) -> Result<(), AllocError>
     Ok(())
 }
 
-/// Writes the fields of a unit with that many ports.
+/// Writes the fields of a unit with `ports` ports.
 fn push_unit(writer: &mut BitWriter, ports: usize, fields: &UnitFields) -> Result<(), AllocError>
     requires { HasRanges cgb2 ports fields.now }
     ensures { OnOk result (writer.new ≡ writer.old ++ unit_bits cgb2 ports fields.now) }

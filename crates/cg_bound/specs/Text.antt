@@ -24,7 +24,7 @@ edge_word K id = 32 ∷ edge_text K id
 abbrev pub edge_words : Kernel → List EdgeId → List ℕ
 edge_words K ids = flat_map (edge_word K) ids
 
--- which interval: that of so many cycles, or every one
+-- which interval: that of `ii` cycles, or every one
 abbrev pub interval_text : Option ℕ → List ℕ
 interval_text (Some ii) = codes "impossible at ii " ++ (decimal ii ++ codes ": ")
 interval_text None = codes "impossible at every ii: "

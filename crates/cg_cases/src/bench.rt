@@ -22,7 +22,7 @@ pub(crate) struct Bench {
 }
 
 impl Bench {
-    /// Nothing is held.
+    /// Returns a bench whose store holds nothing.
     pub(crate) fn new(alloc: Global) -> Bench {
         Bench {
             store: MemStore::new(alloc),
@@ -44,7 +44,7 @@ impl Bench {
         Ok(())
     }
 
-    /// Holds a file in each case from now on.
+    /// Holds `bytes` under `name` in each case from now on.
     pub(crate) fn share(
         &mut self,
         alloc: Global,
@@ -57,7 +57,7 @@ impl Bench {
         Ok(())
     }
 
-    /// Holds a file in this case.
+    /// Holds `bytes` under `name` in this case.
     pub(crate) fn hold(
         &mut self,
         alloc: Global,
@@ -67,7 +67,7 @@ impl Bench {
         self.store.hold(alloc, name, bytes)
     }
 
-    /// Keeps of a file the first bytes alone. False where nothing is held.
+    /// Cuts the file `name` to its first `count` bytes. Returns false where nothing is held.
     pub(crate) fn cut(
         &mut self,
         alloc: Global,
@@ -82,7 +82,8 @@ impl Bench {
         Ok(true)
     }
 
-    /// Turns over a bit of a file, counted from the most significant one of its first byte. False where there is none.
+    /// Turns over bit `bit` of the file `name`, counted from the most significant one of its first byte. Returns false
+    /// where there is none.
     pub(crate) fn flip(
         &mut self,
         alloc: Global,
@@ -101,28 +102,28 @@ impl Bench {
         Ok(true)
     }
 
-    /// What is held under a name.
+    /// Returns what is held under `name`.
     pub(crate) fn held(&self, name: &str) -> Option<&[u8]> {
         self.store.held(name)
     }
 
-    /// Lets the store's call of this number fail.
+    /// Lets call `number` of the store fail.
     pub(crate) fn fail_store(&mut self, number: u32) -> Result<(), AllocError> {
         self.store.fail_at(&[number])
     }
 
-    /// Lets the sink's call of this number fail.
+    /// Lets call `number` of the sink fail.
     pub(crate) fn fail_sink(&mut self, number: u32) -> Result<(), AllocError> {
         self.sink.fail_at(&[number])
     }
 
-    /// Calls the program with these words. Gives the exit status.
+    /// Calls the program with `words`, and returns its exit status.
     pub(crate) fn run(&mut self, alloc: Global, words: &[String]) -> u8 {
         self.put_before = self.sink.taken().len();
         run_line(alloc, words, &mut self.store, &mut self.sink).number()
     }
 
-    /// What the last call put.
+    /// Returns what the last call put.
     pub(crate) fn report(&self) -> &[u8] {
         self.sink.taken().get(self.put_before..).unwrap_or(&[])
     }

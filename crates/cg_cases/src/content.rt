@@ -2,7 +2,7 @@
 
 use std::alloc::{AllocError, Global};
 
-/// Adds the bytes that a content line says. False where the line says none:
+/// Adds to `bytes` those that the content line `line` says. Returns false where it says none:
 ///
 /// - `| TEXT` is the text and a line feed, and `|` a line feed alone;
 /// - `+ TEXT` is the text;
@@ -30,7 +30,7 @@ pub(crate) fn add_line(alloc: Global, bytes: &mut Vec<u8>, line: &str) -> Result
     }
 }
 
-/// Adds a text as often as the number before it says.
+/// Adds a text to `bytes` as often as the number before it says: `line` is `N TEXT`. Returns false where it isn't.
 fn add_repeated(bytes: &mut Vec<u8>, line: &str) -> Result<bool, AllocError> {
     let (count, text) = line.split_once(' ').unwrap_or((line, ""));
     let Ok(count) = count.parse::<u32>() else {
@@ -42,7 +42,7 @@ fn add_repeated(bytes: &mut Vec<u8>, line: &str) -> Result<bool, AllocError> {
     Ok(true)
 }
 
-/// Adds bytes that are given by two digits each.
+/// Adds to `bytes` those that `line` gives by two hexadecimal digits each. Returns false where it gives none.
 fn add_digits(alloc: Global, bytes: &mut Vec<u8>, line: &str) -> Result<bool, AllocError> {
     for digits in line.split(' ') {
         let Ok(some) = hex::decode(alloc, digits) else {
@@ -53,7 +53,7 @@ fn add_digits(alloc: Global, bytes: &mut Vec<u8>, line: &str) -> Result<bool, Al
     Ok(true)
 }
 
-/// Adds the words that items say.
+/// Adds to `bytes` the words that the items of `line` say. Returns false where one says none.
 fn add_words(bytes: &mut Vec<u8>, line: &str) -> Result<bool, AllocError> {
     for item in line.split(' ') {
         if !item.is_empty() && !add_item(bytes, item)? {
@@ -63,7 +63,8 @@ fn add_words(bytes: &mut Vec<u8>, line: &str) -> Result<bool, AllocError> {
     Ok(true)
 }
 
-/// Adds the words of an item: `W` is one, `W*N` is it N times, `A..B` are those from A to B.
+/// Adds to `bytes` the words of `item`: `W` is one, `W*N` is it N times, `A..B` are those from A to B. Returns false
+/// where it is none of these.
 fn add_item(bytes: &mut Vec<u8>, item: &str) -> Result<bool, AllocError> {
     if let Some((word, count)) = item.split_once('*') {
         let (Ok(word), Ok(count)) = (word.parse::<u32>(), count.parse::<u32>()) else {
@@ -87,7 +88,8 @@ fn add_item(bytes: &mut Vec<u8>, item: &str) -> Result<bool, AllocError> {
     Ok(true)
 }
 
-/// Adds an image file. Streams that aren't given are empty.
+/// Adds the image file that `line` says to `bytes`. Streams that aren't given are empty. Returns false where it says
+/// none.
 fn add_image(alloc: Global, bytes: &mut Vec<u8>, line: &str) -> Result<bool, AllocError> {
     bytes.extend_from_slice(b"CGI1")?;
     let mut blocks = line.split('|');

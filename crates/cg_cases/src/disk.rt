@@ -32,7 +32,7 @@ const CALLS: [DiskCall; 2] = [
     },
 ];
 
-/// Makes the calls, and prints how many differ from what is wanted.
+/// Makes the calls of `CALLS`, and prints how many differ from what is wanted.
 pub(crate) fn run_calls<R: Files + Print + AllocGlobal>(rt: &R) -> io::Result<()> {
     let mut differing = 0u32;
     for call in &CALLS {
@@ -45,7 +45,7 @@ pub(crate) fn run_calls<R: Files + Print + AllocGlobal>(rt: &R) -> io::Result<()
     rt.print(line.as_str())
 }
 
-/// Makes a call, and removes the file that it writes.
+/// Checks whether `call` ends with its status and writes what is wanted, and removes the file that it writes.
 fn is_as_wanted<R: Files + Print + AllocGlobal>(rt: &R, call: &DiskCall) -> io::Result<bool> {
     let words = words_of(rt.alloc(), call.line)?;
     let mut store = DiskStore::new(rt);
@@ -57,7 +57,7 @@ fn is_as_wanted<R: Files + Print + AllocGlobal>(rt: &R, call: &DiskCall) -> io::
     Ok(status.number() == call.status && written.as_slice() == wanted.as_slice())
 }
 
-/// The words of a line, parted by single blanks.
+/// Returns the words of `line`, parted by single blanks.
 fn words_of(alloc: Global, line: &str) -> Result<Vec<String>, AllocError> {
     let mut words = Vec::new(alloc);
     for word in line.split(' ') {
@@ -69,8 +69,8 @@ fn words_of(alloc: Global, line: &str) -> Result<Vec<String>, AllocError> {
 /// The bytes that the system's store is to keep, one after another under one name.
 const LENGTHS: [u32; 4] = [11, 70_000, 10_000, 7];
 
-/// Writes texts over one another, and prints how many aren't given back as they were written; and of a file that isn't
-/// there and of one that can't be written whether that is said.
+/// Writes texts over one another, and prints how many checks differ: whether each text is read back as it was written,
+/// and whether the store says that it failed at a file that isn't there and at one that can't be written.
 pub(crate) fn keep_files<R: Files + Print + AllocGlobal>(rt: &R) -> io::Result<()> {
     let mut store = DiskStore::new(rt);
     let mut differing = 0u32;
@@ -90,7 +90,8 @@ pub(crate) fn keep_files<R: Files + Print + AllocGlobal>(rt: &R) -> io::Result<(
 /// The name under which they are kept.
 const KEPT: &str = "kept.txt";
 
-/// Whether the store gives back a text of that length, and says of a lower limit that it is too long.
+/// Checks whether `store` reads a text of `length` bytes back as it was written, and says at a limit of one byte less
+/// that it is too long.
 fn is_kept<S: Store>(alloc: Global, store: &mut S, length: u32) -> Result<bool, AllocError> {
     let text = text_of(alloc, length)?;
     if store.write(alloc, KEPT, text.as_slice()).is_err() {
@@ -100,14 +101,14 @@ fn is_kept<S: Store>(alloc: Global, store: &mut S, length: u32) -> Result<bool, 
     Ok(gives(alloc, store, text.as_slice(), limit) && is_too_long(alloc, store, limit))
 }
 
-/// A text of that length, in which the bytes that a piece apart differ.
+/// Returns a text of `length` bytes, in which the bytes that a piece apart differ.
 fn text_of(alloc: Global, length: u32) -> Result<Vec<u8>, AllocError> {
     (0..length)
         .map(|place| (place % 89) as u8 + 33)
         .collect(alloc)
 }
 
-/// Whether the store gives these bytes, with that limit.
+/// Checks whether `store` reads `bytes` under the limit `limit`.
 fn gives<S: Store>(alloc: Global, store: &mut S, bytes: &[u8], limit: u64) -> bool {
     match store.read(alloc, KEPT, limit) {
         Ok(read) => read.as_slice() == bytes,
@@ -115,7 +116,7 @@ fn gives<S: Store>(alloc: Global, store: &mut S, bytes: &[u8], limit: u64) -> bo
     }
 }
 
-/// Whether what is held is too long by one byte.
+/// Checks whether `store` says that what is held, `length` bytes, is too long by one byte.
 fn is_too_long<S: Store>(alloc: Global, store: &mut S, length: u64) -> bool {
     match store.read(alloc, KEPT, length.saturating_sub(1)) {
         Err(StoreFail::TooLong(got)) => got == length,
@@ -123,7 +124,7 @@ fn is_too_long<S: Store>(alloc: Global, store: &mut S, length: u64) -> bool {
     }
 }
 
-/// Whether the store says that a file isn't there, and that one can't be written.
+/// Checks whether `store` says that a file isn't there, and that one can't be written.
 fn says_what_failed<S: Store>(alloc: Global, store: &mut S) -> bool {
     let missing = match store.read(alloc, "missing.txt", 7) {
         Err(fail) => fail == StoreFail::Failed,

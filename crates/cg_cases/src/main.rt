@@ -21,7 +21,7 @@ fn main(rt: HostRuntime) -> io::Result<()> {
     disk::keep_files(&rt)
 }
 
-/// Runs the transcript that a file holds.
+/// Runs the transcript that the file `name` holds, and prints its report.
 fn run_file(rt: &(impl Files + Print + AllocGlobal), name: &str) -> io::Result<()> {
     let alloc = rt.alloc();
     let text = fs::read_to_string(rt, name)?;

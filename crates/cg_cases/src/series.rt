@@ -12,7 +12,7 @@ pub(crate) struct Series {
 }
 
 impl Series {
-    /// What `NAME A..B` begins; none where that is the name of one case.
+    /// Reads `title` as `NAME A..B` and returns the series that it begins; None where it is the name of one case.
     pub(crate) fn begun(alloc: Global, title: &str) -> Result<Option<Series>, AllocError> {
         let Some((name, range)) = title.split_once(' ') else {
             return Ok(None);
@@ -31,14 +31,14 @@ impl Series {
         }))
     }
 
-    /// Takes in a line of all its cases.
+    /// Adds `line` to the lines of all its cases.
     pub(crate) fn add(&mut self, alloc: Global, line: &str) -> Result<(), AllocError> {
         self.lines.push(String::from_str(alloc, line)?)?;
         Ok(())
     }
 }
 
-/// A line with a number in place of each `%`.
+/// Returns `line` with `number` in place of each `%`.
 pub(crate) fn with_number(alloc: Global, line: &str, number: u32) -> Result<String, AllocError> {
     let digits = format!(in alloc; "{number}")?;
     let mut text = String::new(alloc);

@@ -51,7 +51,7 @@ pub(crate) struct Transcript {
 }
 
 impl Transcript {
-    /// None of its lines was followed.
+    /// Returns a transcript named `title`, of which no line was followed.
     pub(crate) fn new(alloc: Global, title: &str) -> Result<Transcript, AllocError> {
         Ok(Transcript {
             title: String::from_str(alloc, title)?,
@@ -69,7 +69,7 @@ impl Transcript {
         })
     }
 
-    /// Follows one line; a line of a series where its cases are over.
+    /// Follows `line`. A line of a series is kept, and followed where the series ends.
     pub(crate) fn follow(&mut self, alloc: Global, line: &str) -> Result<(), AllocError> {
         if line.is_empty() || line.starts_with('#') {
             return Ok(());
@@ -98,7 +98,7 @@ impl Transcript {
         Ok(())
     }
 
-    /// Follows the case of a series with this number.
+    /// Follows the case of `series` with `number`.
     fn follow_case(
         &mut self,
         alloc: Global,
@@ -116,7 +116,7 @@ impl Transcript {
         Ok(())
     }
 
-    /// Follows a line of a case.
+    /// Follows `line`, a line of a case.
     fn follow_line(&mut self, alloc: Global, line: &str) -> Result<(), AllocError> {
         if line == "any" {
             return self.settle(alloc, Reach::Beginning);
@@ -141,7 +141,7 @@ impl Transcript {
         }
     }
 
-    /// Ends the transcript, and gives all that is printed.
+    /// Ends the transcript, and returns all that is printed.
     pub(crate) fn finish(mut self, alloc: Global) -> Result<String, AllocError> {
         self.end_series(alloc)?;
         self.settle(alloc, Reach::Whole)?;
@@ -154,19 +154,19 @@ impl Transcript {
         Ok(self.text)
     }
 
-    /// Whether content lines have a place here.
+    /// Checks whether content lines have a place here.
     fn has_content(&self) -> bool {
         !matches!(self.purpose, Purpose::None)
     }
 
-    /// From now on content lines have this purpose.
+    /// Sets `purpose` as what the content lines that come next say.
     fn expect(&mut self, alloc: Global, purpose: Purpose) -> Result<(), AllocError> {
         self.purpose = purpose;
         self.bytes = Vec::new(alloc);
         Ok(())
     }
 
-    /// Does with the content lines what they are for.
+    /// Does with the content lines what they are for. `reach` says how much of the bytes they give.
     fn settle(&mut self, alloc: Global, reach: Reach) -> Result<(), AllocError> {
         let purpose = std::mem::replace(&mut self.purpose, Purpose::None);
         let bytes = std::mem::replace(&mut self.bytes, Vec::new(alloc));
@@ -182,14 +182,14 @@ impl Transcript {
         }
     }
 
-    /// Begins the case of this name.
+    /// Begins the case `name`.
     fn begin(&mut self, alloc: Global, name: &str) -> Result<(), AllocError> {
         self.end_case(alloc)?;
         self.case = Some(String::from_str(alloc, name)?);
         self.bench.clear(alloc)
     }
 
-    /// Counts the case, where there is one.
+    /// Ends the case and counts it, where there is one.
     fn end_case(&mut self, alloc: Global) -> Result<(), AllocError> {
         self.end_call(alloc)?;
         if self.case.is_some() {
@@ -206,7 +206,7 @@ impl Transcript {
         Ok(())
     }
 
-    /// A call whose status no line says differs.
+    /// Notes a difference where no line said the status of the last call.
     fn end_call(&mut self, alloc: Global) -> Result<(), AllocError> {
         match self.open_status.take() {
             None => Ok(()),
@@ -214,7 +214,7 @@ impl Transcript {
         }
     }
 
-    /// Cuts a file that is held, or turns over some of its bits: `NAME N ..`.
+    /// Cuts a file that is held, or turns over some of its bits, by `word`: `line` is `NAME N ..`.
     fn alter(&mut self, alloc: Global, word: &str, line: &str) -> Result<(), AllocError> {
         let (name, numbers) = line.split_once(' ').unwrap_or((line, ""));
         for number in numbers.split(' ') {
@@ -253,7 +253,7 @@ impl Transcript {
         Ok(())
     }
 
-    /// Makes the call with the words of a line, parted by single blanks; `""` is an empty one.
+    /// Makes the call with the words of `line`, parted by single blanks; `""` is an empty one.
     fn run(&mut self, alloc: Global, line: &str) -> Result<(), AllocError> {
         self.end_call(alloc)?;
         self.calls = true;
@@ -268,7 +268,7 @@ impl Transcript {
         Ok(())
     }
 
-    /// The last call ended with this status. What it put comes next.
+    /// Notes a difference where the last call didn't end with the status `wanted`. What it put comes next.
     fn judge_status(&mut self, alloc: Global, wanted: &str) -> Result<(), AllocError> {
         let Some(got) = self.open_status.take() else {
             return self.differ(alloc, "no call before status", wanted);
@@ -320,7 +320,7 @@ impl Transcript {
         }
     }
 
-    /// Two names hold the same bytes.
+    /// Notes a difference where the two names in `line` don't hold the same bytes.
     fn judge_same(&mut self, alloc: Global, line: &str) -> Result<(), AllocError> {
         let (first, second) = line.split_once(' ').unwrap_or((line, ""));
         match (self.bench.held(first), self.bench.held(second)) {
@@ -329,7 +329,7 @@ impl Transcript {
         }
     }
 
-    /// Notes a difference in this case.
+    /// Notes a difference in this case: `what`, and the `text` that differs.
     fn differ(&mut self, alloc: Global, what: &str, text: &str) -> Result<(), AllocError> {
         self.differs = true;
         let title = self.title.as_str();
@@ -342,7 +342,7 @@ impl Transcript {
     }
 }
 
-/// Whether bytes are the wanted ones, or begin so.
+/// Checks whether `bytes` are the wanted ones, or begin with them where `reach` says so.
 fn is_wanted(bytes: &[u8], wanted: &[u8], reach: Reach) -> bool {
     match reach {
         Reach::Whole => bytes == wanted,
@@ -353,7 +353,7 @@ fn is_wanted(bytes: &[u8], wanted: &[u8], reach: Reach) -> bool {
 /// The most bytes that are shown of a report or a file.
 const SHOWN: usize = 400;
 
-/// Bytes as they are printed: a text in quotes where they are short and one, else their number.
+/// Returns how `bytes` are printed: in quotes where they are a short text, else by their number.
 fn shown(alloc: Global, bytes: &[u8]) -> Result<String, AllocError> {
     let count = bytes.len();
     match std::str::from_utf8(bytes) {

@@ -206,7 +206,7 @@ impl<'a> Usage<'a> {
     }
 }
 
-/// That many lists of no claims.
+/// Returns `count` lists of no claims.
 fn no_claims(alloc: Global, count: usize) -> Result<Vec<ClaimList>, AllocError>
     ensures { IfOk result (λ t. t.items ≡ replicate count []) }
 {

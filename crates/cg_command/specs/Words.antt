@@ -206,7 +206,7 @@ asked_interval value = option_map Some (interval_of value)
 abbrev pub named_file : Text → Option (List Text)
 named_file value = Some (value ∷ [])
 
--- what the options of a search say, with so many moves where none are given; without `--ii` no interval is asked
+-- what the options of a search say, with `usual` moves where none are given; without `--ii` no interval is asked
 abbrev pub request_of : ℕ → List Given → Option Request
 request_of usual given =
     option_and_then (λ ii. option_and_then (λ seed. option_map (λ moves. record { ii = ii; seed = seed; moves = moves })

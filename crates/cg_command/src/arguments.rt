@@ -28,7 +28,7 @@ pub struct Arguments<'a> {
     pub options: Vec<Given<'a>>,
 }
 
-/// What the words after a command's name say, None where they fit no command.
+/// Returns what `words`, those after a command's name, say; None where they fit no command.
 pub fn arguments_of<'a>(
     alloc: Global,
     words: &'a [String],
@@ -63,7 +63,7 @@ fn words_command<'a>(alloc: Global) -> Result<Command<'a>, AllocError>
         .arg(option_named(alloc, "mapping"))
 }
 
-/// The same with the first two options alone.
+/// Returns the command with its plain words and its first two options, `--ii` and `--seed`.
 fn numbered_command<'a>(alloc: Global) -> Result<Command<'a>, AllocError>
     ensures { IfOk result (λ c. app_of c ≡ asked_app (codes "ii" ∷ codes "seed" ∷ [])) }
 {
@@ -106,7 +106,7 @@ fn arguments_in<'a>(
     Ok(judged(words, options))
 }
 
-/// The arguments, where each word and each value may name a file.
+/// Returns the arguments of `words` and `options`, None where a word or a value can't name a file.
 fn judged<'a>(words: Vec<&'a str>, options: Vec<Given<'a>>) -> Option<Arguments<'a>>
     ensures { option_map spec.heard result
         ≡ rows.judged (map (λ word. word.now) words.entry.items) (map heard_option options.entry.items) }
@@ -118,7 +118,7 @@ fn judged<'a>(words: Vec<&'a str>, options: Vec<Given<'a>>) -> Option<Arguments<
     }
 }
 
-/// Adds the values of an option.
+/// Adds the values of the option `name` in `matches` to `options`.
 fn add_option<'a>(
     options: &mut Vec<Given<'a>>,
     matches: &ArgMatches<'a>,

@@ -16,7 +16,7 @@ pub(crate) const USUAL_MOVES: u32 = 10_000;
 /// The number of best responses where none is given.
 pub(crate) const USUAL_RESPONSES: u32 = 12_000;
 
-/// The interval that a word writes.
+/// Returns the interval that `word` writes, 1 to 64 cycles; None where it writes none.
 pub fn interval_of(word: &str) -> Option<u32>
     ensures value { result ≡ spec.interval_of word.now }
     ensures some { IfSome result (λ ii. 1 ≤ ii) }
@@ -27,14 +27,14 @@ pub fn interval_of(word: &str) -> Option<u32>
     }
 }
 
-/// The seed that a word writes.
+/// Returns the seed that `word` writes; None where it writes none.
 pub fn seed_of(word: &str) -> Option<u64>
     ensures { result ≡ spec.seed_of word.now }
 {
     number_up_to(word, u64::MAX)
 }
 
-/// The number of moves that a word writes.
+/// Returns the number of moves that `word` writes, at most 1,000,000; None where it writes none.
 pub fn moves_of(word: &str) -> Option<u32>
     ensures value { result ≡ spec.moves_of word.now }
     ensures within { IfSome result (λ moves. moves ≤ most_moves) }
@@ -45,7 +45,7 @@ pub fn moves_of(word: &str) -> Option<u32>
     }
 }
 
-/// The number of turns that a word writes.
+/// Returns the number of turns that `word` writes, at most 1,000,000; None where it writes none.
 pub fn turns_of(word: &str) -> Option<u32>
     ensures value { result ≡ spec.turns_of word.now }
     ensures within { IfSome result (λ turns. turns ≤ most_turns) }
@@ -56,7 +56,7 @@ pub fn turns_of(word: &str) -> Option<u32>
     }
 }
 
-/// Whether the word may name a file.
+/// Checks whether `word` may name a file: it isn't empty and doesn't begin with a hyphen.
 pub fn is_file(word: &str) -> bool
     ensures { result ≡ spec.is_file word.now }
 {
@@ -66,7 +66,7 @@ pub fn is_file(word: &str) -> bool
     }
 }
 
-/// The number that a word writes, where it is one of 1 to 20 digits and at most `most`.
+/// Returns the number that `word` writes, where it is one of 1 to 20 digits and at most `most`.
 fn number_up_to(word: &str, most: u64) -> Option<u64>
     ensures value { result ≡ spec.number_up_to most word.now }
     ensures within { IfSome result (λ n. n ≤ most) }
@@ -80,7 +80,7 @@ fn number_up_to(word: &str, most: u64) -> Option<u64>
     }
 }
 
-/// Whether the word is one of 1 to 20 digits.
+/// Checks whether `word` is one of 1 to 20 digits.
 fn is_number(word: &str) -> bool
     ensures { result ≡ spec.is_number word.now }
 {

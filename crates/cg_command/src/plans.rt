@@ -12,13 +12,14 @@ use std::alloc::{AllocError, Global};
 /// A command, with its numbers.
 #[derive(Clone, Copy, Debug, PartialEq, Eq)]
 pub enum Command {
-    /// `turns KERNEL TURNS`: so many turns of the kernel.
+    /// `turns KERNEL TURNS`: a number of turns of the kernel.
     Turns { turns: u32 },
     /// `turns KERNEL TURNS IN OUT`: the same from an image, and the result image.
     TurnsOnImage { turns: u32 },
     /// `flat ARCH OUT`: the flat text of an architecture.
     Flat,
-    /// `run ARCH BITS TURNS IN OUT`: so many turns of the array under a configuration, from an image, and the result image.
+    /// `run ARCH BITS TURNS IN OUT`: a number of turns of the array under a configuration, from an image, and the
+    /// result image.
     Run { turns: u32 },
     /// `bound ARCH KERNEL`: the least interval that nothing forbids, and what forbids the one below it.
     Bound,
@@ -45,7 +46,7 @@ pub struct Plan {
     pub outputs: Vec<String>,
 }
 
-/// What the words ask, None where they fit no command.
+/// Returns the plan that `words` ask, None where they fit no command.
 #[tactic(auto, unfolding(crate::specs::Words::plan_of))]
 pub fn plan_words(alloc: Global, words: &[String]) -> Result<Option<Plan>, AllocError>
     ensures plan { IfOk result
@@ -62,7 +63,7 @@ pub fn plan_words(alloc: Global, words: &[String]) -> Result<Option<Plan>, Alloc
     }
 }
 
-/// The plan of a command with these files.
+/// Returns the plan of `command` with the input files `inputs` and the output files `outputs`.
 pub(crate) fn plan_with(
     alloc: Global,
     command: Command,
@@ -84,7 +85,7 @@ pub(crate) fn plan_with(
     }))
 }
 
-/// Copies of the words.
+/// Returns copies of `words`.
 fn owned(alloc: Global, words: &[&str]) -> Result<Vec<String>, AllocError>
     ensures texts { IfOk result (λ list. map string_bytes list.items ≡ map (λ word. word.now) words.now) }
     ensures count { IfOk result (λ list. vec_len list ≡ length words.now) }

@@ -11,7 +11,8 @@ use crate::plans::{Command, Plan, plan_with};
 use cg_model::Request;
 use std::alloc::{AllocError, Global};
 
-/// `map ARCH KERNEL OUT [--ii N] [--seed N] [--moves N] [--mapping FILE]`.
+/// Returns the plan of `map ARCH KERNEL OUT [--ii N] [--seed N] [--moves N] [--mapping FILE]`, whose arguments are
+/// `said`.
 pub(crate) fn map_plan(alloc: Global, said: &Arguments) -> Result<Option<Plan>, AllocError>
     ensures plan { IfOk result
         (λ p. option_map spec.planned p ≡ spec.map_plan (spec.heard said.now)) }
@@ -24,7 +25,8 @@ pub(crate) fn map_plan(alloc: Global, said: &Arguments) -> Result<Option<Plan>, 
     }
 }
 
-/// `search ARCH KERNEL OUT [--ii N] [--seed N] [--moves N] [--mapping FILE]`.
+/// Returns the plan of `search ARCH KERNEL OUT [--ii N] [--seed N] [--moves N] [--mapping FILE]`, whose arguments are
+/// `said`.
 pub(crate) fn search_plan(alloc: Global, said: &Arguments) -> Result<Option<Plan>, AllocError>
     ensures plan { IfOk result
         (λ p. option_map spec.planned p ≡ spec.search_plan (spec.heard said.now)) }
@@ -37,7 +39,7 @@ pub(crate) fn search_plan(alloc: Global, said: &Arguments) -> Result<Option<Plan
     }
 }
 
-/// The plan of a command that searches, with what is said of its files.
+/// Returns the plan of `command`, a search, with what `said` says of its files.
 fn searching_plan(
     alloc: Global,
     command: Command,
@@ -54,7 +56,8 @@ fn searching_plan(
     plan_with_files(alloc, said.words.as_slice(), command, files.as_slice())
 }
 
-/// The same, with the files that are named for the mapping.
+/// Returns the plan of `command` with the plain words `words`, where `files` are the values of `--mapping`, at most
+/// one.
 fn plan_with_files(
     alloc: Global,
     words: &[&str],
@@ -76,7 +79,7 @@ fn plan_with_files(
     }
 }
 
-/// The plan of a search that writes the bits.
+/// Returns the plan of `command`, a search that writes the bits alone; `words` are its files.
 fn written_plan(alloc: Global, words: &[&str], command: Command) -> Result<Option<Plan>, AllocError>
     requires { HasShape command 2 1 }
     ensures plan { IfOk result
@@ -90,7 +93,7 @@ fn written_plan(alloc: Global, words: &[&str], command: Command) -> Result<Optio
     }
 }
 
-/// The plan of a search that writes the bits and the mapping.
+/// Returns the plan of `command`, a search that writes the bits, and the mapping under the name `mapping`.
 fn plan_with_mapping(
     alloc: Global,
     words: &[&str],
@@ -109,7 +112,8 @@ fn plan_with_mapping(
     }
 }
 
-/// What the options of a search say, with so many moves where none are given.
+/// Returns what the `options` of a search say, with `usual` as the number of moves where none is given; None where they
+/// can't be read.
 fn request_of(alloc: Global, usual: u32, options: &[Given]) -> Result<Option<Request>, AllocError>
     requires { usual ≤ most_moves }
     ensures value { IfOk result (λ s. s ≡ spec.request_of usual (map heard_option options.now)) }
@@ -127,7 +131,7 @@ fn request_of(alloc: Global, usual: u32, options: &[Given]) -> Result<Option<Req
     Ok(Some(Request { ii, seed, moves }))
 }
 
-/// The values of an option, in order.
+/// Returns the values of the option `name` among `options`, in order.
 fn values_said<'a>(
     alloc: Global,
     options: &[Given<'a>],
@@ -145,7 +149,7 @@ fn values_said<'a>(
     Ok(values)
 }
 
-/// The interval that is asked, if one is; None where the values can't be read.
+/// Returns the interval that `values` ask for, if they do; None where they can't be read.
 fn interval_said(values: &[&str]) -> Option<Option<u32>>
     ensures value { result ≡ said_once None spec.asked_interval (map (λ value. value.now) values.now) }
     ensures some { IfSome result (λ ii. IfSome ii (λ n. 1 ≤ n)) }
@@ -160,7 +164,7 @@ fn interval_said(values: &[&str]) -> Option<Option<u32>>
     }
 }
 
-/// The seed; None where the values can't be read.
+/// Returns the seed that `values` give; None where they can't be read.
 fn seed_said(values: &[&str]) -> Option<u64>
     ensures { result ≡ said_once spec.usual_seed spec.seed_of (map (λ value. value.now) values.now) }
 {
@@ -171,7 +175,8 @@ fn seed_said(values: &[&str]) -> Option<u64>
     }
 }
 
-/// The most moves at an interval; None where the values can't be read.
+/// Returns the greatest number of moves at an interval that `values` give, `usual` where there is none; None where they
+/// can't be read.
 fn moves_said(usual: u32, values: &[&str]) -> Option<u32>
     requires { usual ≤ most_moves }
     ensures value { result ≡ said_once usual spec.moves_of (map (λ value. value.now) values.now) }

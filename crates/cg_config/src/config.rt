@@ -48,7 +48,7 @@ impl Config {
     ghost use Rattle.cg_model.specs.Canonical.{IsCanonical, AreFields};
     ghost use Rattle.cg_config.specs.Changes.{all_off, with_select, with_fields, LeavesPortsFree};
 
-    /// A configuration that is off everywhere, of so many slots.
+    /// Returns a configuration of `ii` slots that is off everywhere.
     pub fn new(alloc: Global, arch: &Arch, ii: u32) -> Result<Config, AllocError>
         requires some { 0 < ii }
         requires contexts { ii ≤ arch.now.contexts }
@@ -168,7 +168,7 @@ fn stage_of(fields: &UnitFields) -> u32
     }
 }
 
-/// A row of so many items, all the same.
+/// Returns a row of `count` items, each of them `item`.
 fn row_of<T: Copy>(alloc: Global, item: T, count: usize) -> Result<Row<T>, AllocError>
     ensures { IfOk result (λ row. row ≡ replicate count item) }
 {
@@ -179,7 +179,7 @@ fn row_of<T: Copy>(alloc: Global, item: T, count: usize) -> Result<Row<T>, Alloc
     Ok(Row::new(items))
 }
 
-/// So many rows of so many items, all the same.
+/// Returns `times` rows of `count` items, each of them `item`.
 fn rows_of<T: Copy>(
     alloc: Global,
     item: T,

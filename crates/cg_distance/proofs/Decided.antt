@@ -74,7 +74,7 @@ link_decided K u v d =
 
 -- ---- chains
 
--- a chain of at most so many turns
+-- a chain of at most `most` turns
 abbrev IsNear : Kernel → ℕ → ℕ → ℕ → Type 0
 IsNear K u v most = (d : ℕ) × Chain K u v d × (d ≤ most)
 

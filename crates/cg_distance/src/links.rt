@@ -27,7 +27,7 @@ pub(crate) fn links(alloc: Global, kernel: &Kernel) -> Result<Vec<Items<Link>>, 
     Ok(lists)
 }
 
-/// That many lists without a link.
+/// Returns `count` lists without a link.
 fn no_links(alloc: Global, count: usize) -> Result<Vec<Items<Link>>, AllocError>
     ensures { IfOk result (λ t. t.items ≡ replicate count []) }
 {

@@ -16,7 +16,7 @@ pub(crate) struct Reached {
     pub node: u32,
 }
 
-/// That many nodes without a total.
+/// Returns a list of `count` nodes without a total.
 pub(crate) fn no_totals(alloc: Global, count: usize) -> Result<Vec<Option<u32>>, AllocError>
     ensures { IfOk result (λ t. t.items ≡ replicate count None) }
 {

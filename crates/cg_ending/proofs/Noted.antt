@@ -46,7 +46,7 @@ pub noted_next : {A : Type 0} (f : A → List ℕ) (xs : List A) (i : ℕ) (x : 
 noted_next f xs i x passed old now new inside is passed_is before last =
     noted_part f xs (i + 1) old new (noted_more f xs i x passed old now new inside is passed_is before last)
 
--- where memory was wanting, or where it wasn't
+-- where memory ran out, or where it didn't
 pub by_cause : (P : Type 0) (fail : StoreFail) → ((IsErrOf {T = Unit {0}} (Err fail) Memory → ⊥) → P) → (IsErrOf {T = Unit {0}} (Err fail) Memory → P) → P
 by_cause P Failed other wanting = other (λ is. cc)
 by_cause P (TooLong got) other wanting = other (λ is. cc)

@@ -90,7 +90,7 @@ pub record PutFailed (outcome : Outcome) (before after : Moment) (status : Statu
   pub held : Wrote before.held outcome.writes after.held
   pub put : AppendsSome before.taken outcome.report after.taken
 
--- memory was wanting: some first ones of the writes were made, and nothing was put
+-- memory ran out: some first ones of the writes were made, and nothing was put
 pub record RanOutOfMemory (outcome : Outcome) (before after : Moment) (status : Status) : Type 0 where
   pub status_is : status ≡ Memory
   pub held : WrotePart before.held outcome.writes after.held

@@ -45,7 +45,7 @@ pub record StopsAt (held : Held) (rose : Type 0) (names : List Name) (outcome : 
   pub cause : ((outcome ≡ read_fault_of name) × (rose ⊎ IsMissing held name))
       ⊎ ((outcome ≡ too_long_of name) × IsLonger held name read_limit)
 
--- the reading ended before all files were read: by an outcome, or for want of memory
+-- the reading ended before all files were read: by an outcome, or since memory ran out
 abbrev pub IsStop : Held → Type 0 → List Name → Stop → Type 0
 IsStop held rose names (Ended outcome) = StopsAt held rose names (outcome_of outcome)
 IsStop held rose names Memory = Unit {0}

@@ -9,7 +9,7 @@ use crate::outcome::{File, Outcome, Status};
 use cg_files::{Sink, SinkFail, Store, StoreFail};
 use std::alloc::Global;
 
-/// Does what the outcome says: each write, then the report.
+/// Does what `outcome` says: each write into `store`, then one put of the report into `out`. Returns the exit status.
 pub fn finish<S: Store, O: Sink>(
     alloc: Global,
     outcome: &Outcome,
@@ -39,7 +39,7 @@ pub fn finish<S: Store, O: Sink>(
     }
 }
 
-/// Writes the files in order.
+/// Writes `files` into `store` in order, up to the first that can't be written.
 fn write_all<S: Store>(alloc: Global, files: &[File], store: &mut S) -> Result<(), StoreFail>
     ensures ok { OnOk result (Wrote (S.held store.old) (map file_of files.now) (S.held store.new)) }
     ensures failed { IsErrOf result StoreFail.Failed
@@ -63,7 +63,8 @@ fn write_all<S: Store>(alloc: Global, files: &[File], store: &mut S) -> Result<(
     Ok(())
 }
 
-/// Puts the report, where there is one.
+/// Puts the report `bytes` into `out`, unless it is empty, and returns the status: `status`, `Memory` where memory runs
+/// out, or `WriteFault` where the put fails after `Done`.
 fn report<O: Sink>(alloc: Global, status: Status, bytes: &[u8], out: &mut O) -> Status
     ensures ends { Reported status bytes.now (O.taken out.old) (O.faults out.old)
         (O.taken out.new) (O.faults out.new) result }

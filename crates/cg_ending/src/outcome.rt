@@ -8,7 +8,7 @@ use std::alloc::{AllocError, Global};
 pub enum Status {
     /// The command did its work.
     Done,
-    /// Memory was wanting.
+    /// Memory ran out.
     Memory,
     /// The words fit no command.
     Usage,
@@ -29,7 +29,7 @@ pub enum Status {
 impl Status {
     ghost use Rattle.cg_ending.specs.Status.{number_of};
 
-    /// The exit status of the program.
+    /// Returns the exit status of the program.
     pub fn number(self) -> u8
         ensures { result ≡ number_of self }
     {
@@ -67,7 +67,7 @@ impl Outcome {
     ghost use Rattle.cg_ending.specs.Outcome.{outcome_of};
     ghost use Rattle.cg_ending.specs.Refusals.{reports, writes_one};
 
-    /// Ends with a status and a report, and writes nothing.
+    /// Returns the outcome that ends with `status` and `report`, and writes nothing.
     pub fn new(alloc: Global, status: Status, report: Vec<u8>) -> Outcome
         ensures reports { outcome_of result ≡ reports status report.items }
         ensures no_write { result.writes.items ≡ [] }
@@ -79,7 +79,7 @@ impl Outcome {
         }
     }
 
-    /// Ends with a status and a report, and writes one file.
+    /// Returns the outcome that ends with `status` and `report`, and writes the one file `name` with `bytes`.
     pub fn with_file(
         alloc: Global,
         status: Status,
@@ -92,7 +92,7 @@ impl Outcome {
         Outcome::new(alloc, status, report).writing(alloc, name, bytes)
     }
 
-    /// Writes one file more.
+    /// Returns the outcome with one write more, of `bytes` under `name`.
     pub fn writing(self, alloc: Global, name: &str, bytes: Vec<u8>) -> Result<Outcome, AllocError>
         ensures { IfOk result (λ o. outcome_of o ≡ record (outcome_of self) {
           writes = (outcome_of self).writes ++ (record { name = name.now; bytes = bytes.items } ∷ []);

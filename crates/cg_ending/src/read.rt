@@ -17,7 +17,7 @@ pub const READ_LIMIT: u64 = 16_777_216;
 pub enum Stop {
     /// A file couldn't be read, or is too long: the call ends by this outcome.
     Ended(Outcome),
-    /// Memory is wanting.
+    /// Memory ran out.
     Memory,
 }
 
@@ -43,7 +43,7 @@ impl<T: Drop> From<AllocFailed<T>> for Stop {
     }
 }
 
-/// Reads the files of these names in order, up to the first that can't be read or is too long.
+/// Reads the files `names` from `store` in order, up to the first that can't be read or is too long.
 pub fn read_all<S: Store>(alloc: Global, names: &[String], store: &mut S) -> Result<Vec<File>, Stop>
     ensures ok { IfOk result (λ files.
         AreRead (S.held store.old) (map string_bytes names.now) (map file_of files.items)) }

@@ -8,7 +8,7 @@ use crate::outcome::{File, Outcome, Status};
 use crate::read::Stop;
 use std::alloc::{AllocError, Global};
 
-/// The words fit no command.
+/// Returns the outcome where the words fit no command.
 pub fn usage(alloc: Global) -> Result<Outcome, AllocError>
     ensures outcome { IfOk result (λ o. outcome_of o ≡ usage_outcome) }
     ensures no_write { IfOk result (λ o. o.writes.items ≡ []) }
@@ -17,7 +17,8 @@ pub fn usage(alloc: Global) -> Result<Outcome, AllocError>
     Ok(Outcome::new(alloc, Status::Usage, report.into_bytes()))
 }
 
-/// A reader refuses the file of that name. The fault is told by its code, its name and its place.
+/// Returns the outcome where a reader refuses the file named `file`. The text `fault` has the fault's code, name and
+/// place.
 pub fn malformed(alloc: Global, file: &str, fault: &str) -> Result<Outcome, AllocError>
     ensures { IfOk result (λ o. outcome_of o ≡ malformed_of file.now fault.now) }
 {
@@ -25,7 +26,7 @@ pub fn malformed(alloc: Global, file: &str, fault: &str) -> Result<Outcome, Allo
     Ok(Outcome::new(alloc, Status::Malformed, report.into_bytes()))
 }
 
-/// Ends a call, since a reader refuses the file.
+/// Returns the stop that ends a call where a reader refuses `file` with the fault `fault`.
 pub fn refusal(alloc: Global, file: &File, fault: &str) -> Stop
     ensures { EndsBy (λ o. o ≡ malformed_of (file_of file.now).name fault.now) result }
 {

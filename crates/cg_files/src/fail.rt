@@ -6,9 +6,9 @@ use std::alloc::{AllocError, AllocFailed};
 pub enum StoreFail {
     /// The system, or what stands for it, failed.
     Failed,
-    /// More bytes are held than were asked for: so many were seen.
+    /// More bytes are held than were asked for: the number of those that were seen.
     TooLong(u64),
-    /// Memory is wanting.
+    /// Memory ran out.
     Memory,
 }
 
@@ -17,7 +17,7 @@ pub enum StoreFail {
 pub enum SinkFail {
     /// The system, or what stands for it, failed.
     Failed,
-    /// Memory is wanting.
+    /// Memory ran out.
     Memory,
 }
 

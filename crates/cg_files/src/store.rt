@@ -27,15 +27,15 @@ pub trait Store {
             → Rose (read_faults self.old) (read_faults self.new)
             ⊎ IsMissing (held self.old) name.now }
 
-        // `TooLong` comes exactly where more is held, but for want of memory, and for `Failed`,
-        // which goes first.
+        // `TooLong` comes exactly where more is held, unless memory runs out, and except for `Failed`, which goes
+        // first.
         ensures too_long { (got : ℕ) → result ≡ Err (StoreFail.TooLong got)
             → (limit < got) × IsLonger (held self.old) name.now limit }
         ensures longer { TellsLonger (held self.old) name.now limit → IsErr result }
         ensures failed_first { (got : ℕ) → result ≡ Err (StoreFail.TooLong got)
             → read_faults self.new ≡ read_faults self.old }
 
-        // Each call is noted by its name, but for want of memory, which leaves everything as it was.
+        // Each call is noted by its name, unless memory runs out, which leaves everything as it was.
         ensures noted { ¬ IsErrOf result StoreFail.Memory
             → Notes (asked self.old) name.now (asked self.new) }
         ensures unnoted { IsErrOf result StoreFail.Memory → asked self.new ≡ asked self.old }
@@ -55,7 +55,7 @@ pub trait Store {
         ensures too_long { (got : ℕ) → result ≡ Err (StoreFail.TooLong got) → ⊥ }
         ensures memory { IsErrOf result StoreFail.Memory → held self.new ≡ held self.old }
 
-        // Each call is noted by its name, but for want of memory, which leaves everything as it was.
+        // Each call is noted by its name, unless memory runs out, which leaves everything as it was.
         ensures noted { ¬ IsErrOf result StoreFail.Memory
             → Notes (wrote self.old) name.now (wrote self.new) }
         ensures unnoted { IsErrOf result StoreFail.Memory → wrote self.new ≡ wrote self.old }

@@ -41,7 +41,7 @@ pub enum TilesFault {
     RaggedGrid(usize),
     #[error("unknown operation")]
     UnknownOp(PartPlace),
-    /// The grid is too large, or its parts are no architecture. The fault is never want of memory.
+    /// The grid is too large, or its parts are no architecture. The fault is never out of memory.
     #[error("no architecture")]
     Parts(ArchFault),
 }

@@ -7,7 +7,7 @@ use crate::grid::Cell;
 use cg_parts::arch_fault_text;
 use std::alloc::{AllocError, Global};
 
-/// Code, name and place of a fault, as `M4 UnknownTile row 1 column 1`. Want of memory has none of them.
+/// Returns code, name and place of `fault`, as `M4 UnknownTile row 1 column 1`. Out of memory has none of them.
 pub fn tiles_fault_text(alloc: Global, fault: &TilesFault) -> Result<String, AllocError>
     ensures { IfOk result (λ s. string_bytes s ≡ spec.tiles_fault_text fault.now) }
 {

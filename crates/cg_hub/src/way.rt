@@ -4,7 +4,8 @@ ghost use Rattle.std.specs.List.{range_with_len};
 
 use std::alloc::{AllocError, Global};
 
-/// The way from an out to a port, with so many cycles between in registers of the hub, from the first on, `ii` in each.
+/// Returns the way from `out` to `port`, with `cycles` cycles between in registers of `hub`, from place `first` on,
+/// `ii` cycles in each.
 pub(crate) fn way(
     alloc: Global,
     hub: &[u32],

@@ -20,7 +20,7 @@ use Rattle.cg_bits.specs.declared.fault.BitsFault.TheVariants as bits_fault
 use Rattle.cg_bits.specs.Answers as bits
 use Rattle.cg_bits.specs.Texts.{bits_fault_text}
 
--- the outcome tells a fault, that is an answer and isn't want of memory, by its text and the file's name
+-- the outcome tells a fault, that is an answer and isn't out of memory, by its text and the file's name
 pub record Tells {X F : Type 0} (IsAnswer : Result X F → Type 0) (memory : F) (text : F → Bytes) (file : Name) (o : Outcome) : Type 0 where
   pub fault : F
   pub is_fault : IsAnswer (Err fault)

@@ -5,7 +5,7 @@ ghost use Rattle.cg_kernel.specs.Texts.{kernel_fault_text, kernel_fault_name, ke
 use crate::fault::{KernelFault, KernelPlace};
 use std::alloc::{AllocError, Global};
 
-/// Code, name and place of a fault, as `K8 WrongOperandCount nodes 2`. Want of memory has none of them.
+/// Returns code, name and place of `fault`, as `K8 WrongOperandCount nodes 2`. Out of memory has none of them.
 pub fn kernel_fault_text(alloc: Global, fault: &KernelFault) -> Result<String, AllocError>
     ensures { IfOk result (λ s. string_bytes s ≡ kernel_fault_text fault.now) }
 {

@@ -60,7 +60,7 @@ fn first_waiting(marks: &[Mark], drivers: &[u32], from: usize) -> usize
 }
 
 impl Walk {
-    /// A walk over that many resources that has met none.
+    /// Returns a walk over `count` resources that has met none.
     pub(crate) fn new(alloc: Global, count: usize) -> Result<Walk, AllocError>
         ensures marks { IfOk result (λ walk. walk.marks.items ≡ replicate count New) }
         ensures passed { IfOk result (λ walk. walk.passed.items ≡ replicate count 0) }

@@ -13,8 +13,8 @@ use cg_model::{Kernel, Request};
 use cg_task::{Answer, Task, first_tried, last_tried};
 use std::alloc::{AllocError, Global};
 
-/// Searches a mapping: at the interval that is asked, or at each from the least one that nothing forbids to as many cycles
-/// as the architecture has contexts.
+/// Searches a mapping of `kernel` on `arch`, at the interval that `request` asks for, or at each from the least one
+/// that nothing forbids to as many cycles as the architecture has contexts.
 pub fn map_answer<'a>(
     alloc: Global,
     arch: &'a Arch,
@@ -34,7 +34,7 @@ pub fn map_answer<'a>(
     }
 }
 
-/// Tries the intervals from the first one on.
+/// Tries the intervals from `first` to the last one.
 fn tried<'a>(
     alloc: Global,
     arch: &'a Arch,

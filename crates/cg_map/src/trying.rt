@@ -19,7 +19,8 @@ pub enum Attempt<'a> {
     Left(u64),
 }
 
-/// Tries an interval: the hub where it suffices, else the walk with the seed and no more moves than are asked.
+/// Tries the interval of `task`: the hub where it suffices, else the walk with the seed of `request` and at most its
+/// moves.
 pub fn try_task<'a>(
     alloc: Global,
     task: &Task<'a>,

@@ -15,11 +15,11 @@ node_of p = p.node
 abbrev pub slot_of : Route → ℕ
 slot_of r = 3 * r.node + r.arg
 
--- so many operands a node are enough for these routes
+-- three operands a node are enough for these routes
 pub record AreShort (routes : List Route) : Type 0 where
   pub short : (i : ℕ) (r : Route) → slice_get routes i ≡ Some r → r.arg < 3
 
--- and so many operands and nodes for these edge operands
+-- and three operands a node, and `size` nodes, are enough for these edge operands
 pub record AreWithin (size : ℕ) (ends : List EdgeOperand) : Type 0 where
   pub nodes : (i : ℕ) (e : EdgeOperand) → slice_get ends i ≡ Some e → e.node < size
   pub args : (i : ℕ) (e : EdgeOperand) → slice_get ends i ≡ Some e → e.arg < 3

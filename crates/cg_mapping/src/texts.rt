@@ -5,7 +5,7 @@ ghost use Rattle.cg_mapping.specs.Texts as spec;
 use crate::fault::{Gap, MappingFault, MappingPlace};
 use std::alloc::{AllocError, Global};
 
-/// Code, name and place of a fault, as `P4 UnknownName places 2`. Want of memory has none of them.
+/// Returns code, name and place of `fault`, as `P4 UnknownName places 2`. Out of memory has none of them.
 pub fn mapping_fault_text(alloc: Global, fault: &MappingFault) -> Result<String, AllocError>
     ensures { IfOk result (λ s. string_bytes s ≡ spec.mapping_fault_text fault.now) }
 {

@@ -12,7 +12,8 @@ use cg_inputs::{arch_in, kernel_in};
 use cg_model::Kernel;
 use std::alloc::{AllocError, Global};
 
-/// The least interval of the kernel that the second file gives on the architecture of the first.
+/// Returns the outcome of `bound`: the least interval of the kernel that the file `kernel` gives on the architecture
+/// that `arch` gives.
 pub fn bound(alloc: Global, arch: &File, kernel: &File) -> Result<Outcome, Stop>
     ensures { Allows (IsBoundOf (file_of arch.now) (file_of kernel.now)) result }
 {
@@ -21,7 +22,7 @@ pub fn bound(alloc: Global, arch: &File, kernel: &File) -> Result<Outcome, Stop>
     bounded(alloc, &array, &graph)
 }
 
-/// The least interval of a kernel on an architecture, and what the report says of it.
+/// Returns the outcome for `kernel` on `array`: the report on the least interval.
 fn bounded(alloc: Global, array: &Arch, kernel: &Kernel) -> Result<Outcome, Stop>
     ensures { Allows (IsBounded (record { arch = array.now; kernel = kernel.now })) result }
 {
@@ -30,7 +31,7 @@ fn bounded(alloc: Global, array: &Arch, kernel: &Kernel) -> Result<Outcome, Stop
     Ok(Outcome::new(alloc, Status::Done, report))
 }
 
-/// The least interval, and why the one below it is impossible; or why every one is.
+/// Returns the report on `least`: the least interval, and why the one below it is impossible; or why every one is.
 fn bound_report(
     alloc: Global,
     array: &Arch,
@@ -49,7 +50,7 @@ fn bound_report(
     }
 }
 
-/// The least interval, if there is one.
+/// Returns the line that says the least interval `mii`, if there is one.
 fn first_line(alloc: Global, mii: Option<u32>) -> Result<Vec<u8>, AllocError>
     ensures { IfOk result (λ v. v.items ≡ first_line mii) }
 {
@@ -62,7 +63,7 @@ fn first_line(alloc: Global, mii: Option<u32>) -> Result<Vec<u8>, AllocError>
     }
 }
 
-/// The interval below it, if there is one.
+/// Returns the interval below `mii`, if there is one.
 fn below(mii: Option<u32>) -> Option<u32>
     ensures { result ≡ spec.below mii }
 {
@@ -72,7 +73,7 @@ fn below(mii: Option<u32>) -> Option<u32>
     }
 }
 
-/// A report with one line more.
+/// Returns `report` with the line `line` added.
 fn with_line(report: Vec<u8>, line: &[u8]) -> Result<Vec<u8>, AllocError>
     ensures { IfOk result (λ v. v.items ≡ report.items ++ line_of (line.now ∷ [])) }
 {

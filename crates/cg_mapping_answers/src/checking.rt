@@ -13,7 +13,8 @@ use cg_ending::{File, Outcome, Status, Stop};
 use cg_inputs::{arch_in, kernel_in, mapping_in};
 use std::alloc::Global;
 
-/// Whether the mapping that the third file gives is legal for the kernel of the second on the architecture of the first.
+/// Returns the outcome of `check`: whether the mapping that the file `mapping` gives is legal for the kernel of
+/// `kernel` on the architecture of `arch`.
 pub fn check(alloc: Global, arch: &File, kernel: &File, mapping: &File) -> Result<Outcome, Stop>
     ensures { Allows (IsCheck (file_of arch.now) (file_of kernel.now) (file_of mapping.now)) result }
 {
@@ -23,7 +24,7 @@ pub fn check(alloc: Global, arch: &File, kernel: &File, mapping: &File) -> Resul
     checked(alloc, &array, &graph, placed)
 }
 
-/// Whether a mapping is legal.
+/// Checks whether `mapping` is legal for `kernel` on `array`, and returns the outcome.
 fn checked(alloc: Global, array: &Arch, kernel: &Kernel, mapping: Mapping) -> Result<Outcome, Stop>
     requires { IsShaped kernel.now mapping }
     ensures { Allows (λ o. o ≡ checked_by (record { arch = array.now; kernel = kernel.now; mapping = mapping })
@@ -35,7 +36,7 @@ fn checked(alloc: Global, array: &Arch, kernel: &Kernel, mapping: Mapping) -> Re
     }
 }
 
-/// The mapping is legal.
+/// Returns the outcome where the mapping is legal.
 fn legal(alloc: Global) -> Result<Outcome, Stop>
     ensures { Allows (λ o. o ≡ reports Done legal_report) result }
 {
@@ -43,7 +44,7 @@ fn legal(alloc: Global) -> Result<Outcome, Stop>
     Ok(Outcome::new(alloc, Status::Done, report))
 }
 
-/// The mapping violates a rule.
+/// Returns the outcome where the mapping violates `rule` at `place`.
 pub(crate) fn illegal(
     alloc: Global,
     arch: &Arch,

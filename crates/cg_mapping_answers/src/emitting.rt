@@ -13,8 +13,8 @@ use cg_ending::{File, Outcome, Status, Stop};
 use cg_inputs::{arch_in, kernel_in, mapping_in};
 use std::alloc::{AllocError, Global};
 
-/// The bits of the mapping that the third file gives for the kernel of the second on the architecture of the first, under the
-/// name `out`.
+/// Returns the outcome of `emit`: the bits of the mapping that the file `mapping` gives for the kernel of `kernel` on
+/// the architecture of `arch`, to be written under the name `out`.
 pub fn emit(
     alloc: Global,
     arch: &File,
@@ -30,7 +30,7 @@ pub fn emit(
     emitted(alloc, &array, &graph, placed, out)
 }
 
-/// The bits of a mapping that is legal.
+/// Returns the outcome for `mapping`: its bits where it is legal, and else the rule that it violates.
 fn emitted(
     alloc: Global,
     array: &Arch,
@@ -48,7 +48,7 @@ fn emitted(
     }
 }
 
-/// The mapping is legal: its bits, and what the report says of them.
+/// Returns the outcome where the mapping is legal: its bits, to be written under `out`, and the report on them.
 fn written(alloc: Global, legal: &LegalMapping<'_>, out: &str) -> Result<Outcome, Stop>
     ensures { Allows (IsEmitted out.now legal.now) result }
 {
@@ -57,7 +57,7 @@ fn written(alloc: Global, legal: &LegalMapping<'_>, out: &str) -> Result<Outcome
     Ok(Outcome::with_file(alloc, Status::Done, report, out, bits)?)
 }
 
-/// The interval, and the stages of the configuration.
+/// Returns the report on the configuration of `legal`: its interval in cycles, and its number of stages.
 pub fn emit_report(alloc: Global, legal: &LegalMapping<'_>) -> Result<Vec<u8>, AllocError>
     ensures { IfOk result (λ v. v.items ≡ emit_report legal.now) }
 {

@@ -25,8 +25,8 @@ select_in A ii r slot (p ∷ ps) =
     then selected (resource A r).drivers p.from
     else select_in A ii r slot ps
 
--- of the first nodes, that many, the last one on unit x at a slot; of a legal mapping there is at
--- most one
+-- the last of the first n nodes that is on unit x at a slot; of a legal mapping there is at most
+-- one
 abbrev pub node_on : Mapping → ℕ → ℕ → ℕ → Option ℕ
 node_on M x slot zero = None
 node_on M x slot (suc v) =

@@ -6,21 +6,21 @@ use Rattle.std.specs.Prelude.{ℕ}
 abbrev pub most_nodes : ℕ
 most_nodes = 1024
 
--- characters of a node's name
+-- the greatest length of a node's name, in characters
 abbrev pub longest_node_name : ℕ
 longest_node_name = 32
 
 abbrev pub most_order_edges : ℕ
 most_order_edges = 4096
 
--- turns over which a data edge goes, and over which an order edge does
+-- the greatest distance of a data edge and, below it, that of an order edge, in turns
 abbrev pub most_distance : ℕ
 most_distance = 4
 
 abbrev pub most_order_distance : ℕ
 most_order_distance = 255
 
--- ports of a kernel and of an array, and so streams of an image
+-- the number of ports of a kernel and of an array, and so of streams of an image
 abbrev pub port_count : ℕ
 port_count = 16
 
@@ -32,11 +32,11 @@ most_turns = 1000000
 
 -- ---- architectures and images
 
--- characters of an architecture's and of an element's name
+-- the greatest length of an architecture's name and of an element's, in characters
 abbrev pub longest_name : ℕ
 longest_name = 40
 
--- rows, and columns, of a grid of tiles
+-- the greatest number of rows, and of columns, of a grid of tiles
 abbrev pub most_side : ℕ
 most_side = 32
 
@@ -52,11 +52,11 @@ most_links = 65536
 abbrev pub most_units : ℕ
 most_units = 1024
 
--- words of a memory
+-- the greatest number of words of a memory
 abbrev pub most_memory : ℕ
 most_memory = 1048576
 
--- words of a stream: one a turn
+-- the greatest number of words of a stream: one a turn
 abbrev pub most_stream : ℕ
 most_stream = most_turns
 

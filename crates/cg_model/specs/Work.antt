@@ -90,7 +90,7 @@ sends at w = is_output w.op && (acts w.op w.args && eqb w.port at)
 unfoldable pub sent : ℕ → Work → List ℕ
 sent at w = if sends at w then last_operand w.op w.args ∷ [] else []
 
--- w is an acting access whose address is outside a memory of that many words
+-- w is an acting access whose address is outside a memory of `size` words
 abbrev pub misses : ℕ → Work → Bool
 misses size w = is_access w.op && (acts w.op w.args && nat_le size (address w.op w.args))
 

@@ -13,7 +13,7 @@ pub fn is_identifier(text: &str) -> bool
     }
 }
 
-/// Whether a text is an identifier of at most so many characters.
+/// Checks whether `text` is an identifier of at most `most` characters.
 pub fn is_name(text: &str, most: usize) -> bool
     ensures { result ≡ spec.is_name most text.now }
 {

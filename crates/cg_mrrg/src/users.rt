@@ -19,7 +19,7 @@ pub(crate) fn users(alloc: Global, arch: &Arch) -> Result<Vec<Items<u32>>, Alloc
     Ok(users)
 }
 
-/// That many lists of none.
+/// Returns `count` empty lists.
 fn no_users(alloc: Global, count: usize) -> Result<Vec<Items<u32>>, AllocError>
     ensures { IfOk result (λ t. t.items ≡ replicate count []) }
 {

@@ -83,7 +83,7 @@ is_placed A arch x l = record {
   out = there A (unit A x).out Out (arch.outs x l) (λ e. (cc));
 }
 
--- ---- the same of an item that a loop comes to
+-- ---- the same for an item that a loop comes to
 
 pub driven_item : (A : Arch) → IsArch A → (rs : List Resource) (r : ℕ) (x : Resource) → x ≡ get_or rs r x → rs ≡ A.resources → r < length rs → IsDriven A x
 driven_item A arch rs r x is same l =

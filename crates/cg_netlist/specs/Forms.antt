@@ -3,9 +3,9 @@ use Rattle.std.specs.Prelude.{ℕ, ◌+◌, ◌^◌, ◌<◌, ◌≤◌, false, 
 use Rattle.std.specs.List.{range_with_len}
 use Rattle.std.specs.Fmt.{digits}
 
--- the select of a context, or that of the next one, in so many bits; the choice among so many
--- drivers, or a register behind that choice; the word 0; and a unit by its ports, its latency and
--- its operations, bit k for the one of code k
+-- the select of a context, or that of the next one, by its number of bits; the choice among
+-- drivers, by their number, or a register behind that choice; the word 0; and a unit by its ports,
+-- its latency and its operations, bit k for the one of code k
 pub data Form : Type 0 where
   ContextForm PreselectForm MuxForm RegisterForm : ℕ → Form
   ZeroForm : Form

@@ -101,7 +101,7 @@ graph_of G valid formed none =
       cells = cells_are (names G.nets) G.cells valid.cells formed (all_of_flat (IsKnown (given ++ names G.nets)) G.cells known);
     }
 
--- the same of what a function has at hand
+-- the same for what a function has at hand
 pub graph_is : (nets n : List Net) (cells f m : List Cell) → text.IsModule (module_of (record { nets = nets; cells = cells })) → f ≡ cells → n ≡ nets → m ≡ cells → All IsFormed f
     → unknown_net (record { nets = n; cells = m }) ≡ None → IsNetGraph (record { nets = nets; cells = cells })
 graph_is nets n cells f m valid a b d formed none =

@@ -58,7 +58,7 @@ pub read_fault : (bytes : List ℕ) (m : ModuleText) (r : Result NetGraph Verilo
 read_fault bytes m (Ok g) valid tokens h = tt
 read_fault bytes m (Err e) valid tokens h = wrong_is bytes m valid tokens e h
 
--- ---- the same of what a function has at hand
+-- ---- the same for what a function has at hand
 
 pub nets_bad : (nets n : List Net) (cells f m : List Cell) (e : VerilogFault) → f ≡ cells → n ≡ nets → m ≡ cells → All IsFormed f → IsOfNet e (unknown_net (record { nets = n; cells = m }))
     → IsBad e (record { nets = nets; cells = cells })

@@ -152,7 +152,7 @@ no_unit c n count many h =
     let few = h.3.valid.0 in
     absurd (omega (arith, same, few))
 
--- ---- the same of what a function has at hand
+-- ---- the same for what a function has at hand
 
 with_pins : (c : Cell) (pins : List Pin) (ps : List (List ℕ)) (fits : Bool) → pins ≡ c.pins → (IsTrue fits ↔ (ports_of pins ≡ ps)) → (IsTrue fits ↔ (ports_of c.pins ≡ ps))
 with_pins c pins ps fits same h = let P : List Pin → Type 0 = λ qs. IsTrue fits ↔ (ports_of qs ≡ ps) in subst P same h

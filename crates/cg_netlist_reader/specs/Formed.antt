@@ -39,7 +39,7 @@ IsNumbered prefix name = (w : ℕ) × (0 < w) × (w ≤ 17) × (name ≡ prefix 
 abbrev pub IsOperations : List ℕ → Type 0
 IsOperations text = (h : ℕ) × (0 < h) × (h < 2 ^ 32) × (text ≡ hexadecimal h)
 
--- the name is that of a unit with so many ports and that latency
+-- the name is that of a unit with p ports and latency l
 abbrev pub HasLatency : ℕ → ℕ → List ℕ → Type 0
 HasLatency p l name = (h : ℕ) × (0 < h) × (h < 2 ^ 32) × (name ≡ form_name (UnitForm p l h))
 

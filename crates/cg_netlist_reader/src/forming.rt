@@ -150,7 +150,7 @@ fn both(left: bool, right: bool) -> bool
     left && right
 }
 
-/// Whether a resource may have so many drivers.
+/// Checks whether a resource may have `count` drivers.
 fn is_count(count: usize) -> bool
     ensures { result ≡ (nat_lt 0 count && nat_le count 65536) }
 {
@@ -182,7 +182,7 @@ fn context_ports(alloc: Global) -> Result<Vec<Name>, AllocError>
     Ok(ports)
 }
 
-/// The ports of a choice among so many drivers.
+/// Returns the ports of a choice among `count` drivers.
 fn choice_ports(alloc: Global, count: usize) -> Result<Vec<Name>, AllocError>
     ensures { IfOk result (λ ports. ports.items ≡ forms.form_ports (forms.MuxForm count)) }
 {
@@ -286,7 +286,7 @@ fn has_width(alloc: Global, name: &str, prefix: &str) -> Result<bool, AllocError
     Ok(false)
 }
 
-/// Whether the name is that of a unit with so many ports.
+/// Checks whether `name` is that of a unit with `ports` ports.
 fn is_unit_name(alloc: Global, name: &str, ports: usize) -> Result<bool, AllocError>
     ensures { IfOk result (λ b. IsTrue b ↔ formed.IsUnitName ports name.now) }
 {
@@ -298,7 +298,7 @@ fn is_unit_name(alloc: Global, name: &str, ports: usize) -> Result<bool, AllocEr
     Ok(false)
 }
 
-/// Whether the name is that of a unit with so many ports and that latency.
+/// Checks whether `name` is that of a unit with `ports` ports and the latency `latency`.
 #[tactic(auto, using(crate::proofs::Shapes::latency_found, crate::proofs::Shapes::latency_missed))]
 fn has_latency(alloc: Global, name: &str, ports: usize, latency: usize) -> Result<bool, AllocError>
     ensures { IfOk result (λ b. IsTrue b ↔ formed.HasLatency ports latency name.now) }

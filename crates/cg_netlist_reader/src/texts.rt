@@ -5,7 +5,7 @@ ghost use Rattle.cg_netlist_reader.specs.FaultText as spec;
 use crate::fault::VerilogFault;
 use std::alloc::{AllocError, Global};
 
-/// Code, name and place of a fault, as `V2 UnknownCell cell 3`. Want of memory has none of them.
+/// Returns code, name and place of `fault`, as `V2 UnknownCell cell 3`. Out of memory has none of them.
 pub fn verilog_fault_text(alloc: Global, fault: &VerilogFault) -> Result<String, AllocError>
     ensures { IfOk result (λ s. string_bytes s ≡ spec.verilog_fault_text fault.now) }
 {

@@ -76,7 +76,7 @@ number_read (a ∷ b ∷ c ∷ d ∷ r) rest n h e =
       left = subst AreBytes same (λ k. h (suc (suc (suc (suc k)))));
     }
 
--- so many words
+-- n words, and what is left of the bytes
 record WereWords (n : ℕ) (ws rest bytes : List ℕ) : Type 0 where
   count : length ws ≡ n
   were : Were (flat_map (to_be_bytes w32) ws) rest bytes

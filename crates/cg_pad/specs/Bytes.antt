@@ -46,7 +46,7 @@ take_number _ = None
 abbrev pub with_first : {A : Type 0} → A → List A × List ℕ → List A × List ℕ
 with_first x p = (x ∷ p.0, p.1)
 
--- so many words
+-- a number of words, and what is left of the bytes
 abbrev pub take_words : ℕ → List ℕ → Option (List ℕ × List ℕ)
 take_words zero bytes = Some ([], bytes)
 take_words (suc n) bytes = option_and_then (λ p. option_map (with_first p.0) (take_words n p.1)) (take_number bytes)
@@ -72,7 +72,7 @@ abbrev pub read_block : ℕ → (ℕ → ImageFault) → ℕ → List ℕ → Re
 read_block most too_large size bytes =
     and_then (or_truncated size (take_number bytes)) (λ p. if nat_lt most p.0 then Err (too_large p.0) else or_truncated size (take_words p.0 p.1))
 
--- the blocks of so many streams, from that port on
+-- the blocks of a number of streams, from that port on
 unfoldable pub read_streams : ℕ → ℕ → ℕ → List ℕ → Result (List (List ℕ) × List ℕ) ImageFault
 read_streams size port zero bytes = Ok ([], bytes)
 read_streams size port (suc n) bytes =

@@ -6,7 +6,7 @@ abbrev pub with_rest : {A F : Type 0} → Result A F → List ℕ → Result (A 
 with_rest (Ok x) rest = Ok (x, rest)
 with_rest (Err e) rest = Err e
 
--- the same of an option, where None leaves open what is left
+-- the same for an option, where None leaves open what is left
 abbrev pub Takes : {A : Type 0} → Option A → List ℕ → Option (A × List ℕ) → Type 0
 Takes (Some x) rest answer = answer ≡ Some (x, rest)
 Takes None rest answer = answer ≡ None

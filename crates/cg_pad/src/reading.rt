@@ -124,7 +124,7 @@ impl Cursor<'_> {
         self.number().ok_or(ImageFault::Truncated(size))
     }
 
-    /// So many words.
+    /// Reads `count` words.
     fn block(&mut self, alloc: Global, count: u32) -> Result<Words, ImageFault>
         ensures answer { Gives ImageFault.Memory (with_rest result self.new.rest.now) (or_truncated self.old.size (take_words count self.old.rest.now)) }
         ensures size { self.new.size ≡ self.old.size }

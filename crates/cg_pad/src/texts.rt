@@ -5,7 +5,7 @@ ghost use Rattle.cg_pad.specs.Texts.{image_fault_text};
 use crate::fault::{ImageFault, TooLargePlace};
 use std::alloc::{AllocError, Global};
 
-/// Code, name and place of a fault, as `I2 Truncated length 7`. Want of memory has none of them.
+/// Returns code, name and place of `fault`, as `I2 Truncated length 7`. Out of memory has none of them.
 pub fn image_fault_text(alloc: Global, fault: ImageFault) -> Result<String, AllocError>
     ensures { IfOk result (λ s. string_bytes s ≡ image_fault_text fault) }
 {

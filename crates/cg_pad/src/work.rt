@@ -84,7 +84,8 @@ impl Work {
         Ok(())
     }
 
-    /// How often it reaches outside a memory of that many words: once where it is an access that acts, or not at all.
+    /// Returns how often it reaches outside a memory of `size` words: once where it is an access that acts, or not at
+    /// all.
     #[tactic(auto, unfolding(cg_model::specs::Work::missed))]
     pub fn missed(self, size: usize) -> u64
         ensures count { result ≡ missed size (work_of self) }

@@ -1,4 +1,4 @@
--- No parts have want of memory as their fault.
+-- No parts have out of memory as their fault.
 use Rattle.std.proofs.Common.{◌≡◌, ℕ, ◌||◌, Bool, true, false, Option, Some, None, cond, nat_lt}
 use Rattle.std.specs.Option.{option_map, option_or}
 use Rattle.cg_parts.specs.Parts.{Parts, entries}

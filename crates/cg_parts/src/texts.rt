@@ -6,7 +6,7 @@ use crate::fault::{ArchFault, DriverPlace, HubPlace, NamePlace, TooLargePlace};
 use cg_model::Name;
 use std::alloc::{AllocError, Global};
 
-/// Code, name and place of a fault, as `A3 RepeatedName element 1`. Want of memory has none of them.
+/// Returns code, name and place of `fault`, as `A3 RepeatedName element 1`. Out of memory has none of them.
 pub fn arch_fault_text(alloc: Global, fault: &ArchFault) -> Result<String, AllocError>
     ensures { IfOk result (λ s. string_bytes s ≡ spec.arch_fault_text fault.now) }
 {

@@ -19,7 +19,7 @@ pub(crate) fn touching(alloc: Global, kernel: &Kernel) -> Result<Vec<Items<Order
     Ok(lists)
 }
 
-/// That many lists of none.
+/// Returns `count` empty lists of order edges.
 fn no_edges(alloc: Global, count: usize) -> Result<Vec<Items<OrderEdge>>, AllocError>
     ensures { IfOk result (λ t. t.items ≡ replicate count []) }
 {

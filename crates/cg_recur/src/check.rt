@@ -8,8 +8,8 @@ use cg_arch::Arch;
 use cg_edges::{EdgeId, find_edge};
 use cg_model::Kernel;
 
-/// Whether these are the edges of a closed chain whose latencies exceed the interval times its
-/// distances.
+/// Checks whether `cycle` names the edges of a closed chain whose latencies exceed the interval
+/// `ii` times its distances.
 pub fn check_cycle(arch: &Arch, kernel: &Kernel, ii: u32, cycle: &[EdgeId]) -> bool
     ensures { IsTrue result ↔ IsRecurrence arch.now kernel.now ii cycle.now }
 {
@@ -36,7 +36,7 @@ pub fn check_cycle(arch: &Arch, kernel: &Kernel, ii: u32, cycle: &[EdgeId]) -> b
     at == start && ii as u128 * distance < latency
 }
 
-/// The node that an edge leaves; 0 where the kernel has no such edge.
+/// Returns the node that edge `id` leaves; 0 where the kernel has no such edge.
 fn source(arch: &Arch, kernel: &Kernel, id: EdgeId) -> usize
     ensures { result ≡ source_of (edge_of arch.now kernel.now id) }
 {

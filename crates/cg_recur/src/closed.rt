@@ -8,7 +8,7 @@ use crate::moments::Step;
 use cg_edges::Edge;
 use std::alloc::{AllocError, Global};
 
-/// A closed chain that is too long, by the numbers of its edges, from its least node on.
+/// Returns a closed chain that is too long for the interval `ii`, by the numbers of its edges, from its least node on.
 pub(crate) fn cycle(
     alloc: Global,
     log: &[Step],
@@ -31,7 +31,7 @@ pub(crate) fn cycle(
     Ok(ids)
 }
 
-/// The last moments of the log, from the last one back.
+/// Returns the last moments of `log`, from the last one back: one more than there are nodes.
 fn trace(
     alloc: Global,
     log: &[Step],
@@ -54,7 +54,7 @@ fn trace(
     Ok(path)
 }
 
-/// Where a node is met for the second time on a path, and where it was met first.
+/// Returns where on `path` a node is met for the second time, and where it was met first: the lower place first.
 fn repeat(log: &[Step], path: &[usize], edges: &[Edge], ii: u32, nodes: usize) -> (usize, usize)
     requires path { IsTrace edges.now ii nodes log.now path.now }
     ensures { IsRepeat log.now path.now result.0 result.1 }
@@ -69,7 +69,7 @@ fn repeat(log: &[Step], path: &[usize], edges: &[Edge], ii: u32, nodes: usize) -
     unreachable!()
 }
 
-/// Where the least node of a closed path is met.
+/// Returns the place between `low` and `high` where the least node of the closed part of `path` is met.
 fn cut(
     log: &[Step],
     path: &[usize],
@@ -93,7 +93,7 @@ fn cut(
     at
 }
 
-/// Adds the edges between two moments of a path, the later moment being the lower one.
+/// Adds to `ids` the edges between the places `low` and `high` of `path`. The later moment stands at the lower place.
 fn push_between(
     ids: &mut Vec<usize>,
     log: &[Step],

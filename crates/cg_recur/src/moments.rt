@@ -27,7 +27,7 @@ pub(crate) enum Outcome {
     Deep,
 }
 
-/// The log at its beginning: each node at time 0.
+/// Returns the log at its beginning: each of `nodes` nodes at time 0.
 pub(crate) fn begin(alloc: Global, nodes: usize) -> Result<Vec<Step>, AllocError>
     ensures { IfOk result (λ v. IsBegun nodes v.items) }
 {
@@ -44,7 +44,7 @@ pub(crate) fn begin(alloc: Global, nodes: usize) -> Result<Vec<Step>, AllocError
     Ok(log)
 }
 
-/// The numbers below a count, in order.
+/// Returns the numbers below `nodes`, in order.
 pub(crate) fn numbers(alloc: Global, nodes: usize) -> Result<Vec<usize>, AllocError>
     ensures { IfOk result (λ v. IsCounting nodes v.items) }
 {
@@ -55,7 +55,7 @@ pub(crate) fn numbers(alloc: Global, nodes: usize) -> Result<Vec<usize>, AllocEr
     Ok(last)
 }
 
-/// Raises the time of an edge's target where the edge asks for more.
+/// Raises the time of the target of edge `e` where the edge asks for more at the interval `ii`.
 pub(crate) fn relax(
     log: &mut Vec<Step>,
     last: &mut Vec<usize>,
@@ -98,7 +98,7 @@ pub(crate) fn relax(
     }
 }
 
-/// The time of each node by the log.
+/// Returns the time of each node by `log`, where `last` has the latest moment of each.
 pub(crate) fn times(
     alloc: Global,
     log: &[Step],

@@ -19,8 +19,8 @@ pub enum Recur {
     Times(Vec<u32>),
 }
 
-/// A closed chain of edges whose latencies exceed the interval times its distances, where there
-/// is one, and else the earliest times of the nodes.
+/// Returns a closed chain of edges whose latencies exceed the interval `ii` times its distances,
+/// where there is one, and else the earliest times of the nodes, in cycles.
 pub fn recurrence(alloc: Global, arch: &Arch, kernel: &Kernel, ii: u32) -> Result<Recur, AllocError>
     ensures { IfOk result (λ r. IsAnswer arch.now kernel.now ii r) }
 {
@@ -33,7 +33,8 @@ pub fn recurrence(alloc: Global, arch: &Arch, kernel: &Kernel, ii: u32) -> Resul
     }
 }
 
-/// The earliest times of the nodes, at an interval for which no closed chain of edges is too long.
+/// Returns the earliest times of the nodes, in cycles, at an interval `ii` for which no closed
+/// chain of edges is too long.
 pub fn earliest_times(
     alloc: Global,
     arch: &Arch,
@@ -54,7 +55,7 @@ pub fn earliest_times(
     Ok(early)
 }
 
-/// The names of edges, by their numbers.
+/// Returns the names of the edges whose numbers are `numbers`.
 fn name_all(alloc: Global, names: &[EdgeId], numbers: &[usize]) -> Result<Vec<EdgeId>, AllocError>
     requires { (i : ℕ) → i < length numbers.now → slice_index numbers.now i < length names.now }
     ensures { IfOk result (λ ids. ids.items ≡ map (name_at names.now) numbers.now) }

@@ -28,7 +28,8 @@ pub(crate) enum Numbered {
     Times(Vec<u32>),
 }
 
-/// The earliest times of the nodes, or a closed chain that is too long for the interval, where there is one.
+/// Returns the earliest times of the nodes, or a closed chain of `edges` that is too long for the interval `ii`, where
+/// there is one.
 pub(crate) fn longest_chains(
     alloc: Global,
     edges: &[Edge],
@@ -50,7 +51,7 @@ pub(crate) fn longest_chains(
     Ok(Numbered::Times(early))
 }
 
-/// Makes as many rounds as there are nodes, fewer where no time rises in one, or a chain is too long.
+/// Makes as many rounds over `edges` as there are nodes, fewer where no time rises in one, or a chain is too long.
 pub(crate) fn make_rounds(
     alloc: Global,
     edges: &[Edge],

@@ -3,18 +3,18 @@
 use rand_core::utils::NextWord;
 use rand_pcg::Lcg64Xsh32;
 
-/// A number below `k`, or 0, by the next word.
+/// Draws a number below `k` by the next word of `generator`; 0 where `k` is 0.
 pub(crate) fn draw(generator: &mut Lcg64Xsh32, k: u32) -> u32 {
     let word = generator.next_word();
     scaled(word, k)
 }
 
-/// The part of `k` that a word is of all words.
+/// Returns the part of `k` that `word` is of all words, rounded down.
 fn scaled(word: u32, k: u32) -> u32 {
     (u64::from(word) * u64::from(k) / (1 << 32)) as u32
 }
 
-/// Puts a list in a random order.
+/// Puts `list` in a random order, by the words of `generator`.
 pub(crate) fn shuffle(generator: &mut Lcg64Xsh32, list: &mut [u32]) {
     for place in (1..list.len()).rev() {
         let other = draw(generator, step_up(place));
@@ -22,12 +22,12 @@ pub(crate) fn shuffle(generator: &mut Lcg64Xsh32, list: &mut [u32]) {
     }
 }
 
-/// The number after that of a place.
+/// Returns the number after that of `place`, at most the greatest word.
 fn step_up(place: usize) -> u32 {
     place.min(0xffff_fffe) as u32 + 1
 }
 
-/// Exchanges two entries, where there are both.
+/// Exchanges the entries at `place` and `other` of `list`, where there are both.
 fn exchange(list: &mut [u32], place: usize, other: usize) {
     if place < list.len() && other < list.len() {
         list.swap(place, other);

@@ -43,7 +43,7 @@ struct Link {
 }
 
 impl Estimates {
-    /// The costs of standing on each unit at each time.
+    /// Returns the costs of standing on each unit that offers the operation of `node`, at each time of `window`.
     pub(crate) fn of_places(
         alloc: Global,
         problem: &Problem,
@@ -67,25 +67,26 @@ impl Estimates {
         })
     }
 
-    /// The cost of a unit, by its place among those that offer the operation, at a time, by its place in the window.
+    /// Returns the cost of unit number `row` among those that offer the operation, at time number `column` of the
+    /// window.
     pub(crate) fn cost(&self, row: u32, column: u32) -> u32 {
         number_at(self.costs.as_slice(), self.entry(row, column))
     }
 
-    /// The number of a candidate.
+    /// Returns the number of a candidate by its `row` and `column`.
     fn entry(&self, row: u32, column: u32) -> usize {
         (row as usize)
             .saturating_mul(self.width)
             .saturating_add(column as usize)
     }
 
-    /// Makes a candidate dearer.
+    /// Makes a candidate dearer by `cost`.
     fn add(&mut self, row: u32, column: u32, cost: u32) {
         let entry = self.entry(row, column);
         raise(&mut self.costs, entry, cost);
     }
 
-    /// Adds a route to a consumer.
+    /// Adds a route to a consumer, which costs `cost`, to a candidate.
     fn add_to_fan(&mut self, row: u32, column: u32, cost: u32) {
         let entry = self.entry(row, column);
         if let Some(fan) = self.fans.get_mut(entry) {
@@ -94,7 +95,8 @@ impl Estimates {
         }
     }
 
-    /// Adds the route of an edge into the node, to a port of a unit.
+    /// Adds the route of an edge into the node, to the port `port` of the unit of `row`. The turn of its target begins
+    /// `turns` cycles after that of its source.
     fn add_in(&mut self, routes: &Routes, link: Link, row: u32, port: u32, turns: u32) {
         for column in 0..self.window.width() {
             let begin = self
@@ -114,7 +116,7 @@ impl Estimates {
         }
     }
 
-    /// Adds the route of an edge out of the node, from the out of a unit.
+    /// Adds the route of an edge out of the node, from the out of the unit `host`, which is that of `row`.
     fn add_out(&mut self, routes: &Routes, link: Link, row: u32, host: Host) {
         for column in 0..self.window.width() {
             let begin = self.window.first.saturating_add(column);
@@ -131,7 +133,7 @@ impl Estimates {
         }
     }
 
-    /// Adds a route to a consumer by its price, or what it costs to have none.
+    /// Adds a route to a consumer by its `price`, or `penalty`, what it costs to have none, where that is no more.
     fn add_route_out(&mut self, row: u32, column: u32, price: u32, penalty: u32) {
         if price >= penalty {
             self.add(row, column, penalty);
@@ -140,14 +142,14 @@ impl Estimates {
         }
     }
 
-    /// Adds the routes to consumers: the dearest in full, of the others a part.
+    /// Adds the routes to consumers to all candidates: the dearest in full, of the others a part.
     pub(crate) fn add_fans(&mut self) {
         for entry in 0..self.costs.len() {
             self.add_fan(entry);
         }
     }
 
-    /// Adds the routes of a candidate to consumers.
+    /// Adds the routes to consumers to candidate number `entry`.
     fn add_fan(&mut self, entry: usize) {
         if let Some(fan) = self.fans.get(entry).copied() {
             let others = fan.sum.saturating_sub(fan.most).saturating_mul(SHARE) / 8;
@@ -155,7 +157,7 @@ impl Estimates {
         }
     }
 
-    /// Makes a time dearer on each of so many units.
+    /// Makes the time number `column` dearer by `cost` on each of `rows` units.
     fn add_column(&mut self, rows: u32, column: u32, cost: u32) {
         for row in 0..rows {
             self.add(row, column, cost);
@@ -163,7 +165,7 @@ impl Estimates {
     }
 }
 
-/// Adds what a unit costs at each time.
+/// Adds to `costs` what `unit` costs at each time of `window`.
 fn add_prices(
     costs: &mut Vec<u32>,
     places: &Places,
@@ -177,12 +179,12 @@ fn add_prices(
     Ok(())
 }
 
-/// What a value costs that comes so many cycles too late.
+/// Returns what a value costs that comes `cycles` cycles too late, where having no route costs `penalty`.
 fn too_late(penalty: u32, cycles: u32) -> u32 {
     penalty.saturating_add(cycles.saturating_mul(LATE))
 }
 
-/// The costs of all candidates of a node that is lifted.
+/// Returns the costs of all candidates of `node`, which is lifted, at the times of `window`.
 pub(crate) fn estimate(
     alloc: Global,
     problem: &Problem,
@@ -204,7 +206,7 @@ pub(crate) fn estimate(
     Ok(estimates)
 }
 
-/// Adds the routes of an edge into the node, where its source is placed.
+/// Adds the routes of `edge`, which ends in the node, where its source is placed.
 fn estimate_in(
     problem: &Problem,
     state: &mut State,
@@ -228,7 +230,8 @@ fn estimate_in(
     Ok(())
 }
 
-/// The last layer of the routes of an edge into the node whose value leaves at a time. None where the value comes too late.
+/// Returns the last layer of the routes of `edge`, which ends in the node, whose value leaves at the time `start`. None
+/// where the value comes too late.
 fn last_to(problem: &Problem, estimates: &Estimates, edge: DataEdge, start: u32) -> Option<u32> {
     let end = estimates
         .window
@@ -240,7 +243,7 @@ fn last_to(problem: &Problem, estimates: &Estimates, edge: DataEdge, start: u32)
     Some((end - start).min(problem.reach()))
 }
 
-/// Adds the routes of an edge to the port of each unit that offers the node's operation.
+/// Adds the routes of `edge` to the port of each unit that offers the node's operation.
 fn add_to_ports(
     problem: &Problem,
     routes: &Routes,
@@ -258,7 +261,7 @@ fn add_to_ports(
     }
 }
 
-/// Adds the routes of an edge out of the node, where its target is placed.
+/// Adds the routes of `edge`, which begins in the node, where its target is placed.
 fn estimate_out(
     problem: &Problem,
     state: &mut State,
@@ -283,7 +286,7 @@ fn estimate_out(
     Ok(())
 }
 
-/// The port on which a data edge ends; 0 where its target isn't placed.
+/// Returns the port on which `edge` ends; 0 where its target isn't placed.
 fn port_of(problem: &Problem, places: &Places, edge: DataEdge) -> u32 {
     match places.at(edge.target) {
         Some(place) => match problem.host(place.unit) {
@@ -294,7 +297,7 @@ fn port_of(problem: &Problem, places: &Places, edge: DataEdge) -> u32 {
     }
 }
 
-/// The last layer of the routes out of the node to a time. None where that is too soon.
+/// Returns the last layer of the routes out of the node to the time `end`. None where that is too soon.
 fn last_from(problem: &Problem, estimates: &Estimates, end: u32) -> Option<u32> {
     let leaves = estimates
         .window
@@ -317,7 +320,7 @@ fn add_from_outs(problem: &Problem, routes: &Routes, estimates: &mut Estimates, 
     }
 }
 
-/// Adds what an order edge costs where it is violated.
+/// Adds what the order edge `tie` costs where it is violated.
 fn estimate_tie(problem: &Problem, state: &State, estimates: &mut Estimates, tie: u32) {
     let node = estimates.node;
     let rows = count(problem.offers.of(node));
@@ -332,7 +335,7 @@ fn estimate_tie(problem: &Problem, state: &State, estimates: &mut Estimates, tie
     }
 }
 
-/// Whether an order edge is violated where one of its nodes, which is lifted, begins at a time.
+/// Checks whether the order edge `edge` is violated where `node`, one of its nodes, which is lifted, begins at `time`.
 fn breaks(problem: &Problem, places: &Places, edge: OrderEdge, node: u32, time: u32) -> bool {
     let turns = problem.turns(edge.distance);
     match (places.at(edge.from), places.at(edge.to)) {

@@ -9,8 +9,8 @@ const SHARED: u32 = 3;
 /// What a node without a place, an edge without a route and a violated order edge count.
 const LOST: u32 = 5;
 
-/// The faults of a state: 0 where each node has a place and each edge a route, no two nodes begin on a unit in a slot,
-/// no place is claimed twice and no order edge is violated.
+/// Returns the faults of `state`: 0 where each node has a place and each edge a route, no two nodes begin on a unit in
+/// a slot, no place is claimed twice and no order edge is violated.
 pub(crate) fn faults(problem: &Problem, state: &State) -> u32 {
     let shared = state.places.excess().saturating_mul(SHARED);
     let missing = state
@@ -27,7 +27,7 @@ pub(crate) fn faults(problem: &Problem, state: &State) -> u32 {
         .saturating_add(lost)
 }
 
-/// How many order edges are violated.
+/// Counts the order edges that are violated.
 fn broken(problem: &Problem, state: &State) -> u32 {
     let mut sum: u32 = 0;
     let mut tie: u32 = 0;
@@ -40,7 +40,7 @@ fn broken(problem: &Problem, state: &State) -> u32 {
     sum
 }
 
-/// Whether a node has part in a fault.
+/// Checks whether `node` has part in a fault.
 pub(crate) fn is_bad(problem: &Problem, state: &State, node: u32) -> bool {
     state.places.is_shared(node)
         || has_bad_edge(state, problem.ins.of(node))
@@ -48,7 +48,7 @@ pub(crate) fn is_bad(problem: &Problem, state: &State, node: u32) -> bool {
         || has_broken_tie(problem, state, node)
 }
 
-/// Whether one of these edges has no route, or one that meets another.
+/// Checks whether one of `edges` has no route, or one that meets another.
 fn has_bad_edge(state: &State, edges: &[u32]) -> bool {
     for edge in edges {
         if state.routes.is_bad(*edge) {
@@ -58,7 +58,7 @@ fn has_bad_edge(state: &State, edges: &[u32]) -> bool {
     false
 }
 
-/// Whether an order edge of a node is violated.
+/// Checks whether an order edge of `node` is violated.
 fn has_broken_tie(problem: &Problem, state: &State, node: u32) -> bool {
     for tie in problem.ties.of(node) {
         if state.is_broken(problem, *tie) {
@@ -68,7 +68,7 @@ fn has_broken_tie(problem: &Problem, state: &State, node: u32) -> bool {
     false
 }
 
-/// The nodes that have part in a fault, ascending.
+/// Returns the nodes that have part in a fault, ascending.
 pub(crate) fn bad_nodes(
     alloc: Global,
     problem: &Problem,
@@ -83,7 +83,7 @@ pub(crate) fn bad_nodes(
     Ok(bad)
 }
 
-/// All nodes, ascending.
+/// Returns all nodes, ascending.
 pub(crate) fn all_nodes(alloc: Global, problem: &Problem) -> Result<Vec<u32>, AllocError> {
     let mut all = Vec::new(alloc);
     for node in 0..problem.nodes {

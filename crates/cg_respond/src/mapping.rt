@@ -7,7 +7,8 @@ use cg_model::{Items, Kernel, Mapping, Operand, Place, Route, Words};
 use cg_respond_state::{Places, Routes, State, count};
 use std::alloc::{AllocError, Global};
 
-/// The mapping of a state at an interval: times from the least one on, and an empty path for an edge without a route.
+/// Returns the mapping of `state` at the interval `ii`: times from the least one on, and an empty path for an edge
+/// without a route.
 pub(crate) fn mapping(
     alloc: Global,
     kernel: &Kernel,
@@ -22,7 +23,7 @@ pub(crate) fn mapping(
     Ok(Mapping::new(ii, places, routes))
 }
 
-/// Where each node stands, with times from the least one on.
+/// Returns where each node stands, with times from the least one on.
 fn places_of(alloc: Global, kernel: &Kernel, standing: &Places) -> Result<Vec<Place>, AllocError>
     ensures { IfOk result (λ v. length v.items ≡ size kernel.now) }
 {
@@ -34,7 +35,7 @@ fn places_of(alloc: Global, kernel: &Kernel, standing: &Places) -> Result<Vec<Pl
     Ok(places)
 }
 
-/// A place with its time from another one on.
+/// Returns `place` with its time counted from `least` on; unit 0 at time 0 where there is none.
 fn place_from(place: Option<Place>, least: u32) -> Place {
     match place {
         Some(place) => Place {
@@ -45,7 +46,7 @@ fn place_from(place: Option<Place>, least: u32) -> Place {
     }
 }
 
-/// The route of each edge operand.
+/// Returns the route of each edge operand.
 fn routes_of(alloc: Global, kernel: &Kernel, standing: &Routes) -> Result<Vec<Route>, AllocError>
     ensures { IfOk result (λ v. map end_of v.items ≡ ends_from 0 kernel.now.nodes) }
 {
@@ -58,7 +59,7 @@ fn routes_of(alloc: Global, kernel: &Kernel, standing: &Routes) -> Result<Vec<Ro
     Ok(routes)
 }
 
-/// Adds the routes to a node's operands.
+/// Adds the routes to the operands `operands` of `node`.
 fn add_routes(
     alloc: Global,
     routes: &mut Vec<Route>,
@@ -75,7 +76,7 @@ fn add_routes(
     Ok(())
 }
 
-/// Adds the route to an operand that is an edge. Edges go by number as their routes do.
+/// Adds the route to operand `arg` of `node` if it is an edge. Edges go by number as their routes do.
 fn add_route(
     alloc: Global,
     routes: &mut Vec<Route>,
@@ -97,7 +98,7 @@ fn add_route(
     }
 }
 
-/// The resources on the route of an edge.
+/// Returns the resources on the route of `edge`; none where it has no route.
 fn path_of(alloc: Global, standing: &Routes, edge: u32) -> Result<Words, AllocError> {
     let mut path = Vec::new(alloc);
     if let Some(route) = standing.route(edge) {

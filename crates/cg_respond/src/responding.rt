@@ -15,13 +15,13 @@ use std::alloc::{AllocError, Global};
 /// How a search ends.
 #[derive(Drop)]
 pub enum Responded<'a> {
-    /// At a legal mapping, after that many best responses.
+    /// At a legal mapping, after that number of best responses.
     Mapped(LegalMapping<'a>, u32),
-    /// With so many faults left at the least, after all of them.
+    /// With that number of faults left at the least, after all of them.
     Spent(u32),
 }
 
-/// Searches a mapping of a task, with the seed and no more best responses than are asked.
+/// Searches a mapping of `task`, with the seed of `request` and at most as many best responses as it has moves.
 pub fn respond<'a>(
     alloc: Global,
     task: &Task<'a>,
@@ -64,7 +64,7 @@ fn attempts<'a>(
     Ok(Responded::Spent(pace.least.max(1)))
 }
 
-/// The mapping that a state stands for, if it is legal.
+/// Returns the mapping that `state` stands for, if it is legal.
 fn checked<'a>(
     alloc: Global,
     task: &Task<'a>,

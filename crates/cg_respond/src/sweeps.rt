@@ -40,7 +40,7 @@ pub(crate) enum Ending {
 }
 
 impl Pace {
-    /// With so many moves.
+    /// Returns the pace of a search with `moves` moves left.
     pub(crate) fn new(generator: Lcg64Xsh32, moves: u32) -> Pace {
         Pace {
             generator,
@@ -57,7 +57,7 @@ impl Pace {
         self.since = 0;
     }
 
-    /// Counts the faults of a state before the first sweep or after a sweep.
+    /// Counts the faults of `state` before the first sweep or after a sweep.
     fn count(&mut self, problem: &Problem, state: &State) -> u32 {
         let found = faults(problem, state);
         self.least = self.least.min(found);
@@ -70,12 +70,12 @@ impl Pace {
         found
     }
 
-    /// Whether a sweep is to be made: faults grew fewer not long ago, and there are moves left.
+    /// Checks whether a sweep is to be made: faults grew fewer not long ago, and there are moves left.
     fn goes_on(&self) -> bool {
         self.since < STALE && self.left > 0
     }
 
-    /// Makes the best response of a node, if there are moves left.
+    /// Makes the best response of `node`, if there are moves left.
     fn respond(
         &mut self,
         alloc: Global,
@@ -92,7 +92,7 @@ impl Pace {
     }
 }
 
-/// Makes an attempt.
+/// Makes attempt number `number`, and returns how it ends.
 pub(crate) fn attempt(
     alloc: Global,
     problem: &Problem,
@@ -113,7 +113,7 @@ pub(crate) fn attempt(
     Ok(ending_of(found))
 }
 
-/// How an attempt ends that leaves so many faults.
+/// Returns how an attempt ends that leaves `faults` faults.
 fn ending_of(faults: u32) -> Ending {
     match faults {
         0 => Ending::Clean,
@@ -121,7 +121,7 @@ fn ending_of(faults: u32) -> Ending {
     }
 }
 
-/// Places the nodes one after another where none stands.
+/// Places the nodes one after another where none stands, in the order of attempt number `number`.
 fn open(
     alloc: Global,
     problem: &Problem,
@@ -137,7 +137,8 @@ fn open(
     Ok(())
 }
 
-/// Makes what is wrong dearer, and then the best responses of the nodes that have part in a fault, or of all nodes.
+/// Makes what is wrong dearer, and then the best responses of the nodes that have part in a fault, or of all nodes
+/// where `is_whole` is true.
 fn make_sweep(
     alloc: Global,
     problem: &Problem,

@@ -16,13 +16,13 @@ pub(crate) struct Window {
 }
 
 impl Window {
-    /// How many there are, at least one.
+    /// Returns how many there are, at least one.
     pub(crate) fn width(&self) -> u32 {
         self.last.saturating_sub(self.first).saturating_add(1)
     }
 }
 
-/// The times at which a node that is lifted is tried.
+/// Returns the times at which `node`, which is lifted, is tried.
 pub(crate) fn window_of(problem: &Problem, places: &Places, node: u32) -> Window {
     let earliest = later(
         earliest_by_edges(problem, places, node),
@@ -35,7 +35,7 @@ pub(crate) fn window_of(problem: &Problem, places: &Places, node: u32) -> Window
     between(problem, node, earliest, latest)
 }
 
-/// The times by the earliest and the latest one.
+/// Returns the times to be tried by the `earliest` and the `latest` one, where there are such.
 fn between(problem: &Problem, node: u32, earliest: Option<u32>, latest: Option<u32>) -> Window {
     let span = problem.ii.saturating_add(problem.wiring.diameter());
     match (earliest, latest) {
@@ -49,7 +49,7 @@ fn between(problem: &Problem, node: u32, earliest: Option<u32>, latest: Option<u
     }
 }
 
-/// The times about an earliest and a latest one, which may be in the wrong order.
+/// Returns the times about `first`, the earliest, and `last`, the latest one, which may be in the wrong order.
 fn within(first: u32, last: u32, span: u32) -> Window {
     if first <= last {
         let after = last.saturating_add(1);
@@ -61,12 +61,12 @@ fn within(first: u32, last: u32, span: u32) -> Window {
     times(last.saturating_sub(1), first.saturating_add(1))
 }
 
-/// The times from a first to a last one.
+/// Returns the times from `first` to `last`.
 fn times(first: u32, last: u32) -> Window {
     Window { first, last }
 }
 
-/// The later of two times, where there are both.
+/// Returns the later of two times, where there are both; else the one there is.
 fn later(one: Option<u32>, other: Option<u32>) -> Option<u32> {
     match (one, other) {
         (Some(one), Some(other)) => Some(one.max(other)),
@@ -75,7 +75,7 @@ fn later(one: Option<u32>, other: Option<u32>) -> Option<u32> {
     }
 }
 
-/// The sooner of two times, where there are both.
+/// Returns the sooner of two times, where there are both; else the one there is.
 fn sooner(one: Option<u32>, other: Option<u32>) -> Option<u32> {
     match (one, other) {
         (Some(one), Some(other)) => Some(one.min(other)),
@@ -84,7 +84,7 @@ fn sooner(one: Option<u32>, other: Option<u32>) -> Option<u32> {
     }
 }
 
-/// When the last value of the sources that are placed is there.
+/// Returns when the last value of the sources of `node` that are placed is there.
 fn earliest_by_edges(problem: &Problem, places: &Places, node: u32) -> Option<u32> {
     let mut earliest = None;
     for edge in problem.ins.of(node) {
@@ -93,14 +93,14 @@ fn earliest_by_edges(problem: &Problem, places: &Places, node: u32) -> Option<u3
     earliest
 }
 
-/// When the value of an edge's source leaves its unit, in the turn of the target.
+/// Returns when the value of the source of `edge` leaves its unit, in the turn of the target.
 fn bound_by_source(problem: &Problem, places: &Places, edge: u32) -> Option<u32> {
     let facts = problem.edge(edge)?;
     let leaves = problem.leaves(places, facts)?;
     Some(leaves.saturating_sub(problem.turns(facts.distance)))
 }
 
-/// When a node is to begin at the latest, so that its value is there in time for the consumers that are placed.
+/// Returns when `node` is to begin at the latest, so that its value is there in time for the consumers that are placed.
 fn latest_by_edges(problem: &Problem, places: &Places, node: u32) -> Option<u32> {
     let mut latest = None;
     for edge in problem.outs.of(node) {
@@ -109,14 +109,14 @@ fn latest_by_edges(problem: &Problem, places: &Places, node: u32) -> Option<u32>
     latest
 }
 
-/// When the source of an edge is to begin for its target.
+/// Returns when `node`, the source of `edge`, is to begin for its target.
 fn bound_by_target(problem: &Problem, places: &Places, edge: u32, node: u32) -> Option<u32> {
     let facts = problem.edge(edge)?;
     let arrives = problem.arrives(places, facts)?;
     Some(arrives.saturating_sub(problem.least_latency(node)))
 }
 
-/// When the nodes that come before a node have begun.
+/// Returns when the nodes that come before `node` have begun.
 fn earliest_by_ties(problem: &Problem, places: &Places, node: u32) -> Option<u32> {
     let mut earliest = None;
     for tie in problem.ties.of(node) {
@@ -125,7 +125,7 @@ fn earliest_by_ties(problem: &Problem, places: &Places, node: u32) -> Option<u32
     earliest
 }
 
-/// When the target of an order edge may begin.
+/// Returns when `node` may begin, if it is the target of the order edge `tie`.
 fn bound_before(problem: &Problem, places: &Places, tie: u32, node: u32) -> Option<u32> {
     let edge = problem.order.get(tie as usize)?;
     if edge.to != node {
@@ -136,7 +136,7 @@ fn bound_before(problem: &Problem, places: &Places, tie: u32, node: u32) -> Opti
     Some(after.saturating_sub(problem.turns(edge.distance)))
 }
 
-/// When a node is to begin at the latest for the nodes that come after it.
+/// Returns when `node` is to begin at the latest for the nodes that come after it.
 fn latest_by_ties(problem: &Problem, places: &Places, node: u32) -> Option<u32> {
     let mut latest = None;
     for tie in problem.ties.of(node) {
@@ -145,7 +145,7 @@ fn latest_by_ties(problem: &Problem, places: &Places, node: u32) -> Option<u32> 
     latest
 }
 
-/// When the source of an order edge is to begin.
+/// Returns when `node` is to begin at the latest, if it is the source of the order edge `tie`.
 fn bound_after(problem: &Problem, places: &Places, tie: u32, node: u32) -> Option<u32> {
     let edge = problem.order.get(tie as usize)?;
     if edge.from != node {

@@ -37,7 +37,7 @@ pub(crate) struct Back<'a> {
     pub later: &'a [u32],
 }
 
-/// Where the entry of a resource in a layer is, of that many resources.
+/// Returns where the entry of `resource` in `layer` is, where there are `width` resources.
 #[inline]
 pub(crate) fn cell(layer: u32, width: u32, resource: u32) -> usize {
     layer as usize * width as usize + resource as usize

@@ -80,7 +80,7 @@ pub(crate) fn users_of(alloc: Global, resources: &[Resource]) -> Result<Rows, Al
     joined(alloc, &lists)
 }
 
-/// That many empty lists.
+/// Returns `count` empty lists.
 fn no_lists(alloc: Global, count: usize) -> Result<Vec<Vec<u32>>, AllocError> {
     let mut lists = Vec::new(alloc);
     for _ in 0..count {

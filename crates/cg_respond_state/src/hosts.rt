@@ -16,12 +16,12 @@ pub struct Host {
 }
 
 impl Host {
-    /// The resource of a port; 0 where there is no such port.
+    /// Returns the resource of port `arg`; 0 where there is no such port.
     pub fn port(&self, arg: u32) -> u32 {
         number_at(&self.ports, arg as usize)
     }
 
-    /// What the search reads of a unit.
+    /// Returns what the search reads of `unit`.
     fn of(unit: &Unit) -> Host {
         let ports = unit.ports.as_slice();
         Host {
@@ -36,7 +36,7 @@ impl Host {
     }
 }
 
-/// All units.
+/// Returns all units, in their order.
 pub fn hosts(alloc: Global, arch: &Arch) -> Result<Vec<Host>, AllocError> {
     let mut hosts = Vec::new(alloc);
     for unit in arch.units() {
@@ -45,7 +45,7 @@ pub fn hosts(alloc: Global, arch: &Arch) -> Result<Vec<Host>, AllocError> {
     Ok(hosts)
 }
 
-/// The units that offer each node's operation, ascending.
+/// Returns the units that offer each node's operation, ascending.
 pub fn offers(alloc: Global, arch: &Arch, kernel: &Kernel) -> Result<Lists, AllocError> {
     let nodes = kernel.nodes();
     let mut offers = Lists::new(alloc, count(nodes))?;
@@ -55,7 +55,7 @@ pub fn offers(alloc: Global, arch: &Arch, kernel: &Kernel) -> Result<Lists, Allo
     Ok(offers)
 }
 
-/// Adds the units that offer a node's operation.
+/// Adds the units that offer the operation of `node` to its list.
 fn add_offers(
     offers: &mut Lists,
     arch: &Arch,

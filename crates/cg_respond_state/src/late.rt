@@ -6,7 +6,8 @@ use cg_model::OrderEdge;
 use cg_task::Task;
 use std::alloc::{AllocError, Global};
 
-/// The latest time of each node at which no node is later than the last of the earliest times.
+/// Returns the latest time of each node at which no node is later than the last of the earliest times, in cycles.
+/// `quickest` has the least latency of each node's operation.
 pub(crate) fn latest(
     alloc: Global,
     task: &Task,
@@ -24,7 +25,7 @@ pub(crate) fn latest(
     Ok(late)
 }
 
-/// The greatest of these times, 0 where there is none.
+/// Returns the greatest of `times`, 0 where there is none.
 fn last_of(times: &[u32]) -> u32 {
     let mut last: u32 = 0;
     for time in times {
@@ -60,7 +61,8 @@ fn pull_by_order(ii: u32, order: &[OrderEdge], late: &mut [u32]) {
     }
 }
 
-/// Makes a source begin so many cycles before its target, which is some turns later.
+/// Makes the latest time of `source` at most `cycles` cycles before that of `target`, whose turn begins `turns` cycles
+/// later.
 fn pull(late: &mut [u32], source: u32, target: u32, turns: u32, cycles: u32) {
     let end = number_at(late, target as usize).saturating_add(turns);
     let time = end.saturating_sub(cycles);

@@ -9,7 +9,7 @@ pub struct Lists {
 }
 
 impl Lists {
-    /// Empty lists for so many things.
+    /// Returns an empty list for each of `things` things.
     pub fn new(alloc: Global, things: u32) -> Result<Lists, AllocError> {
         let mut lists = Vec::new(alloc);
         for _ in 0..things {
@@ -18,7 +18,7 @@ impl Lists {
         Ok(Lists { lists })
     }
 
-    /// Adds a number to the list of a thing.
+    /// Adds `number` to the list of `thing`.
     pub fn add(&mut self, thing: u32, number: u32) -> Result<(), AllocError> {
         if let Some(list) = self.lists.get_mut(thing as usize) {
             list.push(number)?;
@@ -26,7 +26,7 @@ impl Lists {
         Ok(())
     }
 
-    /// The list of a thing; empty where there is no such thing.
+    /// Returns the list of `thing`; empty where there is no such thing.
     pub fn of(&self, thing: u32) -> &[u32] {
         match self.lists.get(thing as usize) {
             Some(list) => list.as_slice(),
@@ -35,12 +35,12 @@ impl Lists {
     }
 }
 
-/// The number of the entries of a list, or the greatest word where that is none.
+/// Returns the number of the entries of `list`, or the greatest word where it has more.
 pub fn count<T>(list: &[T]) -> u32 {
     list.len().min(u32::MAX as usize) as u32
 }
 
-/// An entry of a list; 0 past its end.
+/// Returns the entry of `list` at `place`; 0 past its end.
 pub fn number_at(list: &[u32], place: usize) -> u32 {
     match list.get(place) {
         Some(number) => *number,
@@ -48,7 +48,7 @@ pub fn number_at(list: &[u32], place: usize) -> u32 {
     }
 }
 
-/// Adds to an entry of a list, where there is one.
+/// Adds `by` to the entry of `list` at `place`, where there is one, up to the greatest word.
 pub fn raise(list: &mut [u32], place: usize, by: u32) {
     if let Some(number) = list.get_mut(place) {
         *number = number.saturating_add(by);

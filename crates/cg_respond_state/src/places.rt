@@ -24,7 +24,7 @@ pub struct Places {
 }
 
 impl Places {
-    /// None of so many nodes stands on one of so many units.
+    /// Returns places at which none of `nodes` nodes stands on one of `units` units, at the interval `ii`.
     pub fn new(alloc: Global, nodes: usize, units: usize, ii: u32) -> Result<Places, AllocError> {
         let slots = units.saturating_mul(ii as usize);
         Ok(Places {
@@ -35,7 +35,7 @@ impl Places {
         })
     }
 
-    /// Where a node stands, if it does.
+    /// Returns where `node` stands, if it does.
     pub fn at(&self, node: u32) -> Option<Place> {
         match self.places.get(node as usize) {
             Some(place) => *place,
@@ -43,13 +43,13 @@ impl Places {
         }
     }
 
-    /// The number of a unit's slot.
+    /// Returns the number of the slot of the unit in which `place` is.
     fn entry(&self, place: Place) -> usize {
         let first = (place.unit as usize).saturating_mul(self.ii as usize);
         first.saturating_add(slot(self.ii, place.time) as usize)
     }
 
-    /// Puts a node that is lifted somewhere.
+    /// Puts `node`, which is lifted, at `place`.
     pub fn put(&mut self, node: u32, place: Place) {
         let entry = self.entry(place);
         raise(&mut self.counts, entry, 1);
@@ -58,7 +58,7 @@ impl Places {
         }
     }
 
-    /// Lifts a node.
+    /// Lifts `node`.
     pub fn lift(&mut self, node: u32) {
         if let Some(place) = self.at(node) {
             let entry = self.entry(place);
@@ -71,14 +71,14 @@ impl Places {
         }
     }
 
-    /// What it costs to stand there.
+    /// Returns what it costs to stand at `place`.
     pub fn price(&self, place: Place) -> u32 {
         let entry = self.entry(place);
         let history = number_at(self.histories.as_slice(), entry);
         price_of(history, number_at(self.counts.as_slice(), entry))
     }
 
-    /// Whether another node stands in the unit's slot where a node stands.
+    /// Checks whether another node stands in the unit's slot where `node` stands.
     pub fn is_shared(&self, node: u32) -> bool {
         match self.at(node) {
             Some(place) => number_at(self.counts.as_slice(), self.entry(place)) > 1,
@@ -86,7 +86,7 @@ impl Places {
         }
     }
 
-    /// By how many the nodes are more than one in a unit's slot, over all.
+    /// Returns by how many the nodes are more than one in a unit's slot, over all.
     pub fn excess(&self) -> u32 {
         let mut sum: u32 = 0;
         for count in &self.counts {
@@ -95,7 +95,7 @@ impl Places {
         sum
     }
 
-    /// How many nodes stand nowhere.
+    /// Counts the nodes that stand nowhere.
     pub fn missing(&self) -> u32 {
         let mut sum: u32 = 0;
         for place in &self.places {
@@ -106,7 +106,7 @@ impl Places {
         sum
     }
 
-    /// The least time of a node, 0 where none stands anywhere.
+    /// Returns the least time of a node, 0 where none stands anywhere.
     pub fn least_time(&self) -> u32 {
         let mut least = None;
         for place in &self.places {
@@ -122,7 +122,7 @@ impl Places {
         }
     }
 
-    /// Makes a slot dearer where several nodes begin in it.
+    /// Makes slot number `entry` dearer where several nodes begin in it.
     fn age_at(&mut self, entry: usize) {
         if number_at(self.counts.as_slice(), entry) > 1 {
             raise(&mut self.histories, entry, AGE);
@@ -135,7 +135,7 @@ impl Places {
     }
 }
 
-/// A place for none of so many nodes.
+/// Returns no place for each of `nodes` nodes.
 fn nowhere(alloc: Global, nodes: usize) -> Result<Vec<Option<Place>>, AllocError> {
     let mut places = Vec::new(alloc);
     for _ in 0..nodes {
@@ -144,13 +144,13 @@ fn nowhere(alloc: Global, nodes: usize) -> Result<Vec<Option<Place>>, AllocError
     Ok(places)
 }
 
-/// What a slot costs by its history and the nodes in it.
+/// Returns what a slot costs by its `history` and the `count` of nodes in it.
 fn price_of(history: u32, count: u32) -> u32 {
     let each = history.saturating_add(BASE).saturating_mul(FACTOR);
     history.saturating_add(each.saturating_mul(count))
 }
 
-/// The sooner of a time and that of a place, where there are both.
+/// Returns the sooner of the time `least` and that of `place`, where there are both; else the one there is.
 fn sooner(least: Option<u32>, place: Option<Place>) -> Option<u32> {
     match (least, place) {
         (Some(time), Some(place)) => Some(time.min(place.time)),

@@ -12,7 +12,8 @@ use cg_respond_prices::Wiring;
 use cg_task::Task;
 use std::alloc::{AllocError, Global};
 
-/// Intervals from time 0 to the origin, from which the times of an opening count: so many may a node go back.
+/// The number of intervals from time 0 to the origin, from which the times of an opening count: as far may a node go
+/// back.
 const ORIGIN: u32 = 1 << 20;
 
 /// How many intervals the longest routes take.
@@ -73,7 +74,7 @@ pub struct Problem {
 }
 
 impl Problem {
-    /// The problem that a task poses.
+    /// Returns the problem that `task` poses.
     pub fn new(alloc: Global, task: &Task) -> Result<Problem, AllocError>
         ensures { IfOk result (λ p. p.ii ≡ task.now.ii) }
     {
@@ -105,64 +106,65 @@ impl Problem {
         })
     }
 
-    /// The slot of a time.
+    /// Returns the slot of `time`.
     pub fn slot(&self, time: u32) -> u32 {
         slot(self.ii, time)
     }
 
-    /// The cycles of some turns.
+    /// Returns the number of cycles of `distance` turns.
     pub fn turns(&self, distance: u32) -> u32 {
         self.ii.saturating_mul(distance)
     }
 
-    /// The greatest number of cycles that a route may take.
+    /// Returns the greatest number of cycles that a route may take.
     pub fn reach(&self) -> u32 {
         let long = spanned(self.ii, MOST_INTERVALS, MORE_CYCLES);
         let wide = spanned(self.ii, WIDER_INTERVALS, WIDER_CYCLES);
         long.min(wide.saturating_add(self.wiring.diameter()))
     }
 
-    /// The time from which a node may begin at the earliest, counted from the origin.
+    /// Returns the time from which `node` may begin at the earliest, counted from the origin.
     pub fn earliest(&self, node: u32) -> u32 {
         let early = number_at(self.early.as_slice(), node as usize);
         early.saturating_add(self.ii.saturating_mul(ORIGIN))
     }
 
-    /// The least latency of a node's operation.
+    /// Returns the least latency of the operation of `node`.
     pub fn least_latency(&self, node: u32) -> u32 {
         number_at(self.quickest.as_slice(), node as usize)
     }
 
-    /// A data edge.
+    /// Returns data edge number `edge`.
     pub fn edge(&self, edge: u32) -> Option<DataEdge> {
         self.edges.get(edge as usize).copied()
     }
 
-    /// A unit.
+    /// Returns unit number `unit`.
     pub fn host(&self, unit: u32) -> Option<Host> {
         self.hosts.get(unit as usize).copied()
     }
 
-    /// When the value of a data edge leaves the unit of its source. None where that isn't placed.
+    /// Returns when the value of `edge` leaves the unit of its source. None where that isn't placed.
     pub fn leaves(&self, places: &Places, edge: DataEdge) -> Option<u32> {
         let place = places.at(edge.source)?;
         let host = self.host(place.unit)?;
         Some(place.time.saturating_add(host.latency))
     }
 
-    /// When it is to be at its target, in the source's turn. None where the target isn't placed.
+    /// Returns when the value of `edge` is to be at its target, in the source's turn. None where the target isn't
+    /// placed.
     pub fn arrives(&self, places: &Places, edge: DataEdge) -> Option<u32> {
         let place = places.at(edge.target)?;
         Some(place.time.saturating_add(self.turns(edge.distance)))
     }
 }
 
-/// So many intervals and so many cycles.
+/// Returns the cycles of `intervals` intervals of `ii` cycles, and `cycles` more.
 fn spanned(ii: u32, intervals: u32, cycles: u32) -> u32 {
     ii.saturating_mul(intervals).saturating_add(cycles)
 }
 
-/// The slot of a time at an interval.
+/// Returns the slot of `time` at the interval `ii`.
 pub fn slot(ii: u32, time: u32) -> u32 {
     time.checked_rem(ii).unwrap_or(0)
 }
@@ -174,7 +176,7 @@ enum End {
     Target,
 }
 
-/// All data edges.
+/// Returns all data edges.
 fn data_edges(alloc: Global, kernel: &Kernel) -> Result<Vec<DataEdge>, AllocError> {
     let mut edges = Vec::new(alloc);
     let mut number: u32 = 0;
@@ -185,7 +187,7 @@ fn data_edges(alloc: Global, kernel: &Kernel) -> Result<Vec<DataEdge>, AllocErro
     Ok(edges)
 }
 
-/// Adds the data edges into a node.
+/// Adds the data edges into `node`, whose number is `number`.
 fn add_edges(edges: &mut Vec<DataEdge>, node: &Node, number: u32) -> Result<(), AllocError> {
     let mut arg: u32 = 0;
     for operand in node.operands.as_slice() {
@@ -202,7 +204,7 @@ fn add_edges(edges: &mut Vec<DataEdge>, node: &Node, number: u32) -> Result<(), 
     Ok(())
 }
 
-/// The data edges that have each node for that end.
+/// Returns the data edges that have each node for the end `end`.
 fn ends_by(alloc: Global, nodes: u32, edges: &[DataEdge], end: End) -> Result<Lists, AllocError> {
     let mut lists = Lists::new(alloc, nodes)?;
     let mut number: u32 = 0;
@@ -218,7 +220,7 @@ fn ends_by(alloc: Global, nodes: u32, edges: &[DataEdge], end: End) -> Result<Li
     Ok(lists)
 }
 
-/// The order edges of each node; one from a node to itself stands there once.
+/// Returns the order edges of each node; one from a node to itself stands there once.
 fn ties(alloc: Global, nodes: u32, order: &[OrderEdge]) -> Result<Lists, AllocError> {
     let mut ties = Lists::new(alloc, nodes)?;
     let mut number: u32 = 0;
@@ -232,7 +234,7 @@ fn ties(alloc: Global, nodes: u32, order: &[OrderEdge]) -> Result<Lists, AllocEr
     Ok(ties)
 }
 
-/// The least latency of each node's operation.
+/// Returns the least latency of each node's operation.
 fn quickest(alloc: Global, arch: &Arch, kernel: &Kernel) -> Result<Vec<u32>, AllocError> {
     let mut quickest = Vec::new(alloc);
     for node in kernel.nodes() {

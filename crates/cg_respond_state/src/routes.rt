@@ -42,7 +42,7 @@ struct Ends {
 }
 
 impl Routes {
-    /// No routes.
+    /// Returns routes of which none is there yet.
     pub fn new(alloc: Global, problem: &Problem) -> Result<Routes, AllocError> {
         let count = problem.edges.len();
         Ok(Routes {
@@ -53,24 +53,24 @@ impl Routes {
         })
     }
 
-    /// The route of an edge, if it has one.
+    /// Returns the route of `edge`, if it has one.
     pub fn route(&self, edge: u32) -> Option<&[Stand]> {
         route_in(&self.routes, edge)
     }
 
-    /// What an edge costs that has no route.
+    /// Returns what `edge` costs where it has no route.
     pub fn penalty(&self, edge: u32) -> u32 {
         number_at(self.histories.as_slice(), edge as usize).saturating_add(PENALTY)
     }
 
-    /// Takes the route of an edge away, if it has one.
+    /// Takes the route of `edge` away, if it has one.
     pub fn rip(&mut self, problem: &Problem, edge: u32) {
         if let Some(facts) = problem.edge(edge) {
             self.release(facts.source, edge);
         }
     }
 
-    /// Takes the route of an edge away with its claims.
+    /// Takes the route of `edge` away with its claims, which are those of `source`.
     fn release(&mut self, source: u32, edge: u32) {
         if let Some(route) = self.take(edge) {
             for stand in &route {
@@ -79,7 +79,7 @@ impl Routes {
         }
     }
 
-    /// Takes the route of an edge out.
+    /// Takes the route of `edge` out.
     fn take(&mut self, edge: u32) -> Option<Vec<Stand>> {
         match self.routes.get_mut(edge as usize) {
             Some(route) => route.take(),
@@ -87,7 +87,7 @@ impl Routes {
         }
     }
 
-    /// Gives a route to an edge without one.
+    /// Gives `route` to `edge`, which has none, and claims its places for `source`.
     fn put(&mut self, source: u32, edge: u32, route: Vec<Stand>) -> Result<(), AllocError> {
         for stand in &route {
             self.occupancy.claim(source, stand.resource, stand.time)?;
@@ -98,8 +98,8 @@ impl Routes {
         Ok(())
     }
 
-    /// Finds the least prices from where a node's value is, from the time on at which it leaves the unit; with a target
-    /// only for what can reach that port in the last layer.
+    /// Finds the least prices from where a node's value is, from the time on at which it leaves the unit, up to the
+    /// layer `last`; with a `target` only for what can reach that port in the last layer.
     pub fn forward(
         &mut self,
         problem: &Problem,
@@ -116,14 +116,14 @@ impl Routes {
         Ok(())
     }
 
-    /// Makes the route of an edge free.
+    /// Makes the route of `edge` free.
     fn lay(&mut self, edge: u32, start: u32, last: u32) {
         if let Some(route) = route_in(&self.routes, edge) {
             self.layers.lay(&self.occupancy, start, last, route);
         }
     }
 
-    /// Finds the least prices to a port at a time.
+    /// Finds the least prices to `port` at the time `end`, up to the layer `last`.
     pub fn backward(
         &mut self,
         problem: &Problem,
@@ -135,12 +135,12 @@ impl Routes {
             .backward(&self.occupancy, &problem.wiring, port, end, last)
     }
 
-    /// The least price that was found for a resource in a layer.
+    /// Returns the least price that was found for `resource` in `layer`.
     pub fn price(&self, layer: u32, resource: u32) -> u32 {
         self.layers.price(layer, resource)
     }
 
-    /// Routes an edge without a route, and gives what the route costs; none where there is no route.
+    /// Routes `edge`, which has no route, and returns what the route costs; None where there is no route.
     pub fn connect(
         &mut self,
         alloc: Global,
@@ -154,7 +154,7 @@ impl Routes {
         }
     }
 
-    /// Routes an edge between its ends.
+    /// Routes `edge` between its ends `ends`, and returns what the route costs; None where there is no route.
     fn connect_ends(
         &mut self,
         alloc: Global,
@@ -182,7 +182,7 @@ impl Routes {
         Ok(Some(price))
     }
 
-    /// Whether an edge has no route, or one of which a place is claimed twice.
+    /// Checks whether `edge` has no route, or one of which a place is claimed twice.
     pub fn is_bad(&self, edge: u32) -> bool {
         match self.route(edge) {
             Some(route) => is_crossed(&self.occupancy, route),
@@ -190,12 +190,12 @@ impl Routes {
         }
     }
 
-    /// The claims above one, over all places.
+    /// Returns the claims above one, over all places.
     pub fn excess(&self) -> u32 {
         self.occupancy.excess()
     }
 
-    /// How many edges have no route.
+    /// Counts the edges that have no route.
     pub fn missing(&self) -> u32 {
         let mut sum: u32 = 0;
         for route in &self.routes {
@@ -214,7 +214,7 @@ impl Routes {
         }
     }
 
-    /// Makes an edge without a route dearer.
+    /// Makes `edge` dearer where it has no route.
     fn age_at(&mut self, edge: usize) {
         if is_missing(&self.routes, edge) {
             raise(&mut self.histories, edge, PENALTY_AGE);
@@ -230,7 +230,7 @@ impl Routes {
         self.occupancy.clear();
     }
 
-    /// Drops a route whose claims go too.
+    /// Drops the route of `edge`, whose claims go too.
     fn drop_at(&mut self, edge: usize) {
         if let Some(route) = self.routes.get_mut(edge) {
             *route = None;
@@ -238,7 +238,7 @@ impl Routes {
     }
 }
 
-/// The route of an edge, if it has one.
+/// Returns the route of `edge`, if it has one.
 fn route_in(routes: &[Option<Vec<Stand>>], edge: u32) -> Option<&[Stand]> {
     match routes.get(edge as usize) {
         Some(Some(route)) => Some(route.as_slice()),
@@ -246,7 +246,7 @@ fn route_in(routes: &[Option<Vec<Stand>>], edge: u32) -> Option<&[Stand]> {
     }
 }
 
-/// Whether an edge has no route.
+/// Checks whether `edge` has no route.
 fn is_missing(routes: &[Option<Vec<Stand>>], edge: usize) -> bool {
     match routes.get(edge) {
         Some(route) => route.is_none(),
@@ -254,7 +254,7 @@ fn is_missing(routes: &[Option<Vec<Stand>>], edge: usize) -> bool {
     }
 }
 
-/// Whether a place of a route is claimed twice.
+/// Checks whether a place of `route` is claimed twice.
 fn is_crossed(occupancy: &Occupancy, route: &[Stand]) -> bool {
     for stand in route {
         if occupancy.is_shared(stand.resource, stand.time) {
@@ -264,7 +264,7 @@ fn is_crossed(occupancy: &Occupancy, route: &[Stand]) -> bool {
     false
 }
 
-/// No route for each of so many edges.
+/// Returns no route for each of `edges` edges.
 fn unrouted(alloc: Global, edges: usize) -> Result<Vec<Option<Vec<Stand>>>, AllocError> {
     let mut routes = Vec::new(alloc);
     for _ in 0..edges {
@@ -273,7 +273,7 @@ fn unrouted(alloc: Global, edges: usize) -> Result<Vec<Option<Vec<Stand>>>, Allo
     Ok(routes)
 }
 
-/// Where and when the value of a data edge leaves the unit of its source. None where that isn't placed.
+/// Returns where and when the value of `edge` leaves the unit of its source. None where that isn't placed.
 pub fn leaving_of(problem: &Problem, places: &Places, edge: DataEdge) -> Option<Leaving> {
     let host = problem.host(places.at(edge.source)?.unit)?;
     Some(Leaving {
@@ -283,7 +283,7 @@ pub fn leaving_of(problem: &Problem, places: &Places, edge: DataEdge) -> Option<
     })
 }
 
-/// The ends of an edge whose nodes are placed.
+/// Returns the ends of `edge`, where its nodes are placed.
 fn ends_of(problem: &Problem, places: &Places, edge: u32) -> Option<Ends> {
     let facts = problem.edge(edge)?;
     let to = problem.host(places.at(facts.target)?.unit)?;

@@ -18,7 +18,7 @@ pub struct State {
 }
 
 impl State {
-    /// No node stands anywhere.
+    /// Returns a state in which no node stands anywhere.
     pub fn new(alloc: Global, problem: &Problem) -> Result<State, AllocError> {
         let nodes = problem.nodes as usize;
         Ok(State {
@@ -28,12 +28,12 @@ impl State {
         })
     }
 
-    /// What an order edge costs that is violated.
+    /// Returns what the order edge `tie` costs where it is violated.
     pub fn tie_penalty(&self, tie: u32) -> u32 {
         number_at(self.histories.as_slice(), tie as usize).saturating_add(PENALTY)
     }
 
-    /// Whether an order edge is violated by nodes that are placed.
+    /// Checks whether the order edge `tie` is violated by nodes that are placed.
     pub fn is_broken(&self, problem: &Problem, tie: u32) -> bool {
         match problem.order.get(tie as usize) {
             None => false,
@@ -46,7 +46,7 @@ impl State {
         }
     }
 
-    /// Lifts a node, with the routes of its edges.
+    /// Lifts `node`, with the routes of its edges.
     pub fn lift(&mut self, problem: &Problem, node: u32) {
         for edge in problem.ins.of(node) {
             self.routes.rip(problem, *edge);
@@ -57,7 +57,7 @@ impl State {
         self.places.lift(node);
     }
 
-    /// Puts a node that is lifted somewhere, without routes.
+    /// Puts `node`, which is lifted, at `place`, without routes.
     pub fn put(&mut self, node: u32, place: Place) {
         self.places.put(node, place);
     }
@@ -71,7 +71,7 @@ impl State {
         }
     }
 
-    /// Makes an order edge dearer where it is violated.
+    /// Makes the order edge `tie` dearer where it is violated.
     fn age_at(&mut self, problem: &Problem, tie: usize) {
         if self.is_broken(problem, tie.min(u32::MAX as usize) as u32) {
             raise(&mut self.histories, tie, PENALTY_AGE);
@@ -89,7 +89,8 @@ impl State {
     }
 }
 
-/// Whether a node that begins some cycles after a time begins less than a cycle after another one.
+/// Checks whether a node that begins `cycles` cycles after `time` begins less than a cycle after one that begins at
+/// `other`.
 pub fn is_before(time: u32, cycles: u32, other: u32) -> bool {
     time.saturating_add(cycles) < other.saturating_add(1)
 }

@@ -126,7 +126,7 @@ pub record IsEntry (S : Sought) (k t q : ℕ) (rest : ℕ → Option Step) (e : 
 abbrev pub IsBelow : ℕ → Layer → Type 0
 IsBelow high layer = (q : ℕ) (s : Step) → at layer q ≡ Some s → s.price ≤ high
 
--- no price is beyond that many links
+-- no price is beyond that of `links` links
 abbrev pub IsWithin : ℕ → Layer → Type 0
 IsWithin links layer = IsBelow (links * 2 ^ 52) layer
 

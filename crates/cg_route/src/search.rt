@@ -120,7 +120,7 @@ impl<'s, 'a> Search<'s, 'a> {
         }
     }
 
-    /// Offers them the way on through it, where there is one and a link into it takes that many cycles.
+    /// Offers them the way on through `resource`, where there is one and a link into it takes `delay` cycles.
     fn pass(
         &self,
         delay: u32,

@@ -10,7 +10,7 @@ fn name(alloc: Global, text: &str) -> Result<Name, AllocError> {
     Ok(Name::new(String::from_str(alloc, text)?))
 }
 
-/// Names that are parted by blanks.
+/// Returns the names in `text`, which are parted by blanks.
 fn names(alloc: Global, text: &str) -> Result<Names, AllocError> {
     let mut names = Vec::new(alloc);
     for word in text.split(' ') {
@@ -19,7 +19,8 @@ fn names(alloc: Global, text: &str) -> Result<Names, AllocError> {
     Ok(Names::new(names))
 }
 
-/// A register and a unit of two ports, each driven by both, where the register has this name and is driven by these too.
+/// Returns a register and a unit of two ports, each driven by both, where the register has the name `register` and is
+/// driven by `drivers`.
 fn one_unit(alloc: Global, register: &str, drivers: &str) -> Result<Parts, AllocError> {
     let ports = vec![in alloc; names(alloc, "u_o r")?, names(alloc, "u_o r")?]?;
     let elements = vec![in alloc;
@@ -43,8 +44,8 @@ fn one_unit(alloc: Global, register: &str, drivers: &str) -> Result<Parts, Alloc
     })
 }
 
-/// Whether the flat text, the length of a slot and the order of evaluation are those of one unit: three selects of 2 bits,
-/// and a unit of 6 + 16 + 4 + 32 + 2 * 132.
+/// Checks whether the flat text, the length of a slot and the order of evaluation of `arch` are those of one unit: the
+/// text `wanted`, three selects of 2 bits, and a unit of 6 + 16 + 4 + 32 + 2 * 132.
 pub(crate) fn text_and_slot_of_one_unit(
     alloc: Global,
     arch: &Arch,
@@ -54,13 +55,13 @@ pub(crate) fn text_and_slot_of_one_unit(
     Ok(text.as_slice() == wanted && arch.slot_bits() == 328 && arch.order().len() == 4)
 }
 
-/// Whether a register of that name, driven by these, is refused for its name.
+/// Checks whether a register of the name `register`, driven by `drivers`, is refused for its name.
 fn is_bad_name(alloc: Global, register: &str, drivers: &str) -> Result<bool, AllocError> {
     let fault = validate(alloc, &one_unit(alloc, register, drivers)?).err();
     Ok(matches!(fault, Some(ArchFault::BadName(NamePlace::Element(0)))))
 }
 
-/// Whether names that no architecture file gives are refused.
+/// Checks whether names that no architecture file gives are refused.
 pub(crate) fn names_that_no_file_gives(alloc: Global) -> Result<bool, AllocError> {
     let empty = is_bad_name(alloc, "", "u_o")?;
     let digit = is_bad_name(alloc, "9r", "u_o")?;

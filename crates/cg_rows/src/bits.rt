@@ -13,7 +13,7 @@ use std::alloc::{AllocError, Global};
 /// The bits of a byte, the most significant one first.
 const BITS: [u8; 8] = [0x80, 0x40, 0x20, 0x10, 0x08, 0x04, 0x02, 0x01];
 
-/// The bytes with one bit of one byte turned over.
+/// Returns `bytes` with the bit `bit` of the byte at `place` turned over.
 fn turned(alloc: Global, bytes: &[u8], place: usize, bit: u8) -> Result<Vec<u8>, AllocError> {
     let mut copy = Vec::new(alloc);
     for (other, byte) in bytes.iter().enumerate() {
@@ -22,7 +22,8 @@ fn turned(alloc: Global, bytes: &[u8], place: usize, bit: u8) -> Result<Vec<u8>,
     Ok(copy)
 }
 
-/// What so many turns of a canonical configuration leave, as the bytes of an image; none where they can't be run.
+/// Runs `turns` turns of the canonical configuration `config` from `image`, and returns what they leave, as the bytes
+/// of an image; None where they can't be run.
 pub(crate) fn left_by<C: Contexts>(
     alloc: Global,
     arch: &Arch,
@@ -43,7 +44,7 @@ pub(crate) fn left_by<C: Contexts>(
     }
 }
 
-/// Whether the bytes of a configuration of two slots that are off are these: an interval of 2, one stage, and zeros.
+/// Checks whether the bytes of a configuration of two slots that are off are an interval of 2, one stage, and zeros.
 pub(crate) fn two_slots_that_are_off(alloc: Global, arch: &Arch) -> Result<bool, AllocError> {
     if arch.contexts() < 2 {
         return Ok(false);
@@ -55,7 +56,7 @@ pub(crate) fn two_slots_that_are_off(alloc: Global, arch: &Arch) -> Result<bool,
     Ok(write_bits(alloc, arch, &config)? == bytes)
 }
 
-/// Whether all first parts of the bytes are answered to be truncated, by tables and view.
+/// Checks whether tables and view answer of all first parts of `bytes` that they are truncated.
 pub(crate) fn cut_bytes_are_truncated(
     alloc: Global,
     arch: &Arch,
@@ -71,7 +72,7 @@ pub(crate) fn cut_bytes_are_truncated(
     Ok(true)
 }
 
-/// Whether tables and view refuse these bytes alike, or both take them, write them back and run five turns alike.
+/// Checks whether tables and view refuse `bytes` alike, or both take them, write them back and run five turns alike.
 fn answer_alike(alloc: Global, arch: &Arch, bytes: &[u8]) -> Result<bool, AllocError> {
     match (read_bits(alloc, arch, bytes), ConfigView::of(arch, bytes)) {
         (Ok(tables), Ok(view)) => leave_alike(alloc, arch, bytes, &tables, &view),
@@ -79,7 +80,7 @@ fn answer_alike(alloc: Global, arch: &Arch, bytes: &[u8]) -> Result<bool, AllocE
     }
 }
 
-/// Whether tables and view are written back and run five turns alike.
+/// Checks whether `tables` and `view` are written back and run five turns alike.
 fn leave_alike(
     alloc: Global,
     arch: &Arch,
@@ -97,7 +98,8 @@ fn leave_alike(
     Ok(written.as_slice() == bytes && left.is_some() && left == other)
 }
 
-/// With each of the bits turned over: how often tables and view don't answer alike, and how many are taken.
+/// Turns each of the bits of `bytes` over, and returns how often tables and view don't answer alike, and how many are
+/// taken.
 pub(crate) fn bits_turned_over(
     alloc: Global,
     arch: &Arch,
@@ -119,7 +121,7 @@ pub(crate) fn bits_turned_over(
     Ok((unlike, taken))
 }
 
-/// Whether a million turns and one are refused, of the array and of the kernel.
+/// Checks whether a million turns and one are refused, of the array and of the kernel.
 pub(crate) fn too_many_turns(
     alloc: Global,
     arch: &Arch,

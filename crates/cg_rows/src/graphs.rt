@@ -4,14 +4,14 @@ use cg_arch::Arch;
 use cg_mrrg::{Link, MNode, Mrrg};
 use std::alloc::{AllocError, Global};
 
-/// A link of so many cycles, at whose other end a node stands.
+/// Returns a link of `delay` cycles, at whose other end the node of `resource` and `slot` stands.
 fn link(resource: u32, slot: u32, delay: u32) -> Link {
     let node = MNode { resource, slot };
     Link { node, delay }
 }
 
-/// Whether the links of one unit at interval 3 are those that its drivers give. The register is 0, the ports are 1 and 2,
-/// and what the unit gives is 3.
+/// Checks whether the links of one unit at interval 3 are those that its drivers give. The register is 0, the ports are
+/// 1 and 2, and what the unit gives is 3.
 pub(crate) fn links_of_one_unit(alloc: Global, arch: &Arch) -> Result<bool, AllocError> {
     let graph = Mrrg::expand(alloc, arch, 3)?;
     if graph.resources() != 4 {

@@ -25,7 +25,7 @@ fn main(rt: HostRuntime) -> io::Result<()> {
     rows(&rt)
 }
 
-/// All rows: those of one unit, and the others.
+/// Prints all rows: those of one unit, and the others.
 fn rows(rt: &(impl Files + Print + AllocGlobal)) -> io::Result<()> {
     let Some(arch) = arch_in(rt, "t1.toml")? else {
         return rt.print("t1.toml is no architecture\n");
@@ -33,7 +33,7 @@ fn rows(rt: &(impl Files + Print + AllocGlobal)) -> io::Result<()> {
     rows_of_one_unit(rt, &arch)
 }
 
-/// The rows that begin with one unit.
+/// Prints the rows that begin with one unit.
 fn rows_of_one_unit(rt: &(impl Files + Print + AllocGlobal), arch: &Arch) -> io::Result<()> {
     let Some(sum) = kernel_in(rt, "sum.json")? else {
         return rt.print("sum.json is no kernel\n");
@@ -42,7 +42,7 @@ fn rows_of_one_unit(rt: &(impl Files + Print + AllocGlobal), arch: &Arch) -> io:
     last_rows(rt, arch)
 }
 
-/// The rows of one unit and the running sum.
+/// Prints the rows of one unit and the running sum.
 fn first_rows(
     rt: &(impl Files + Print + AllocGlobal),
     arch: &Arch,
@@ -54,7 +54,7 @@ fn first_rows(
     rows_of_sum(rt, arch, sum)
 }
 
-/// The rows of two outputs, of moves, of a filter, and of a trial.
+/// Prints the rows of two outputs, of moves, of a filter, and of a trial.
 fn last_rows(rt: &(impl Files + Print + AllocGlobal), arch: &Arch) -> io::Result<()> {
     row_of_outputs(rt, arch)?;
     rows_of_two_units(rt)?;
@@ -62,26 +62,26 @@ fn last_rows(rt: &(impl Files + Print + AllocGlobal), arch: &Arch) -> io::Result
     rows_of_trial(rt)
 }
 
-/// The architecture of a file, where it has one.
+/// Reads the architecture of the file `name`, where it has one.
 fn arch_in(rt: &(impl Files + AllocGlobal), name: &str) -> io::Result<Option<Arch>> {
     let bytes = fs::read(rt, name)?;
     Ok(read_arch(rt.alloc(), bytes.as_slice()).ok())
 }
 
-/// The kernel of a file, where it has one.
+/// Reads the kernel of the file `name`, where it has one.
 fn kernel_in(rt: &(impl Files + AllocGlobal), name: &str) -> io::Result<Option<Kernel>> {
     let bytes = fs::read(rt, name)?;
     Ok(read_kernel(rt.alloc(), bytes.as_slice()).ok())
 }
 
-/// Prints whether a row holds.
+/// Prints whether `row` holds.
 fn say(rt: &(impl Print + AllocGlobal), row: &str, holds: bool) -> io::Result<()> {
     let said = if holds { "holds" } else { "fails" };
     let line = format!(in rt.alloc(); "{row}: {said}\n")?;
     rt.print(line.as_str())
 }
 
-/// Texts of the architecture, the kernel and a mapping.
+/// Prints the rows of texts of the architecture, the kernel and a mapping.
 fn rows_of_texts(
     rt: &(impl Files + Print + AllocGlobal),
     arch: &Arch,
@@ -117,7 +117,7 @@ fn row_of_mapping(
     say(rt, "mapping as text", holds)
 }
 
-/// Bits of configurations, and runs of too many turns.
+/// Prints the rows of bits of configurations, and of runs of too many turns.
 fn rows_of_bits(
     rt: &(impl Files + Print + AllocGlobal),
     arch: &Arch,
@@ -155,7 +155,7 @@ fn row_of_turns(
     say(rt, "too many turns", holds)
 }
 
-/// The graph of one unit, and the least paths in it.
+/// Prints the rows of the graph of one unit, and of the least paths in it.
 fn rows_of_routes(rt: &(impl Print + AllocGlobal), arch: &Arch) -> io::Result<()> {
     let links = graphs::links_of_one_unit(rt.alloc(), arch)?;
     say(rt, "links of one unit", links)?;
@@ -165,7 +165,7 @@ fn rows_of_routes(rt: &(impl Print + AllocGlobal), arch: &Arch) -> io::Result<()
     say(rt, "plain claims of one unit", claims)
 }
 
-/// The running sum on one unit: one node after another, and by the walk.
+/// Prints the rows of the running sum on one unit: one node after another, and by the walk.
 fn rows_of_sum(rt: &(impl Print + AllocGlobal), arch: &Arch, sum: &Kernel) -> io::Result<()> {
     let six = serial(arch, sum) == Some(6);
     say(rt, "running sum one after another", six)?;
@@ -173,7 +173,7 @@ fn rows_of_sum(rt: &(impl Print + AllocGlobal), arch: &Arch, sum: &Kernel) -> io
     say(rt, "running sum at its first places", first)
 }
 
-/// Two outputs on one unit.
+/// Prints the row of two outputs on one unit.
 fn row_of_outputs(rt: &(impl Files + Print + AllocGlobal), arch: &Arch) -> io::Result<()> {
     let Some(outputs) = kernel_in(rt, "outputs.json")? else {
         return rt.print("outputs.json is no kernel\n");
@@ -182,7 +182,7 @@ fn row_of_outputs(rt: &(impl Files + Print + AllocGlobal), arch: &Arch) -> io::R
     say(rt, "two outputs in one slot", two)
 }
 
-/// The rows of two units.
+/// Prints the rows of two units.
 fn rows_of_two_units(rt: &(impl Files + Print + AllocGlobal)) -> io::Result<()> {
     let Some(arch) = arch_in(rt, "two_units.toml")? else {
         return rt.print("two_units.toml is no architecture\n");
@@ -190,7 +190,7 @@ fn rows_of_two_units(rt: &(impl Files + Print + AllocGlobal)) -> io::Result<()> 
     row_of_moves(rt, &arch)
 }
 
-/// Moves of three nodes.
+/// Prints the row of moves of three nodes.
 fn row_of_moves(rt: &(impl Files + Print + AllocGlobal), arch: &Arch) -> io::Result<()> {
     let Some(kernel) = kernel_in(rt, "three.json")? else {
         return rt.print("three.json is no kernel\n");
@@ -199,7 +199,7 @@ fn row_of_moves(rt: &(impl Files + Print + AllocGlobal), arch: &Arch) -> io::Res
     say(rt, "moves of three nodes", holds)
 }
 
-/// The rows of a filter, which one unit doesn't offer.
+/// Prints the rows of a filter, which one unit doesn't offer.
 fn rows_of_filter(rt: &(impl Files + Print + AllocGlobal), small: &Arch) -> io::Result<()> {
     let Some(filter) = kernel_in(rt, "filter.json")? else {
         return rt.print("filter.json is no kernel\n");
@@ -208,7 +208,7 @@ fn rows_of_filter(rt: &(impl Files + Print + AllocGlobal), small: &Arch) -> io::
     rows_of_sixteen_tiles(rt, &filter)
 }
 
-/// The filter on four rows of four tiles.
+/// Prints the rows of the filter on four rows of four tiles.
 fn rows_of_sixteen_tiles(
     rt: &(impl Files + Print + AllocGlobal),
     filter: &Kernel,
@@ -220,7 +220,7 @@ fn rows_of_sixteen_tiles(
     row_of_walks(rt, &arch, filter, 2)
 }
 
-/// The walk of seventy moves at interval 2, and the plain walk beside it.
+/// Prints the row of the walk of seventy moves at interval 2, and the plain walk beside it.
 fn row_of_walks(
     rt: &(impl Print + AllocGlobal),
     arch: &Arch,
@@ -232,13 +232,13 @@ fn row_of_walks(
     say(rt, row.as_str(), alike)
 }
 
-/// The trial of seed 1.
+/// Prints the rows of the trial of seed 1.
 fn rows_of_trial(rt: &(impl Print + AllocGlobal)) -> io::Result<()> {
     let trial = trial_of(rt.alloc(), 1)?;
     rows_of_parts(rt, &trial.parts, trial.bits.as_slice())
 }
 
-/// Its parts, its bits, and the images that the array and the turns leave.
+/// Prints the rows of the trial's parts, its bits, and the images that the array and the turns leave.
 fn rows_of_parts(
     rt: &(impl Print + AllocGlobal),
     parts: &TrialParts,
@@ -272,7 +272,7 @@ fn row_of_bytes(rt: &(impl Print + AllocGlobal), bits: &[u8]) -> io::Result<()> 
     rt.print(line.as_str())
 }
 
-/// The digest of an image's bytes.
+/// Prints the digest of the bytes of `image` under the name `row`.
 fn row_of_digest(
     rt: &(impl Print + AllocGlobal),
     row: &str,

@@ -22,7 +22,7 @@ fn at(node: u32, unit: u32, time: u32) -> Move {
     }
 }
 
-/// Whether both placements have these counts.
+/// Checks whether both placements have the unit excess `excess` and the number of order violations `violations`.
 fn count(kept: &Placement, plain: &PlainPlacement, excess: u32, violations: u32) -> bool {
     kept.unit_excess() == excess
         && plain.unit_excess() == excess
@@ -30,7 +30,7 @@ fn count(kept: &Placement, plain: &PlainPlacement, excess: u32, violations: u32)
         && plain.order_violations() == violations
 }
 
-/// Makes the move of these words in both placements, and gives it with the move that undoes it.
+/// Makes the move of the words `w1`, `w2` and `w3` in both placements, and returns it with the move that undoes it.
 fn step(kept: &mut Placement, plain: &mut PlainPlacement, w1: u32, w2: u32, w3: u32) -> (Move, Move)
     requires nodes { 0 < size kept.old.kernel }
     requires same { plain.old ≡ kept.old }
@@ -43,7 +43,7 @@ fn step(kept: &mut Placement, plain: &mut PlainPlacement, w1: u32, w2: u32, w3: 
     (change, kept.apply(change))
 }
 
-/// Makes a move in both.
+/// Makes the move `change`, which undoes another, in both placements.
 fn undo(kept: &mut Placement, plain: &mut PlainPlacement, change: Move)
     requires moves { IsMove kept.old change }
     requires same { plain.old ≡ kept.old }
@@ -54,7 +54,7 @@ fn undo(kept: &mut Placement, plain: &mut PlainPlacement, change: Move)
     plain.undo(change);
 }
 
-/// Makes two moves, of which the first is undone, and tells whether each step was as it should be.
+/// Makes two moves, of which the first is undone, and checks whether each step was as it should be.
 fn are_right_steps(kept: &mut Placement, plain: &mut PlainPlacement) -> bool
     requires nodes { 0 < size kept.old.kernel }
     requires same { plain.old ≡ kept.old }
@@ -82,7 +82,8 @@ fn are_right_steps(kept: &mut Placement, plain: &mut PlainPlacement) -> bool
     second == at(2, 0, 5) && last == at(2, 0, 2) && count(kept, plain, 0, 1)
 }
 
-/// Starts both placements at an interval of 2, with earliest times of 0, 0 and 2, and tells whether the moves are right.
+/// Starts both placements at an interval of 2, with earliest times of 0, 0 and 2, and checks whether the moves are
+/// right.
 pub(crate) fn moves_of_three_nodes(
     alloc: Global,
     arch: &Arch,

@@ -7,7 +7,7 @@ use cg_claims::{ClaimUse, MNode, Mrrg, Usage};
 use cg_route::least_path;
 use std::alloc::{AllocError, Global};
 
-/// Whether that path was found.
+/// Checks whether `path` was found.
 fn is(found: Option<Vec<u32>>, path: &[u32]) -> bool {
     match found {
         Some(found) => found.as_slice() == path,
@@ -15,7 +15,7 @@ fn is(found: Option<Vec<u32>>, path: &[u32]) -> bool {
     }
 }
 
-/// A claim of a source at time 2 where its path begins.
+/// Returns a claim of `source` at time 2 where its path begins.
 fn first(source: u32) -> ClaimUse {
     ClaimUse {
         source,
@@ -25,7 +25,7 @@ fn first(source: u32) -> ClaimUse {
     }
 }
 
-/// The paths of a value alone. The register is 0, the ports are 1 and 2, and what the unit gives is 3.
+/// Checks the paths of a value alone. The register is 0, the ports are 1 and 2, and what the unit gives is 3.
 fn alone(alloc: Global, graph: &Mrrg, usage: &Usage) -> Result<bool, AllocError>
     requires arch { graph.now.arch ≡ usage.now.arch }
     requires interval { graph.now.interval ≡ usage.now.interval }
@@ -49,7 +49,7 @@ fn alone(alloc: Global, graph: &Mrrg, usage: &Usage) -> Result<bool, AllocError>
     )
 }
 
-/// It goes to the other port by the register in which it is, so that the last link alone costs 1.
+/// Checks that the value goes to the other port by the register in which it is, so that the last link alone costs 1.
 fn shared(alloc: Global, graph: &Mrrg, usage: &mut Usage) -> Result<bool, AllocError>
     requires arch { graph.now.arch ≡ usage.old.arch }
     requires interval { graph.now.interval ≡ usage.old.interval }
@@ -76,7 +76,7 @@ fn shared(alloc: Global, graph: &Mrrg, usage: &mut Usage) -> Result<bool, AllocE
     )
 }
 
-/// Another value is on what the unit gives, in the same slot.
+/// Checks the table where another value is on what the unit gives, in the same slot.
 fn crowded(usage: &mut Usage) -> Result<bool, AllocError>
     requires three { usage.old.interval ≡ 3 }
     requires four { length usage.old.arch.resources ≡ 4 }
@@ -98,7 +98,7 @@ fn crowded(usage: &mut Usage) -> Result<bool, AllocError>
     Ok(more && usage.excess() == 0)
 }
 
-/// The same in the plain table, where a third value in that slot would pay 8 for each of the two, and 1.
+/// Checks the plain table in that case, where a third value in that slot would pay 8 for each of the two, and 1.
 fn crowded_plainly(usage: &mut PlainUsage) -> Result<bool, AllocError>
     requires three { usage.old.interval ≡ 3 }
     requires four { length usage.old.arch.resources ≡ 4 }
@@ -114,7 +114,7 @@ fn crowded_plainly(usage: &mut PlainUsage) -> Result<bool, AllocError>
     Ok(more && usage.excess() == 0)
 }
 
-/// A value alone in the plain table.
+/// Adds the claims of a value alone to the plain table, and checks that there is no excess.
 fn alone_plainly(usage: &mut PlainUsage) -> Result<bool, AllocError>
     requires three { usage.old.interval ≡ 3 }
     requires four { length usage.old.arch.resources ≡ 4 }
@@ -127,7 +127,7 @@ fn alone_plainly(usage: &mut PlainUsage) -> Result<bool, AllocError>
     Ok(usage.excess() == 0)
 }
 
-/// Both.
+/// Checks the plain table with a value alone, and with another one beside it.
 fn claims_plainly(usage: &mut PlainUsage) -> Result<bool, AllocError>
     requires three { usage.old.interval ≡ 3 }
     requires four { length usage.old.arch.resources ≡ 4 }
@@ -138,7 +138,7 @@ fn claims_plainly(usage: &mut PlainUsage) -> Result<bool, AllocError>
     Ok(alone && crowded)
 }
 
-/// Whether the paths of one unit at interval 3 are those that its prices give, and its table has their claims.
+/// Checks whether the paths of one unit at interval 3 are those that its prices give, and its table has their claims.
 pub(crate) fn paths_of_one_unit(alloc: Global, arch: &Arch) -> Result<bool, AllocError> {
     let graph = Mrrg::expand(alloc, arch, 3)?;
     if graph.resources() != 4 {
@@ -151,7 +151,7 @@ pub(crate) fn paths_of_one_unit(alloc: Global, arch: &Arch) -> Result<bool, Allo
     Ok(first && second && third)
 }
 
-/// The same of the plain table.
+/// Checks whether the plain table of one unit at interval 3 has the claims of these paths.
 pub(crate) fn plain_claims_of_one_unit(alloc: Global, arch: &Arch) -> Result<bool, AllocError> {
     let graph = Mrrg::expand(alloc, arch, 3)?;
     if graph.resources() != 4 {

@@ -6,12 +6,12 @@ use cg_mapping::{MappingFault, print_mapping, read_mapping};
 use cg_model::Kernel;
 use std::alloc::{AllocError, Global};
 
-/// Whether the kernel is printed so.
+/// Checks whether `kernel` is printed as `text`.
 pub(crate) fn prints(alloc: Global, kernel: &Kernel, text: &[u8]) -> Result<bool, AllocError> {
     Ok(print_kernel(alloc, kernel)?.as_slice() == text)
 }
 
-/// Whether the bytes give a mapping that is printed so.
+/// Checks whether `bytes` give a mapping that is printed as `text`.
 pub(crate) fn prints_mapping(
     alloc: Global,
     arch: &Arch,

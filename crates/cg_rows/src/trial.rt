@@ -30,7 +30,7 @@ pub(crate) struct Trial {
     pub(crate) bits: Vec<u8>,
 }
 
-/// The trial of a seed.
+/// Returns the trial of `seed`.
 pub(crate) fn trial_of(alloc: Global, seed: u64) -> Result<Trial, AllocError> {
     let parts = trial_parts(alloc, seed)?;
     laws::enough();
@@ -38,7 +38,7 @@ pub(crate) fn trial_of(alloc: Global, seed: u64) -> Result<Trial, AllocError> {
     Ok(Trial { parts, bits })
 }
 
-/// Whether an operand is the value of that node, so many turns ago, after these words.
+/// Checks whether `operand` is the value of the node `source`, `turns` turns ago, after the initial words `words`.
 fn is_edge(operand: &Operand, source: u32, turns: u32, words: &[u32]) -> bool {
     match operand {
         Operand::Const(_) => false,
@@ -50,7 +50,8 @@ fn is_edge(operand: &Operand, source: u32, turns: u32, words: &[u32]) -> bool {
     }
 }
 
-/// Whether the last node that is drawn shifts `v5` by `v12` of two turns ago, after words that another program computed.
+/// Checks whether the last node that is drawn shifts `v5` by `v12` of two turns ago, after words that another program
+/// computed.
 fn ends_with_shift(kernel: &Kernel) -> bool {
     match kernel.nodes().get(27) {
         Some(node) => match node.operands.as_slice() {
@@ -63,8 +64,8 @@ fn ends_with_shift(kernel: &Kernel) -> bool {
     }
 }
 
-/// Whether the parts are those of seed 1. Of the 2,572 bits of a slot, 96 registers and 12 ports have a select of 7 each, and
-/// 4 units 6 + 16 + 4 + 32 + 3 * 132 each.
+/// Checks whether the parts are those of seed 1. Of the 2,572 bits of a slot, 96 registers and 12 ports have a select
+/// of 7 each, and 4 units 6 + 16 + 4 + 32 + 3 * 132 each.
 pub(crate) fn are_parts_of_seed_1(parts: &TrialParts) -> bool {
     parts.kernel.nodes().len() == 32
         && ends_with_shift(&parts.kernel)
@@ -74,7 +75,7 @@ pub(crate) fn are_parts_of_seed_1(parts: &TrialParts) -> bool {
         && parts.image.memory().len() == 256
 }
 
-/// The bits of the mapping over the hub, at an interval of 64 cycles.
+/// Returns the bits of the mapping over the hub, at an interval of 64 cycles.
 fn hub_bits(alloc: Global, parts: &TrialParts) -> Result<Vec<u8>, AllocError>
     requires { HubEnough parts.now.arch parts.now.kernel 64 }
 {
@@ -82,7 +83,7 @@ fn hub_bits(alloc: Global, parts: &TrialParts) -> Result<Vec<u8>, AllocError>
     emit(alloc, &legal)
 }
 
-/// Whether tables and view take the bits, and say the same of each select and of each field.
+/// Checks whether tables and view take the bits, and say the same of each select and of each field.
 pub(crate) fn reads_alike(alloc: Global, arch: &Arch, bits: &[u8]) -> Result<bool, AllocError> {
     match (read_bits(alloc, arch, bits), ConfigView::of(arch, bits)) {
         (Ok(tables), Ok(view)) => Ok(is_same(arch, &tables, &view)),
@@ -90,7 +91,7 @@ pub(crate) fn reads_alike(alloc: Global, arch: &Arch, bits: &[u8]) -> Result<boo
     }
 }
 
-/// The image that the array leaves, as bytes; none where it can't be run.
+/// Returns the image that the array leaves, as bytes; None where it can't be run.
 pub(crate) fn run_image(
     alloc: Global,
     arch: &Arch,
@@ -103,7 +104,8 @@ pub(crate) fn run_image(
     }
 }
 
-/// The image that the kernel's turns leave, as bytes; none where there are too many or it is too large for a file.
+/// Returns the image that the kernel's turns leave, as bytes; None where there are too many or it is too large for a
+/// file.
 pub(crate) fn turns_image(
     alloc: Global,
     kernel: &Kernel,
@@ -122,7 +124,7 @@ pub(crate) fn turns_image(
     }
 }
 
-/// The SHA-256 of bytes, as text.
+/// Returns the SHA-256 of `bytes`, as text.
 pub(crate) fn digest_text(alloc: Global, bytes: &[u8]) -> Result<String, AllocError>
     ensures { IfOk result (λ s. string_bytes s ≡ encode_lower (sha256 bytes.now)) }
 {

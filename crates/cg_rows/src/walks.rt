@@ -19,7 +19,7 @@ struct Ends<'a> {
     plain: Found<'a>,
 }
 
-/// A request of an interval, a seed and so many moves.
+/// Returns a request of the interval `ii`, the seed `seed` and `moves` moves.
 fn request_of(ii: u32, seed: u64, moves: u32) -> Request
     ensures { result.moves ≡ moves }
 {
@@ -30,7 +30,7 @@ fn request_of(ii: u32, seed: u64, moves: u32) -> Request
     }
 }
 
-/// Makes both walks at the interval that is asked.
+/// Makes both walks at the interval that `request` asks for; None where they can't be made.
 fn walked<'a>(
     alloc: Global,
     arch: &'a Arch,
@@ -55,12 +55,12 @@ fn walked<'a>(
     }
 }
 
-/// Whether two routes are the same.
+/// Checks whether two routes are the same.
 fn is_same_route(a: &Route, b: &Route) -> bool {
     a.node == b.node && a.arg == b.arg && a.path.as_slice() == b.path.as_slice()
 }
 
-/// Whether two mappings are the same.
+/// Checks whether two mappings are the same.
 fn is_same_mapping(a: &Mapping, b: &Mapping) -> bool {
     let routes = b.routes();
     a.ii() == b.ii()
@@ -72,7 +72,7 @@ fn is_same_mapping(a: &Mapping, b: &Mapping) -> bool {
             .all(|(r, s)| is_same_route(r, s))
 }
 
-/// Whether both walks ended alike.
+/// Checks whether both walks ended alike.
 fn are_alike(ends: &Ends) -> bool {
     match (&ends.found, &ends.plain) {
         (Found::Mapped(a, j), Found::Mapped(b, k)) => {
@@ -83,7 +83,8 @@ fn are_alike(ends: &Ends) -> bool {
     }
 }
 
-/// The same, where the walks may be made.
+/// Makes both walks with `moves` moves from `seed` at the interval `ii`, and checks whether they end alike. Returns
+/// false where they can't be made.
 pub(crate) fn end_alike(
     alloc: Global,
     arch: &Arch,
@@ -100,7 +101,7 @@ pub(crate) fn end_alike(
     }
 }
 
-/// Whether a place is on the one unit at that time.
+/// Checks whether `place` is on the one unit at `time`.
 fn is_at(place: Option<&Place>, time: u32) -> bool {
     match place {
         None => false,
@@ -108,7 +109,7 @@ fn is_at(place: Option<&Place>, time: u32) -> bool {
     }
 }
 
-/// Whether a route is to that operand, along that path.
+/// Checks whether `route` goes to operand `arg` of `node`, along `path`.
 fn is_route(route: Option<&Route>, node: u32, arg: u32, path: &[u32]) -> bool {
     match route {
         None => false,
@@ -116,7 +117,8 @@ fn is_route(route: Option<&Route>, node: u32, arg: u32, path: &[u32]) -> bool {
     }
 }
 
-/// Whether it is the running sum's first mapping: one node after another, and the sum of the turn before in the register.
+/// Checks whether `legal` is the running sum's first mapping: one node after another, and the sum of the turn before in
+/// the register.
 fn is_first_sum(legal: &LegalMapping) -> bool {
     let mapping = legal.mapping();
     let places = mapping.places();
@@ -132,7 +134,7 @@ fn is_first_sum(legal: &LegalMapping) -> bool {
         && is_route(routes.get(2), 2, 0, &[3, 1])
 }
 
-/// Whether the running sum at interval 3 is mapped at its start.
+/// Checks whether the running sum at interval 3 is mapped at its start.
 pub(crate) fn maps_sum(alloc: Global, arch: &Arch, kernel: &Kernel) -> Result<bool, AllocError> {
     match walked(alloc, arch, kernel, request_of(3, 7, 0))? {
         None => Ok(false),
@@ -146,7 +148,7 @@ pub(crate) fn maps_sum(alloc: Global, arch: &Arch, kernel: &Kernel) -> Result<bo
     }
 }
 
-/// Whether two nodes that begin in one slot of one unit are left so where no move is made.
+/// Checks whether two nodes that begin in one slot of one unit are left there where no move is made.
 pub(crate) fn leaves_two_in_a_slot(
     alloc: Global,
     arch: &Arch,

@@ -11,7 +11,7 @@ use cg_ending::{File, Outcome, Status, Stop};
 use cg_inputs::arch_in;
 use std::alloc::{AllocError, Global};
 
-/// The text of the architecture that a file gives, under the name `out`.
+/// Returns the outcome of `flat`: the text of the architecture that `file` gives, to be written under the name `out`.
 pub fn flat(alloc: Global, file: &File, out: &str) -> Result<Outcome, Stop>
     ensures { Allows (IsFlat (file_of file.now) out.now) result }
 {
@@ -19,7 +19,7 @@ pub fn flat(alloc: Global, file: &File, out: &str) -> Result<Outcome, Stop>
     flattened(alloc, &arch, out)
 }
 
-/// The text of an architecture, and what the report says of it.
+/// Returns the outcome for `arch`: its text, to be written under `out`, and the report on it.
 fn flattened(alloc: Global, arch: &Arch, out: &str) -> Result<Outcome, Stop>
     ensures { Allows (λ o. o ≡ flattened arch.now out.now) result }
 {
@@ -28,7 +28,7 @@ fn flattened(alloc: Global, arch: &Arch, out: &str) -> Result<Outcome, Stop>
     Ok(Outcome::with_file(alloc, Status::Done, report, out, text)?)
 }
 
-/// How many resources, units and links there are, and the digest of the text.
+/// Returns the report on `arch`: how many resources, units and links it has, and the digest of its text.
 fn flat_report(alloc: Global, arch: &Arch) -> Result<Vec<u8>, AllocError>
     ensures { IfOk result (λ v. v.items ≡ flat_report arch.now) }
 {
@@ -43,7 +43,7 @@ fn flat_report(alloc: Global, arch: &Arch) -> Result<Vec<u8>, AllocError>
     Ok(report.into_bytes())
 }
 
-/// The links into resources: their drivers.
+/// Counts the links into `resources`: their drivers.
 #[tactic(auto, unfolding(cg_model::specs::Array::links))]
 fn count_links(resources: &[Resource]) -> usize
     requires { links resources.now ≤ most_links }

@@ -14,7 +14,8 @@ use cg_pad::{Image, write_image};
 use cg_turns::UnorderedPair;
 use std::alloc::{AllocError, Global};
 
-/// The turns from the image that a file holds, and the result image under the name `out`.
+/// Returns the outcome of `turns` with images: `turns` turns of the kernel that `file` gives, from the image that
+/// `input` holds, and the result image, to be written under the name `out`.
 pub fn turns_on_image(
     alloc: Global,
     turns: u32,
@@ -30,7 +31,8 @@ pub fn turns_on_image(
     imaged(alloc, turns, &kernel, &image, out)
 }
 
-/// The turns of a kernel from an image: the result image, and what the report says.
+/// Returns the outcome of `turns` turns of `kernel` from `image`: the result image, to be written under `out`, and the
+/// report.
 fn imaged(
     alloc: Global,
     turns: u32,
@@ -48,7 +50,7 @@ fn imaged(
     Ok(Outcome::with_file(alloc, status_of(done.pair), report, out, bytes)?)
 }
 
-/// Done where all accesses that matter are ordered, else No.
+/// Returns `Done` where all accesses that matter are ordered, and else `No`.
 fn status_of(pair: Option<UnorderedPair>) -> Status
     ensures { result ≡ pair_status pair }
 {
@@ -58,7 +60,7 @@ fn status_of(pair: Option<UnorderedPair>) -> Status
     }
 }
 
-/// The outside count, and the pair of accesses that no edges order.
+/// Returns the report on the outside count, and the `pair` of accesses that no edges order, where there is one.
 fn image_report(
     alloc: Global,
     kernel: &Kernel,
@@ -92,7 +94,7 @@ fn unordered_report(
     format!(in alloc; "outside {outside}\nunordered {earlier} {before} {later} {after}\n")
 }
 
-/// The name of a node.
+/// Returns the name of node `number`.
 fn name_of(kernel: &Kernel, number: u32) -> &str
     requires { number < size kernel.now }
     ensures { result.now ≡ (node_of kernel.now number).name }

@@ -10,7 +10,7 @@ use cg_pad::Image;
 use cg_turns::{TurnsDone, TurnsFault, run_turns};
 use std::alloc::{AllocError, Global};
 
-/// Runs the turns, of which there may be so many.
+/// Runs `turns` turns of `kernel` from `image`. Their number is within the limit.
 pub(crate) fn run(
     alloc: Global,
     kernel: &Kernel,
@@ -28,7 +28,7 @@ pub(crate) fn run(
     }
 }
 
-/// The lone fault of few enough turns.
+/// Returns the only fault that a number of turns within the limit leaves: memory ran out.
 fn want_of(fault: TurnsFault) -> AllocError
     requires { (t : ℕ) → fault ≡ TurnsFault.TooManyTurns t → ⊥ }
 {

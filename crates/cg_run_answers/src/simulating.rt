@@ -17,8 +17,8 @@ use cg_sim::{Sim, SimFault, sim_fault_text};
 use cg_view::ConfigView;
 use std::alloc::{AllocError, Global};
 
-/// So many turns of the array that the first file gives, under the configuration that the second holds, from the image that
-/// the third holds; the result image under the name `out`.
+/// Returns the outcome of `run`: `turns` turns of the array that `arch` gives, under the configuration that `file`
+/// holds, from the image that `input` holds; the result image is to be written under the name `out`.
 pub fn run(
     alloc: Global,
     turns: u32,
@@ -35,7 +35,7 @@ pub fn run(
     run_on(alloc, turns, &array, &config, input, out)
 }
 
-/// A run of a configured array from the image that a file holds.
+/// Runs `turns` turns of `array` under `config` from the image that `input` holds, and returns the outcome.
 fn run_on(
     alloc: Global,
     turns: u32,
@@ -56,7 +56,8 @@ fn run_on(
     }
 }
 
-/// Why few enough turns aren't run: the image has more words than the memory.
+/// Returns the stop where a number of turns within the limit isn't run: the image in `input` has more words than the
+/// memory.
 fn too_large(alloc: Global, fault: SimFault, input: &File) -> Stop
     requires { (t : ℕ) → fault ≡ SimFault.TooManyTurns t → ⊥ }
     ensures { EndsBy (λ o. (w : ℕ) × (fault ≡ SimFault.ImageTooLarge w)
@@ -72,7 +73,8 @@ fn too_large(alloc: Global, fault: SimFault, input: &File) -> Stop
     }
 }
 
-/// The image fits the memory: all cycles are run, and what they leave is written.
+/// Runs all cycles of `sim`, whose image fits the memory, and returns the outcome: the image that they leave, to be
+/// written under `out`.
 fn ran(alloc: Global, sim: Sim<'_, ConfigView<'_>>, out: &str) -> Result<Outcome, Stop>
     requires { sim.done ≡ 0 }
     ensures { Allows (λ o. o ≡ ran sim.entry.n sim.entry.arch sim.entry.config sim.entry.image out.now) result }
@@ -87,7 +89,7 @@ fn ran(alloc: Global, sim: Sim<'_, ConfigView<'_>>, out: &str) -> Result<Outcome
     Ok(Outcome::with_file(alloc, Status::Done, report, out, bytes)?)
 }
 
-/// How many cycles there were, and how many accesses reached outside the memory.
+/// Returns the report on `cycles`, the number of cycles, and `outside`, the number of accesses outside the memory.
 fn run_report(alloc: Global, cycles: u64, outside: u64) -> Result<Vec<u8>, AllocError>
     ensures { IfOk result (λ v. v.items ≡ run_report cycles outside) }
 {

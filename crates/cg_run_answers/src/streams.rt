@@ -5,7 +5,7 @@ ghost use Rattle.cg_run_answers.specs.Turns.{outputs_to, stream_line, port_repor
 use cg_model::{Kernel, Words};
 use std::alloc::{AllocError, Global};
 
-/// A line for each port that the kernel's outputs name, ascending.
+/// Returns a line for each port that the kernel's outputs name, ascending.
 pub(crate) fn streams_report(
     alloc: Global,
     kernel: &Kernel,
@@ -21,7 +21,7 @@ pub(crate) fn streams_report(
     Ok(report)
 }
 
-/// Adds the line of a port, where an output names it.
+/// Adds the line of `port` to `report`, where an output names it.
 fn push_port(
     alloc: Global,
     report: &mut Vec<u8>,
@@ -39,7 +39,7 @@ fn push_port(
     Ok(())
 }
 
-/// Whether a node gives output to the port.
+/// Checks whether a node gives output to `port`.
 fn outputs_to(kernel: &Kernel, port: u32) -> bool
     ensures { result ≡ outputs_to kernel.now port }
 {
@@ -49,7 +49,7 @@ fn outputs_to(kernel: &Kernel, port: u32) -> bool
         .any(|node| node.op.is_output() && node.port == port)
 }
 
-/// Adds the line of a stream: its port, and its words, each after a blank.
+/// Adds the line of a stream to `report`: its `port`, and its `words`, each after a blank.
 fn push_line(
     alloc: Global,
     report: &mut Vec<u8>,

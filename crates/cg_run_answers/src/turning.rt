@@ -13,7 +13,8 @@ use cg_model::Kernel;
 use cg_pad::Image;
 use std::alloc::Global;
 
-/// What the turns of the kernel that a file gives send to its output ports, from an image without words.
+/// Returns the outcome of `turns` without images: what `turns` turns of the kernel that `file` gives send to its output
+/// ports, from an image without words.
 pub fn turns(alloc: Global, turns: u32, file: &File) -> Result<Outcome, Stop>
     requires { turns ≤ most_turns }
     ensures { Allows (λ o. o ≡ turns_of turns (file_of file.now)) result }
@@ -22,7 +23,7 @@ pub fn turns(alloc: Global, turns: u32, file: &File) -> Result<Outcome, Stop>
     turned(alloc, turns, &kernel)
 }
 
-/// The turns of a kernel, from an image without words.
+/// Returns the outcome of `turns` turns of `kernel`, from an image without words.
 fn turned(alloc: Global, turns: u32, kernel: &Kernel) -> Result<Outcome, Stop>
     requires { turns ≤ most_turns }
     ensures { Allows (λ o. o ≡ turned turns kernel.now) result }

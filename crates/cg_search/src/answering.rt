@@ -14,8 +14,8 @@ use cg_respond::{Responded, respond};
 use cg_task::{Answer, FoundBy, Task, first_tried, last_tried};
 use std::alloc::{AllocError, Global};
 
-/// Searches a mapping: at the interval that is asked, or at each from the least one that nothing forbids to as many cycles
-/// as the architecture has contexts; and then over the hub.
+/// Searches a mapping of `kernel` on `arch`, at the interval that `request` asks for, or at each from the least one
+/// that nothing forbids to as many cycles as the architecture has contexts; and then over the hub.
 pub fn search_answer<'a>(
     alloc: Global,
     arch: &'a Arch,
@@ -35,7 +35,7 @@ pub fn search_answer<'a>(
     }
 }
 
-/// Searches from the first interval on.
+/// Searches at the intervals from `first` to the last one.
 fn searched<'a>(
     alloc: Global,
     arch: &'a Arch,
@@ -64,7 +64,8 @@ fn searched<'a>(
     over_hub(alloc, arch, kernel, first, request, left)
 }
 
-/// Takes the hub's mapping of the first interval where it suffices, where there is one.
+/// Takes the hub's mapping of the first interval where it suffices, where there is one. `left` are the faults that the
+/// search left.
 fn over_hub<'a>(
     alloc: Global,
     arch: &'a Arch,

@@ -15,8 +15,9 @@ use cg_task::Answer;
 use cg_task_answers::{above, asks_above, found, impossible, spent};
 use std::alloc::{AllocError, Global};
 
-/// The bits of a mapping that is searched by best responses for the kernel of the second file on the architecture of the
-/// first, under the first of the names `outputs`; and the mapping, where there is a second one.
+/// Searches a mapping, by best responses, of the kernel that the file `kernel` gives on the architecture that `arch`
+/// gives. Its bits are to be written under the first name of `outputs`, and the mapping under the second, where there
+/// is one.
 pub fn search(
     alloc: Global,
     request: Request,
@@ -34,7 +35,7 @@ pub fn search(
     Ok(outcome)
 }
 
-/// The same for what both files give.
+/// Searches a mapping of `kernel` on `arch`, which was read from the file `name`, and returns the outcome.
 fn searched(
     alloc: Global,
     request: Request,

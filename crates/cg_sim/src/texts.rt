@@ -5,7 +5,7 @@ ghost use Rattle.cg_sim.specs.Texts.{sim_fault_text};
 use crate::fault::SimFault;
 use std::alloc::{AllocError, Global};
 
-/// Code, name and place of a fault, as `S2 ImageTooLarge words 513`. Want of memory has none of them.
+/// Returns code, name and place of `fault`, as `S2 ImageTooLarge words 513`. Out of memory has none of them.
 pub fn sim_fault_text(alloc: Global, fault: SimFault) -> Result<String, AllocError>
     ensures { IfOk result (λ s. string_bytes s ≡ sim_fault_text fault) }
 {

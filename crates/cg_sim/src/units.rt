@@ -42,7 +42,7 @@ fn word_on_port(ports: [u32; 3], place: usize, words: &[u32]) -> u32
     words[ports[place] as usize]
 }
 
-/// Argument number `place` of so many, 0 past the last.
+/// Returns argument number `place` of `count`, 0 past the last.
 fn operand<C: Contexts>(
     unit: &UnitInSlot<'_, C>,
     count: u32,

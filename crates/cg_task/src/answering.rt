@@ -8,7 +8,7 @@ use cg_check::LegalMapping;
 pub enum FoundBy {
     /// Over the hub.
     Hub,
-    /// By the command's own search, after that many moves.
+    /// By the command's own search, after that number of moves.
     Moves(u32),
 }
 

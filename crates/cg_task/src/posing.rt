@@ -32,7 +32,7 @@ impl<'a> Task<'a> {
     ghost use Rattle.cg_place.specs.Placed.{IsOffered};
     ghost use Rattle.cg_task.specs.Posed.{IsTask};
 
-    /// The task of a kernel on an architecture, at an interval.
+    /// Returns the task of `kernel` on `arch`, at the interval `ii`.
     pub fn new(
         alloc: Global,
         arch: &'a Arch,
@@ -56,35 +56,35 @@ impl<'a> Task<'a> {
         })
     }
 
-    /// The architecture.
+    /// Returns the architecture.
     pub fn arch(&self) -> &'a Arch
         ensures { result.now ≡ self.now.arch }
     {
         self.arch
     }
 
-    /// The kernel.
+    /// Returns the kernel.
     pub fn kernel(&self) -> &'a Kernel
         ensures { result.now ≡ self.now.kernel }
     {
         self.kernel
     }
 
-    /// The interval, in cycles.
+    /// Returns the interval, in cycles.
     pub fn interval(&self) -> u32
         ensures { result ≡ self.now.ii }
     {
         self.ii
     }
 
-    /// The earliest time of each node, in cycles.
+    /// Returns the earliest time of each node, in cycles.
     pub fn early(&self) -> &[u32]
         ensures { result.now ≡ self.now.early }
     {
         self.early.as_slice()
     }
 
-    /// What holds of it; the call does nothing.
+    /// States what holds of the task; the call does nothing.
     pub fn holds(&self)
         ensures { IsTask self.now }
     {

@@ -9,7 +9,7 @@ use cg_bound::bound;
 use cg_model::Kernel;
 use std::alloc::{AllocError, Global};
 
-/// The last interval that is tried.
+/// Returns the last interval that is tried, where `asked` is the one that is asked for, if one is.
 pub fn last_tried(arch: &Arch, asked: Option<u32>) -> u32
     ensures { result ≡ spec.last_tried arch.now asked }
 {
@@ -19,7 +19,7 @@ pub fn last_tried(arch: &Arch, asked: Option<u32>) -> u32
     }
 }
 
-/// The first one.
+/// Returns the first interval that is tried, where `asked` is the one that is asked for, if one is.
 pub fn first_tried(
     alloc: Global,
     arch: &Arch,

@@ -11,7 +11,7 @@ use cg_mapping_answers::emit_report;
 use cg_task::FoundBy;
 use std::alloc::{AllocError, Global};
 
-/// The outcome of a mapping that was found over the hub, or by a search that this word names.
+/// Returns the outcome of `mapping`, which was found over the hub, or by the search that the word `by` names.
 pub fn found(
     alloc: Global,
     by: &str,
@@ -25,7 +25,7 @@ pub fn found(
     written(alloc, mapping, report, outputs)
 }
 
-/// The interval, the stages, and how the mapping was found.
+/// Returns the report on `mapping`: the interval, the stages, and how it was found.
 fn found_report(
     alloc: Global,
     by: &str,
@@ -40,7 +40,7 @@ fn found_report(
     Ok(report)
 }
 
-/// How the mapping was found.
+/// Returns the line that says how the mapping was found.
 fn found_line(alloc: Global, by: &str, found_by: FoundBy) -> Result<String, AllocError>
     ensures { IfOk result (λ s. string_bytes s ≡ spec.found_line by.now found_by) }
 {

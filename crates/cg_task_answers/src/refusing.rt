@@ -12,7 +12,7 @@ use cg_model::{Kernel, Request};
 use cg_task::last_tried;
 use std::alloc::{AllocError, Global};
 
-/// Whether an interval is asked that has more cycles than the architecture has contexts.
+/// Checks whether the interval `asked` has more cycles than `arch` has contexts.
 pub fn asks_above(asked: Option<u32>, arch: &Arch) -> bool
     ensures { result ≡ is_above asked arch.now }
 {
@@ -22,7 +22,7 @@ pub fn asks_above(asked: Option<u32>, arch: &Arch) -> bool
     }
 }
 
-/// The refusal of such an interval.
+/// Returns the outcome where the interval has too many cycles for `arch`, which was read from the file `name`.
 pub fn above(alloc: Global, name: &str, arch: &Arch) -> Result<Outcome, AllocError>
     ensures { IfOk result (λ o. outcome_of o ≡ above_contexts name.now arch.now) }
 {
@@ -31,7 +31,7 @@ pub fn above(alloc: Global, name: &str, arch: &Arch) -> Result<Outcome, AllocErr
     malformed(alloc, name, fault.as_str())
 }
 
-/// The last interval is impossible.
+/// Returns the outcome where the last interval that is tried is impossible, as `certificate` shows.
 pub fn impossible(
     alloc: Global,
     request: Request,

@@ -8,8 +8,8 @@ ghost use Rattle.cg_task_answers.specs.Answered.{left_line, left_report};
 use cg_ending::{Outcome, Status};
 use std::alloc::{AllocError, Global};
 
-/// The outcome of a search that found no mapping at the intervals from the first one on: what is left at each, after this
-/// word.
+/// Returns the outcome of a search that found no mapping at the intervals from `first` on: what is left at each, after
+/// `word`.
 pub fn spent(alloc: Global, word: &str, first: u32, left: &[u64]) -> Result<Outcome, AllocError>
     requires { first + length left.now < 2 ^ 32 }
     ensures { IfOk result (λ o. outcome_of o ≡ reports status.BudgetSpent (left_report word.now first left.now)) }
@@ -25,7 +25,7 @@ pub fn spent(alloc: Global, word: &str, first: u32, left: &[u64]) -> Result<Outc
     })
 }
 
-/// Adds the line of an interval.
+/// Adds the line of the interval `ii` to `report`.
 fn add_line(
     alloc: Global,
     report: &mut Vec<u8>,

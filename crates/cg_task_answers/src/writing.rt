@@ -10,8 +10,8 @@ use cg_ending::{File, Outcome, Status};
 use cg_mapping::print_mapping;
 use std::alloc::{AllocError, Global};
 
-/// A mapping was found, and this is said of it: its bits, under the first of the names `outputs`, and its text, where there
-/// is a second one.
+/// Returns the outcome of `mapping`, with the report `report`: its bits, under the first name of `outputs`, and its
+/// text, under the second, where there is one.
 pub(crate) fn written(
     alloc: Global,
     mapping: &LegalMapping<'_>,
@@ -28,7 +28,7 @@ pub(crate) fn written(
     })
 }
 
-/// The files of a mapping.
+/// Returns the files of `mapping`, whose bits are `bytes`.
 fn map_writes(
     alloc: Global,
     mapping: &LegalMapping<'_>,
@@ -50,7 +50,7 @@ fn map_writes(
     }
 }
 
-/// A file of that name.
+/// Returns a file of the name `name` with `bytes`.
 fn file_named(alloc: Global, name: &str, bytes: Vec<u8>) -> Result<File, AllocError>
     ensures { IfOk result (λ f. file_of f ≡ record { name = name.now; bytes = bytes.items }) }
 {
@@ -60,7 +60,7 @@ fn file_named(alloc: Global, name: &str, bytes: Vec<u8>) -> Result<File, AllocEr
     })
 }
 
-/// The text of a mapping.
+/// Returns the text of `mapping`.
 fn mapping_text(alloc: Global, mapping: &LegalMapping<'_>) -> Result<Vec<u8>, AllocError>
     ensures { IfOk result (λ v. v.items ≡ spec.mapping_text mapping.now) }
 {

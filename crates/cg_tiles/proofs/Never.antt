@@ -1,4 +1,4 @@
--- No bytes are refused for want of memory.
+-- No bytes are refused as out of memory.
 use Rattle.std.proofs.Common.{◌≡◌, ℕ, List, Bool, true, false, Option, Some, None, Result, Ok, Err, cond, ap, sym, ◌∙◌}
 use Rattle.std.specs.Option.{option_map, option_or}
 use Rattle.toml.specs.Data.{Data}

@@ -22,7 +22,7 @@ use Rattle.cg_grid.specs.declared.fault.TilesFault.TheVariants as fault
 use Rattle.cg_tiles.specs.Elements.{parts_of}
 use Rattle.cg_tiles.specs.Answer.{unless, judged, parts_written, parts_in, parts_spelled, IsRefused, IsAnswer}
 
--- ---- bytes that stand for no parts don't do so for want of memory
+-- ---- bytes that stand for no parts have another fault than out of memory
 
 lowest : (key : Option TilesPlace) (cell : Option Cell) (row : Option ℕ) (op : Option PartPlace) (large_one : Bool)
     → option_or (option_map fault.UnknownKey key) (option_or (option_map fault.UnknownTile cell) (option_or (option_map fault.RaggedGrid row) (option_or (option_map fault.UnknownOp op)
@@ -57,7 +57,7 @@ spelled_never bytes e = table_never (table_of bytes) e
 
 -- ---- answers
 
--- an answer of these bytes that isn't want of memory
+-- an answer of these bytes that isn't out of memory
 abbrev pub SomeAnswer : List ℕ → Type 0
 SomeAnswer bytes = (r : Result Arch TilesFault) × (r ≢ Err fault.Memory) × IsAnswer bytes r
 

@@ -35,8 +35,8 @@ impl<T: Drop> From<AllocFailed<T>> for MakingFault {
 #[derive(Clone, Copy, Debug)]
 pub struct Room {
     pub links: usize,
-    /// Bytes of the names of drivers. 65,536 links with names of 40 characters take 3 million; where longer names, which no
-    /// resource has, take more than 67,108,864, memory is wanting.
+    /// Bytes of the names of drivers. 65,536 links with names of 40 characters take 3 million; where longer names,
+    /// which no resource has, take more than 67,108,864, the answer is out of memory.
     pub text: usize,
 }
 

@@ -20,7 +20,7 @@ enum Place {
     Line(u8),
     /// There, after a backslash.
     Escaped,
-    /// In a string of several lines, after so many quotes, at most three.
+    /// In a string of several lines, after a number of quotes, at most three.
     Lines(u8, u8),
     /// There, after a backslash.
     EscapedInLines,

@@ -1,4 +1,4 @@
--- Where everything fits and nothing fails, the command is done, or memory was wanting.
+-- Where everything fits and nothing fails, the command is done, or memory ran out.
 use Rattle.std.proofs.Common.{◌≡◌, List, ◌∙◌, ◌⊎◌, inl, inr}
 use Rattle.cg_files.specs.Causes.{Rose}
 use Rattle.cg_ending.specs.declared.outcome.Status.{Status}

@@ -1,4 +1,4 @@
--- Over files that are told the status is determined, but for faults and want of memory.
+-- Over files that are told the status is determined, but for faults and running out of memory.
 use Rattle.std.proofs.Common.{◌≡◌, List, Option, Some, None, sym, ◌∙◌, ap, subst, ◌⊎◌, inl, inr}
 use Rattle.cg_files.specs.Causes.{Rose}
 use Rattle.cg_ending.specs.declared.outcome.Status.{Status}

@@ -35,13 +35,13 @@ IsDefined words files o = IsOutcome words (Some files) ⊥ o
 
 -- ---- how a call ends
 
--- there was an outcome, and it came, or as much of it as faults and want of memory left
+-- there was an outcome, and it came, or as much of it as faults and running out of memory left
 pub record CarriedOut (words : List Name) (before after : Moment) (status : Status) : Type 0 where
   pub outcome : Outcome
   pub is_outcome : IsOutcome words before.held (Rose before.read_faults after.read_faults) outcome
   pub finished : Finished outcome before after status
 
--- memory was wanting before there was an outcome
+-- memory ran out before there was an outcome
 pub record NeverStarted (before after : Moment) (status : Status) : Type 0 where
   pub status_is : status ≡ Memory
   pub held : after.held ≡ before.held
@@ -57,7 +57,7 @@ abbrev pub Agrees : Option Plan → Status → Status → Type 0
 Agrees None a b = a ≡ b
 Agrees (Some plan) a b = AgreeIn plan.command a b
 
--- the status is the defined one, but for want of memory and for faults, which show in their counts
+-- the status is the defined one, but for running out of memory and for faults, which show in their counts
 abbrev pub IsExact : List Name → Moment → Moment → Status → Type 0
 IsExact words before after status = (files : Name → Option Bytes) (o : Outcome) → before.held ≡ Some files → IsDefined words files o
     → Agrees (plan_of words) status o.status ⊎ ((status ≡ Memory)
@@ -162,7 +162,7 @@ pub record IsEffect (words : List Name) (before after : Moment) (status : Status
   -- where the words ask for no output file all is held as before, however the call ends
   pub nothing_asked : WritesNothing (plan_of words) → Wrote before.held [] after.held
 
--- where words, files and counts give no cause to refuse, the command is done or memory was wanting
+-- where words, files and counts give no cause to refuse, the command is done or memory ran out
 abbrev pub IsComplete : List Name → Moment → Moment → Status → Type 0
 IsComplete words before after status = (files : Name → Option Bytes) (plan : Plan) (inputs : List File)
     → before.held ≡ Some files → plan_of words ≡ Some plan → AreRead (Some files) plan.inputs inputs → Accepts plan.command inputs

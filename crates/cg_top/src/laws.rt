@@ -4,7 +4,7 @@ ghost use Rattle.std.specs.Prelude.{List, Option};
 ghost use Rattle.cg_ending.specs.Outcome.{Name, Bytes, Outcome};
 ghost use Rattle.cg_top.specs.TopCall.{IsDefined};
 
-/// For all words and all files that are told an outcome is defined. So where a store tells its files, what
+/// States that for all words and all files that are told an outcome is defined. So where a store tells its files, what
 /// a call does over it is compared with some outcome.
 pub fn always_defined()
     ensures { (words : List Name) (files : Name → Option Bytes) → (o : Outcome) × IsDefined words files o }

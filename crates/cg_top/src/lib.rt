@@ -21,10 +21,10 @@ pub use cg_trial_run::trial;
 pub use laws::always_defined;
 use std::alloc::{AllocError, Global};
 
-/// Does what the words ask: reads the input files out of the store, writes the output files into it, and puts the
-/// report into the sink by one call.
+/// Does what `words` ask, the arguments after the program's name: reads the input files out of `store`, writes the
+/// output files into it, and puts the report into `out` by one call.
 ///
-/// `words` are the arguments after the program's name. The status is the exit status of the program.
+/// Returns the exit status of the program.
 pub fn run_line<S: Store, O: Sink>(
     alloc: Global,
     words: &[String],
@@ -67,7 +67,7 @@ fn carry_out<S: Store, O: Sink>(
     }
 }
 
-/// What the words define, over what the store gives.
+/// Returns the outcome that `words` define, over what `store` gives.
 fn outcome<S: Store>(alloc: Global, words: &[String], store: &mut S) -> Result<Outcome, AllocError>
     ensures ok { IfOk result (λ o. IsOutcome (map string_bytes words.now) (S.held store.old)
         (Rose (S.read_faults store.old) (S.read_faults store.new)) (outcome_of o)) }
@@ -88,7 +88,7 @@ fn outcome<S: Store>(alloc: Global, words: &[String], store: &mut S) -> Result<O
     }
 }
 
-/// What a planned command answers, over what the store gives.
+/// Returns the outcome of the planned command, over what `store` gives.
 fn answered<S: Store>(alloc: Global, plan: &Plan, store: &mut S) -> Result<Outcome, Stop>
     requires { HasShape plan.now.command (length plan.now.inputs.items) (length plan.now.outputs.items) }
     ensures planned { Allows (IsPlanned (S.held store.old) (Rose (S.read_faults store.old) (S.read_faults store.new))

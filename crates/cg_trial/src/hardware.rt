@@ -14,7 +14,7 @@ use std::alloc::{AllocError, Global};
 /// The registers of the hub.
 const REGISTERS: u32 = 96;
 
-/// The names of so many registers.
+/// Returns the names of `count` registers.
 fn register_names(alloc: Global, count: u32) -> Result<Vec<Name>, AllocError>
     ensures { IfOk result (λ list. list.items ≡ spec.register_names count) }
 {
@@ -31,7 +31,7 @@ fn register_name(alloc: Global, number: u32) -> Result<Name, AllocError>
     Ok(Name::new(format!(in alloc; "h{number}")?))
 }
 
-/// The names of the outs, and then of so many registers.
+/// Returns the names of the outs, and then of `count` registers.
 fn all_names(alloc: Global, count: u32) -> Result<Vec<Name>, AllocError>
     ensures { IfOk result (λ list. list.items ≡ spec.out_names ++ spec.register_names count) }
 {
@@ -90,7 +90,7 @@ fn unit_part(alloc: Global, count: u32, name: &str) -> Result<Element, AllocErro
     })
 }
 
-/// The parts with so many registers.
+/// Returns the parts with `count` registers.
 #[tactic(auto, unfolding(crate::specs::Trial::parts_with))]
 fn parts_with(alloc: Global, count: u32) -> Result<Parts, AllocError>
     ensures { IfOk result (λ parts. parts ≡ spec.parts_with count) }

@@ -87,7 +87,7 @@ fn drawn_node(alloc: Global, generator: &mut Lcg64Xsh32, number: u32) -> Result<
     node_of(alloc, number, op, operands)
 }
 
-/// Adds so many nodes, the first of that number.
+/// Adds `count` nodes to `nodes`, the first of them node number `first`.
 fn add_drawn_nodes(
     alloc: Global,
     generator: &mut Lcg64Xsh32,

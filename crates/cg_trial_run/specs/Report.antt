@@ -48,7 +48,7 @@ mapping_lines seed m =
     (line_then (codes "ii " ∷ decimal m.mapping.ii ∷ [])
     (line_of (codes "stages " ∷ decimal (configuration_of m.arch m.kernel m.mapping).stages ∷ []))))
 
--- those on so many bytes of bits, and two digests
+-- those on the number of bytes of bits, and on two digests
 abbrev pub run_lines : ℕ → Bytes → Bytes → Bytes
 run_lines bits run turns =
     line_then (codes "bits " ∷ decimal bits ∷ [])

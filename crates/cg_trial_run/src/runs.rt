@@ -24,7 +24,7 @@ use std::alloc::{AllocError, Global};
 /// How many turns each run has.
 pub(crate) const TURNS: u32 = 1000;
 
-/// The digest of an image's file.
+/// Returns the digest of the file of `image`.
 #[tactic(auto, unfolding(crate::specs::Report::image_digest))]
 fn image_digest(alloc: Global, image: &Image) -> Result<String, AllocError>
     requires { IsStorable image.now }
@@ -34,7 +34,7 @@ fn image_digest(alloc: Global, image: &Image) -> Result<String, AllocError>
     hex::encode(alloc, Sha256::digest(bytes.as_slice()))
 }
 
-/// The array runs the bits of a mapping.
+/// Runs the bits of `mapping` on its array, from `image`, and returns the digest of the image that is left.
 pub(crate) fn run_digest(
     alloc: Global,
     mapping: &LegalMapping<'_>,
@@ -53,7 +53,7 @@ pub(crate) fn run_digest(
     }
 }
 
-/// The array runs a configuration.
+/// Runs `config` on `arch`, from `image`, and returns the digest of the image that is left.
 fn config_digest(
     alloc: Global,
     arch: &Arch,
@@ -70,7 +70,7 @@ fn config_digest(
     }
 }
 
-/// The lone fault of few enough turns from an image that fits.
+/// Returns the only fault that a number of turns within the limit leaves, from an image that fits: memory ran out.
 fn want_of_run(fault: SimFault) -> AllocError
     requires many { (t : ℕ) → fault ≡ SimFault.TooManyTurns t → ⊥ }
     requires large { (w : ℕ) → fault ≡ SimFault.ImageTooLarge w → ⊥ }
@@ -82,7 +82,7 @@ fn want_of_run(fault: SimFault) -> AllocError
     }
 }
 
-/// All cycles are run.
+/// Runs all cycles of `sim`, and returns the digest of the image that is left.
 fn left_digest(alloc: Global, sim: Sim<'_, ConfigView<'_>>) -> Result<String, AllocError>
     requires { sim.done ≡ 0 }
     ensures { IfOk result (λ s. string_bytes s
@@ -94,7 +94,8 @@ fn left_digest(alloc: Global, sim: Sim<'_, ConfigView<'_>>) -> Result<String, Al
     image_digest(alloc, &image)
 }
 
-/// The turns of a mapping's kernel are run, one after the other.
+/// Runs the turns of the kernel of `mapping`, one after the other, from `image`, and returns the digest of the image
+/// that is left.
 pub(crate) fn turns_digest(
     alloc: Global,
     mapping: &LegalMapping<'_>,
@@ -108,7 +109,7 @@ pub(crate) fn turns_digest(
     Ok(text)
 }
 
-/// The turns of a kernel.
+/// Runs the turns of `kernel` from `image`.
 fn turned(alloc: Global, kernel: &Kernel, image: &Image) -> Result<TurnsDone, AllocError>
     ensures done { IfOk result (λ d. left_of d ≡ turns_left kernel.now trial_turns image.now) }
     ensures small { IfOk result (λ d. IsSmall image.now trial_turns d.image) }
@@ -119,7 +120,7 @@ fn turned(alloc: Global, kernel: &Kernel, image: &Image) -> Result<TurnsDone, Al
     }
 }
 
-/// The lone fault of few enough turns.
+/// Returns the only fault that a number of turns within the limit leaves: memory ran out.
 fn want_of_turns(fault: TurnsFault) -> AllocError
     requires { (t : ℕ) → fault ≡ TurnsFault.TooManyTurns t → ⊥ }
 {

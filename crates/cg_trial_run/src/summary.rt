@@ -15,8 +15,8 @@ use cg_trial::laws::enough;
 use cg_trial::{TrialParts, trial_parts};
 use std::alloc::{AllocError, Global};
 
-/// The trial of a seed: its parts are mapped at an interval of 64 cycles, the bits are run by the array, and the kernel turn
-/// by turn. The report has eight lines, of which the last two say the SHA-256 of the images that are left.
+/// Runs the trial of `seed`: its parts are mapped at an interval of 64 cycles, the bits are run by the array, and the
+/// kernel turn by turn. The report has eight lines, of which the last two say the SHA-256 of the images that are left.
 #[tactic(auto, using(crate::proofs::Trials::same_image))]
 pub fn trial(alloc: Global, seed: u64) -> Result<Vec<u8>, AllocError>
     ensures report { IfOk result (λ v. IsTrial seed v.items) }
@@ -27,7 +27,7 @@ pub fn trial(alloc: Global, seed: u64) -> Result<Vec<u8>, AllocError>
     trial_on(alloc, seed, &parts)
 }
 
-/// The trial of a seed, whose parts these are.
+/// Runs the trial of `seed`, whose parts are `parts`, and returns its report.
 fn trial_on(alloc: Global, seed: u64, parts: &TrialParts) -> Result<Vec<u8>, AllocError>
     requires arch { parts.now.arch ≡ trial_arch }
     requires kernel { parts.now.kernel ≡ trial_kernel seed }
@@ -40,7 +40,7 @@ fn trial_on(alloc: Global, seed: u64, parts: &TrialParts) -> Result<Vec<u8>, All
     Ok(text)
 }
 
-/// The report on a mapping that runs from an image.
+/// Returns the report on `mapping`, which runs from `image`.
 fn report_on(
     alloc: Global,
     seed: u64,
@@ -59,7 +59,7 @@ fn report_on(
     Ok(text)
 }
 
-/// The report.
+/// Returns the report of `seed` and `mapping`, with the number of bytes `bits` and the digests `run` and `turns`.
 #[tactic(auto, unfolding(crate::specs::Report::report_of))]
 fn report(
     alloc: Global,
@@ -77,7 +77,7 @@ fn report(
     Ok(text)
 }
 
-/// The lines on a mapping.
+/// Returns the lines on `mapping`.
 fn mapping_lines(
     alloc: Global,
     seed: u64,
@@ -92,7 +92,7 @@ fn mapping_lines(
     Ok(lines.into_bytes())
 }
 
-/// The lines on bits and digests.
+/// Returns the lines on the number of bytes `bits` and the digests `run` and `turns`.
 fn run_lines(alloc: Global, bits: usize, run: &str, turns: &str) -> Result<Vec<u8>, AllocError>
     ensures { IfOk result (λ v. v.items ≡ run_lines bits run.now turns.now) }
 {

@@ -34,14 +34,15 @@ pub record IsUnordered (K : Kernel) (image : Image) (k l : ℕ) : Type 0 where
   pub conflict : IsConflict K image k l
   pub unordered : AreOrdered K k l → ⊥
 
--- of the unordered pairs of so many steps, the one with the least later step, and for it the latest earlier step
+-- of the unordered pairs among the first `steps` steps, the one with the least later step, and for it the latest
+-- earlier step
 pub record IsFirstPair (K : Kernel) (image : Image) (steps k l : ℕ) : Type 0 where
   pub pair : IsUnordered K image k l
   pub within : l < steps
   pub least : (i j : ℕ) → j < steps → IsUnordered K image i j → l ≤ j
   pub latest : (i : ℕ) → IsUnordered K image i l → i ≤ k
 
--- the first pair of so many steps, with its nodes and turns
+-- the first pair among the first `steps` steps, with its nodes and turns
 pub record IsPair (K : Kernel) (image : Image) (steps : ℕ) (p : UnorderedPair) : Type 0 where
   pub earlier : p.earlier.node < size K
   pub later : p.later.node < size K

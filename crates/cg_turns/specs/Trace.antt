@@ -9,7 +9,7 @@ use Rattle.cg_turns.specs.declared.pair.Access.{Access}
 use Rattle.cg_turns.specs.declared.pair.UnorderedPair.{UnorderedPair}
 use Rattle.cg_turns.specs.Pairs.{step_of, IsConflict, AreOrdered, IsPair}
 
--- what is known after so many steps: None where all conflicts so far are ordered
+-- what is known after a number of steps: None where all conflicts so far are ordered
 abbrev pub IsPairSoFar : Kernel → Image → ℕ → Option UnorderedPair → Type 0
 IsPairSoFar K image steps None = (k l : ℕ) → l < steps → IsConflict K image k l → AreOrdered K k l
 IsPairSoFar K image steps (Some p) = IsPair K image steps p

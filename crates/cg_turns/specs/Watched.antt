@@ -49,7 +49,7 @@ abbrev pub WatchesStep : Kernel → Option ℕ → Access → Watch → Watch �
 WatchesStep K None x old new = new ≡ old
 WatchesStep K (Some a) x old new = WatchesWord K a x old new
 
--- the word of a memory of that many words that an operation reaches, None where it reaches none
+-- the word of a memory of `size` words that an operation reaches, None where it reaches none
 abbrev pub IsReached : ℕ → Work → Option ℕ → Type 0
 IsReached size w None = (a : ℕ) → a < size → Reaches w a → ⊥
 IsReached size w (Some a) = (a < size) × Reaches w a

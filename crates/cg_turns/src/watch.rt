@@ -26,7 +26,7 @@ pub(crate) struct Watch {
     places: Vec<usize>,
 }
 
-/// Before the first access to a memory of that many words.
+/// Returns the watch before the first access to a memory of `size` words.
 pub(crate) fn unwatched(alloc: Global, kernel: &Kernel, size: usize) -> Result<Watch, AllocError>
     ensures { IfOk result (IsUnwatched kernel.now size) }
 {
@@ -39,7 +39,7 @@ pub(crate) fn unwatched(alloc: Global, kernel: &Kernel, size: usize) -> Result<W
     })
 }
 
-/// The number of words that are watched, of a memory of that many.
+/// Returns the number of words that are watched, of a memory of `size` words.
 fn watched_words(kernel: &Kernel, size: usize) -> usize
     ensures { (result ≡ size) ⊎ HasNoStore kernel.now }
 {
@@ -53,7 +53,7 @@ fn has_store(kernel: &Kernel) -> bool
     kernel.nodes().iter().any(|node| node.op.is_store())
 }
 
-/// That many words without accesses.
+/// Returns `size` words without accesses.
 fn no_accesses(alloc: Global, size: usize) -> Result<Vec<LastAccesses>, AllocError>
     ensures { IfOk result (λ w. w.items ≡ replicate size nothing_kept) }
 {
@@ -139,7 +139,7 @@ pub(crate) fn watch_step(
     }
 }
 
-/// The word that an operation reaches in a memory of that many words.
+/// Returns the word that `work` reaches in a memory of `size` words, None where it reaches none.
 pub(crate) fn reached(work: Work, size: usize) -> Option<u32>
     ensures { IsReached size (work_of work) result }
 {

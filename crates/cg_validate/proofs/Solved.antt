@@ -17,7 +17,7 @@ use Rattle.cg_validate.specs.Hub.{hub_fault, first_bad_entry, missing_link}
 use Rattle.cg_validate.specs.Answer.{IsAnswer, IsFault, HasNoCombinationalLoop, early, a_loop, late, fault_after_loops, names_of}
 use Rattle.cg_validate.proofs.Answered.{drivers_known, no_loop}
 
--- ---- no fault is want of memory
+-- ---- no fault is out of memory
 
 incomplete_never : (o : Option HubPlace) → option_map fault.HubIncomplete o ≡ Some fault.Memory → ⊥
 incomplete_never None e = let none : None ≡ Some fault.Memory = e in cc
@@ -37,7 +37,7 @@ late_never parts e = first_of_two (unit_or_contexts_fault parts) (hub_fault part
 
 -- ---- answers
 
--- an answer of these parts that isn't want of memory
+-- an answer of these parts that isn't out of memory
 abbrev pub SomeAnswer : Parts → Type 0
 SomeAnswer parts = (r : Result Arch ArchFault) × (r ≢ Err fault.Memory) × IsAnswer parts r
 

@@ -16,7 +16,7 @@ pub record CellText : Type 0 where
   pub first : PinText
   pub rest : List PinText
 
--- a net of so many bits
+-- a net of `width` bits
 pub record WireText : Type 0 where
   pub width : ℕ
   pub name : List ℕ

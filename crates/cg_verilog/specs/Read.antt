@@ -32,7 +32,7 @@ abbrev pub Misses : Misfit → List Symbol → List (List ℕ) → List (List �
 Misses Memory symbols old new = Unit {0}
 Misses Text symbols old new = Stops symbols old new
 
--- the same of a whole text
+-- the same for a whole text
 abbrev pub MissesText : Misfit → List (List ℕ) → List (List ℕ) → Type 0
 MissesText Memory old new = Unit {0}
 MissesText Text old new = run rule start old ≡ Some new

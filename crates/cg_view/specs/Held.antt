@@ -16,13 +16,13 @@ pub record HoldBits (A : Arch) (bytes : List ℕ) : Type 0 where
   pub whole : 40 + (ii_in bytes * slot_len cgb2 A + 7) / 8 ≤ length bytes
   pub canonical : IsCanonical A (config_of A bytes)
 
--- that many bits are the length of a slot
+-- the length of a slot is `bits` bits
 pub record IsHeld (A : Arch) (bytes : List ℕ) (bits : ℕ) : Type 0 where
   pub held : HoldBits A bytes
   pub slot : bits ≡ slot_len cgb2 A
   pub short : bits < 2 ^ 32
 
--- the body holds a unit of that many ports at a place, and its fields keep the rules of canonical configurations
+-- the body holds a unit of n ports at a place, and its fields keep the rules of canonical configurations
 pub record HoldsUnit (body : List ℕ) (at n : ℕ) : Type 0 where
   pub inside : at + (args_at cgb2 + n * arg_len) ≤ 8 * length body
   pub small : at < 2 ^ 50

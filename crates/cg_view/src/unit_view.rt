@@ -60,7 +60,7 @@ impl<'a> UnitView<'a> {
     ghost use Rattle.cg_contexts.specs.Told.{head_of, told};
     ghost use Rattle.cg_view.specs.Held.{HoldsUnit};
 
-    /// The unit of that many ports at a place in the bits.
+    /// Returns the unit of `ports` ports at place `at` in the bits of `body`.
     pub(crate) fn new(body: &'a [u8], at: usize, ports: usize) -> UnitView<'a>
         requires { HoldsUnit body.now at ports }
         ensures { result ≡ unit_in cgb2 ports (bits_of_bytes body.now) at }
@@ -93,8 +93,8 @@ impl<'a> UnitView<'a> {
     }
 }
 
-/// What a unit of that many ports begins, without its arguments. The first 26 bits are its operation's code, its stage and its
-/// port.
+/// Returns what a unit of `ports` ports begins, without its arguments. The first 26 bits are its operation's code, its
+/// stage and its port.
 fn unit_head(body: &[u8], at: usize, ports: usize) -> UnitHead
     requires { HoldsUnit body.now at ports }
     ensures { result ≡ head_of (unit_in cgb2 ports (bits_of_bytes body.now) at) }
@@ -107,8 +107,8 @@ fn unit_head(body: &[u8], at: usize, ports: usize) -> UnitHead
     }
 }
 
-/// The word that a unit of that many ports is told for an argument in a turn, if any. The argument's first four bits are its
-/// mode and the count of its initial words.
+/// Returns the word that a unit of `ports` ports is told for argument `place` in `turn`, if any. The argument's first
+/// four bits are its mode and the count of its initial words.
 fn unit_told(body: &[u8], at: usize, ports: usize, place: usize, turn: u32) -> Option<u32>
     requires held { HoldsUnit body.now at ports }
     requires port { place < ports }
@@ -125,7 +125,7 @@ fn unit_told(body: &[u8], at: usize, ports: usize, place: usize, turn: u32) -> O
     }
 }
 
-/// The fields of a unit of that many ports.
+/// Returns the fields of a unit of `ports` ports.
 fn unit_fields(body: &[u8], at: usize, ports: usize) -> UnitFields
     requires { HoldsUnit body.now at ports }
     ensures { result ≡ unit_in cgb2 ports (bits_of_bytes body.now) at }

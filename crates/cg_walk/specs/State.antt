@@ -43,9 +43,9 @@ pub record State : Type 0 where
   pub routes : List (Option (List ℕ))
   pub history : List ℕ
 
--- where and when the route of an edge operand begins and ends: with the out of the source's unit when
--- the value leaves it, and on the port of that argument when the node that takes it begins, that many
--- turns later
+-- where and when the route of an edge operand begins and ends: with the out of the source's unit when the value leaves
+-- it, and on the port of that argument when the node that takes it begins, as many turns later as the edge's distance
+-- says
 abbrev pub ends_of : Arch → ℕ → List Place → EdgeOperand → Ends
 ends_of A ii places e =
     let from = place_in places e.source in
@@ -87,7 +87,8 @@ is_missing (Some path) = false
 abbrev pub missing : State → ℕ
 missing S = count_by is_missing S.routes
 
--- what weighs more than claims
+-- the cost of each edge operand without a route, each broken order edge and each node beyond one in a slot of a unit; a
+-- claim beyond one costs 1
 abbrev pub weight : ℕ
 weight = 1000
 

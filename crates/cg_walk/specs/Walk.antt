@@ -1,6 +1,6 @@
--- The walk: simulated annealing (DRESC, Mei et al. 2002) over placements and routes. It starts at the
--- first places, moves a node at a time as a generator's words say, and ends at the first state of cost
--- 0 or after so many moves.
+-- The walk: simulated annealing (DRESC, Mei et al. 2002) over placements and routes. It starts at the first places,
+-- moves a node at a time as a generator's words say, and ends at the first state of cost 0 or after a given number of
+-- moves.
 use Rattle.std.specs.Prelude.{◌≡◌, ℕ, suc, ◌+◌, ◌-◌, ◌*◌, ◌/◌, ◌%◌, ◌^◌, ◌<◌, ◌⊎◌, nat_lt, nat_le, eqb, min, ◌||◌, if◌then◌else◌, Bool, List, [], ◌∷◌, length, map, filter, replicate, Option, None, slice_index_or, slice_set}
 use Rattle.std.specs.List.{range_with_len}
 use Rattle.rand_pcg.specs.Lcg.{Lcg}
@@ -117,8 +117,8 @@ IsMove A K ii early moves k g S after =
 
 -- ---- the walk
 
--- after k moves, of at most so many, the walk with that seed has that generator and that state: it makes
--- a further move where its state has a cost and moves are left
+-- after k moves, of at most `moves`, the walk with that seed has that generator and that state: it makes a further move
+-- where its state has a cost and moves are left
 pub data Walked (A : Arch) (K : Kernel) (ii : ℕ) (early : List ℕ) (moves seed : ℕ) : ℕ → Lcg → State → Type 0 where
   start : {S : State} → IsStart A K ii early S → Walked A K ii early moves seed 0 (generator seed ii) S
   more : {k : ℕ} {g : Lcg} {S after : State} → Walked A K ii early moves seed k g S → k < moves →

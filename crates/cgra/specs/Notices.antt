@@ -5,7 +5,8 @@ use Rattle.cg_ending.specs.declared.outcome.Status.TheVariants.{Memory, Usage, W
 use Rattle.cg_ending.specs.Outcome.{line_of}
 use Rattle.cgra.specs.declared.commands.TheConstants.{COMMANDS}
 
--- where a call ends so, and so many writes of files failed in it; where none did, a write fault is of the report
+-- where a call ends with that status, and `write_faults` writes of files failed in it; where none did, a write fault is
+-- of the report
 abbrev pub notice_of : Status → ℕ → List ℕ
 notice_of Usage write_faults = COMMANDS.now
 notice_of Memory write_faults = line_of (codes "cgra: memory was wanting" ∷ [])

@@ -16,7 +16,7 @@ use std::process::ExitCode;
 use std::rt::Env;
 use std::{env, io};
 
-/// The exit status where memory for the arguments is wanting.
+/// The exit status where memory for the arguments runs out.
 const WANTS_MEMORY: u8 = 1;
 
 /// The exit status where an argument isn't text.

@@ -5,7 +5,7 @@ ghost use Rattle.cgra.specs.Notices.{notice_of};
 use crate::commands::COMMANDS;
 use cg_top::Status;
 
-/// At want of memory.
+/// The notice where memory ran out.
 pub const NO_MEMORY: &str = "cgra: memory was wanting\n";
 
 /// At a write fault of the store.
@@ -14,7 +14,8 @@ pub const NO_FILE: &str = "cgra: an output file couldn't be written\n";
 /// At a write fault of the sink.
 pub const NO_REPORT: &str = "cgra: the report couldn't be written\n";
 
-/// What is said where a call ends so, and so many writes of files and puts of reports failed in it.
+/// Returns what is said where a call ends with `status`, and `write_faults` writes of files and `put_faults` puts of
+/// reports failed in it.
 pub fn notice(status: Status, write_faults: u64, put_faults: u64) -> &'static str
     requires { status ≡ Status.WriteFault → (0 < write_faults) ⊎ (0 < put_faults) }
     ensures { result.now ≡ notice_of status write_faults }

@@ -30,7 +30,7 @@ impl<'g, 'a> Walk<'g, 'a> {
     ghost use Rattle.cg_claims.specs.Table.{excess};
     ghost use Rattle.cg_walk.specs.State.{cost, table_of_state};
 
-    /// A placement of its places. It has earliest times of 0, which no count asks for.
+    /// Returns a placement of the walk's places. It has earliest times of 0, which no count asks for.
     fn placement_anew(&self, alloc: Global) -> Result<PlainPlacement<'a>, AllocError>
         ensures arch { IfOk result (λ p. p.arch ≡ self.now.arch) }
         ensures kernel { IfOk result (λ p. p.kernel ≡ self.now.kernel) }
@@ -55,7 +55,7 @@ impl<'g, 'a> Walk<'g, 'a> {
         Ok(placement)
     }
 
-    /// A use table with the claims of its routes.
+    /// Returns a use table with the claims of the walk's routes.
     fn usage_anew(&self, alloc: Global) -> Result<PlainUsage<'a>, AllocError>
         ensures excess { IfOk result (λ u. excess u ≡ excess (table_of_state self.now.arch self.now.kernel self.now.ii self.now.state)) }
         ensures few { IfOk result (λ u. excess u ≤ 2 ^ 48) }
@@ -68,7 +68,7 @@ impl<'g, 'a> Walk<'g, 'a> {
         Ok(usage)
     }
 
-    /// What the state costs, counted anew.
+    /// Counts the cost of the state anew.
     pub(crate) fn recount(&self, alloc: Global) -> Result<u64, AllocError>
         ensures { IfOk result (λ c. c ≡ cost self.now.arch self.now.kernel self.now.ii self.now.state) }
     {
