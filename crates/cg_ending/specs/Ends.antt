@@ -73,6 +73,8 @@ pub record Completed (outcome : Outcome) (before after : Moment) (status : Statu
   pub put : IsPut outcome.status outcome.report before after
   -- where it writes nothing, no write call failed, for none was made
   pub no_write : outcome.writes ≡ [] → after.write_faults ≡ before.write_faults
+  -- where its report is empty, the sink is as before, for no put was made
+  pub no_put : outcome.report ≡ [] → (after.taken ≡ before.taken) × (after.faults ≡ before.faults)
 
 -- a write failed, and nothing was put
 pub record WriteFailed (outcome : Outcome) (before after : Moment) (status : Status) : Type 0 where

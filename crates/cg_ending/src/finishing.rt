@@ -68,6 +68,8 @@ fn write_all<S: Store>(alloc: Global, files: &[File], store: &mut S) -> Result<(
 fn report<O: Sink>(alloc: Global, status: Status, bytes: &[u8], out: &mut O) -> Status
     ensures ends { Reported status bytes.now (O.taken out.old) (O.faults out.old)
         (O.taken out.new) (O.faults out.new) result }
+    // Where there is nothing to put, the sink is not called.
+    ensures untouched { bytes.now ≡ [] → out.new ≡ out.old }
     ensures faults { O.faults out.old ≤ O.faults out.new }
 {
     if bytes.is_empty() {

@@ -14,14 +14,14 @@ use Rattle.cg_ending.specs.Refusals.{reports}
 use Rattle.cg_files.specs.Held.{Holds, Appends}
 use Rattle.cg_bits.specs.Spelling.{AreBits}
 use Rattle.cg_bits.proofs.Packed.{some_bits}
-use Rattle.cg_check.specs.Legal.{Mapped}
+use Rattle.cg_check.specs.Legal.{Mapped, config_of}
 use Rattle.cg_check.specs.declared.rule.Violation.{Violation}
 use Rattle.cg_check.specs.Rules.{violation}
 use Rattle.cg_emit.specs.Emitted.{RunLikeTurns, RunLikeTurnsAlone}
 use Rattle.cg_emit.proofs.Overlapped.{one_config, does_turns}
 use Rattle.cg_inputs.specs.Sources.{AreGiven, AreMapped}
 use Rattle.cg_mapping_answers.specs.Check.{illegal_report, IsLegalInput, IsIllegalCheck}
-use Rattle.cg_mapping_answers.specs.Emit.{IsEmit, IsEmittedBy, IsEmission, RunsMapping, IsEmittedRun, config_of, emit_report}
+use Rattle.cg_mapping_answers.specs.Emit.{IsEmit, IsEmittedBy, IsEmission, RunsMapping, IsEmittedRun, emit_report}
 use Rattle.cg_inputs.proofs.Sound.{IsSound, IsNamed}
 use Rattle.cg_inputs.proofs.Wholes.{whole, one_write}
 use Rattle.cg_inputs.proofs.Arrays.{sized}

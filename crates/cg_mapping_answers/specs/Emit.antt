@@ -1,8 +1,6 @@
 -- `emit ARCH KERNEL MAPPING OUT`.
 use Rattle.std.specs.Prelude.{◌≡◌, [], ◌∷◌, Option, Some, None, Result, Ok, Err, codes, decimal}
 use Rattle.cg_model.specs.Mapping.{IsLegal}
-use Rattle.cg_model.specs.Config.{Config}
-use Rattle.cg_model.specs.Configured.{configuration_of}
 use Rattle.cg_model.specs.Overlap.{CarriesOne}
 use Rattle.cg_ending.specs.declared.outcome.Status.TheVariants.{Done, No}
 use Rattle.cg_files.specs.Held.{Holds, Appends}
@@ -10,16 +8,12 @@ use Rattle.cg_ending.specs.Outcome.{Name, Bytes, File, Outcome, line_of, line_th
 use Rattle.cg_ending.specs.Ends.{Moment}
 use Rattle.cg_ending.specs.Refusals.{reports}
 use Rattle.cg_bits.specs.Spelling.{AreBits}
-use Rattle.cg_check.specs.Legal.{Mapped}
+use Rattle.cg_check.specs.Legal.{Mapped, config_of}
 use Rattle.cg_check.specs.declared.rule.Violation.{Violation}
 use Rattle.cg_check.specs.Rules.{violation}
 use Rattle.cg_emit.specs.Emitted.{RunLikeTurns, RunLikeTurnsAlone}
 use Rattle.cg_inputs.specs.Sources.{AreMapped, HoldMapped}
 use Rattle.cg_mapping_answers.specs.Check.{illegal_report}
-
--- the configuration of a mapping with what it maps
-abbrev pub config_of : Mapped → Config
-config_of m = configuration_of m.arch m.kernel m.mapping
 
 -- its interval and its stages
 abbrev pub emit_report : Mapped → Bytes

@@ -11,7 +11,7 @@ use Rattle.cg_ending.specs.Ends.{Moment, Completed, Wrote}
 use Rattle.cg_ending.specs.Refusals.{reports}
 use Rattle.cg_files.specs.Held.{Holds, Appends}
 use Rattle.cg_bits.specs.Spelling.{AreBits}
-use Rattle.cg_check.specs.Legal.{Mapped}
+use Rattle.cg_check.specs.Legal.{Mapped, config_of}
 use Rattle.cg_bound.specs.declared.interval.Certificate.{Certificate}
 use Rattle.cg_bound.specs.Bound.{IsOpen, Shows}
 use Rattle.cg_hub.specs.Hub.{HubEnough}
@@ -24,7 +24,6 @@ use Rattle.cg_task.proofs.Intervals.{last_positive}
 use Rattle.cg_model.specs.declared.request.Request.{Request}
 use Rattle.cg_model.specs.Request.{IsInRange}
 use Rattle.cg_inputs.specs.Sources.{Pair, GivesPair}
-use Rattle.cg_mapping_answers.specs.Emit.{config_of}
 use Rattle.cg_task_answers.specs.Searches.{IsSearchOver, IsWritten, IsImpossibleRun, is_above, map_writes, impossible_report}
 use Rattle.cg_task_answers.specs.Answered.{Words, IsOutcomeOf, IsAnswered, found_report, left_report}
 use Rattle.cg_task_answers.specs.Runs.{IsFoundRun, IsLeftRun}

@@ -10,7 +10,7 @@ use Rattle.cg_ending.specs.Ends.{Moment, IsPut, Wrote}
 use Rattle.cg_ending.specs.Refusals.{malformed_of}
 use Rattle.cg_bits.specs.Spelling.{AreBits}
 use Rattle.cg_mapping.specs.Printed.{data_of}
-use Rattle.cg_check.specs.Legal.{Mapped}
+use Rattle.cg_check.specs.Legal.{Mapped, config_of}
 use Rattle.cg_bound.specs.declared.interval.Certificate.{Certificate}
 use Rattle.cg_bound.specs.Bound.{IsForbidden, Certifies, Shows}
 use Rattle.cg_bound.specs.Text.{certificate_text}
@@ -18,7 +18,6 @@ use Rattle.cg_task.specs.Intervals.{last_tried}
 use Rattle.cg_model.specs.declared.request.Request.{Request}
 use Rattle.cg_model.specs.Request.{IsInRange}
 use Rattle.cg_inputs.specs.Sources.{Pair, ArePaired, HoldPair}
-use Rattle.cg_mapping_answers.specs.Emit.{config_of}
 
 -- ---- reports
 

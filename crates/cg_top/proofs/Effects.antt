@@ -74,7 +74,7 @@ effect words before after status (inl e) = by_way e.finished
 
     by_way : Finished o before after status → IsEffect words before after status
     by_way (inl d) = record {
-      came = λ _. record { outcome = o; is_outcome = e.is_outcome; status_is = sym d.status_is; held = d.held; put = subst (λ z. IsPut z o.report before after) (sym d.status_is) d.put };
+      came = λ _. record { outcome = o; is_outcome = e.is_outcome; status_is = sym d.status_is; held = d.held; put = subst (λ z. IsPut z o.report before after) (sym d.status_is) d.put; no_put = d.no_put };
       failed = λ u. absurd (k.no_fault (sym d.status_is ∙ u));
       begun = λ u. absurd (k.no_memory (sym d.status_is ∙ u));
       silent = λ u. absurd (k.no_memory (sym d.status_is ∙ u));

@@ -113,6 +113,8 @@ pub record Came (words : List Name) (before after : Moment) (status : Status) : 
   pub status_is : outcome.status ≡ status
   pub held : Wrote before.held outcome.writes after.held
   pub put : IsPut status outcome.report before after
+  -- where the report is empty, the sink is as before, for no put was made
+  pub no_put : outcome.report ≡ [] → (after.taken ≡ before.taken) × (after.faults ≡ before.faults)
 
 -- one of an outcome's writes failed: those before it were made, what is held under its name is open, and nothing was put
 pub record Halted (words : List Name) (before after : Moment) : Type 0 where

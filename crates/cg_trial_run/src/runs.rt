@@ -1,11 +1,11 @@
 //! The two runs, each down to the digest of the image that it leaves.
 ghost use Rattle.std.specs.Prelude.{◌≡◌, ◌≤◌, ℕ, Ok, IfOk, length, string_bytes};
 ghost use Rattle.cg_model.specs.Canonical.{IsCanonical};
-ghost use Rattle.cg_model.specs.Configured.{configuration_of};
 ghost use Rattle.cg_model.specs.Limits.{most_memory};
 ghost use Rattle.cg_model.specs.Machine.{machine_left};
 ghost use Rattle.cg_model.specs.Turns.{turns_left};
 ghost use Rattle.cg_bits.specs.Answers.{answer_of};
+ghost use Rattle.cg_check.specs.Legal.{config_of};
 ghost use Rattle.cg_pad.specs.Bytes.{IsStorable};
 ghost use Rattle.cg_turns.specs.Done.{left_of, IsSmall};
 ghost use Rattle.cg_trial_run.specs.Report as spec;
@@ -41,10 +41,10 @@ pub(crate) fn run_digest(
     bits: &[u8],
     image: &Image,
 ) -> Result<String, AllocError>
-    requires read { answer_of mapping.now.arch bits.now ≡ Ok (configuration_of mapping.now.arch mapping.now.kernel mapping.now.mapping) }
+    requires read { answer_of mapping.now.arch bits.now ≡ Ok (config_of mapping.now) }
     requires fits { length image.now.memory ≤ mapping.now.arch.memory }
     ensures { IfOk result (λ s. string_bytes s
-        ≡ spec.image_digest (machine_left mapping.now.arch (configuration_of mapping.now.arch mapping.now.kernel mapping.now.mapping) trial_turns image.now).image) }
+        ≡ spec.image_digest (machine_left mapping.now.arch (config_of mapping.now) trial_turns image.now).image) }
 {
     let arch = mapping.arch();
     match ConfigView::of(arch, bits) {
