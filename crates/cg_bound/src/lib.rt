@@ -11,5 +11,5 @@ mod unoffered;
 
 pub use cg_edges::{Arch, EdgeId, Kernel};
 pub use interval::{Certificate, IntervalVerdict, LeastInterval, bound, verdict};
-pub use laws::{certifies, excludes, one_least};
+pub use laws::{always_bounded, certifies, excludes, one_least};
 pub use text::certificate_text;

@@ -1,5 +1,5 @@
 -- The edges of a kernel on an architecture, by name.
-use Rattle.std.specs.Prelude.{◌≡◌, ℕ, length, if◌then◌else◌, min, List, [], ◌∷◌, Option, Some, None, slice_get, unwrap_or}
+use Rattle.std.specs.Prelude.{◌≡◌, ◌<◌, ◌⊎◌, ℕ, length, if◌then◌else◌, min, List, [], ◌∷◌, Option, Some, None, slice_get, unwrap_or}
 use Rattle.cg_word.specs.declared.op.Op.{Op}
 use Rattle.cg_word.specs.Sets.{among}
 use Rattle.cg_model.specs.declared.kernel.Operand.{Operand}
@@ -48,8 +48,21 @@ abbrev pub edge_of : Arch → Kernel → EdgeId → Option Edge
 edge_of A K (Arg v p) = data_edge_of A K v p
 edge_of A K (Order e) = order_edge_of K e
 
--- each name in the list names the edge at its place, and each edge of the kernel is named
+-- the order of names: the data edges by node and operand, and after them the order edges by number
+abbrev pub ComesBefore : EdgeId → EdgeId → Type 0
+ComesBefore (Arg v p) (Arg w q) = (v < w) ⊎ ((v ≡ w) × (p < q))
+ComesBefore (Arg v p) (Order k) = Unit {0}
+ComesBefore (Order j) (Arg w q) = ⊥
+ComesBefore (Order j) (Order k) = j < k
+
+-- no name stands before or beside one that comes before it
+abbrev pub AreRising : List EdgeId → Type 0
+AreRising names = (i j : ℕ) (x y : EdgeId) → i < j → slice_get names i ≡ Some x → slice_get names j ≡ Some y → ComesBefore x y
+
+-- each name in the list names the edge at its place, each edge of the kernel is named, and the names are in order: so no
+-- other list will do
 pub record AreEdges (A : Arch) (K : Kernel) (names : List EdgeId) (edges : List Edge) : Type 0 where
   pub each : length names ≡ length edges
   pub right : (k : ℕ) (x : EdgeId) (e : Edge) → slice_get names k ≡ Some x → slice_get edges k ≡ Some e → edge_of A K x ≡ Some e
   pub whole : (x : EdgeId) (e : Edge) → edge_of A K x ≡ Some e → (k : ℕ) × (slice_get names k ≡ Some x)
+  pub rising : AreRising names

@@ -3,7 +3,7 @@
 /// The most bytes that the values of one text may take.
 pub const MOST_MEMORY: u64 = 1_000_000_000;
 
-/// How deep values may nest. The parser goes no further.
+/// How deep values may nest, and how many dots a key may have. The parser goes no further.
 const MOST_DEPTH: u32 = 96;
 
 /// Where in a text a byte stands. The quote is `"` or `'`.
@@ -80,20 +80,23 @@ fn in_lines(quote: u8, quotes: u8, byte: u8) -> Place {
     }
 }
 
-/// About how many bytes the values of a text take at most, with what a reader makes of them. The first key of a table
-/// takes a node of a map, and so does each dot of a key; an array with items takes a list of at least four, and each
-/// item of a list its place there. What comes after too many open brackets isn't counted, since it isn't parsed.
+/// Estimates how many bytes the values of the text `bytes` take at most, with what a reader makes of them. The first key
+/// of a table takes a node of a map, and so does each dot of a key; an array with items takes a list of at least four, and
+/// each item of a list its place there. What comes after too many open brackets, or in a key after too many dots, isn't
+/// counted, since it isn't parsed.
 pub(crate) fn memory_for(bytes: &[u8]) -> u64 {
     let mut memory = 0u64;
     let mut place = Place::Bare;
     let mut before = b' ';
     let mut depth = 0u32;
+    let mut dots = 0u32;
     let mut is_first = true;
     for byte in bytes {
         place = place.after(*byte);
         if is_mark(place, *byte) {
             depth = depth_after(depth, *byte);
-            if depth > MOST_DEPTH {
+            dots = dots_after(dots, *byte);
+            if depth > MOST_DEPTH || dots > MOST_DEPTH {
                 return memory;
             }
             memory = memory.saturating_add(weight(before, *byte, is_first));
@@ -117,6 +120,16 @@ fn depth_after(depth: u32, byte: u8) -> u32 {
         b'[' | b'{' => depth.saturating_add(1),
         b']' | b'}' => depth.saturating_sub(1),
         _ => depth,
+    }
+}
+
+/// Returns how many dots stand since the last bracket, comma or `=`, after `byte`. A value has at most one, so those of a
+/// key are nearly all.
+fn dots_after(dots: u32, byte: u8) -> u32 {
+    match byte {
+        b'.' => dots.saturating_add(1),
+        b'[' | b'{' | b']' | b'}' | b',' | b'=' => 0,
+        _ => dots,
     }
 }
 
