@@ -1,5 +1,5 @@
 -- What the bytes that are emitted do: the overlap theorem, said of the configuration that they spell.
-use Rattle.std.specs.Prelude.{◌≡◌, ℕ, ◌+◌, ◌*◌, ◌<◌, List, length, Some}
+use Rattle.std.specs.Prelude.{◌≡◌, ℕ, ◌+◌, ◌*◌, ◌<◌, ◌⊎◌, List, length, Some}
 use Rattle.cg_model.specs.Work.{Image, Work}
 use Rattle.cg_model.specs.Kernel.{Kernel, size}
 use Rattle.cg_model.specs.Turns.{work, val, turns, turns_left}
@@ -31,14 +31,9 @@ pub record DoesTurns (A : Arch) (K : Kernel) (M : Mapping) (C : Config) (n : ℕ
   pub all : machine_left A C n image ≡ turns_left K n image
 
 -- whatever configuration the bytes spell: its run does the turns, for every number of turns and
--- every image on which the kernel's edges order the accesses that matter
+-- every image on which the kernel's edges order the accesses that matter; and for every image where
+-- no node reaches the memory
 abbrev pub RunLikeTurns : Arch → Kernel → Mapping → List ℕ → Type 0
 RunLikeTurns A K M bytes =
-    (C : Config) → AreBits A C bytes → (n : ℕ) (image : Image) → IsUnaliased K n image →
-    DoesTurns A K M C n image
-
--- and where no node reaches the memory, for every image
-abbrev pub RunLikeTurnsAlone : Arch → Kernel → Mapping → List ℕ → Type 0
-RunLikeTurnsAlone A K M bytes =
-    HasNoAccess K → (C : Config) → AreBits A C bytes → (n : ℕ) (image : Image) →
+    (C : Config) → AreBits A C bytes → (n : ℕ) (image : Image) → IsUnaliased K n image ⊎ HasNoAccess K →
     DoesTurns A K M C n image

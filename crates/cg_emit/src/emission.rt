@@ -10,7 +10,7 @@ ghost use Rattle.cg_bits.specs.Ranges.{IsBytes};
 ghost use Rattle.cg_bits.specs.Spelling.{AreBits};
 ghost use Rattle.cg_check.specs.Legal.{config_of};
 ghost use Rattle.cg_emit.specs.Building.{AreSoon};
-ghost use Rattle.cg_emit.specs.Emitted.{RunLikeTurns, RunLikeTurnsAlone};
+ghost use Rattle.cg_emit.specs.Emitted.{RunLikeTurns};
 
 use crate::nodes::set_nodes;
 use crate::selects::set_routes;
@@ -18,7 +18,7 @@ use cg_arch::Arch;
 use cg_bits::{Config, write_bits};
 use cg_check::LegalMapping;
 use cg_model::Place;
-use cg_overlap::{configures, overlaps, overlaps_alone};
+use cg_overlap::{configures, overlaps};
 use std::alloc::{AllocError, Global};
 
 /// The configuration of a legal mapping: the selects that the positions of its routes ask for, the fields that its nodes
@@ -70,14 +70,12 @@ fn run_like_turns(legal: &LegalMapping<'_>)
     ensures read { (bytes : List ℕ) → AreBits legal.now.arch (config_of legal.now) bytes → answer_of legal.now.arch bytes ≡ Ok (config_of legal.now) }
     ensures only { (bytes : List ℕ) → AreBits legal.now.arch (config_of legal.now) bytes → (C : configs.Config) → AreBits legal.now.arch C bytes → C ≡ config_of legal.now }
     ensures overlaps { (bytes : List ℕ) → AreBits legal.now.arch (config_of legal.now) bytes → RunLikeTurns legal.now.arch legal.now.kernel legal.now.mapping bytes }
-    ensures overlaps_alone { (bytes : List ℕ) → AreBits legal.now.arch (config_of legal.now) bytes → RunLikeTurnsAlone legal.now.arch legal.now.kernel legal.now.mapping bytes }
 {
     let _mapping = legal.mapping();
     let _nodes = legal.kernel().nodes();
     let _contexts = legal.arch().contexts();
     let _digest = digest(legal.arch());
     overlaps();
-    overlaps_alone();
 }
 
 /// The bits of a legal mapping. An array that runs them works on several turns at once, and does what the turns do one
@@ -93,7 +91,6 @@ pub fn emit(alloc: Global, legal: &LegalMapping<'_>) -> Result<Vec<u8>, AllocErr
     // cycle and in the end.
     ensures once { CarriesOne legal.now.arch legal.now.kernel legal.now.mapping }
     ensures overlaps { IfOk result (λ bytes. RunLikeTurns legal.now.arch legal.now.kernel legal.now.mapping bytes.items) }
-    ensures overlaps_alone { IfOk result (λ bytes. RunLikeTurnsAlone legal.now.arch legal.now.kernel legal.now.mapping bytes.items) }
 {
     run_like_turns(legal);
     let config = configuration(alloc, legal)?;

@@ -1,12 +1,12 @@
 -- What `emit` answers, and what its bytes do.
-use Rattle.std.proofs.Common.{◌≡◌, ℕ, List, [], ◌∷◌, Option, Some, None, Result, Ok, Err, refl, sym, ◌∙◌, ap, subst, inl, inr}
+use Rattle.std.proofs.Common.{◌≡◌, ℕ, List, [], ◌∷◌, Option, Some, None, Result, Ok, Err, refl, sym, ◌∙◌, ap, subst, inl, inr, ⊎_elim}
 use Rattle.cg_model.specs.Array.{Arch, IsArch}
 use Rattle.cg_model.specs.Kernel.{Kernel, IsKernel}
 use Rattle.cg_model.specs.Configured.{configuration_of}
 use Rattle.cg_model.specs.Mapping.{Mapping, IsShaped, IsLegal}
 use Rattle.cg_overlap.proofs.Single.{carries_one}
 use Rattle.cg_overlap.proofs.Canonical.{canonical}
-use Rattle.cg_overlap.proofs.Overlap.{follows, leaves_the_same, begins_only, follows_alone, leaves_alone}
+use Rattle.cg_overlap.proofs.Overlap.{follows, leaves_the_same, begins_only, unaliased_without}
 use Rattle.cg_ending.specs.declared.outcome.Status.TheVariants.{Done, Malformed, No}
 use Rattle.cg_ending.specs.Outcome.{Name, File, Outcome, names_of}
 use Rattle.cg_ending.specs.Ends.{Moment, Completed, Wrote}
@@ -17,7 +17,7 @@ use Rattle.cg_bits.proofs.Packed.{some_bits}
 use Rattle.cg_check.specs.Legal.{Mapped, config_of}
 use Rattle.cg_check.specs.declared.rule.Violation.{Violation}
 use Rattle.cg_check.specs.Rules.{violation}
-use Rattle.cg_emit.specs.Emitted.{RunLikeTurns, RunLikeTurnsAlone}
+use Rattle.cg_emit.specs.Emitted.{RunLikeTurns}
 use Rattle.cg_emit.proofs.Overlapped.{one_config, does_turns}
 use Rattle.cg_inputs.specs.Sources.{AreGiven, AreMapped}
 use Rattle.cg_mapping_answers.specs.Check.{illegal_report, IsLegalInput, IsIllegalCheck}
@@ -32,14 +32,10 @@ use Rattle.cg_mapping_answers.proofs.Checked.{given_legal, no_violation, legal_w
 -- ---- what the bytes do
 
 run_like_turns : (A : Arch) (K : Kernel) (M : Mapping) (bytes : List ℕ) → IsArch A → IsKernel K → IsLegal A K M → AreBits A (configuration_of A K M) bytes → RunLikeTurns A K M bytes
-run_like_turns A K M bytes valid good legal spelled C other n image unaliased =
+run_like_turns A K M bytes valid good legal spelled C other n image ordered =
+    let unaliased = ⊎_elim (λ u. u) (λ never. unaliased_without K n image never) ordered in
     does_turns A K M C n image (one_config A (configuration_of A K M) C bytes valid (sized A) spelled other)
     (follows A K M n image valid good legal unaliased) (begins_only A K M n image legal) (leaves_the_same A K M n image valid good legal unaliased)
-
-run_like_turns_alone : (A : Arch) (K : Kernel) (M : Mapping) (bytes : List ℕ) → IsArch A → IsKernel K → IsLegal A K M → AreBits A (configuration_of A K M) bytes → RunLikeTurnsAlone A K M bytes
-run_like_turns_alone A K M bytes valid good legal spelled never C other n image =
-    does_turns A K M C n image (one_config A (configuration_of A K M) C bytes valid (sized A) spelled other)
-    (follows_alone A K M n image valid good legal never) (begins_only A K M n image legal) (leaves_alone A K M n image valid good legal never)
 
 -- the bits of a legal mapping run it
 pub runs : (m : Mapped) (bytes : List ℕ) → IsArch m.arch → IsKernel m.kernel → IsLegal m.arch m.kernel m.mapping → AreBits m.arch (config_of m) bytes → RunsMapping m bytes
@@ -48,7 +44,6 @@ runs m bytes valid good legal spelled = record {
   spelled = spelled;
   once = carries_one m.arch m.kernel m.mapping legal;
   overlaps = run_like_turns m.arch m.kernel m.mapping bytes valid good legal spelled;
-  overlaps_alone = run_like_turns_alone m.arch m.kernel m.mapping bytes valid good legal spelled;
 }
 
 -- there are such bits

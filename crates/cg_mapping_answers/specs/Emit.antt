@@ -11,7 +11,7 @@ use Rattle.cg_bits.specs.Spelling.{AreBits}
 use Rattle.cg_check.specs.Legal.{Mapped, config_of}
 use Rattle.cg_check.specs.declared.rule.Violation.{Violation}
 use Rattle.cg_check.specs.Rules.{violation}
-use Rattle.cg_emit.specs.Emitted.{RunLikeTurns, RunLikeTurnsAlone}
+use Rattle.cg_emit.specs.Emitted.{RunLikeTurns}
 use Rattle.cg_inputs.specs.Sources.{AreMapped, HoldMapped}
 use Rattle.cg_mapping_answers.specs.Check.{illegal_report}
 
@@ -50,7 +50,6 @@ pub record RunsMapping (m : Mapped) (bytes : Bytes) : Type 0 where
   pub spelled : AreBits m.arch (config_of m) bytes
   pub once : CarriesOne m.arch m.kernel m.mapping
   pub overlaps : RunLikeTurns m.arch m.kernel m.mapping bytes
-  pub overlaps_alone : RunLikeTurnsAlone m.arch m.kernel m.mapping bytes
 
 -- Done: what is held under the last name runs the mapping that was read
 pub record IsEmittedRun (arch kernel mapping out : Name) (before after : Moment) : Type 0 where

@@ -29,8 +29,3 @@ pub returns-clause-overlaps : goal.returns-clause-overlaps
 returns-clause-overlaps c =
     answered c.write_bits.result (λ v. AreBits c.arch.result.now c.in_ok-config.config v.items) _
     (λ v bits. c.run_like_turns.ensures.overlaps v.items (subst (λ (D : Config). AreBits c.args.legal.now.arch D v.items) c.in_ok-config.ensures.mapped (subst (λ (B : Arch). AreBits B c.in_ok-config.config v.items) c.arch.ensures bits))) c.write_bits.ensures.bits
-
-pub returns-clause-overlaps_alone : goal.returns-clause-overlaps_alone
-returns-clause-overlaps_alone c =
-    answered c.write_bits.result (λ v. AreBits c.arch.result.now c.in_ok-config.config v.items) _
-    (λ v bits. c.run_like_turns.ensures.overlaps_alone v.items (subst (λ (D : Config). AreBits c.args.legal.now.arch D v.items) c.in_ok-config.ensures.mapped (subst (λ (B : Arch). AreBits B c.in_ok-config.config v.items) c.arch.ensures bits))) c.write_bits.ensures.bits
