@@ -51,7 +51,7 @@ edge_of A K (Order e) = order_edge_of K e
 -- the order of names: the data edges by node and operand, and after them the order edges by number
 abbrev pub ComesBefore : EdgeId → EdgeId → Type 0
 ComesBefore (Arg v p) (Arg w q) = (v < w) ⊎ ((v ≡ w) × (p < q))
-ComesBefore (Arg v p) (Order k) = Unit {0}
+ComesBefore (Arg v p) (Order k) = Prim.Unit {0}
 ComesBefore (Order j) (Arg w q) = ⊥
 ComesBefore (Order j) (Order k) = j < k
 
