@@ -1,6 +1,6 @@
 -- Facts of the commands' definitions. A command is a case of each.
 use Rattle.std.proofs.Common.{◌≡◌, List, [], ◌∷◌, sym, ◌∙◌, ap, inr}
-use Rattle.cg_ending.specs.declared.outcome.Status.TheVariants.{Done}
+use Rattle.cg_ending.specs.declared.outcome.Status.TheVariants.{Done, Impossible}
 use Rattle.cg_ending.specs.Outcome.{Name, File, Outcome}
 use Rattle.cg_command.specs.declared.plans.Command.{Command}
 use Rattle.cg_command.specs.declared.plans.Command.TheVariants.{Turns, TurnsOnImage, Flat, Run, Bound, Check, Emit, Map, Search, Trial, Verilog}
@@ -12,9 +12,9 @@ use Rattle.cg_run_answers.proofs.RunAnswers.{same_run, sound_run, accepted_run, 
 use Rattle.cg_mapping_answers.proofs.Bounded.{same_bound, sound_bound, accepted_bound, quiet_bound}
 use Rattle.cg_mapping_answers.proofs.Checked.{same_check, sound_check, accepted_check, quiet_check}
 use Rattle.cg_mapping_answers.proofs.Bitstream.{same_emit, sound_emit, accepted_emit, named_emit}
-use Rattle.cg_map_answers.proofs.Searched.{same_map, sound_map, accepted_map, quiet_map, named_map}
-use Rattle.cg_search_answers.proofs.Searched.{agree_search, sound_search, accepted_search, quiet_search, named_search}
-use Rattle.cg_answers.specs.Commands.{IsAnswer, Accepts, AgreeIn}
+use Rattle.cg_map_answers.proofs.Searched.{same_map, sound_map, accepted_map, forbidden_map, quiet_map, named_map}
+use Rattle.cg_search_answers.proofs.Searched.{agree_search, sound_search, accepted_search, forbidden_search, quiet_search, named_search}
+use Rattle.cg_answers.specs.Commands.{IsAnswer, Accepts, Forbids, AgreeIn}
 use Rattle.cg_answers.proofs.Trialed.{same_trial, sound_trial, accepted_trial, quiet_trial}
 use Rattle.cg_answers.proofs.Netlisted.{same_verilog, sound_verilog, accepted_verilog, named_verilog}
 
@@ -61,6 +61,12 @@ accepted (Search s) (f ∷ g ∷ []) outs o a p = accepted_search s f g outs o a
 accepted (Trial seed) [] [] o a p = accepted_trial seed o p
 accepted Verilog (f ∷ []) (out ∷ []) o a p = accepted_verilog f out a.0 o a.1 p
 accepted _ _ _ o a p = absurd p
+
+-- where an interval is forbidden, a command says that it is impossible, and writes nothing
+pub forbidden : (c : Command) (files : List File) (outputs : List Name) (o : Outcome) → Forbids c files → IsAnswer c files outputs o → (o.status ≡ Impossible) × (o.writes ≡ [])
+forbidden (Map s) (f ∷ g ∷ []) outs o a p = forbidden_map s f g outs o a p
+forbidden (Search s) (f ∷ g ∷ []) outs o a p = forbidden_search s f g outs o a p
+forbidden _ _ _ o a p = absurd a
 
 -- a command without output files writes none
 pub quiet : (c : Command) (files : List File) (o : Outcome) → IsAnswer c files [] o → o.writes ≡ []

@@ -21,7 +21,7 @@ use Rattle.cg_mapping_answers.specs.Bound.{IsBoundOf, IsPairInput, IsBoundRun}
 use Rattle.cg_mapping_answers.specs.Check.{IsCheck, IsLegalInput, IsLegalCheck, IsIllegalCheck}
 use Rattle.cg_mapping_answers.specs.Emit.{IsEmit, IsEmittedRun}
 use Rattle.cg_map_answers.specs.Map.{IsMap, IsMappable, IsMapRun, IsSpentRun}
-use Rattle.cg_task_answers.specs.Searches.{IsImpossibleRun}
+use Rattle.cg_task_answers.specs.Searches.{IsForbiddenInput, IsImpossibleRun}
 use Rattle.cg_search_answers.specs.Search.{IsSearch, IsSearchable, IsSearchRun, IsSearchSpentRun, AreAgreed}
 use Rattle.cg_answers.specs.Trial.{IsTrialOf, IsTrialRun}
 use Rattle.cg_answers.specs.Verilog.{IsVerilog, IsNetlisted}
@@ -77,6 +77,12 @@ Accepts (Search s) (arch ∷ kernel ∷ []) = IsSearchable s arch kernel
 Accepts (Trial seed) [] = Unit {0}
 Accepts Verilog (file ∷ []) = GivesArch file
 Accepts _ _ = ⊥
+
+-- the input files for which the command says that an interval is impossible
+abbrev pub Forbids : Command → List File → Type 0
+Forbids (Map s) (arch ∷ kernel ∷ []) = IsForbiddenInput s arch kernel
+Forbids (Search s) (arch ∷ kernel ∷ []) = IsForbiddenInput s arch kernel
+Forbids _ _ = ⊥
 
 -- what a command whose input and output files have these names leaves where it ends with Done: what is held, and what was put
 abbrev pub LeavesDone : Command → List Name → List Name → Moment → Moment → Type 0

@@ -20,7 +20,7 @@ use Rattle.cg_model.specs.declared.request.Request.{Request}
 use Rattle.cg_model.specs.Request.{IsInRange}
 use Rattle.cg_inputs.specs.Sources.{Pair}
 use Rattle.cg_inputs.proofs.Sound.{IsSound, IsNamed}
-use Rattle.cg_task_answers.specs.Searches.{IsImpossibleRun}
+use Rattle.cg_task_answers.specs.Searches.{IsForbiddenInput, IsImpossibleRun}
 use Rattle.cg_task_answers.specs.Answered.{IsOutcomeOf}
 use Rattle.cg_task_answers.proofs.Over.{agree_over}
 use Rattle.cg_task_answers.proofs.Searched as searched
@@ -92,6 +92,10 @@ accepted_map s arch kernel outs o a f =
     (λ (m, found_by, mapped). alike_mapping m found_by b (alike p.arch p.kernel valid good s.ii s.seed s.moves (answer.Mapped m found_by) b mapped found))
     a.mappable)
     o f
+
+-- an interval that is forbidden is called impossible
+pub forbidden_map : (s : Request) (arch kernel : File) (outs : List Name) (o : Outcome) → IsForbiddenInput s arch kernel → IsMap s arch kernel outs o → searched.SaysImpossible o
+forbidden_map s arch kernel outs o a f = searched.forbidden words IsAnswerOf IsOnlyMapping AreCosts searcher s arch kernel outs a o f
 
 pub some_map : (s : Request) (arch kernel : File) (outs : List Name) → IsInRange s → (o : Outcome) × IsMap s arch kernel outs o
 some_map s arch kernel outs range = searched.some_outcome words IsAnswerOf IsOnlyMapping AreCosts searcher s arch kernel outs range

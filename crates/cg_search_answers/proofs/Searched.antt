@@ -14,7 +14,7 @@ use Rattle.cg_model.specs.declared.request.Request.{Request}
 use Rattle.cg_model.specs.Request.{IsInRange}
 use Rattle.cg_inputs.specs.Sources.{Pair}
 use Rattle.cg_inputs.proofs.Sound.{IsSound, IsNamed}
-use Rattle.cg_task_answers.specs.Searches.{IsImpossibleRun}
+use Rattle.cg_task_answers.specs.Searches.{IsForbiddenInput, IsImpossibleRun}
 use Rattle.cg_task_answers.specs.Answered.{IsOutcomeOf}
 use Rattle.cg_task_answers.proofs.Over.{agree_over}
 use Rattle.cg_task_answers.proofs.Searched as searched
@@ -78,6 +78,10 @@ accepted_search s arch kernel outs o a f =
     searched.accepted words IsAnswerOf IsFoundWithin AreFaults searcher s arch kernel outs a.pair a.given a.within
     (λ valid good is b found. by_hub a.pair.arch a.pair.kernel valid good s.ii s.moves is a.enough b found)
     o f
+
+-- an interval that is forbidden is called impossible
+pub forbidden_search : (s : Request) (arch kernel : File) (outs : List Name) (o : Outcome) → IsForbiddenInput s arch kernel → IsSearch s arch kernel outs o → searched.SaysImpossible o
+forbidden_search s arch kernel outs o a f = searched.forbidden words IsAnswerOf IsFoundWithin AreFaults searcher s arch kernel outs a o f
 
 pub some_search_outcome : (s : Request) (arch kernel : File) (outs : List Name) → IsInRange s → (o : Outcome) × IsSearch s arch kernel outs o
 some_search_outcome s arch kernel outs range = searched.some_outcome words IsAnswerOf IsFoundWithin AreFaults searcher s arch kernel outs range

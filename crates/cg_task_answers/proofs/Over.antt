@@ -125,16 +125,17 @@ module _ (defines : Pair → Outcome → Type 0) (s : Request) (arch kernel : Fi
 
   -- ---- what is accepted
 
-  accepted_within : (p : Pair) → ((o : Outcome) → defines p o → o.status ≡ Done) → (b : Bool) (o : Outcome) → b ≡ false → IsWithin defines arch.name p b o → o.status ≡ Done
-  accepted_within p each true o e f = absurd (let z : true ≡ false = e in cc)
-  accepted_within p each false o e f = each o f
+  given_within : (P : Outcome → Type 0) (p : Pair) → ((o : Outcome) → defines p o → P o) → (b : Bool) (o : Outcome) → b ≡ false → IsWithin defines arch.name p b o → P o
+  given_within P p each true o e f = absurd (let z : true ≡ false = e in cc)
+  given_within P p each false o e f = each o f
 
-  pub accepted_over : (p : Pair) → GivesPair arch.bytes kernel.bytes p → is_above s.ii p.arch ≡ false
-      → (IsArch p.arch → IsKernel p.kernel → IsAsked p.arch s.ii → (o : Outcome) → defines p o → o.status ≡ Done)
-      → (o : Outcome) → IsSearchOver defines s arch kernel o → o.status ≡ Done
-  accepted_over p given within each o f =
+  -- what holds of each outcome that is defined for a pair holds where the files give that pair
+  pub given_over : (P : Outcome → Type 0) (p : Pair) → GivesPair arch.bytes kernel.bytes p → is_above s.ii p.arch ≡ false
+      → (IsArch p.arch → IsKernel p.kernel → IsAsked p.arch s.ii → (o : Outcome) → defines p o → P o)
+      → (o : Outcome) → IsSearchOver defines s arch kernel o → P o
+  given_over P p given within each o f =
       let (valid, good) = valid_pair arch.bytes kernel.bytes p given in
-      accepted_within p (each valid good (asked s p.arch f.range within)) (is_above s.ii p.arch) o within
+      given_within P p (each valid good (asked s p.arch f.range within)) (is_above s.ii p.arch) o within
       (subst (λ z. IsOverPair defines s.ii arch.name z o) (pair_is arch kernel p f.pair given f.given) f.outcome)
 
   -- ---- what there is

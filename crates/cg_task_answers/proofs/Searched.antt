@@ -13,18 +13,18 @@ use Rattle.cg_files.specs.Held.{Holds, Appends}
 use Rattle.cg_bits.specs.Spelling.{AreBits}
 use Rattle.cg_check.specs.Legal.{Mapped, config_of}
 use Rattle.cg_bound.specs.declared.interval.Certificate.{Certificate}
-use Rattle.cg_bound.specs.Bound.{IsOpen, Shows}
+use Rattle.cg_bound.specs.Bound.{IsForbidden, IsOpen, Shows}
 use Rattle.cg_hub.specs.Hub.{HubEnough}
 use Rattle.cg_task.specs.declared.answering.FoundBy.{FoundBy}
 use Rattle.cg_task.specs.declared.answering.Answer.{Answer}
 use Rattle.cg_task.specs.declared.answering.Answer.TheVariants as answer
 use Rattle.cg_task.specs.Intervals.{IsAsked, last_tried, IsFirst}
 use Rattle.cg_task.specs.Answers.{IsMapping}
-use Rattle.cg_task.proofs.Intervals.{last_positive}
+use Rattle.cg_task.proofs.Intervals.{last_positive, not_both}
 use Rattle.cg_model.specs.declared.request.Request.{Request}
 use Rattle.cg_model.specs.Request.{IsInRange}
 use Rattle.cg_inputs.specs.Sources.{Pair, GivesPair}
-use Rattle.cg_task_answers.specs.Searches.{IsSearchOver, IsWritten, IsImpossibleRun, is_above, map_writes, impossible_report}
+use Rattle.cg_task_answers.specs.Searches.{IsSearchOver, IsWritten, IsForbiddenInput, IsImpossibleRun, is_above, map_writes, impossible_report}
 use Rattle.cg_task_answers.specs.Answered.{Words, IsOutcomeOf, IsAnswered, found_report, left_report}
 use Rattle.cg_task_answers.specs.Runs.{IsFoundRun, IsLeftRun}
 use Rattle.cg_inputs.proofs.Sound.{IsSound, IsNamed}
@@ -32,7 +32,7 @@ use Rattle.cg_inputs.proofs.Wholes.{whole}
 use Rattle.cg_inputs.proofs.Paired.{valid_pair}
 use Rattle.cg_mapping_answers.proofs.Bitstream.{runs, some_run}
 use Rattle.cg_task_answers.proofs.Left.{held_writes, hold_pair, put_of, kept_of, quiet_of, left_impossible}
-use Rattle.cg_task_answers.proofs.Over.{asked, sound_over, named_over, accepted_over, some_over, left_over}
+use Rattle.cg_task_answers.proofs.Over.{asked, sound_over, named_over, given_over, some_over, left_over}
 
 -- what is known of a search: why an interval is impossible, what holds of the mappings that it finds and of what it leaves, and
 -- that it has an answer, which is a mapping where the hub suffices
@@ -49,6 +49,10 @@ pub record IsSearcher (Answers : Request → Pair → Answer → Type 0) (Found 
   pub some : (s : Request) (p : Pair) → IsArch p.arch → IsKernel p.kernel → IsAsked p.arch s.ii → (a : Answer) × Answers s p a
 
 -- ---- status and writes
+
+-- an interval is called impossible, and nothing is written
+abbrev pub SaysImpossible : Outcome → Type 0
+SaysImpossible o = (o.status ≡ Impossible) × (o.writes ≡ [])
 
 named_writes : (outs : List Name) (m : Mapped) (bytes : Bytes) → (names_of (map_writes outs m bytes) ≡ outs) ⊎ (map_writes outs m bytes ≡ [])
 named_writes [] m bytes = inr refl
@@ -134,7 +138,19 @@ module _ (W : Words) (Answers : Request → Pair → Answer → Type 0) where
     pub accepted : (s : Request) (arch kernel : File) (outs : List Name) (p : Pair) → GivesPair arch.bytes kernel.bytes p → is_above s.ii p.arch ≡ false
         → (IsArch p.arch → IsKernel p.kernel → IsAsked p.arch s.ii → (a : Answer) → Answers s p a → IsMapping a) → (o : Outcome) → IsOver s arch kernel outs o → o.status ≡ Done
     accepted s arch kernel outs p given within each o f =
-        accepted_over (Defines s outs) s arch kernel p given within (λ valid good is o f. mapped_done s outs p f.answer o (each valid good is f.answer f.is_answer) f.outcome) o f
+        given_over (Defines s outs) s arch kernel (λ o. o.status ≡ Done) p given within (λ valid good is o f. mapped_done s outs p f.answer o (each valid good is f.answer f.is_answer) f.outcome) o f
+
+    -- ---- what is impossible
+
+    forbidden_by : (s : Request) (outs : List Name) (p : Pair) → IsForbidden p.arch p.kernel (last_tried p.arch s.ii) → (a : Answer) (o : Outcome) → Answers s p a → IsOutcomeOf W s outs p a o → SaysImpossible o
+    forbidden_by s outs p forbidden (answer.Impossible c) o found e = (ap (λ x. x.status) e, ap (λ x. x.writes) e)
+    forbidden_by s outs p forbidden (answer.Mapped m found_by) o found e = absurd (not_both p.arch p.kernel (last_tried p.arch s.ii) (is_searcher.free s p m found_by found) forbidden)
+    forbidden_by s outs p forbidden (answer.Spent first left) o found e = absurd (not_both p.arch p.kernel (last_tried p.arch s.ii) (is_searcher.open_left s p first left found).0 forbidden)
+
+    pub forbidden : (s : Request) (arch kernel : File) (outs : List Name) → IsForbiddenInput s arch kernel → (o : Outcome) → IsOver s arch kernel outs o → SaysImpossible o
+    forbidden s arch kernel outs input o f =
+        given_over (Defines s outs) s arch kernel SaysImpossible input.pair input.given input.within
+        (λ valid good is o f. forbidden_by s outs input.pair input.forbidden f.answer o f.is_answer f.outcome) o f
 
     -- ---- what is left
 

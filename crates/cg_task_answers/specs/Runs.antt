@@ -17,8 +17,8 @@ use Rattle.cg_task_answers.specs.Searches.{HoldsMapped}
 use Rattle.cg_task_answers.specs.Answered.{found_report, left_report}
 
 -- the mapping with the architecture and the kernel of the files
-abbrev pub mapped_by : Pair → Mapping → Mapped
-mapped_by pair mapping = record { arch = pair.arch; kernel = pair.kernel; mapping = mapping }
+abbrev pub mapped_on : Pair → Mapping → Mapped
+mapped_on pair mapping = record { arch = pair.arch; kernel = pair.kernel; mapping = mapping }
 
 -- Done: nothing forbids the last interval that is tried, and `Found` holds of a mapping. It is legal; no resource carries two of
 -- the turns' values in a cycle, and no unit begins two operations; and an array that runs the bytes that are written does what
@@ -30,11 +30,11 @@ pub record IsFoundRun (by : Bytes) (Found : Pair → Mapped → FoundBy → Type
   pub free : IsOpen pair.arch pair.kernel (last_tried pair.arch s.ii)
   pub mapping : Mapping
   pub found_by : FoundBy
-  pub found : Found pair (mapped_by pair mapping) found_by
+  pub found : Found pair (mapped_on pair mapping) found_by
   pub bytes : Bytes
-  pub runs : RunsMapping (mapped_by pair mapping) bytes
-  pub written : HoldsMapped outs (mapped_by pair mapping) bytes after
-  pub put : Appends before.taken (found_report by (mapped_by pair mapping) found_by) after.taken
+  pub runs : RunsMapping (mapped_on pair mapping) bytes
+  pub written : HoldsMapped outs (mapped_on pair mapping) bytes after
+  pub put : Appends before.taken (found_report by (mapped_on pair mapping) found_by) after.taken
 
 -- BudgetSpent: nothing forbids the last interval, and at none that was tried a mapping was found: `Left` holds of what is left at
 -- each. That was put, in part where the put failed. No write was made

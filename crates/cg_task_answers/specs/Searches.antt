@@ -17,7 +17,7 @@ use Rattle.cg_bound.specs.Text.{certificate_text}
 use Rattle.cg_task.specs.Intervals.{last_tried}
 use Rattle.cg_model.specs.declared.request.Request.{Request}
 use Rattle.cg_model.specs.Request.{IsInRange}
-use Rattle.cg_inputs.specs.Sources.{Pair, ArePaired, HoldPair}
+use Rattle.cg_inputs.specs.Sources.{Pair, ArePaired, GivesPair, HoldPair}
 
 -- ---- reports
 
@@ -72,7 +72,15 @@ pub record IsSearchOver (defines : Pair → Outcome → Type 0) (s : Request) (a
   pub given : ArePaired arch kernel pair
   pub outcome : IsOverPair defines s.ii arch.name pair o
 
--- ---- what is left
+-- ---- what is called impossible, and what is left
+
+-- the files give an architecture and a kernel, the asked interval is within its contexts, and a recurrence or an overfull set
+-- forbids the last interval that would be tried
+pub record IsForbiddenInput (s : Request) (arch kernel : File) : Type 0 where
+  pub pair : Pair
+  pub given : GivesPair arch.bytes kernel.bytes pair
+  pub within : is_above s.ii pair.arch ≡ false
+  pub forbidden : IsForbidden pair.arch pair.kernel (last_tried pair.arch s.ii)
 
 -- the bits are held, and the mapping's text where a file is named for it; of two files of one name the later is held
 abbrev pub HoldsMapped : List Name → Mapped → Bytes → Moment → Type 0

@@ -4,7 +4,7 @@ use Rattle.cg_ending.specs.declared.outcome.Status.{Status}
 use Rattle.cg_ending.specs.Outcome.{Name}
 use Rattle.cg_ending.specs.Ends.{Moment}
 use Rattle.cg_top.specs.TopCall.{Ends, KeepsCounts, IsCall}
-use Rattle.cg_top.proofs.Complete.{complete}
+use Rattle.cg_top.proofs.Complete.{complete, impossible}
 use Rattle.cg_top.proofs.Effects.{effect}
 use Rattle.cg_top.proofs.Exact.{exact}
 use Rattle.cg_top.proofs.Left.{left}
@@ -17,6 +17,7 @@ call words before after status ends counts = record {
   table = table words before after status ends;
   effect = effect words before after status ends;
   complete = complete words before after status ends;
+  impossible = impossible words before after status ends;
   counts = counts;
   left = left words before after status ends;
 }

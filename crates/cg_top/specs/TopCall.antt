@@ -11,7 +11,7 @@ use Rattle.cg_ending.specs.Reads.{AreRead, StopsAt}
 use Rattle.cg_ending.specs.Ends.{Moment, Finished, Wrote, WrotePart, FailedAt, IsPut}
 use Rattle.cg_command.specs.Words.{Plan, plan_of}
 use Rattle.cg_ending.specs.Refusals.{usage_outcome}
-use Rattle.cg_answers.specs.Commands.{IsAnswer, Accepts, AgreeIn, Leaves, judges}
+use Rattle.cg_answers.specs.Commands.{IsAnswer, Accepts, Forbids, AgreeIn, Leaves, judges}
 
 -- ---- what words and files define
 
@@ -171,6 +171,14 @@ IsComplete words before after status = (files : Name → Option Bytes) (plan : P
     → (Rose before.read_faults after.read_faults → ⊥) → (Rose before.write_faults after.write_faults → ⊥) → (Rose before.faults after.faults → ⊥)
     → (status ≡ Done) ⊎ (status ≡ Memory)
 
+-- where words and files ask for an interval that a recurrence or an overfull set forbids, and no read fails, the command says
+-- so, or memory ran out
+abbrev pub IsImpossible : List Name → Moment → Moment → Status → Type 0
+IsImpossible words before after status = (files : Name → Option Bytes) (plan : Plan) (inputs : List File)
+    → before.held ≡ Some files → plan_of words ≡ Some plan → AreRead (Some files) plan.inputs inputs → Forbids plan.command inputs
+    → (Rose before.read_faults after.read_faults → ⊥)
+    → (status ≡ Impossible) ⊎ (status ≡ Memory)
+
 -- no count falls
 pub record KeepsCounts (before after : Moment) : Type 0 where
   pub reads : before.read_faults ≤ after.read_faults
@@ -189,6 +197,7 @@ pub record IsCall (words : List Name) (before after : Moment) (status : Status) 
   pub table : IsByTable words before after status
   pub effect : IsEffect words before after status
   pub complete : IsComplete words before after status
+  pub impossible : IsImpossible words before after status
   pub counts : KeepsCounts before after
   pub left : IsLeft words before after status
 
