@@ -1,10 +1,11 @@
 -- Facts of the commands' definitions. A command is a case of each.
-use Rattle.std.proofs.Common.{◌≡◌, List, [], ◌∷◌, sym, ◌∙◌, ap, inr}
+use Rattle.std.proofs.Common.{◌≡◌, Bool, true, false, List, [], ◌∷◌, sym, ◌∙◌, ap, inr}
+use Rattle.cg_ending.specs.declared.outcome.Status.{Status}
 use Rattle.cg_ending.specs.declared.outcome.Status.TheVariants.{Done, Impossible}
 use Rattle.cg_ending.specs.Outcome.{Name, File, Outcome}
 use Rattle.cg_command.specs.declared.plans.Command.{Command}
 use Rattle.cg_command.specs.declared.plans.Command.TheVariants.{Turns, TurnsOnImage, Flat, Run, Bound, Check, Emit, Map, Search, Trial, Verilog}
-use Rattle.cg_inputs.proofs.Sound.{IsSound, IsNamed}
+use Rattle.cg_inputs.proofs.Sound.{owns, IsSound, IsNamed}
 use Rattle.cg_run_answers.proofs.TurnsAnswers.{sound_turns, quiet_turns, accepted_turns}
 use Rattle.cg_run_answers.proofs.OnImage.{same_on_image, sound_on_image, accepted_on_image, named_on_image}
 use Rattle.cg_run_answers.proofs.FlatAnswers.{same_flat, sound_flat, accepted_flat, named_flat}
@@ -33,7 +34,23 @@ agree_in (Trial seed) [] [] a b p q = same_trial seed a b p q
 agree_in Verilog (f ∷ []) (out ∷ []) a b p q = same_verilog f out a b p q
 agree_in _ _ _ a b p q = absurd p
 
-pub sound : (c : Command) (files : List File) (outputs : List Name) (o : Outcome) → IsAnswer c files outputs o → IsSound o
+-- the commands that may say no, and those that search
+abbrev says_no : Command → Bool
+says_no (TurnsOnImage n) = true
+says_no Check = true
+says_no Emit = true
+says_no _ = false
+
+abbrev searches : Command → Bool
+searches (Map s) = true
+searches (Search s) = true
+searches _ = false
+
+-- the statuses of a command's outcomes
+abbrev pub owns_of : Command → Status → Bool
+owns_of c = owns (says_no c) (searches c)
+
+pub sound : (c : Command) (files : List File) (outputs : List Name) (o : Outcome) → IsAnswer c files outputs o → IsSound (owns_of c) o
 sound (Turns n) (f ∷ []) [] o p = sound_turns n f o p
 sound (TurnsOnImage n) (f ∷ g ∷ []) (out ∷ []) o p = sound_on_image n f g out o p
 sound Flat (f ∷ []) (out ∷ []) o p = sound_flat f out o p

@@ -1,5 +1,5 @@
 -- What commands leave where their outcome came. A command is a case of each.
-use Rattle.std.proofs.Common.{◌≡◌, List, [], ◌∷◌, Bool, true, false}
+use Rattle.std.proofs.Common.{◌≡◌, List, [], ◌∷◌, Bool, true, false, map, refl, subst}
 use Rattle.cg_ending.specs.declared.outcome.Status.{Status}
 use Rattle.cg_ending.specs.declared.outcome.Status.TheVariants.{Done, Memory, Usage, Malformed, Impossible, ReadFault, WriteFault, BudgetSpent, No}
 use Rattle.cg_ending.specs.Outcome.{Name, File, Outcome}
@@ -18,13 +18,14 @@ use Rattle.cg_mapping_answers.proofs.Bitstream.{emitted_left, unemitted_left}
 use Rattle.cg_map_answers.proofs.Searched.{map_left, impossible_left, spent_left}
 use Rattle.cg_search_answers.proofs.Searched.{search_left, search_impossible_left, search_spent_left}
 use Rattle.cg_answers.specs.Commands.{IsAnswer, Leaves, LeavesDone, LeavesNo, LeavesImpossible, LeavesSpent}
+use Rattle.cg_inputs.proofs.Sound.{never}
+use Rattle.cg_answers.proofs.Commands.{owns_of, sound}
 use Rattle.cg_answers.proofs.Trialed.{trial_left}
 use Rattle.cg_answers.proofs.Netlisted.{netlisted_left}
 
--- nothing is said of what a command leaves at a status that isn't its own
+-- nothing is said of what a command leaves at a fault or out of memory, or where it refuses a file
 abbrev pub is_silent : Status → Bool
 is_silent Memory = true
-is_silent Usage = true
 is_silent Malformed = true
 is_silent ReadFault = true
 is_silent WriteFault = true
@@ -35,127 +36,109 @@ silent command inputs outputs Done before after h = absurd (cc)
 silent command inputs outputs No before after h = absurd (cc)
 silent command inputs outputs Impossible before after h = absurd (cc)
 silent command inputs outputs BudgetSpent before after h = absurd (cc)
+silent command inputs outputs Usage before after h = absurd (cc)
 silent command inputs outputs Memory before after h = tt
-silent command inputs outputs Usage before after h = tt
 silent command inputs outputs Malformed before after h = tt
 silent command inputs outputs ReadFault before after h = tt
 silent command inputs outputs WriteFault before after h = tt
 
-left_done : (command : Command) (inputs outputs : List Name) (files : List File) (o : Outcome) (before after : Moment)
-    → AreRead before.held inputs files → IsAnswer command files outputs o → o.status ≡ Done → Completed o before after Done → LeavesDone command inputs outputs before after
-left_done (Turns n) (file ∷ []) [] (f ∷ []) o before after read answer is c = turned_left n file f o before after (one_read before.held file f read) answer is c
-left_done (TurnsOnImage n) (file ∷ input ∷ []) (out ∷ []) (f ∷ g ∷ []) o before after read answer is c =
-    ordered_left n file input out f g o before after (first_read before.held file input f g read) (second_read before.held file input f g read) answer is c
-left_done Flat (file ∷ []) (out ∷ []) (f ∷ []) o before after read answer is c = flattened_left file out f o before after (one_read before.held file f read) answer is c
-left_done (Turns n) (file ∷ []) [] [] o before after read answer is c = absurd answer
-left_done (Turns n) (file ∷ []) [] (f ∷ g ∷ fs) o before after read answer is c = absurd answer
-left_done (TurnsOnImage n) (file ∷ input ∷ []) (out ∷ []) [] o before after read answer is c = absurd answer
-left_done (TurnsOnImage n) (file ∷ input ∷ []) (out ∷ []) (f ∷ []) o before after read answer is c = absurd answer
-left_done (TurnsOnImage n) (file ∷ input ∷ []) (out ∷ []) (f ∷ g ∷ h ∷ fs) o before after read answer is c = absurd answer
-left_done Flat (file ∷ []) (out ∷ []) [] o before after read answer is c = absurd answer
-left_done Flat (file ∷ []) (out ∷ []) (f ∷ g ∷ fs) o before after read answer is c = absurd answer
-left_done (Run n) (arch ∷ file ∷ input ∷ []) (out ∷ []) (f ∷ g ∷ h ∷ []) o before after read answer is c =
-    let r = three_read before.held arch file input f g h read in
-    run_left n arch file input out f g h o before after r.0 r.1 r.2 answer is c
-left_done (Run n) (arch ∷ file ∷ input ∷ []) (out ∷ []) [] o before after read answer is c = absurd answer
-left_done (Run n) (arch ∷ file ∷ input ∷ []) (out ∷ []) (f ∷ []) o before after read answer is c = absurd answer
-left_done (Run n) (arch ∷ file ∷ input ∷ []) (out ∷ []) (f ∷ g ∷ []) o before after read answer is c = absurd answer
-left_done (Run n) (arch ∷ file ∷ input ∷ []) (out ∷ []) (f ∷ g ∷ h ∷ k ∷ fs) o before after read answer is c = absurd answer
-left_done Bound (arch ∷ kernel ∷ []) [] (f ∷ g ∷ []) o before after read answer is c =
-    bound_left arch kernel f g before after (first_read before.held arch kernel f g read) (second_read before.held arch kernel f g read) o answer is c
-left_done Bound (arch ∷ kernel ∷ []) [] [] o before after read answer is c = absurd answer
-left_done Bound (arch ∷ kernel ∷ []) [] (f ∷ []) o before after read answer is c = absurd answer
-left_done Bound (arch ∷ kernel ∷ []) [] (f ∷ g ∷ h ∷ fs) o before after read answer is c = absurd answer
-left_done Check (arch ∷ kernel ∷ mapping ∷ []) [] (f ∷ g ∷ h ∷ []) o before after read answer is c =
-    let r = three_read before.held arch kernel mapping f g h read in
-    legal_left arch kernel mapping f g h before after r.0 r.1 r.2 o answer is c
-left_done Check (arch ∷ kernel ∷ mapping ∷ []) [] [] o before after read answer is c = absurd answer
-left_done Check (arch ∷ kernel ∷ mapping ∷ []) [] (f ∷ []) o before after read answer is c = absurd answer
-left_done Check (arch ∷ kernel ∷ mapping ∷ []) [] (f ∷ g ∷ []) o before after read answer is c = absurd answer
-left_done Check (arch ∷ kernel ∷ mapping ∷ []) [] (f ∷ g ∷ h ∷ k ∷ fs) o before after read answer is c = absurd answer
-left_done Emit (arch ∷ kernel ∷ mapping ∷ []) (out ∷ []) (f ∷ g ∷ h ∷ []) o before after read answer is c =
-    let r = three_read before.held arch kernel mapping f g h read in
-    emitted_left arch kernel mapping out f g h before after r.0 r.1 r.2 o answer is c
-left_done Emit (arch ∷ kernel ∷ mapping ∷ []) (out ∷ []) [] o before after read answer is c = absurd answer
-left_done Emit (arch ∷ kernel ∷ mapping ∷ []) (out ∷ []) (f ∷ []) o before after read answer is c = absurd answer
-left_done Emit (arch ∷ kernel ∷ mapping ∷ []) (out ∷ []) (f ∷ g ∷ []) o before after read answer is c = absurd answer
-left_done Emit (arch ∷ kernel ∷ mapping ∷ []) (out ∷ []) (f ∷ g ∷ h ∷ k ∷ fs) o before after read answer is c = absurd answer
-left_done (Map s) (arch ∷ kernel ∷ []) outs (f ∷ g ∷ []) o before after read answer is c =
-    map_left s arch kernel outs f g before after (first_read before.held arch kernel f g read) (second_read before.held arch kernel f g read) o answer is c
-left_done (Map s) (arch ∷ kernel ∷ []) outs [] o before after read answer is c = absurd answer
-left_done (Map s) (arch ∷ kernel ∷ []) outs (f ∷ []) o before after read answer is c = absurd answer
-left_done (Map s) (arch ∷ kernel ∷ []) outs (f ∷ g ∷ h ∷ fs) o before after read answer is c = absurd answer
-left_done (Search s) (arch ∷ kernel ∷ []) outs (f ∷ g ∷ []) o before after read answer is c =
-    search_left s arch kernel outs f g before after (first_read before.held arch kernel f g read) (second_read before.held arch kernel f g read) o answer is c
-left_done (Search s) (arch ∷ kernel ∷ []) outs [] o before after read answer is c = absurd answer
-left_done (Search s) (arch ∷ kernel ∷ []) outs (f ∷ []) o before after read answer is c = absurd answer
-left_done (Search s) (arch ∷ kernel ∷ []) outs (f ∷ g ∷ h ∷ fs) o before after read answer is c = absurd answer
-left_done (Trial seed) [] [] [] o before after read answer is c = trial_left seed o before after answer is c
-left_done (Trial seed) [] [] (f ∷ fs) o before after read answer is c = absurd answer
-left_done Verilog (file ∷ []) (out ∷ []) (f ∷ []) o before after read answer is c = netlisted_left file out f o before after (one_read before.held file f read) answer is c
-left_done Verilog (file ∷ []) (out ∷ []) [] o before after read answer is c = absurd answer
-left_done Verilog (file ∷ []) (out ∷ []) (f ∷ g ∷ fs) o before after read answer is c = absurd answer
-left_done _ _ _ _ o before after read answer is c = tt
+abbrev names_in : List File → List Name
+names_in files = map (λ file. file.name) files
 
-left_no : (command : Command) (inputs outputs : List Name) (files : List File) (o : Outcome) (before after : Moment)
-    → AreRead before.held inputs files → IsAnswer command files outputs o → o.status ≡ No → Completed o before after No → LeavesNo command inputs outputs before after
-left_no (TurnsOnImage n) (file ∷ input ∷ []) (out ∷ []) (f ∷ g ∷ []) o before after read answer is c =
-    unordered_left n file input out f g o before after (first_read before.held file input f g read) (second_read before.held file input f g read) answer is c
-left_no (TurnsOnImage n) (file ∷ input ∷ []) (out ∷ []) [] o before after read answer is c = absurd answer
-left_no (TurnsOnImage n) (file ∷ input ∷ []) (out ∷ []) (f ∷ []) o before after read answer is c = absurd answer
-left_no (TurnsOnImage n) (file ∷ input ∷ []) (out ∷ []) (f ∷ g ∷ h ∷ fs) o before after read answer is c = absurd answer
-left_no Check (arch ∷ kernel ∷ mapping ∷ []) [] (f ∷ g ∷ h ∷ []) o before after read answer is c =
-    let r = three_read before.held arch kernel mapping f g h read in
-    illegal_left arch kernel mapping f g h before after r.0 r.1 r.2 o answer is c
-left_no Check (arch ∷ kernel ∷ mapping ∷ []) [] [] o before after read answer is c = absurd answer
-left_no Check (arch ∷ kernel ∷ mapping ∷ []) [] (f ∷ []) o before after read answer is c = absurd answer
-left_no Check (arch ∷ kernel ∷ mapping ∷ []) [] (f ∷ g ∷ []) o before after read answer is c = absurd answer
-left_no Check (arch ∷ kernel ∷ mapping ∷ []) [] (f ∷ g ∷ h ∷ k ∷ fs) o before after read answer is c = absurd answer
-left_no Emit (arch ∷ kernel ∷ mapping ∷ []) (out ∷ []) (f ∷ g ∷ h ∷ []) o before after read answer is c =
-    let r = three_read before.held arch kernel mapping f g h read in
-    unemitted_left arch kernel mapping out f g h before after r.0 r.1 r.2 o answer is c
-left_no Emit (arch ∷ kernel ∷ mapping ∷ []) (out ∷ []) [] o before after read answer is c = absurd answer
-left_no Emit (arch ∷ kernel ∷ mapping ∷ []) (out ∷ []) (f ∷ []) o before after read answer is c = absurd answer
-left_no Emit (arch ∷ kernel ∷ mapping ∷ []) (out ∷ []) (f ∷ g ∷ []) o before after read answer is c = absurd answer
-left_no Emit (arch ∷ kernel ∷ mapping ∷ []) (out ∷ []) (f ∷ g ∷ h ∷ k ∷ fs) o before after read answer is c = absurd answer
-left_no _ _ _ _ o before after read answer is c = tt
+left_done : (command : Command) (outputs : List Name) (files : List File) (o : Outcome) (before after : Moment)
+    → AreRead before.held (names_in files) files → IsAnswer command files outputs o → o.status ≡ Done → Completed o before after Done → LeavesDone command (names_in files) outputs before after
+left_done (Turns n) [] (f ∷ []) o before after read answer is done = turned_left n f.name f o before after (one_read before.held f.name f read) answer is done
+left_done (TurnsOnImage n) (out ∷ []) (f ∷ g ∷ []) o before after read answer is done =
+    ordered_left n f.name g.name out f g o before after (first_read before.held f.name g.name f g read) (second_read before.held f.name g.name f g read) answer is done
+left_done Flat (out ∷ []) (f ∷ []) o before after read answer is done = flattened_left f.name out f o before after (one_read before.held f.name f read) answer is done
+left_done (Run n) (out ∷ []) (f ∷ g ∷ h ∷ []) o before after read answer is done =
+    let r = three_read before.held f.name g.name h.name f g h read in
+    run_left n f.name g.name h.name out f g h o before after r.0 r.1 r.2 answer is done
+left_done Bound [] (f ∷ g ∷ []) o before after read answer is done =
+    bound_left f.name g.name f g before after (first_read before.held f.name g.name f g read) (second_read before.held f.name g.name f g read) o answer is done
+left_done Check [] (f ∷ g ∷ h ∷ []) o before after read answer is done =
+    let r = three_read before.held f.name g.name h.name f g h read in
+    legal_left f.name g.name h.name f g h before after r.0 r.1 r.2 o answer is done
+left_done Emit (out ∷ []) (f ∷ g ∷ h ∷ []) o before after read answer is done =
+    let r = three_read before.held f.name g.name h.name f g h read in
+    emitted_left f.name g.name h.name out f g h before after r.0 r.1 r.2 o answer is done
+left_done (Map s) outs (f ∷ g ∷ []) o before after read answer is done =
+    map_left s f.name g.name outs f g before after (first_read before.held f.name g.name f g read) (second_read before.held f.name g.name f g read) o answer is done
+left_done (Search s) outs (f ∷ g ∷ []) o before after read answer is done =
+    search_left s f.name g.name outs f g before after (first_read before.held f.name g.name f g read) (second_read before.held f.name g.name f g read) o answer is done
+left_done (Trial seed) [] [] o before after read answer is done = trial_left seed o before after answer is done
+left_done Verilog (out ∷ []) (f ∷ []) o before after read answer is done = netlisted_left f.name out f o before after (one_read before.held f.name f read) answer is done
+left_done _ _ _ o before after read answer is done = absurd answer
 
-left_impossible : (command : Command) (inputs outputs : List Name) (files : List File) (o : Outcome) (before after : Moment)
-    → AreRead before.held inputs files → IsAnswer command files outputs o → o.status ≡ Impossible → Completed o before after Impossible → LeavesImpossible command inputs before after
-left_impossible (Map s) (arch ∷ kernel ∷ []) outs (f ∷ g ∷ []) o before after read answer is c =
-    impossible_left s arch kernel outs f g before after (first_read before.held arch kernel f g read) (second_read before.held arch kernel f g read) o answer is c
-left_impossible (Map s) (arch ∷ kernel ∷ []) outs [] o before after read answer is c = absurd answer
-left_impossible (Map s) (arch ∷ kernel ∷ []) outs (f ∷ []) o before after read answer is c = absurd answer
-left_impossible (Map s) (arch ∷ kernel ∷ []) outs (f ∷ g ∷ h ∷ fs) o before after read answer is c = absurd answer
-left_impossible (Search s) (arch ∷ kernel ∷ []) outs (f ∷ g ∷ []) o before after read answer is c =
-    search_impossible_left s arch kernel outs f g before after (first_read before.held arch kernel f g read) (second_read before.held arch kernel f g read) o answer is c
-left_impossible (Search s) (arch ∷ kernel ∷ []) outs [] o before after read answer is c = absurd answer
-left_impossible (Search s) (arch ∷ kernel ∷ []) outs (f ∷ []) o before after read answer is c = absurd answer
-left_impossible (Search s) (arch ∷ kernel ∷ []) outs (f ∷ g ∷ h ∷ fs) o before after read answer is c = absurd answer
-left_impossible _ _ _ _ o before after read answer is c = tt
+left_no : (command : Command) (outputs : List Name) (files : List File) (o : Outcome) (before after : Moment)
+    → AreRead before.held (names_in files) files → IsAnswer command files outputs o → o.status ≡ No → Completed o before after No → LeavesNo command (names_in files) outputs before after
+left_no (TurnsOnImage n) (out ∷ []) (f ∷ g ∷ []) o before after read answer is done =
+    unordered_left n f.name g.name out f g o before after (first_read before.held f.name g.name f g read) (second_read before.held f.name g.name f g read) answer is done
+left_no Check [] (f ∷ g ∷ h ∷ []) o before after read answer is done =
+    let r = three_read before.held f.name g.name h.name f g h read in
+    illegal_left f.name g.name h.name f g h before after r.0 r.1 r.2 o answer is done
+left_no Emit (out ∷ []) (f ∷ g ∷ h ∷ []) o before after read answer is done =
+    let r = three_read before.held f.name g.name h.name f g h read in
+    unemitted_left f.name g.name h.name out f g h before after r.0 r.1 r.2 o answer is done
+left_no (Turns n) outputs files o before after read answer is done = absurd (never (owns_of (Turns n)) No o (sound (Turns n) files outputs o answer) refl is)
+left_no Flat outputs files o before after read answer is done = absurd (never (owns_of Flat) No o (sound Flat files outputs o answer) refl is)
+left_no (Run n) outputs files o before after read answer is done = absurd (never (owns_of (Run n)) No o (sound (Run n) files outputs o answer) refl is)
+left_no Bound outputs files o before after read answer is done = absurd (never (owns_of Bound) No o (sound Bound files outputs o answer) refl is)
+left_no (Map s) outputs files o before after read answer is done = absurd (never (owns_of (Map s)) No o (sound (Map s) files outputs o answer) refl is)
+left_no (Search s) outputs files o before after read answer is done = absurd (never (owns_of (Search s)) No o (sound (Search s) files outputs o answer) refl is)
+left_no (Trial seed) outputs files o before after read answer is done = absurd (never (owns_of (Trial seed)) No o (sound (Trial seed) files outputs o answer) refl is)
+left_no Verilog outputs files o before after read answer is done = absurd (never (owns_of Verilog) No o (sound Verilog files outputs o answer) refl is)
+left_no _ _ _ o before after read answer is done = absurd answer
 
-left_spent : (command : Command) (inputs outputs : List Name) (files : List File) (o : Outcome) (before after : Moment)
-    → AreRead before.held inputs files → IsAnswer command files outputs o → o.status ≡ BudgetSpent → Completed o before after BudgetSpent → LeavesSpent command inputs before after
-left_spent (Map s) (arch ∷ kernel ∷ []) outs (f ∷ g ∷ []) o before after read answer is c =
-    spent_left s arch kernel outs f g before after (first_read before.held arch kernel f g read) (second_read before.held arch kernel f g read) o answer is c
-left_spent (Map s) (arch ∷ kernel ∷ []) outs [] o before after read answer is c = absurd answer
-left_spent (Map s) (arch ∷ kernel ∷ []) outs (f ∷ []) o before after read answer is c = absurd answer
-left_spent (Map s) (arch ∷ kernel ∷ []) outs (f ∷ g ∷ h ∷ fs) o before after read answer is c = absurd answer
-left_spent (Search s) (arch ∷ kernel ∷ []) outs (f ∷ g ∷ []) o before after read answer is c =
-    search_spent_left s arch kernel outs f g before after (first_read before.held arch kernel f g read) (second_read before.held arch kernel f g read) o answer is c
-left_spent (Search s) (arch ∷ kernel ∷ []) outs [] o before after read answer is c = absurd answer
-left_spent (Search s) (arch ∷ kernel ∷ []) outs (f ∷ []) o before after read answer is c = absurd answer
-left_spent (Search s) (arch ∷ kernel ∷ []) outs (f ∷ g ∷ h ∷ fs) o before after read answer is c = absurd answer
-left_spent _ _ _ _ o before after read answer is c = tt
+left_impossible : (command : Command) (outputs : List Name) (files : List File) (o : Outcome) (before after : Moment)
+    → AreRead before.held (names_in files) files → IsAnswer command files outputs o → o.status ≡ Impossible → Completed o before after Impossible → LeavesImpossible command (names_in files) before after
+left_impossible (Map s) outs (f ∷ g ∷ []) o before after read answer is done =
+    impossible_left s f.name g.name outs f g before after (first_read before.held f.name g.name f g read) (second_read before.held f.name g.name f g read) o answer is done
+left_impossible (Search s) outs (f ∷ g ∷ []) o before after read answer is done =
+    search_impossible_left s f.name g.name outs f g before after (first_read before.held f.name g.name f g read) (second_read before.held f.name g.name f g read) o answer is done
+left_impossible (Turns n) outputs files o before after read answer is done = absurd (never (owns_of (Turns n)) Impossible o (sound (Turns n) files outputs o answer) refl is)
+left_impossible (TurnsOnImage n) outputs files o before after read answer is done = absurd (never (owns_of (TurnsOnImage n)) Impossible o (sound (TurnsOnImage n) files outputs o answer) refl is)
+left_impossible Flat outputs files o before after read answer is done = absurd (never (owns_of Flat) Impossible o (sound Flat files outputs o answer) refl is)
+left_impossible (Run n) outputs files o before after read answer is done = absurd (never (owns_of (Run n)) Impossible o (sound (Run n) files outputs o answer) refl is)
+left_impossible Bound outputs files o before after read answer is done = absurd (never (owns_of Bound) Impossible o (sound Bound files outputs o answer) refl is)
+left_impossible Check outputs files o before after read answer is done = absurd (never (owns_of Check) Impossible o (sound Check files outputs o answer) refl is)
+left_impossible Emit outputs files o before after read answer is done = absurd (never (owns_of Emit) Impossible o (sound Emit files outputs o answer) refl is)
+left_impossible (Trial seed) outputs files o before after read answer is done = absurd (never (owns_of (Trial seed)) Impossible o (sound (Trial seed) files outputs o answer) refl is)
+left_impossible Verilog outputs files o before after read answer is done = absurd (never (owns_of Verilog) Impossible o (sound Verilog files outputs o answer) refl is)
+left_impossible _ _ _ o before after read answer is done = absurd answer
+
+left_spent : (command : Command) (outputs : List Name) (files : List File) (o : Outcome) (before after : Moment)
+    → AreRead before.held (names_in files) files → IsAnswer command files outputs o → o.status ≡ BudgetSpent → Completed o before after BudgetSpent → LeavesSpent command (names_in files) before after
+left_spent (Map s) outs (f ∷ g ∷ []) o before after read answer is done =
+    spent_left s f.name g.name outs f g before after (first_read before.held f.name g.name f g read) (second_read before.held f.name g.name f g read) o answer is done
+left_spent (Search s) outs (f ∷ g ∷ []) o before after read answer is done =
+    search_spent_left s f.name g.name outs f g before after (first_read before.held f.name g.name f g read) (second_read before.held f.name g.name f g read) o answer is done
+left_spent (Turns n) outputs files o before after read answer is done = absurd (never (owns_of (Turns n)) BudgetSpent o (sound (Turns n) files outputs o answer) refl is)
+left_spent (TurnsOnImage n) outputs files o before after read answer is done = absurd (never (owns_of (TurnsOnImage n)) BudgetSpent o (sound (TurnsOnImage n) files outputs o answer) refl is)
+left_spent Flat outputs files o before after read answer is done = absurd (never (owns_of Flat) BudgetSpent o (sound Flat files outputs o answer) refl is)
+left_spent (Run n) outputs files o before after read answer is done = absurd (never (owns_of (Run n)) BudgetSpent o (sound (Run n) files outputs o answer) refl is)
+left_spent Bound outputs files o before after read answer is done = absurd (never (owns_of Bound) BudgetSpent o (sound Bound files outputs o answer) refl is)
+left_spent Check outputs files o before after read answer is done = absurd (never (owns_of Check) BudgetSpent o (sound Check files outputs o answer) refl is)
+left_spent Emit outputs files o before after read answer is done = absurd (never (owns_of Emit) BudgetSpent o (sound Emit files outputs o answer) refl is)
+left_spent (Trial seed) outputs files o before after read answer is done = absurd (never (owns_of (Trial seed)) BudgetSpent o (sound (Trial seed) files outputs o answer) refl is)
+left_spent Verilog outputs files o before after read answer is done = absurd (never (owns_of Verilog) BudgetSpent o (sound Verilog files outputs o answer) refl is)
+left_spent _ _ _ o before after read answer is done = absurd answer
+
+-- of files that were read, by their own names
+left_named : (command : Command) (outputs : List Name) (files : List File) (o : Outcome) (status : Status) (before after : Moment)
+    → AreRead before.held (names_in files) files → IsAnswer command files outputs o → o.status ≡ status → Completed o before after status → Leaves command (names_in files) outputs status before after
+left_named command outputs files o Done before after read answer is done = left_done command outputs files o before after read answer is done
+left_named command outputs files o No before after read answer is done = left_no command outputs files o before after read answer is done
+left_named command outputs files o Impossible before after read answer is done = left_impossible command outputs files o before after read answer is done
+left_named command outputs files o BudgetSpent before after read answer is done = left_spent command outputs files o before after read answer is done
+left_named command outputs files o Usage before after read answer is done = absurd (never (owns_of command) Usage o (sound command files outputs o answer) refl is)
+left_named command outputs files o Memory before after read answer is done = tt
+left_named command outputs files o Malformed before after read answer is done = tt
+left_named command outputs files o ReadFault before after read answer is done = tt
+left_named command outputs files o WriteFault before after read answer is done = tt
 
 pub left : (command : Command) (inputs outputs : List Name) (files : List File) (o : Outcome) (status : Status) (before after : Moment)
     → AreRead before.held inputs files → IsAnswer command files outputs o → o.status ≡ status → Completed o before after status → Leaves command inputs outputs status before after
-left command inputs outputs files o Done before after read answer is c = left_done command inputs outputs files o before after read answer is c
-left command inputs outputs files o No before after read answer is c = left_no command inputs outputs files o before after read answer is c
-left command inputs outputs files o Memory before after read answer is c = tt
-left command inputs outputs files o Usage before after read answer is c = tt
-left command inputs outputs files o Malformed before after read answer is c = tt
-left command inputs outputs files o Impossible before after read answer is c = left_impossible command inputs outputs files o before after read answer is c
-left command inputs outputs files o ReadFault before after read answer is c = tt
-left command inputs outputs files o WriteFault before after read answer is c = tt
-left command inputs outputs files o BudgetSpent before after read answer is c = left_spent command inputs outputs files o before after read answer is c
+left command inputs outputs files o status before after read answer is done =
+    subst (λ names. Leaves command names outputs status before after) read.names_are
+    (left_named command outputs files o status before after (record { names_are = refl; each = read.each }) answer is done)

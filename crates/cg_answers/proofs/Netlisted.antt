@@ -12,7 +12,7 @@ use Rattle.cg_tiles.specs.Answer.{AreValidBytes}
 use Rattle.cg_tiles.proofs.NotBoth.{not_both}
 use Rattle.cg_tiles.proofs.Solved.{some_answer}
 use Rattle.cg_netlist.specs.Netlist.{netlist_of}
-use Rattle.cg_inputs.proofs.Sound.{IsSound, IsNamed}
+use Rattle.cg_inputs.proofs.Sound.{IsSound, plain, IsNamed}
 use Rattle.cg_inputs.proofs.Wholes.{whole, one_write, differ}
 use Rattle.cg_answers.specs.Verilog.{IsVerilog, IsNetlisted, verilog_by, verilog_text}
 
@@ -26,11 +26,11 @@ same_by file out a b (Err f) (Err g) x y n m d e = ap (λ o. o.status) d ∙ sym
 pub same_verilog : (file : File) (out : Name) (a b : Outcome) → IsVerilog file out a → IsVerilog file out b → a.status ≡ b.status
 same_verilog file out a b p q = same_by file out a b p.given q.given p.is_given q.is_given p.no_memory q.no_memory p.outcome q.outcome
 
-sound_by : (file : File) (out : Name) (r : Result Arch TilesFault) → IsSound (verilog_by file out r)
+sound_by : (file : File) (out : Name) (r : Result Arch TilesFault) → IsSound plain (verilog_by file out r)
 sound_by file out (Ok A) = record { own = refl; quiet = λ h. cc }
 sound_by file out (Err f) = record { own = refl; quiet = λ h. refl }
 
-pub sound_verilog : (file : File) (out : Name) (o : Outcome) → IsVerilog file out o → IsSound o
+pub sound_verilog : (file : File) (out : Name) (o : Outcome) → IsVerilog file out o → IsSound plain o
 sound_verilog file out o p = rw p.outcome (sound_by file out p.given)
 
 named_by : (file : File) (out : Name) (r : Result Arch TilesFault) (o : Outcome) → o ≡ verilog_by file out r → IsNamed (out ∷ []) o

@@ -5,7 +5,7 @@ use Rattle.cg_ending.specs.Outcome.{Outcome}
 use Rattle.cg_ending.specs.Ends.{Moment, Completed}
 use Rattle.cg_ending.specs.Refusals.{reports}
 use Rattle.cg_files.specs.Held.{Appends}
-use Rattle.cg_inputs.proofs.Sound.{IsSound}
+use Rattle.cg_inputs.proofs.Sound.{IsSound, plain}
 use Rattle.cg_inputs.proofs.Wholes.{whole}
 use Rattle.cg_mapping_answers.proofs.Bitstream.{runs}
 use Rattle.cg_trial.proofs.Sound.{trial_sound}
@@ -16,8 +16,8 @@ use Rattle.cg_answers.specs.Trial.{IsTrialOf, IsTrialRun}
 pub same_trial : (seed : ℕ) (a b : Outcome) → IsTrialOf seed a → IsTrialOf seed b → a.status ≡ b.status
 same_trial seed a b p q = ap (λ x. x.status) p.outcome ∙ sym (ap (λ x. x.status) q.outcome)
 
-pub sound_trial : (seed : ℕ) (o : Outcome) → IsTrialOf seed o → IsSound o
-sound_trial seed o p = subst IsSound (sym p.outcome) (record { own = refl; quiet = λ h. refl })
+pub sound_trial : (seed : ℕ) (o : Outcome) → IsTrialOf seed o → IsSound plain o
+sound_trial seed o p = subst (IsSound plain) (sym p.outcome) (record { own = refl; quiet = λ h. refl })
 
 pub accepted_trial : (seed : ℕ) (o : Outcome) → IsTrialOf seed o → o.status ≡ Done
 accepted_trial seed o p = ap (λ x. x.status) p.outcome

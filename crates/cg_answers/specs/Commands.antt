@@ -2,7 +2,7 @@
 use Rattle.std.specs.Prelude.{◌≡◌, ℕ, Bool, true, false, List, [], ◌∷◌, Ok}
 use Rattle.cg_model.specs.Kernel.{Kernel}
 use Rattle.cg_ending.specs.declared.outcome.Status.{Status}
-use Rattle.cg_ending.specs.declared.outcome.Status.TheVariants.{Done, Impossible, BudgetSpent, No}
+use Rattle.cg_ending.specs.declared.outcome.Status.TheVariants.{Done, Usage, Impossible, BudgetSpent, No}
 use Rattle.cg_ending.specs.Outcome.{Name, File, Outcome}
 use Rattle.cg_ending.specs.Ends.{Moment}
 use Rattle.cg_kernel.specs.Answer.{answer_of}
@@ -97,7 +97,7 @@ LeavesDone (Map s) (arch ∷ kernel ∷ []) outs before after = IsMapRun s arch 
 LeavesDone (Search s) (arch ∷ kernel ∷ []) outs before after = IsSearchRun s arch kernel outs before after
 LeavesDone (Trial seed) [] [] before after = IsTrialRun seed before after
 LeavesDone Verilog (file ∷ []) (out ∷ []) before after = IsNetlisted file out before after
-LeavesDone _ _ _ before after = Unit {0}
+LeavesDone _ _ _ before after = ⊥
 
 -- the commands that judge a mapping before they write: where they end with No, they write nothing
 abbrev pub judges : Command → Bool
@@ -110,24 +110,26 @@ abbrev pub LeavesNo : Command → List Name → List Name → Moment → Moment 
 LeavesNo (TurnsOnImage n) (file ∷ input ∷ []) (out ∷ []) before after = IsUnorderedRun n file input out before after
 LeavesNo Check (arch ∷ kernel ∷ mapping ∷ []) [] before after = IsIllegalCheck arch kernel mapping before after
 LeavesNo Emit (arch ∷ kernel ∷ mapping ∷ []) (out ∷ []) before after = IsIllegalCheck arch kernel mapping before after
-LeavesNo _ _ _ before after = Unit {0}
+LeavesNo _ _ _ before after = ⊥
 
 -- what it leaves where it ends with Impossible
 abbrev pub LeavesImpossible : Command → List Name → Moment → Moment → Type 0
 LeavesImpossible (Map s) (arch ∷ kernel ∷ []) before after = IsImpossibleRun s arch kernel before after
 LeavesImpossible (Search s) (arch ∷ kernel ∷ []) before after = IsImpossibleRun s arch kernel before after
-LeavesImpossible _ _ before after = Unit {0}
+LeavesImpossible _ _ before after = ⊥
 
 -- what it leaves where it ends with BudgetSpent
 abbrev pub LeavesSpent : Command → List Name → Moment → Moment → Type 0
 LeavesSpent (Map s) (arch ∷ kernel ∷ []) before after = IsSpentRun s arch kernel before after
 LeavesSpent (Search s) (arch ∷ kernel ∷ []) before after = IsSearchSpentRun s arch kernel before after
-LeavesSpent _ _ before after = Unit {0}
+LeavesSpent _ _ before after = ⊥
 
--- what it leaves by its status: of the statuses that aren't its own the table of statuses speaks
+-- what it leaves by its status: where the status can't come, nothing does. Of faults, running out of memory and the refusal of
+-- a file the table of statuses speaks
 abbrev pub Leaves : Command → List Name → List Name → Status → Moment → Moment → Type 0
 Leaves command inputs outputs Done before after = LeavesDone command inputs outputs before after
 Leaves command inputs outputs No before after = LeavesNo command inputs outputs before after
 Leaves command inputs outputs Impossible before after = LeavesImpossible command inputs before after
 Leaves command inputs outputs BudgetSpent before after = LeavesSpent command inputs before after
+Leaves command inputs outputs Usage before after = ⊥
 Leaves command inputs outputs _ before after = Unit {0}

@@ -1,5 +1,6 @@
 -- Refusals of files.
-use Rattle.std.proofs.Common.{◌≡◌, [], Result, Ok, Err, refl}
+use Rattle.std.proofs.Common.{◌≡◌, [], Bool, true, Result, Ok, Err, refl, ap, ◌∙◌}
+use Rattle.cg_ending.specs.declared.outcome.Status.{Status}
 use Rattle.cg_ending.specs.declared.outcome.Status.TheVariants.{Malformed}
 use Rattle.cg_ending.specs.Outcome.{Outcome}
 use Rattle.cg_inputs.proofs.Sound.{IsSound}
@@ -10,8 +11,8 @@ pub record IsRefusal (o : Outcome) : Type 0 where
   pub quiet : o.writes ≡ []
 
 -- it is an outcome of a command
-pub sound_refusal : (o : Outcome) → IsRefusal o → IsSound o
-sound_refusal o r = record { own = rw r.status refl; quiet = λ h. r.quiet }
+pub sound_refusal : (own_statuses : Status → Bool) (o : Outcome) → own_statuses Malformed ≡ true → IsRefusal o → IsSound own_statuses o
+sound_refusal own_statuses o refuses r = record { own = ap own_statuses r.status ∙ refuses; quiet = λ h. r.quiet }
 
 -- what isn't given is refused
 abbrev pub AreRefused : {X : Type 0} → Result X Outcome → Type 0

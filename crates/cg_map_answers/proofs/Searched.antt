@@ -19,7 +19,7 @@ use Rattle.cg_map.proofs.Always.{some_answer}
 use Rattle.cg_model.specs.declared.request.Request.{Request}
 use Rattle.cg_model.specs.Request.{IsInRange}
 use Rattle.cg_inputs.specs.Sources.{Pair}
-use Rattle.cg_inputs.proofs.Sound.{IsSound, IsNamed}
+use Rattle.cg_inputs.proofs.Sound.{IsSound, searching, IsNamed}
 use Rattle.cg_task_answers.specs.Searches.{IsForbiddenInput, IsImpossibleRun}
 use Rattle.cg_task_answers.specs.Answered.{IsOutcomeOf}
 use Rattle.cg_task_answers.proofs.Over.{agree_over}
@@ -43,7 +43,7 @@ searcher = record {
   some = λ s p valid good is. some_answer p.arch p.kernel valid good s.ii s.seed s.moves is;
 }
 
-pub sound_map : (s : Request) (outs : List Name) (arch kernel : File) (o : Outcome) → IsMap s arch kernel outs o → IsSound o
+pub sound_map : (s : Request) (outs : List Name) (arch kernel : File) (o : Outcome) → IsMap s arch kernel outs o → IsSound searching o
 sound_map s outs arch kernel o e = searched.sound words IsAnswerOf s outs arch kernel o e
 
 pub named_map : (s : Request) (outs : List Name) (arch kernel : File) (o : Outcome) → IsMap s arch kernel outs o → IsNamed outs o

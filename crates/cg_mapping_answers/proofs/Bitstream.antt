@@ -22,7 +22,7 @@ use Rattle.cg_emit.proofs.Overlapped.{one_config, does_turns}
 use Rattle.cg_inputs.specs.Sources.{AreGiven, AreMapped}
 use Rattle.cg_mapping_answers.specs.Check.{illegal_report, IsLegalInput, IsIllegalCheck}
 use Rattle.cg_mapping_answers.specs.Emit.{IsEmit, IsEmittedBy, IsEmission, RunsMapping, IsEmittedRun, emit_report}
-use Rattle.cg_inputs.proofs.Sound.{IsSound, IsNamed}
+use Rattle.cg_inputs.proofs.Sound.{IsSound, judging, IsNamed}
 use Rattle.cg_inputs.proofs.Wholes.{whole, one_write}
 use Rattle.cg_inputs.proofs.Arrays.{sized}
 use Rattle.cg_inputs.proofs.Refusals.{IsRefusal, AreRefused, IsAlike, equal, refusals, sound_refusal}
@@ -52,15 +52,15 @@ some_run m good shape legal = some_bits m.arch (config_of m) (canonical m.arch m
 
 -- ---- status and writes
 
-sound_by : (out : Name) (m : Mapped) (v : Option Violation) (o : Outcome) → IsEmittedBy out m v o → IsSound o
-sound_by out m None o p = subst IsSound (sym p.outcome) (record { own = refl; quiet = λ h. cc })
-sound_by out m (Some v) o p = subst IsSound (sym p) (record { own = refl; quiet = λ h. refl })
+sound_by : (out : Name) (m : Mapped) (v : Option Violation) (o : Outcome) → IsEmittedBy out m v o → IsSound judging o
+sound_by out m None o p = subst (IsSound judging) (sym p.outcome) (record { own = refl; quiet = λ h. cc })
+sound_by out m (Some v) o p = subst (IsSound judging) (sym p) (record { own = refl; quiet = λ h. refl })
 
-sound_emission : (out : Name) (mapped : Result Mapped Outcome) (o : Outcome) → AreRefused mapped → IsEmission out mapped o → IsSound o
+sound_emission : (out : Name) (mapped : Result Mapped Outcome) (o : Outcome) → AreRefused mapped → IsEmission out mapped o → IsSound judging o
 sound_emission out (Ok m) o r p = sound_by out m (violation m.arch m.kernel m.mapping) o p
-sound_emission out (Err e) o r p = subst IsSound (sym p) (sound_refusal e r)
+sound_emission out (Err e) o r p = subst (IsSound judging) (sym p) (sound_refusal judging e refl r)
 
-pub sound_emit : (arch kernel mapping : File) (out : Name) (o : Outcome) → IsEmit arch kernel mapping out o → IsSound o
+pub sound_emit : (arch kernel mapping : File) (out : Name) (o : Outcome) → IsEmit arch kernel mapping out o → IsSound judging o
 sound_emit arch kernel mapping out o p = sound_emission out p.mapped o (refused_given arch kernel mapping p.mapped p.given) p.emission
 
 named_by : (out : Name) (m : Mapped) (v : Option Violation) (o : Outcome) → IsEmittedBy out m v o → IsNamed (out ∷ []) o

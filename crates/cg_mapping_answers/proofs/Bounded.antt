@@ -15,18 +15,18 @@ use Rattle.cg_bound.proofs.Legal.{excluded}
 use Rattle.cg_bound.proofs.Offers.{never_open}
 use Rattle.cg_inputs.specs.Sources.{Pair, ArePaired}
 use Rattle.cg_mapping_answers.specs.Bound.{IsBoundOf, IsBounding, IsBounded, IsPairInput, IsBelow, IsBoundRun, bound_report}
-use Rattle.cg_inputs.proofs.Sound.{IsSound}
+use Rattle.cg_inputs.proofs.Sound.{IsSound, plain}
 use Rattle.cg_inputs.proofs.Wholes.{whole}
 use Rattle.cg_inputs.proofs.Refusals.{IsRefusal, AreRefused, IsAlike, equal, refusals, sound_refusal}
 use Rattle.cg_inputs.proofs.Paired.{refused_pair, given_pair, pair_is, some_paired, alike, valid_pair}
 
 -- ---- status and writes
 
-sound_by : (pair : Result Pair Outcome) (o : Outcome) → AreRefused pair → IsBounding pair o → IsSound o
-sound_by (Ok p) o r b = subst IsSound (sym b.outcome) (record { own = refl; quiet = λ h. refl })
-sound_by (Err e) o r b = subst IsSound (sym b) (sound_refusal e r)
+sound_by : (pair : Result Pair Outcome) (o : Outcome) → AreRefused pair → IsBounding pair o → IsSound plain o
+sound_by (Ok p) o r b = subst (IsSound plain) (sym b.outcome) (record { own = refl; quiet = λ h. refl })
+sound_by (Err e) o r b = subst (IsSound plain) (sym b) (sound_refusal plain e refl r)
 
-pub sound_bound : (arch kernel : File) (o : Outcome) → IsBoundOf arch kernel o → IsSound o
+pub sound_bound : (arch kernel : File) (o : Outcome) → IsBoundOf arch kernel o → IsSound plain o
 sound_bound arch kernel o b = sound_by b.pair o (refused_pair arch kernel b.pair b.given) b.bounding
 
 quiet_by : (pair : Result Pair Outcome) (o : Outcome) → AreRefused pair → IsBounding pair o → o.writes ≡ []

@@ -12,23 +12,23 @@ use Rattle.cg_check.specs.Rules.{violation}
 use Rattle.cg_check.proofs.Judged.{legal_from, keeps_all, breaks, rules_of}
 use Rattle.cg_inputs.specs.Sources.{AreGiven, AreMapped, HoldMapped}
 use Rattle.cg_mapping_answers.specs.Check.{IsCheck, checked, checked_by, illegal_report, IsLegalInput, IsLegalCheck, IsIllegalCheck}
-use Rattle.cg_inputs.proofs.Sound.{IsSound}
+use Rattle.cg_inputs.proofs.Sound.{IsSound, judging}
 use Rattle.cg_inputs.proofs.Wholes.{whole}
 use Rattle.cg_inputs.proofs.Refusals.{IsRefusal, AreRefused, IsAlike, equal, refusals, sound_refusal}
 use Rattle.cg_inputs.proofs.Mapped.{refused_given, given_of, valid_given, IsValid, mapped_is, some_mapped, alike}
 
 -- ---- status and writes
 
-sound_checked : (m : Mapped) (v : Option Violation) → IsSound (checked_by m v)
+sound_checked : (m : Mapped) (v : Option Violation) → IsSound judging (checked_by m v)
 sound_checked m None = record { own = refl; quiet = λ h. refl }
 sound_checked m (Some v) = record { own = refl; quiet = λ h. refl }
 
-sound_by : (mapped : Result Mapped Outcome) → AreRefused mapped → IsSound (checked mapped)
+sound_by : (mapped : Result Mapped Outcome) → AreRefused mapped → IsSound judging (checked mapped)
 sound_by (Ok m) r = sound_checked m (violation m.arch m.kernel m.mapping)
-sound_by (Err o) r = sound_refusal o r
+sound_by (Err o) r = sound_refusal judging o refl r
 
-pub sound_check : (arch kernel mapping : File) (o : Outcome) → IsCheck arch kernel mapping o → IsSound o
-sound_check arch kernel mapping o p = subst IsSound (sym p.outcome) (sound_by p.mapped (refused_given arch kernel mapping p.mapped p.given))
+pub sound_check : (arch kernel mapping : File) (o : Outcome) → IsCheck arch kernel mapping o → IsSound judging o
+sound_check arch kernel mapping o p = subst (IsSound judging) (sym p.outcome) (sound_by p.mapped (refused_given arch kernel mapping p.mapped p.given))
 
 quiet_checked : (m : Mapped) (v : Option Violation) → (checked_by m v).writes ≡ []
 quiet_checked m None = refl

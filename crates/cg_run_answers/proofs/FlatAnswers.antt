@@ -16,7 +16,7 @@ use Rattle.cg_ending.specs.declared.read.Stop.{Stop}
 use Rattle.cg_ending.specs.Allowed.{EndsBy}
 use Rattle.cg_ending.proofs.Allowed.{ends_weaker}
 use Rattle.cg_inputs.specs.Refused.{RefusesArch}
-use Rattle.cg_inputs.proofs.Sound.{IsSound, IsNamed}
+use Rattle.cg_inputs.proofs.Sound.{IsSound, plain, IsNamed}
 use Rattle.cg_inputs.proofs.Wholes.{whole, one_write, differ}
 use Rattle.cg_run_answers.specs.Flat.{IsFlat, IsFlattened, flat_by}
 
@@ -35,11 +35,11 @@ same_by file out a b (Err f) (Err g) x y n m d e = ap (λ o. o.status) d ∙ sym
 pub same_flat : (file : File) (out : Name) (a b : Outcome) → IsFlat file out a → IsFlat file out b → a.status ≡ b.status
 same_flat file out a b p q = same_by file out a b p.given q.given p.is_given q.is_given p.no_memory q.no_memory p.outcome q.outcome
 
-sound_by : (file : File) (out : Name) (r : Result Arch TilesFault) → IsSound (flat_by file out r)
+sound_by : (file : File) (out : Name) (r : Result Arch TilesFault) → IsSound plain (flat_by file out r)
 sound_by file out (Ok A) = record { own = refl; quiet = λ h. cc }
 sound_by file out (Err f) = record { own = refl; quiet = λ h. refl }
 
-pub sound_flat : (file : File) (out : Name) (o : Outcome) → IsFlat file out o → IsSound o
+pub sound_flat : (file : File) (out : Name) (o : Outcome) → IsFlat file out o → IsSound plain o
 sound_flat file out o p = rw p.outcome (sound_by file out p.given)
 
 named_by : (file : File) (out : Name) (r : Result Arch TilesFault) (o : Outcome) → o ≡ flat_by file out r → IsNamed (out ∷ []) o

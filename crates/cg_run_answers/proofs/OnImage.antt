@@ -20,7 +20,7 @@ use Rattle.cg_pad.specs.Texts.{image_fault_text}
 use Rattle.cg_turns.specs.declared.pair.UnorderedPair.{UnorderedPair}
 use Rattle.cg_turns.specs.Pairs.{IsPairOf}
 use Rattle.cg_turns.proofs.Decided.{some_pair}
-use Rattle.cg_inputs.proofs.Sound.{IsSound, IsNamed}
+use Rattle.cg_inputs.proofs.Sound.{IsSound, judging, IsNamed}
 use Rattle.cg_inputs.proofs.Wholes.{whole, one_write, differ}
 use Rattle.cg_run_answers.specs.TurnsOnImage.{IsTurnsOnImage, IsOnKernel, IsOnImage, IsRunOnImage, IsOrderedRun, IsUnorderedRun, imaged, pair_status}
 
@@ -56,19 +56,19 @@ same_on_image n file input out a b p q = same_kernel n file input out (answer_of
 
 -- ---- status and writes
 
-sound_pair : (n : ℕ) (K : Kernel) (image : Image) (out : Name) (p : Option UnorderedPair) → IsSound (imaged n K image out p)
+sound_pair : (n : ℕ) (K : Kernel) (image : Image) (out : Name) (p : Option UnorderedPair) → IsSound judging (imaged n K image out p)
 sound_pair n K image out None = record { own = refl; quiet = λ h. cc }
 sound_pair n K image out (Some p) = record { own = refl; quiet = λ h. cc }
 
-sound_image : (n : ℕ) (K : Kernel) (input : File) (out : Name) (r : Result Image ImageFault) (o : Outcome) → IsOnImage n K input out r o → IsSound o
+sound_image : (n : ℕ) (K : Kernel) (input : File) (out : Name) (r : Result Image ImageFault) (o : Outcome) → IsOnImage n K input out r o → IsSound judging o
 sound_image n K input out (Ok image) o p = rw p.outcome (sound_pair n K image out p.pair)
 sound_image n K input out (Err f) o p = rw p (record { own = refl; quiet = λ h. refl })
 
-sound_kernel : (n : ℕ) (file input : File) (out : Name) (r : Result Kernel KernelFault) (o : Outcome) → IsOnKernel n file input out r o → IsSound o
+sound_kernel : (n : ℕ) (file input : File) (out : Name) (r : Result Kernel KernelFault) (o : Outcome) → IsOnKernel n file input out r o → IsSound judging o
 sound_kernel n file input out (Ok K) o p = sound_image n K input out (images.answer_of input.bytes) o p
 sound_kernel n file input out (Err f) o p = rw p (record { own = refl; quiet = λ h. refl })
 
-pub sound_on_image : (n : ℕ) (file input : File) (out : Name) (o : Outcome) → IsTurnsOnImage n file input out o → IsSound o
+pub sound_on_image : (n : ℕ) (file input : File) (out : Name) (o : Outcome) → IsTurnsOnImage n file input out o → IsSound judging o
 sound_on_image n file input out o p = sound_kernel n file input out (answer_of file.bytes) o (on_image_is n file input out o p)
 
 named_image : (n : ℕ) (K : Kernel) (input : File) (out : Name) (r : Result Image ImageFault) (o : Outcome) → IsOnImage n K input out r o → IsNamed (out ∷ []) o

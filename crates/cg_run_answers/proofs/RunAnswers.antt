@@ -24,7 +24,7 @@ use Rattle.cg_bits.specs.Spelling.{AreBits}
 use Rattle.cg_bits.proofs.Answered.{bits_of, config_is, none_answered}
 use Rattle.cg_pad.specs.declared.fault.ImageFault.{ImageFault}
 use Rattle.cg_pad.specs.Bytes as images
-use Rattle.cg_inputs.proofs.Sound.{IsSound, IsNamed}
+use Rattle.cg_inputs.proofs.Sound.{IsSound, plain, IsNamed}
 use Rattle.cg_inputs.proofs.Arrays.{same_array, sized, valid_array}
 use Rattle.cg_inputs.proofs.Wholes.{whole, one_write, differ}
 use Rattle.cg_run_answers.specs.Run.{IsRun, IsRunnable, IsArrayRun, LeavesTurns, run_by, run_by_bits, run_by_image, ran, too_large}
@@ -42,23 +42,23 @@ spelled_answer A C bytes valid e fits =
 
 -- ---- status and writes
 
-sound_ran : (A : Arch) (n : ℕ) (C : Config) (input out : Name) (image : Image) (b : Bool) → IsSound (cond b (too_large input image) (ran n A C image out))
+sound_ran : (A : Arch) (n : ℕ) (C : Config) (input out : Name) (image : Image) (b : Bool) → IsSound plain (cond b (too_large input image) (ran n A C image out))
 sound_ran A n C input out image true = record { own = refl; quiet = λ h. refl }
 sound_ran A n C input out image false = record { own = refl; quiet = λ h. cc }
 
-sound_image : (n : ℕ) (A : Arch) (C : Config) (input out : Name) (r : Result Image ImageFault) → IsSound (run_by_image n A C input out r)
+sound_image : (n : ℕ) (A : Arch) (C : Config) (input out : Name) (r : Result Image ImageFault) → IsSound plain (run_by_image n A C input out r)
 sound_image n A C input out (Ok image) = sound_ran A n C input out image (nat_lt A.memory (length image.memory))
 sound_image n A C input out (Err f) = record { own = refl; quiet = λ h. refl }
 
-sound_bits : (n : ℕ) (A : Arch) (file : Name) (input : File) (out : Name) (r : Result Config BitsFault) → IsSound (run_by_bits n A file input out r)
+sound_bits : (n : ℕ) (A : Arch) (file : Name) (input : File) (out : Name) (r : Result Config BitsFault) → IsSound plain (run_by_bits n A file input out r)
 sound_bits n A file input out (Ok C) = sound_image n A C input.name out (images.answer_of input.bytes)
 sound_bits n A file input out (Err f) = record { own = refl; quiet = λ h. refl }
 
-sound_by : (n : ℕ) (arch file input : File) (out : Name) (r : Result Arch TilesFault) → IsSound (run_by n arch file input out r)
+sound_by : (n : ℕ) (arch file input : File) (out : Name) (r : Result Arch TilesFault) → IsSound plain (run_by n arch file input out r)
 sound_by n arch file input out (Ok A) = sound_bits n A file.name input out (bits.answer_of A file.bytes)
 sound_by n arch file input out (Err f) = record { own = refl; quiet = λ h. refl }
 
-pub sound_run : (n : ℕ) (arch file input : File) (out : Name) (o : Outcome) → IsRun n arch file input out o → IsSound o
+pub sound_run : (n : ℕ) (arch file input : File) (out : Name) (o : Outcome) → IsRun n arch file input out o → IsSound plain o
 sound_run n arch file input out o p = rw p.outcome (sound_by n arch file input out p.given)
 
 -- ---- what is accepted

@@ -7,7 +7,7 @@ use Rattle.cg_ending.specs.Outcome.{Name, File, Outcome}
 use Rattle.cg_ending.specs.Ends.{Moment, Completed}
 use Rattle.cg_kernel.specs.declared.fault.KernelFault.{KernelFault}
 use Rattle.cg_kernel.specs.Answer.{answer_of}
-use Rattle.cg_inputs.proofs.Sound.{IsSound}
+use Rattle.cg_inputs.proofs.Sound.{IsSound, plain}
 use Rattle.cg_inputs.proofs.Wholes.{whole, differ}
 use Rattle.cg_run_answers.specs.Turns.{turns_by, turns_of, IsTurned}
 
@@ -18,11 +18,11 @@ turns_is : (n : ℕ) (file : File) (o : Outcome) → o ≡ turns_of n file → o
 unfolding turns_of
 turns_is n file o p = p
 
-sound_by : (n : ℕ) (file : File) (r : Result Kernel KernelFault) → IsSound (turns_by n file r)
+sound_by : (n : ℕ) (file : File) (r : Result Kernel KernelFault) → IsSound plain (turns_by n file r)
 sound_by n file (Ok K) = record { own = refl; quiet = λ h. refl }
 sound_by n file (Err f) = record { own = refl; quiet = λ h. refl }
 
-pub sound_turns : (n : ℕ) (file : File) (o : Outcome) → o ≡ turns_of n file → IsSound o
+pub sound_turns : (n : ℕ) (file : File) (o : Outcome) → o ≡ turns_of n file → IsSound plain o
 sound_turns n file o p = rw (turns_is n file o p) (sound_by n file (answer_of file.bytes))
 
 quiet_by : (n : ℕ) (file : File) (r : Result Kernel KernelFault) → (turns_by n file r).writes ≡ []

@@ -13,7 +13,7 @@ use Rattle.cg_search.proofs.Answers.{by_hub, some_search}
 use Rattle.cg_model.specs.declared.request.Request.{Request}
 use Rattle.cg_model.specs.Request.{IsInRange}
 use Rattle.cg_inputs.specs.Sources.{Pair}
-use Rattle.cg_inputs.proofs.Sound.{IsSound, IsNamed}
+use Rattle.cg_inputs.proofs.Sound.{IsSound, searching, IsNamed}
 use Rattle.cg_task_answers.specs.Searches.{IsForbiddenInput, IsImpossibleRun}
 use Rattle.cg_task_answers.specs.Answered.{IsOutcomeOf}
 use Rattle.cg_task_answers.proofs.Over.{agree_over}
@@ -34,7 +34,7 @@ searcher = record {
   some = λ s p valid good is. some_search p.arch p.kernel valid good s.ii s.moves is;
 }
 
-pub sound_search : (s : Request) (outs : List Name) (arch kernel : File) (o : Outcome) → IsSearch s arch kernel outs o → IsSound o
+pub sound_search : (s : Request) (outs : List Name) (arch kernel : File) (o : Outcome) → IsSearch s arch kernel outs o → IsSound searching o
 sound_search s outs arch kernel o e = searched.sound words IsAnswerOf s outs arch kernel o e
 
 pub named_search : (s : Request) (outs : List Name) (arch kernel : File) (o : Outcome) → IsSearch s arch kernel outs o → IsNamed outs o

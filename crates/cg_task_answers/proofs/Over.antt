@@ -18,7 +18,7 @@ use Rattle.cg_tiles.specs.Answer.{AreValidBytes}
 use Rattle.cg_kernel.specs.Answer as kernels
 use Rattle.cg_inputs.specs.Refused.{RefusesArch, RefusesKernel}
 use Rattle.cg_inputs.specs.Sources.{Pair, ArePaired, GivesPair, pair_by}
-use Rattle.cg_inputs.proofs.Sound.{IsSound, IsNamed}
+use Rattle.cg_inputs.proofs.Sound.{IsSound, searching, IsNamed}
 use Rattle.cg_inputs.proofs.Refusals.{IsRefusal, AreRefused, IsAlike, equal, refusals, sound_refusal}
 use Rattle.cg_inputs.proofs.Paired as paired
 use Rattle.cg_inputs.proofs.Paired.{refused_pair, given_pair, pair_is, some_paired, valid_pair}
@@ -35,15 +35,15 @@ asked s A range within = by s.ii range.some within
 module _ (defines : Pair → Outcome → Type 0) (s : Request) (arch kernel : File) where
   -- ---- status and writes
 
-  sound_within : ((p : Pair) (o : Outcome) → defines p o → IsSound o) → (p : Pair) (b : Bool) (o : Outcome) → IsWithin defines arch.name p b o → IsSound o
-  sound_within each p true o e = subst IsSound (sym e) (record { own = refl; quiet = λ h. refl })
+  sound_within : ((p : Pair) (o : Outcome) → defines p o → IsSound searching o) → (p : Pair) (b : Bool) (o : Outcome) → IsWithin defines arch.name p b o → IsSound searching o
+  sound_within each p true o e = subst (IsSound searching) (sym e) (record { own = refl; quiet = λ h. refl })
   sound_within each p false o e = each p o e
 
-  sound_by : ((p : Pair) (o : Outcome) → defines p o → IsSound o) → (pair : Result Pair Outcome) (o : Outcome) → AreRefused pair → IsOverPair defines s.ii arch.name pair o → IsSound o
+  sound_by : ((p : Pair) (o : Outcome) → defines p o → IsSound searching o) → (pair : Result Pair Outcome) (o : Outcome) → AreRefused pair → IsOverPair defines s.ii arch.name pair o → IsSound searching o
   sound_by each (Ok p) o r e = sound_within each p (is_above s.ii p.arch) o e
-  sound_by each (Err x) o r e = subst IsSound (sym e) (sound_refusal x r)
+  sound_by each (Err x) o r e = subst (IsSound searching) (sym e) (sound_refusal searching x refl r)
 
-  pub sound_over : ((p : Pair) (o : Outcome) → defines p o → IsSound o) → (o : Outcome) → IsSearchOver defines s arch kernel o → IsSound o
+  pub sound_over : ((p : Pair) (o : Outcome) → defines p o → IsSound searching o) → (o : Outcome) → IsSearchOver defines s arch kernel o → IsSound searching o
   sound_over each o e = sound_by each e.pair o (refused_pair arch kernel e.pair e.given) e.outcome
 
   named_within : (outs : List Name) → ((p : Pair) (o : Outcome) → defines p o → IsNamed outs o) → (p : Pair) (b : Bool) (o : Outcome) → IsWithin defines arch.name p b o → IsNamed outs o

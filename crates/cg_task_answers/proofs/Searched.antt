@@ -27,7 +27,7 @@ use Rattle.cg_inputs.specs.Sources.{Pair, GivesPair}
 use Rattle.cg_task_answers.specs.Searches.{IsSearchOver, IsWritten, IsForbiddenInput, IsImpossibleRun, is_above, map_writes, impossible_report}
 use Rattle.cg_task_answers.specs.Answered.{Words, IsOutcomeOf, IsAnswered, found_report, left_report}
 use Rattle.cg_task_answers.specs.Runs.{IsFoundRun, IsLeftRun}
-use Rattle.cg_inputs.proofs.Sound.{IsSound, IsNamed}
+use Rattle.cg_inputs.proofs.Sound.{IsSound, searching, IsNamed}
 use Rattle.cg_inputs.proofs.Wholes.{whole}
 use Rattle.cg_inputs.proofs.Paired.{valid_pair}
 use Rattle.cg_mapping_answers.proofs.Bitstream.{runs, some_run}
@@ -73,12 +73,12 @@ module _ (W : Words) (Answers : Request → Pair → Answer → Type 0) where
   IsOver s arch kernel outs o = IsSearchOver (Defines s outs) s arch kernel o
 
   module _ (s : Request) (outs : List Name) where
-    sound_of : (p : Pair) (a : Answer) (o : Outcome) → IsOutcomeOf W s outs p a o → IsSound o
-    sound_of p (answer.Impossible c) o e = subst IsSound (sym e) (record { own = refl; quiet = λ h. refl })
-    sound_of p (answer.Mapped m found_by) o w = subst IsSound (sym w.outcome) (record { own = refl; quiet = λ h. cc })
-    sound_of p (answer.Spent first left) o e = subst IsSound (sym e) (record { own = refl; quiet = λ h. refl })
+    sound_of : (p : Pair) (a : Answer) (o : Outcome) → IsOutcomeOf W s outs p a o → IsSound searching o
+    sound_of p (answer.Impossible c) o e = subst (IsSound searching) (sym e) (record { own = refl; quiet = λ h. refl })
+    sound_of p (answer.Mapped m found_by) o w = subst (IsSound searching) (sym w.outcome) (record { own = refl; quiet = λ h. cc })
+    sound_of p (answer.Spent first left) o e = subst (IsSound searching) (sym e) (record { own = refl; quiet = λ h. refl })
 
-    pub sound : (arch kernel : File) (o : Outcome) → IsOver s arch kernel outs o → IsSound o
+    pub sound : (arch kernel : File) (o : Outcome) → IsOver s arch kernel outs o → IsSound searching o
     sound arch kernel o e = sound_over (Defines s outs) s arch kernel (λ p o f. sound_of p f.answer o f.outcome) o e
 
     named_of : (p : Pair) (a : Answer) (o : Outcome) → IsOutcomeOf W s outs p a o → IsNamed outs o

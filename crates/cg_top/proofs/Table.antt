@@ -14,8 +14,8 @@ use Rattle.cg_command.specs.Words.{Plan, plan_of}
 use Rattle.cg_ending.specs.Refusals.{usage_outcome}
 use Rattle.cg_top.specs.TopCall.{IsPlanned, Ends, IsAnswered, IsStopped, IsByTable}
 use Rattle.cg_top.proofs.Kept.{no_part}
-use Rattle.cg_answers.proofs.Commands.{sound}
-use Rattle.cg_inputs.proofs.Sound.{is_own}
+use Rattle.cg_answers.proofs.Commands.{owns_of, sound}
+use Rattle.cg_inputs.proofs.Sound.{never}
 
 -- ---- where an outcome comes from
 
@@ -55,13 +55,10 @@ refused words held rose o s m e (inl u) = absurd (let z : Usage ≡ Malformed = 
 refused words held rose o s m e (inr (inl a)) = inl (subst (λ z. IsAnswered words held z) (sym e ∙ m) a)
 refused words held rose o s m e (inr (inr a)) = inr (subst (λ z. IsStopped words held rose z) (sym e ∙ m) a)
 
-not_own : (s t : Status) → is_own s ≡ true → is_own t ≡ false → s ≡ t → ⊥
-not_own s t a b e = cc
-
 -- a command's answer is never a read fault
 halted : (words : List Name) (held : Held) (rose : Type 0) (o : Outcome) (s : Status) → s ≡ ReadFault → s ≡ o.status → Origin words held rose o → IsStopped words held rose ReadFault
 halted words held rose o s r e (inl u) = absurd (let z : Usage ≡ ReadFault = sym (ap (λ x. x.status) u) ∙ sym e ∙ r in cc)
-halted words held rose o s r e (inr (inl a)) = absurd (not_own a.outcome.status ReadFault (sound a.plan.command a.answers.files a.plan.outputs a.outcome a.answers.answer).own refl (a.status_is ∙ sym e ∙ r))
+halted words held rose o s r e (inr (inl a)) = absurd (never (owns_of a.plan.command) ReadFault a.outcome (sound a.plan.command a.answers.files a.plan.outputs a.outcome a.answers.answer) refl (a.status_is ∙ sym e ∙ r))
 halted words held rose o s r e (inr (inr a)) = subst (λ z. IsStopped words held rose z) (sym e ∙ r) a
 
 -- what is known of an outcome by its status
@@ -149,11 +146,11 @@ known words before after o None e h = rw h (record {
     differ_memory : Usage ≡ Memory → ⊥
     differ_memory u = cc
 known words before after o (Some plan) e (inl a) = let s = sound plan.command a.files plan.outputs o a.answer in record {
-  usage = λ u. absurd (not_own o.status Usage s.own refl u);
+  usage = λ u. absurd (never (owns_of plan.command) Usage o s refl u);
   unfit = λ n. absurd (one_plan _ plan e n);
-  read_fault = λ u. absurd (not_own o.status ReadFault s.own refl u);
-  no_fault = λ u. not_own o.status WriteFault s.own refl u;
-  no_memory = λ u. not_own o.status Memory s.own refl u;
+  read_fault = λ u. absurd (never (owns_of plan.command) ReadFault o s refl u);
+  no_fault = λ u. never (owns_of plan.command) WriteFault o s refl u;
+  no_memory = λ u. never (owns_of plan.command) Memory o s refl u;
   quiet = s.quiet;
 }
 known words before after o (Some plan) e (inr a) = from_stop words before after o plan e a
