@@ -6,3 +6,4 @@ pub mod Judged
 pub mod Left
 pub mod Defined
 pub mod Allowed
+pub mod Written

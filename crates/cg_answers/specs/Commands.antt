@@ -19,9 +19,10 @@ use Rattle.cg_run_answers.specs.Flat.{IsFlat, IsFlattened}
 use Rattle.cg_run_answers.specs.Run.{IsRun, IsRunnable, IsArrayRun}
 use Rattle.cg_mapping_answers.specs.Bound.{IsBoundOf, IsPairInput, IsBoundRun}
 use Rattle.cg_mapping_answers.specs.Check.{IsCheck, IsLegalInput, IsLegalCheck, IsIllegalCheck}
-use Rattle.cg_mapping_answers.specs.Emit.{IsEmit, IsEmittedRun}
+use Rattle.cg_mapping_answers.specs.Emit.{IsEmit, RunsRead, IsEmittedRun}
 use Rattle.cg_map_answers.specs.Map.{IsMap, IsMappable, IsMapRun, IsSpentRun}
 use Rattle.cg_task_answers.specs.Searches.{IsForbiddenInput, IsImpossibleRun}
+use Rattle.cg_task_answers.specs.Runs.{RunsOfPair}
 use Rattle.cg_search_answers.specs.Search.{IsSearch, IsSearchable, IsSearchRun, IsSearchSpentRun, AreAgreed}
 use Rattle.cg_answers.specs.Trial.{IsTrialOf, IsTrialRun}
 use Rattle.cg_answers.specs.Verilog.{IsVerilog, IsNetlisted}
@@ -83,6 +84,15 @@ abbrev pub Forbids : Command → List File → Type 0
 Forbids (Map s) (arch ∷ kernel ∷ []) = IsForbiddenInput s arch kernel
 Forbids (Search s) (arch ∷ kernel ∷ []) = IsForbiddenInput s arch kernel
 Forbids _ _ = ⊥
+
+-- the first of the files that `map`, `search` and `emit` write runs a mapping of what was read under these names: whether it was
+-- written, and how the call ended, is said apart
+abbrev pub RunWrites : List File → Command → List Name → Moment → Type 0
+RunWrites [] command inputs before = Unit {0}
+RunWrites (file ∷ files) (Map s) (arch ∷ kernel ∷ []) before = RunsOfPair arch kernel before file.bytes
+RunWrites (file ∷ files) (Search s) (arch ∷ kernel ∷ []) before = RunsOfPair arch kernel before file.bytes
+RunWrites (file ∷ files) Emit (arch ∷ kernel ∷ mapping ∷ []) before = RunsRead arch kernel mapping before file.bytes
+RunWrites (file ∷ files) _ _ before = Unit {0}
 
 -- what a command whose input and output files have these names leaves where it ends with Done: what is held, and what was put
 abbrev pub LeavesDone : Command → List Name → List Name → Moment → Moment → Type 0

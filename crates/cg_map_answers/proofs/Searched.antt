@@ -21,6 +21,7 @@ use Rattle.cg_model.specs.Request.{IsInRange}
 use Rattle.cg_inputs.specs.Sources.{Pair}
 use Rattle.cg_inputs.proofs.Sound.{IsSound, searching, IsNamed}
 use Rattle.cg_task_answers.specs.Searches.{IsForbiddenInput, IsImpossibleRun}
+use Rattle.cg_task_answers.specs.Runs.{FirstRuns}
 use Rattle.cg_task_answers.specs.Answered.{IsOutcomeOf}
 use Rattle.cg_task_answers.proofs.Over.{agree_over}
 use Rattle.cg_task_answers.proofs.Searched as searched
@@ -103,6 +104,9 @@ some_map s arch kernel outs range = searched.some_outcome words IsAnswerOf IsOnl
 -- ---- what is left
 
 module _ (s : Request) (arch kernel : Name) (outs : List Name) (f g : File) (before after : Moment) (arch_held : Holds before.held arch f.bytes) (kernel_held : Holds before.held kernel g.bytes) where
+  pub map_writes_run : (o : Outcome) → IsMap s f g outs o → FirstRuns arch kernel before o.writes
+  map_writes_run o is = searched.writes_run words IsAnswerOf IsOnlyMapping AreCosts searcher s arch kernel outs f g before after arch_held kernel_held o is
+
   pub map_left : (o : Outcome) → IsMap s f g outs o → o.status ≡ Done → Completed o before after Done → IsMapRun s arch kernel outs before after
   map_left o is at done = searched.found_left words IsAnswerOf IsOnlyMapping AreCosts searcher s arch kernel outs f g before after arch_held kernel_held o is at done
 

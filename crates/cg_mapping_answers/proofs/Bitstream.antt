@@ -21,7 +21,7 @@ use Rattle.cg_emit.specs.Emitted.{RunLikeTurns}
 use Rattle.cg_emit.proofs.Overlapped.{one_config, does_turns}
 use Rattle.cg_inputs.specs.Sources.{AreGiven, AreMapped}
 use Rattle.cg_mapping_answers.specs.Check.{illegal_report, IsLegalInput, IsIllegalCheck}
-use Rattle.cg_mapping_answers.specs.Emit.{IsEmit, IsEmittedBy, IsEmission, RunsMapping, IsEmittedRun, emit_report}
+use Rattle.cg_mapping_answers.specs.Emit.{IsEmit, IsEmittedBy, IsEmission, RunsMapping, FirstRunsRead, IsEmittedRun, emit_report}
 use Rattle.cg_inputs.proofs.Sound.{IsSound, judging, IsNamed}
 use Rattle.cg_inputs.proofs.Wholes.{whole, one_write}
 use Rattle.cg_inputs.proofs.Arrays.{sized}
@@ -152,6 +152,21 @@ module _ (arch kernel mapping out : Name) (f g h : File) (before after : Moment)
   unemitted_given : (mapped : Result Mapped Outcome) (o : Outcome) → AreMapped f g h mapped → IsEmission out mapped o → o.status ≡ No → Completed o before after No → IsIllegalCheck arch kernel mapping before after
   unemitted_given (Ok m) o given is refused c = unemitted_by m (violation m.arch m.kernel m.mapping) o refl (given_of f g h m given) is refused c
   unemitted_given (Err e) o given is refused c = absurd (let r = refused_given f g h (Err e) given in let z : Malformed ≡ No = sym r.status ∙ sym (ap (λ x. x.status) is) ∙ refused in cc)
+
+  made_by : (m : Mapped) (v : Option Violation) (o : Outcome) → violation m.arch m.kernel m.mapping ≡ v → AreGiven f.bytes g.bytes h.bytes m → IsEmittedBy out m v o → FirstRunsRead arch kernel mapping before o.writes
+  made_by m None o e given is =
+      let valid = valid_given f.bytes g.bytes h.bytes m given in
+      let legal = legal_without m valid e in
+      subst (FirstRunsRead arch kernel mapping before) (sym (ap (λ x. x.writes) is.outcome))
+      (record { mapped = m; read = hold_mapped arch kernel mapping f g h before after arch_held kernel_held mapping_held m given; runs = runs m is.bytes valid.arch valid.kernel legal is.spelled })
+  made_by m (Some v) o e given is = subst (FirstRunsRead arch kernel mapping before) (sym (ap (λ x. x.writes) is)) tt
+
+  made_given : (mapped : Result Mapped Outcome) (o : Outcome) → AreMapped f g h mapped → IsEmission out mapped o → FirstRunsRead arch kernel mapping before o.writes
+  made_given (Ok m) o given is = made_by m (violation m.arch m.kernel m.mapping) o refl (given_of f g h m given) is
+  made_given (Err e) o given is = let r = refused_given f g h (Err e) given in subst (FirstRunsRead arch kernel mapping before) (sym (ap (λ x. x.writes) is ∙ r.quiet)) tt
+
+  pub emit_writes_run : (o : Outcome) → IsEmit f g h out o → FirstRunsRead arch kernel mapping before o.writes
+  emit_writes_run o p = made_given p.mapped o p.given p.emission
 
   pub emitted_left : (o : Outcome) → IsEmit f g h out o → o.status ≡ Done → Completed o before after Done → IsEmittedRun arch kernel mapping out before after
   emitted_left o p done c = emitted_given p.mapped o p.given p.emission done c

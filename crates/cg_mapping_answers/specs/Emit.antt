@@ -1,5 +1,5 @@
 -- `emit ARCH KERNEL MAPPING OUT`.
-use Rattle.std.specs.Prelude.{◌≡◌, [], ◌∷◌, Option, Some, None, Result, Ok, Err, codes, decimal}
+use Rattle.std.specs.Prelude.{◌≡◌, List, [], ◌∷◌, Option, Some, None, Result, Ok, Err, codes, decimal}
 use Rattle.cg_model.specs.Mapping.{IsLegal}
 use Rattle.cg_model.specs.Overlap.{CarriesOne}
 use Rattle.cg_ending.specs.declared.outcome.Status.TheVariants.{Done, No}
@@ -50,6 +50,17 @@ pub record RunsMapping (m : Mapped) (bytes : Bytes) : Type 0 where
   pub spelled : AreBits m.arch (config_of m) bytes
   pub once : CarriesOne m.arch m.kernel m.mapping
   pub overlaps : RunLikeTurns m.arch m.kernel m.mapping bytes
+
+-- the bytes run the mapping that was read
+pub record RunsRead (arch kernel mapping : Name) (before : Moment) (bytes : Bytes) : Type 0 where
+  pub mapped : Mapped
+  pub read : HoldMapped arch kernel mapping before mapped
+  pub runs : RunsMapping mapped bytes
+
+-- so does the first of these files, if there is one
+abbrev pub FirstRunsRead : Name → Name → Name → Moment → List File → Type 0
+FirstRunsRead arch kernel mapping before [] = Unit {0}
+FirstRunsRead arch kernel mapping before (file ∷ files) = RunsRead arch kernel mapping before file.bytes
 
 -- Done: what is held under the last name runs the mapping that was read
 pub record IsEmittedRun (arch kernel mapping out : Name) (before after : Moment) : Type 0 where

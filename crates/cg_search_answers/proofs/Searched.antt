@@ -15,6 +15,7 @@ use Rattle.cg_model.specs.Request.{IsInRange}
 use Rattle.cg_inputs.specs.Sources.{Pair}
 use Rattle.cg_inputs.proofs.Sound.{IsSound, searching, IsNamed}
 use Rattle.cg_task_answers.specs.Searches.{IsForbiddenInput, IsImpossibleRun}
+use Rattle.cg_task_answers.specs.Runs.{FirstRuns}
 use Rattle.cg_task_answers.specs.Answered.{IsOutcomeOf}
 use Rattle.cg_task_answers.proofs.Over.{agree_over}
 use Rattle.cg_task_answers.proofs.Searched as searched
@@ -89,6 +90,9 @@ some_search_outcome s arch kernel outs range = searched.some_outcome words IsAns
 -- ---- what is left
 
 module _ (s : Request) (arch kernel : Name) (outs : List Name) (f g : File) (before after : Moment) (arch_held : Holds before.held arch f.bytes) (kernel_held : Holds before.held kernel g.bytes) where
+  pub search_writes_run : (o : Outcome) → IsSearch s f g outs o → FirstRuns arch kernel before o.writes
+  search_writes_run o is = searched.writes_run words IsAnswerOf IsFoundWithin AreFaults searcher s arch kernel outs f g before after arch_held kernel_held o is
+
   pub search_left : (o : Outcome) → IsSearch s f g outs o → o.status ≡ Done → Completed o before after Done → IsSearchRun s arch kernel outs before after
   search_left o is at done = searched.found_left words IsAnswerOf IsFoundWithin AreFaults searcher s arch kernel outs f g before after arch_held kernel_held o is at done
 

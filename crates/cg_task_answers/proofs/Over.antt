@@ -1,5 +1,5 @@
 -- What holds of a search over two files, where it holds of what comes of the pair that they give.
-use Rattle.std.proofs.Common.{◌≡◌, Bool, true, false, List, Option, Some, None, Result, Ok, Err, refl, sym, ◌∙◌, ap, subst, inr, arith}
+use Rattle.std.proofs.Common.{◌≡◌, Bool, true, false, List, [], Option, Some, None, Result, Ok, Err, refl, sym, ◌∙◌, ap, subst, inr, arith}
 use Rattle.std.specs.Prelude.{◌≤◌, ℕ, IfSome}
 use Rattle.std.proofs.lemmas.Bool.{ltb-false}
 use Rattle.cg_model.specs.Array.{Arch, IsArch}
@@ -177,3 +177,19 @@ module _ (defines : Pair → Outcome → Type 0) (s : Request) (arch kernel : Fi
       → ((p : Pair) → GivesPair arch.bytes kernel.bytes p → IsAsked p.arch s.ii → (o : Outcome) → defines p o → o.status ≡ status → Completed o before after status → X)
       → (o : Outcome) → IsSearchOver defines s arch kernel o → o.status ≡ status → Completed o before after status → X
   left_over status before after other each o is at done = left_by status before after other each is.pair o is.range is.given is.outcome at done
+
+  -- ---- what is written
+
+  made_within : (P : List File → Type 0) → P [] → (p : Pair) → (IsAsked p.arch s.ii → (o : Outcome) → defines p o → P o.writes) → (b : Bool) (o : Outcome) → is_above s.ii p.arch ≡ b → IsInRange s → IsWithin defines arch.name p b o → P o.writes
+  made_within P none p each true o e range is = subst (λ x. P x.writes) (sym is) none
+  made_within P none p each false o e range is = each (asked s p.arch range e) o is
+
+  made_by : (P : List File → Type 0) → P [] → ((p : Pair) → GivesPair arch.bytes kernel.bytes p → IsAsked p.arch s.ii → (o : Outcome) → defines p o → P o.writes)
+      → (pair : Result Pair Outcome) (o : Outcome) → IsInRange s → ArePaired arch kernel pair → IsOverPair defines s.ii arch.name pair o → P o.writes
+  made_by P none each (Ok p) o range given is = made_within P none p (each p (given_pair arch kernel p given)) (is_above s.ii p.arch) o refl range is
+  made_by P none each (Err e) o range given is = let r = refused_pair arch kernel (Err e) given in subst P (sym (ap (λ x. x.writes) is ∙ r.quiet)) none
+
+  -- what holds of no writes and of those that are defined for each pair that the files may give
+  pub made_over : (P : List File → Type 0) → P [] → ((p : Pair) → GivesPair arch.bytes kernel.bytes p → IsAsked p.arch s.ii → (o : Outcome) → defines p o → P o.writes)
+      → (o : Outcome) → IsSearchOver defines s arch kernel o → P o.writes
+  made_over P none each o is = made_by P none each is.pair o is.range is.given is.outcome

@@ -26,13 +26,13 @@ use Rattle.cg_model.specs.Request.{IsInRange}
 use Rattle.cg_inputs.specs.Sources.{Pair, GivesPair}
 use Rattle.cg_task_answers.specs.Searches.{IsSearchOver, IsWritten, IsForbiddenInput, IsImpossibleRun, is_above, map_writes, impossible_report}
 use Rattle.cg_task_answers.specs.Answered.{Words, IsOutcomeOf, IsAnswered, found_report, left_report}
-use Rattle.cg_task_answers.specs.Runs.{IsFoundRun, IsLeftRun}
+use Rattle.cg_task_answers.specs.Runs.{RunsOfPair, FirstRuns, IsFoundRun, IsLeftRun}
 use Rattle.cg_inputs.proofs.Sound.{IsSound, searching, IsNamed}
 use Rattle.cg_inputs.proofs.Wholes.{whole}
 use Rattle.cg_inputs.proofs.Paired.{valid_pair}
 use Rattle.cg_mapping_answers.proofs.Bitstream.{runs, some_run}
 use Rattle.cg_task_answers.proofs.Left.{held_writes, hold_pair, put_of, kept_of, quiet_of, left_impossible}
-use Rattle.cg_task_answers.proofs.Over.{asked, sound_over, named_over, given_over, some_over, left_over}
+use Rattle.cg_task_answers.proofs.Over.{asked, sound_over, named_over, given_over, some_over, left_over, made_over}
 
 -- what is known of a search: why an interval is impossible, what holds of the mappings that it finds and of what it leaves, and
 -- that it has an answer, which is a mapping where the hub suffices
@@ -219,7 +219,26 @@ module _ (W : Words) (Answers : Request → Pair → Answer → Type 0) where
             let (one, two, ok) = is_searcher.legal s p m found_by valid good is found in
             run found_by o found e status done m.mapping (same m one two) ok
 
+        made_as : (ws : List File) (outs : List Name) (n : Mapped) (bytes : Bytes) → ws ≡ map_writes outs n bytes → RunsOfPair arch kernel before bytes → FirstRuns arch kernel before ws
+        made_as ws [] n bytes e r = subst (FirstRuns arch kernel before) (sym e) tt
+        made_as ws (out ∷ []) n bytes e r = subst (FirstRuns arch kernel before) (sym e) r
+        made_as ws (out ∷ file ∷ []) n bytes e r = subst (FirstRuns arch kernel before) (sym e) r
+        made_as ws (out ∷ file ∷ other ∷ outs) n bytes e r = subst (FirstRuns arch kernel before) (sym e) tt
+
+        made_of : (a : Answer) (o : Outcome) → Answers s p a → IsOutcomeOf W s outs p a o → FirstRuns arch kernel before o.writes
+        made_of (answer.Impossible c) o found e = subst (FirstRuns arch kernel before) (sym (ap (λ x. x.writes) e)) tt
+        made_of (answer.Spent first left) o found e = subst (FirstRuns arch kernel before) (sym (ap (λ x. x.writes) e)) tt
+        made_of (answer.Mapped m found_by) o found e =
+            let (one, two, ok) = is_searcher.legal s p m found_by valid good is found in
+            let m_is = same m one two in
+            let spelled : AreBits p.arch (config_of (Here m.mapping)) e.bytes = subst (λ n. AreBits n.arch (config_of n) e.bytes) m_is e.spelled in
+            made_as o.writes outs m e.bytes (ap (λ x. x.writes) e.outcome)
+            (record { pair = p; read = hold_pair s arch kernel f g before before arch_held kernel_held p given; mapping = m.mapping; runs = runs (Here m.mapping) e.bytes valid good ok spelled })
+
       -- ---- by what the files give
+
+      pub writes_run : (o : Outcome) → IsOver s f g outs o → FirstRuns arch kernel before o.writes
+      writes_run o is = made_over (Defines s outs) s f g (FirstRuns arch kernel before) tt (λ p given is o d. made_of p given is d.answer o d.is_answer d.outcome) o is
 
       pub found_left : (o : Outcome) → IsOver s f g outs o → o.status ≡ Done → Completed o before after Done → IsFoundRun W.by (Found s) s arch kernel outs before after
       found_left o is at done = left_over (Defines s outs) s f g Done before after (λ e. cc) (λ p given is o d. mapped_of p given is d.answer o d.is_answer d.outcome) o is at done

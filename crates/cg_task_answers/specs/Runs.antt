@@ -1,9 +1,9 @@
 -- What a search leaves, where it finds a mapping and where its moves are spent.
-use Rattle.std.specs.Prelude.{◌≡◌, ℕ, List, []}
+use Rattle.std.specs.Prelude.{◌≡◌, ℕ, List, [], ◌∷◌}
 use Rattle.cg_model.specs.Mapping.{Mapping}
 use Rattle.cg_ending.specs.declared.outcome.Status.TheVariants as status
 use Rattle.cg_files.specs.Held.{Appends}
-use Rattle.cg_ending.specs.Outcome.{Name, Bytes}
+use Rattle.cg_ending.specs.Outcome.{Name, Bytes, File}
 use Rattle.cg_ending.specs.Ends.{Moment, IsPut, Wrote}
 use Rattle.cg_check.specs.Legal.{Mapped}
 use Rattle.cg_bound.specs.Bound.{IsOpen}
@@ -19,6 +19,18 @@ use Rattle.cg_task_answers.specs.Answered.{found_report, left_report}
 -- the mapping with the architecture and the kernel of the files
 abbrev pub mapped_on : Pair → Mapping → Mapped
 mapped_on pair mapping = record { arch = pair.arch; kernel = pair.kernel; mapping = mapping }
+
+-- the bytes run a mapping of the kernel on the architecture that were read
+pub record RunsOfPair (arch kernel : Name) (before : Moment) (bytes : Bytes) : Type 0 where
+  pub pair : Pair
+  pub read : HoldPair arch kernel before pair
+  pub mapping : Mapping
+  pub runs : RunsMapping (mapped_on pair mapping) bytes
+
+-- so does the first of these files, if there is one
+abbrev pub FirstRuns : Name → Name → Moment → List File → Type 0
+FirstRuns arch kernel before [] = Unit {0}
+FirstRuns arch kernel before (file ∷ files) = RunsOfPair arch kernel before file.bytes
 
 -- Done: nothing forbids the last interval that is tried, and `Found` holds of a mapping. It is legal; no resource carries two of
 -- the turns' values in a cycle, and no unit begins two operations; and an array that runs the bytes that are written does what

@@ -1,5 +1,5 @@
 -- What is held and what was put, by status.
-use Rattle.std.proofs.Common.{◌≡◌, ◌⊎◌, true, List, [], Some, refl, sym, ◌∙◌, subst, inl, inr}
+use Rattle.std.proofs.Common.{◌≡◌, ◌⊎◌, true, List, [], Some, refl, sym, ◌∙◌, ap, subst, inl, inr}
 use Rattle.cg_files.specs.Causes.{Rose}
 use Rattle.cg_ending.specs.declared.outcome.Status.{Status}
 use Rattle.cg_ending.specs.declared.outcome.Status.TheVariants.{Memory, Malformed, ReadFault, WriteFault, No}
@@ -7,9 +7,10 @@ use Rattle.cg_ending.specs.Outcome.{Name, Outcome}
 use Rattle.cg_ending.specs.Ends.{Moment, Finished, IsPut}
 use Rattle.cg_ending.specs.Status.{leaves_all}
 use Rattle.cg_command.specs.Words.{Plan, plan_of}
-use Rattle.cg_answers.specs.Commands.{judges}
+use Rattle.cg_answers.specs.Commands.{judges, RunWrites}
 use Rattle.cg_answers.proofs.Judged.{judged}
-use Rattle.cg_top.specs.TopCall.{IsPlanned, Ends, Halted, Unput, Begun, IsEffect, is_answer}
+use Rattle.cg_answers.proofs.Written.{writes_run}
+use Rattle.cg_top.specs.TopCall.{IsPlanned, IsOutcome, WritesRun, Ends, Halted, Unput, Begun, IsEffect, is_answer}
 use Rattle.cg_top.proofs.Kept.{kept}
 use Rattle.cg_top.proofs.Table.{Known, known, stop_status}
 
@@ -62,6 +63,16 @@ unwritten words before after o plan p j said (inr s) = absurd (elim (stop_status
   | inr m ↦ let z : Malformed ≡ No = sym m ∙ said in cc
 ])
 
+-- what an outcome writes of bits runs a mapping
+runs_of : (words : List Name) (before after : Moment) (o : Outcome) → IsOutcome words before.held (Rose before.read_faults after.read_faults) o → WritesRun words before o
+runs_of words before after o is plan p = by (rw p at is)
+  where
+    by : IsPlanned before.held (Rose before.read_faults after.read_faults) (Some plan) o → RunWrites o.writes plan.command plan.inputs before
+    by (inl a) = writes_run plan.command plan.inputs plan.outputs a.files o before a.read a.answer
+    by (inr s) =
+        let none : o.writes ≡ [] = elim s.cause [ inl c ↦ ap (λ x. x.writes) c.0 | inr c ↦ ap (λ x. x.writes) c.0 ] in
+        subst (λ ws. RunWrites ws plan.command plan.inputs before) (sym none) tt
+
 pub effect : (words : List Name) (before after : Moment) (status : Status) → Ends words before after status → IsEffect words before after status
 effect words before after status (inr g) = wanting words before after status g.status_is g.put (inr g.held) (inr g)
 effect words before after status (inl e) = by_way e.finished
@@ -71,6 +82,9 @@ effect words before after status (inl e) = by_way e.finished
 
     k : Known words before after o
     k = known words before after o (plan_of words) refl e.is_outcome
+
+    runs : WritesRun words before o
+    runs = runs_of words before after o e.is_outcome
 
     by_way : Finished o before after status → IsEffect words before after status
     by_way (inl d) = record {
@@ -85,8 +99,8 @@ effect words before after status (inl e) = by_way e.finished
       nothing_asked = kept words before after status (inl e);
     }
     by_way (inr (inl y)) = faulty words before after status y.status_is
-        (inl (record { outcome = o; is_outcome = e.is_outcome; cause = y.cause; held = y.held; put = y.put })) (inl e)
+        (inl (record { outcome = o; is_outcome = e.is_outcome; cause = y.cause; held = y.held; put = y.put; runs = runs })) (inl e)
     by_way (inr (inr (inl y))) = faulty words before after status y.status_is
-        (inr (record { outcome = o; is_outcome = e.is_outcome; was = y.was; cause = y.cause; held = y.held; put = y.put })) (inl e)
+        (inr (record { outcome = o; is_outcome = e.is_outcome; was = y.was; cause = y.cause; held = y.held; put = y.put; runs = runs })) (inl e)
     by_way (inr (inr (inr y))) = wanting words before after status y.status_is y.put
-        (inl (record { outcome = o; is_outcome = e.is_outcome; held = y.held })) (inl e)
+        (inl (record { outcome = o; is_outcome = e.is_outcome; held = y.held; runs = runs })) (inl e)

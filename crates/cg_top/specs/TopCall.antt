@@ -11,7 +11,7 @@ use Rattle.cg_ending.specs.Reads.{AreRead, StopsAt}
 use Rattle.cg_ending.specs.Ends.{Moment, Finished, Wrote, WrotePart, FailedAt, IsPut}
 use Rattle.cg_command.specs.Words.{Plan, plan_of}
 use Rattle.cg_ending.specs.Refusals.{usage_outcome}
-use Rattle.cg_answers.specs.Commands.{IsAnswer, Accepts, Forbids, AgreeIn, Leaves, judges}
+use Rattle.cg_answers.specs.Commands.{IsAnswer, Accepts, Forbids, AgreeIn, RunWrites, Leaves, judges}
 
 -- ---- what words and files define
 
@@ -116,6 +116,10 @@ pub record Came (words : List Name) (before after : Moment) (status : Status) : 
   -- where the report is empty, the sink is as before, for no put was made
   pub no_put : outcome.report ≡ [] → (after.taken ≡ before.taken) × (after.faults ≡ before.faults)
 
+-- what an outcome writes of bits runs a mapping of what was read
+abbrev pub WritesRun : List Name → Moment → Outcome → Type 0
+WritesRun words before o = (plan : Plan) → plan_of words ≡ Some plan → RunWrites o.writes plan.command plan.inputs before
+
 -- one of an outcome's writes failed: those before it were made, what is held under its name is open, and nothing was put
 pub record Halted (words : List Name) (before after : Moment) : Type 0 where
   pub outcome : Outcome
@@ -123,6 +127,7 @@ pub record Halted (words : List Name) (before after : Moment) : Type 0 where
   pub cause : Rose before.write_faults after.write_faults
   pub held : FailedAt before.held outcome.writes after.held
   pub put : after.taken ≡ before.taken
+  pub runs : WritesRun words before outcome
 
 -- all was written of an outcome that is Done, and a first part of its report was put
 pub record Unput (words : List Name) (before after : Moment) : Type 0 where
@@ -132,12 +137,14 @@ pub record Unput (words : List Name) (before after : Moment) : Type 0 where
   pub cause : Rose before.faults after.faults
   pub held : Wrote before.held outcome.writes after.held
   pub put : AppendsSome before.taken outcome.report after.taken
+  pub runs : WritesRun words before outcome
 
 -- some first ones of an outcome's writes were made
 pub record Begun (words : List Name) (before after : Moment) : Type 0 where
   pub outcome : Outcome
   pub is_outcome : IsOutcome words before.held (Rose before.read_faults after.read_faults) outcome
   pub held : WrotePart before.held outcome.writes after.held
+  pub runs : WritesRun words before outcome
 
 -- all is held as before, and no write failed
 abbrev pub KeepsAll : Moment → Moment → Type 0
