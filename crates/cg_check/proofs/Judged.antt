@@ -11,10 +11,12 @@ use Rattle.cg_check.specs.declared.rule.Violation.{Violation}
 use Rattle.cg_check.specs.declared.rule.Rule.{Rule}
 use Rattle.cg_check.specs.declared.rule.Rule.TheVariants.{L1, L2, L3, L4, L5, L6, L7}
 use Rattle.cg_check.specs.Rules.{Keeps, violated, first_violation, all_rules, violation}
+use Rattle.cg_check.specs.Places.{IsFirstBreach}
 use Rattle.cg_check.specs.Verdict.{number}
 use Rattle.cg_model.proofs.Options.{or_none, map_none}
-use Rattle.cg_check.proofs.Kept.{interval_kept, interval_none, units_kept, units_none, apart_kept, apart_none, order_kept, order_none, routes_kept, routes_none}
-use Rattle.cg_check.proofs.Meeting.{positions_in_range, alone_kept, alone_none, way_kept, way_none}
+use Rattle.cg_check.proofs.Kept.{interval_kept, units_kept, apart_kept, order_kept, routes_kept}
+use Rattle.cg_check.proofs.Meeting.{positions_in_range, alone_kept, way_kept}
+use Rattle.cg_check.proofs.Places.{first_breach, keeps_at}
 
 -- ---- the list of rules
 
@@ -142,15 +144,6 @@ module _ (A : Arch) (K : Kernel) (M : Mapping) (arch : IsArch A) (kernel : IsKer
       way_kept A K M (h L7 (omega arith)) (interval_kept A K M (h L1 (omega arith))).0
       (λ p m. positions_in_range A K M p arch kernel (units_kept A K M shape.places (h L2 (omega arith))) (routes_kept A K M (h L5 (omega arith))) m)
 
-  not_violated : (rule : Rule) → Keeps rule A K M → violated rule A K M ≡ None
-  not_violated L1 k = interval_none A K M k
-  not_violated L2 k = units_none A K M shape.places k
-  not_violated L3 k = apart_none A K M shape.places k
-  not_violated L4 k = order_none A K M k
-  not_violated L5 k = routes_none A K M k
-  not_violated L6 k = alone_none A K M k
-  not_violated L7 k = way_none A K M k
-
   -- all rules
   pub keeps_all : violation A K M ≡ None → (rule : Rule) → Keeps rule A K M
   keeps_all e rule = kept rule (λ s l. all_none A K M e s)
@@ -160,11 +153,13 @@ module _ (A : Arch) (K : Kernel) (M : Mapping) (arch : IsArch A) (kernel : IsKer
   keeps_lower rule p e lower l =
       kept lower (λ s m. lower_none 1 all_rules A K M (record { rule = rule; place = p }) in_order (first_is all_rules A K M _ e) s (from_one s) (omega (arith, l, m)))
 
+  -- at that place for the first time
+  pub breaks_at : (rule : Rule) (p : RulePlace) → violation A K M ≡ Some (record { rule = rule; place = p }) → IsFirstBreach rule A K M p
+  breaks_at rule p e = first_breach rule A K M p shape (violated_there all_rules A K M (record { rule = rule; place = p }) (first_is all_rules A K M _ e))
+
   -- and not that one
   pub breaks : (rule : Rule) (p : RulePlace) → violation A K M ≡ Some (record { rule = rule; place = p }) → Keeps rule A K M → ⊥
-  breaks rule p e k =
-      let there = violated_there all_rules A K M (record { rule = rule; place = p }) (first_is all_rules A K M _ e) in
-      let bad : Some p ≡ None = sym there ∙ not_violated rule k in absurd (cc)
+  breaks rule p e k = let b = breaks_at rule p e in b.broken (keeps_at rule A K M p k b.shape)
 
   pub legal_from : ((rule : Rule) → Keeps rule A K M) → IsLegal A K M
   legal_from k = record {

@@ -4,4 +4,5 @@ pub mod Kept
 pub mod Meeting
 pub mod Tables
 pub mod Marks
+pub mod Places
 pub mod Judged

@@ -3,7 +3,7 @@ use Rattle.std.proofs.Common.{◌≡◌, ℕ, zero, suc, ◌+◌, ◌<◌, ◌�
 use Rattle.std.specs.Prelude.{◌||◌, slice_get}
 use Rattle.std.specs.Option.{option_or, is_some}
 use Rattle.std.specs.List.{list_any}
-use Rattle.std.proofs.lemmas.Bool.{cases_lt, or_parts, or_cases, or_left, or_right, cond-false}
+use Rattle.std.proofs.lemmas.Bool.{cases_lt, or_parts, or_cases, or_left, or_right}
 use Rattle.cg_model.specs.First.{first_such}
 use Rattle.cg_overlap.proofs.Facts.{Contains-first, Contains-later, Contains-cases}
 use Rattle.cg_check.specs.Rules.{first_below}
@@ -40,11 +40,6 @@ taken_get (y ∷ ys) (suc n) (suc i) x e = let (a, b) = taken_get ys n i x e in 
 
 -- ---- first places
 
-pub first_such_clear : {X : Type 0} (t : X → Bool) (xs : List X) → ((x : X) → Contains xs x → t x ≡ false) → first_such t xs ≡ None
-first_such_clear t [] h = refl
-first_such_clear t (x ∷ xs) h =
-    cond-false (t x) (Some x) (first_such t xs) (h x (Contains-first x xs)) ∙ first_such_clear t xs (λ y m. h y (Contains-later y x xs m))
-
 pub first_such_not : {X : Type 0} (t : X → Bool) (xs : List X) (x : X) → first_such t xs ≡ None → Contains xs x → t x ≡ false
 first_such_not t [] x none m = absurd (Contains-nil x m)
 first_such_not t (y ∷ ys) x none m =
@@ -62,12 +57,6 @@ first_below_none f zero k none l = absurd (omega arith)
 first_below_none f (suc n) k none l =
     let parts = or_none (first_below f n) (f n) none in
     ⊎_elim (λ (h : k < n). first_below_none f n k parts.0 h) (λ (h : n ≤ k). let e : n ≡ k = omega arith in subst (λ z. f z ≡ None) e parts.1) (cases_lt k n)
-
-pub first_below_clear : {X : Type 0} (f : ℕ → Option X) (n : ℕ) → ((k : ℕ) → k < n → f k ≡ None) → first_below f n ≡ None
-unfolding first_below
-first_below_clear f zero h = refl
-first_below_clear f (suc n) h =
-    ap (λ o. option_or o (f n)) (first_below_clear f n (λ k l. h k (omega arith))) ∙ h n (omega arith)
 
 pub first_below_same : {X : Type 0} (f g : ℕ → Option X) (n : ℕ) → ((k : ℕ) → k < n → f k ≡ g k) → first_below f n ≡ first_below g n
 unfolding first_below

@@ -1,7 +1,7 @@
--- L6 and L7: positions that meet are alike just where no resource in no slot has two that aren't.
+-- L6 and L7: positions that meet are alike where no resource in no slot has two that aren't.
 use Rattle.std.proofs.Common.{◌≡◌, ℕ, ◌+◌, ◌%◌, ◌<◌, ◌≤◌, Bool, true, false, cond, List, [], ◌∷◌, length, Option, Some, None, Contains, refl, sym, ap, ◌∙◌, subst, ⊎_elim, eqb-true, eq-eqb}
-use Rattle.std.specs.Prelude.{◌&&◌, not, eqb, slice_get}
-use Rattle.std.proofs.lemmas.Bool.{and_parts, and_from, not-false, not_from_true, cond-false, cases_lt}
+use Rattle.std.specs.Prelude.{◌&&◌, slice_get}
+use Rattle.std.proofs.lemmas.Bool.{and_parts, and_from, not-true, not-false, cases_lt}
 use Rattle.std.proofs.lemmas.List.{get_or_past}
 use Rattle.std.proofs.lemmas.Nat.{mod_below}
 use Rattle.cg_model.specs.declared.kernel.Operand.{Operand}
@@ -15,8 +15,7 @@ use Rattle.cg_overlap.proofs.Facts.{Contains-cases, Contains-flat_map_from}
 use Rattle.cg_check.specs.declared.rule.RulePlace.TheVariants as at
 use Rattle.cg_check.specs.Rules.{L2, L5, L6, L7, Keeps, AreAlike, violated, same_value, same_way, is_on, clashes, first_below, first_clash}
 use Rattle.cg_model.specs.Mapping.{same_from}
-use Rattle.cg_check.proofs.Lists.{any_not, any_none, first_below_none, first_below_clear}
-use Rattle.cg_model.proofs.Bools.{and_not}
+use Rattle.cg_check.proofs.Lists.{any_in, any_not, first_below_none}
 use Rattle.cg_model.proofs.Lookups.{Contains-nil}
 use Rattle.cg_model.proofs.Mappings.{same_from_is, same_from_itself, operand_within}
 
@@ -80,52 +79,52 @@ positions_in_range A K M p arch kernel two five m =
 
 -- ---- both rules
 
-some_none : {X : Type 0} (b : Bool) (x : X) → cond b (Some x) None ≡ None → b ≡ false
+pub some_none : {X : Type 0} (b : Bool) (x : X) → cond b (Some x) None ≡ None → b ≡ false
 some_none true x e = let bad : Some x ≡ None = e in cc
 some_none false x e = refl
 
--- positions that meet are alike by a test, where no place has a clash
-met_alike : (alike : Position → Position → Bool) (A : Arch) (K : Kernel) (M : Mapping) → first_clash alike A K M ≡ None → 0 < M.ii →
-    ((p : Position) → Contains (positions A K M) p → p.resource < length A.resources) → AreAlike A K M (λ p q. alike p q ≡ true)
+-- on a resource in a slot with no clash, positions are alike
+pub alike_on : (alike : Position → Position → Bool) (ii : ℕ) (ps : List Position) (r s : ℕ) → clashes alike ii ps r s ≡ false → (p q : Position) → Contains ps p → Contains ps q →
+    p.resource ≡ r → p.time % ii ≡ s → q.resource ≡ r → q.time % ii ≡ s → alike p q ≡ true
 unfolding clashes
-met_alike alike A K M none some within p q mp mq e f =
-    let ii = M.ii in
-    let s = p.time % ii in
-    let on_slots = first_below_none (λ r. first_below (λ s. cond (clashes alike ii (positions A K M) r s) (Some (at.Resource r s)) None) ii) (length A.resources) p.resource none (within p mp) in
-    let no_clash = some_none _ _ (first_below_none (λ s. cond (clashes alike ii (positions A K M) p.resource s) (Some (at.Resource p.resource s)) None) ii s on_slots (mod_below p.time ii some)) in
-    let at_p = any_not _ (positions A K M) p mp no_clash in
-    let p_on : is_on ii p.resource s p ≡ true = and_from _ _ (eq-eqb _ _ refl) (eq-eqb s s refl) in
-    let q_on : is_on ii p.resource s q ≡ true = and_from _ _ (eq-eqb _ _ (sym e)) (eq-eqb _ _ (sym f)) in
-    let at_q = any_not _ (positions A K M) q mq (later _ _ at_p p_on) in
+alike_on alike ii ps r s none p q mp mq a b c d =
+    let at_p = any_not _ ps p mp none in
+    let p_on : is_on ii r s p ≡ true = and_from _ _ (eq-eqb _ _ a) (eq-eqb _ _ b) in
+    let q_on : is_on ii r s q ≡ true = and_from _ _ (eq-eqb _ _ c) (eq-eqb _ _ d) in
+    let at_q = any_not _ ps q mq (later _ _ at_p p_on) in
     not-false _ (later _ _ at_q q_on)
   where
     later : (a b : Bool) → (a && b) ≡ false → a ≡ true → b ≡ false
     later true b h e = h
     later false b h e = let bad : false ≡ true = e in absurd (cc)
 
--- and the other way round
-none_met : (alike : Position → Position → Bool) (A : Arch) (K : Kernel) (M : Mapping) → AreAlike A K M (λ p q. alike p q ≡ true) → first_clash alike A K M ≡ None
+-- where there is a clash, two aren't
+pub unlike_on : (alike : Position → Position → Bool) (ii : ℕ) (ps : List Position) (r s : ℕ) → clashes alike ii ps r s ≡ true →
+    (p : Position) × (q : Position) × Contains ps p × Contains ps q × (p.resource ≡ r) × (p.time % ii ≡ s) × (q.resource ≡ r) × (q.time % ii ≡ s) × (alike p q ≡ false)
 unfolding clashes
-none_met alike A K M h =
-    first_below_clear _ (length A.resources) (λ r lr. first_below_clear _ M.ii (λ s ls. cond-false _ (Some (at.Resource r s)) None (any_none _ (positions A K M) (λ p mp. and_not (is_on M.ii r s p) _ (λ p_on.
-    any_none _ (positions A K M) (λ q mq. and_not (is_on M.ii r s q) _ (λ q_on. differ r s p q mp mq (and_parts _ _ p_on) (and_parts _ _ q_on))))))))
-  where
-    differ : (r s : ℕ) (p q : Position) → Contains (positions A K M) p → Contains (positions A K M) q →
-        (eqb p.resource r ≡ true) × (eqb (p.time % M.ii) s ≡ true) → (eqb q.resource r ≡ true) × (eqb (q.time % M.ii) s ≡ true) → not (alike p q) ≡ false
-    differ r s p q mp mq (a, b) (c, d) = not_from_true _ (h p q mp mq (eqb-true _ _ a ∙ sym (eqb-true _ _ c)) (eqb-true _ _ b ∙ sym (eqb-true _ _ d)))
+unlike_on alike ii ps r s h =
+    let (p, mp, a) = any_in _ ps h in
+    let (p_on, b) = and_parts (is_on ii r s p) _ a in
+    let (q, mq, c) = any_in _ ps b in
+    let (q_on, d) = and_parts (is_on ii r s q) _ c in
+    let (e, f) = and_parts _ _ p_on in
+    let (g, i) = and_parts _ _ q_on in
+    (p, q, mp, mq, eqb-true _ _ e, eqb-true _ _ f, eqb-true _ _ g, eqb-true _ _ i, not-true _ d)
+
+-- positions that meet are alike by a test, where no place has a clash
+met_alike : (alike : Position → Position → Bool) (A : Arch) (K : Kernel) (M : Mapping) → first_clash alike A K M ≡ None → 0 < M.ii →
+    ((p : Position) → Contains (positions A K M) p → p.resource < length A.resources) → AreAlike A K M (λ p q. alike p q ≡ true)
+met_alike alike A K M none some within p q mp mq e f =
+    let ii = M.ii in
+    let s = p.time % ii in
+    let on_slots = first_below_none (λ r. first_below (λ s. cond (clashes alike ii (positions A K M) r s) (Some (at.Resource r s)) None) ii) (length A.resources) p.resource none (within p mp) in
+    let no_clash = some_none _ _ (first_below_none (λ s. cond (clashes alike ii (positions A K M) p.resource s) (Some (at.Resource p.resource s)) None) ii s on_slots (mod_below p.time ii some)) in
+    alike_on alike ii (positions A K M) p.resource s no_clash p q mp mq refl refl (sym e) (sym f)
 
 pub alone_kept : (A : Arch) (K : Kernel) (M : Mapping) → violated L6 A K M ≡ None → 0 < M.ii → ((p : Position) → Contains (positions A K M) p → p.resource < length A.resources) → Keeps L6 A K M
 unfolding violated
 alone_kept A K M none some within p q mp mq e f = values_same p q (met_alike same_value A K M none some within p q mp mq e f)
 
-pub alone_none : (A : Arch) (K : Kernel) (M : Mapping) → Keeps L6 A K M → violated L6 A K M ≡ None
-unfolding violated
-alone_none A K M k = none_met same_value A K M (λ p q mp mq e f. same_values p q (k p q mp mq e f))
-
 pub way_kept : (A : Arch) (K : Kernel) (M : Mapping) → violated L7 A K M ≡ None → 0 < M.ii → ((p : Position) → Contains (positions A K M) p → p.resource < length A.resources) → Keeps L7 A K M
 unfolding violated
 way_kept A K M none some within p q mp mq e f = ways_same p q (met_alike same_way A K M none some within p q mp mq e f)
-
-pub way_none : (A : Arch) (K : Kernel) (M : Mapping) → Keeps L7 A K M → violated L7 A K M ≡ None
-unfolding violated
-way_none A K M k = none_met same_way A K M (λ p q mp mq e f. same_ways p q (k p q mp mq e f))

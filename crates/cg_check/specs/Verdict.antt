@@ -3,7 +3,8 @@ use Rattle.std.specs.Prelude.{◌≡◌, ℕ, ◌<◌, Some, None}
 use Rattle.cg_model.specs.Kernel.{Kernel}
 use Rattle.cg_model.specs.Array.{Arch}
 use Rattle.cg_model.specs.Mapping.{Mapping, IsLegal}
-use Rattle.cg_check.specs.Rules.{Rule, L1, L2, L3, L4, L5, L6, L7, Keeps, violation}
+use Rattle.cg_check.specs.Rules.{Rule, L1, L2, L3, L4, L5, L6, L7, RulePlace, Keeps, violation}
+use Rattle.cg_check.specs.Places.{IsPlaceOf, KeepsAt, IsFirstBreach}
 pub use Rattle.cg_check.specs.declared.checker.CheckVerdict.{CheckVerdict}
 pub use Rattle.cg_check.specs.declared.checker.CheckVerdict.TheVariants.{Legal, Illegal}
 
@@ -32,3 +33,8 @@ abbrev pub JudgesRules : Arch → Kernel → Mapping → CheckVerdict → Type 0
 JudgesRules A K M (Legal l) = (rule : Rule) → Keeps rule A K M
 JudgesRules A K M (Illegal rule place m) =
     ((lower : Rule) → number lower < number rule → Keeps lower A K M) × (Keeps rule A K M → ⊥)
+
+-- it says where: the mapping keeps each rule at each place; or the place is the first at which it breaks that rule
+abbrev pub JudgesPlaces : Arch → Kernel → Mapping → CheckVerdict → Type 0
+JudgesPlaces A K M (Legal l) = (rule : Rule) (p : RulePlace) → IsPlaceOf rule A K M p → KeepsAt rule A K M p
+JudgesPlaces A K M (Illegal rule place m) = IsFirstBreach rule A K M place

@@ -2,7 +2,7 @@
 ghost use Rattle.std.specs.Prelude.{◌≡◌, IfOk, Some};
 ghost use Rattle.cg_model.specs.Mapping.{IsShaped};
 ghost use Rattle.cg_check.specs.Rules.{violation};
-ghost use Rattle.cg_check.specs.Verdict.{IsVerdict, JudgesLegality, JudgesRules};
+ghost use Rattle.cg_check.specs.Verdict.{IsVerdict, JudgesLegality, JudgesPlaces, JudgesRules};
 
 use crate::clashes::first_clash;
 use crate::legal::LegalMapping;
@@ -84,6 +84,7 @@ pub fn check<'a>(
     ensures exact { IfOk result (IsVerdict arch.now kernel.now mapping) }
     ensures legality { IfOk result (JudgesLegality arch.now kernel.now mapping) }
     ensures rules { IfOk result (JudgesRules arch.now kernel.now mapping) }
+    ensures place { IfOk result (JudgesPlaces arch.now kernel.now mapping) }
 {
     let _valid_arch = arch.units();
     let _valid_kernel = kernel.nodes();

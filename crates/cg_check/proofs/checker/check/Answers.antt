@@ -1,5 +1,6 @@
 use Rattle.std.proofs.Common.{sym, ◌∙◌}
-use Rattle.cg_check.proofs.Judged.{keeps_all, keeps_lower, breaks, legal_from, rules_of}
+use Rattle.cg_check.proofs.Judged.{keeps_all, keeps_lower, breaks, breaks_at, legal_from, rules_of}
+use Rattle.cg_check.proofs.Places.{keeps_at}
 use Rattle.cg_check.proofs.checker.check.Goals as goal
 
 pub new-requires : goal.new-requires
@@ -34,3 +35,15 @@ returns-in-Some-clause-rules c =
 pub returns-in-None-clause-rules : goal.returns-in-None-clause-rules
 returns-in-None-clause-rules c =
     keeps_all c.args.arch.now c.args.kernel.now c.args.mapping c.units-valid_arch.ensures.valid c.nodes-valid_kernel.ensures.valid c.requires.shape (sym (c.in_ok-rule.ensures) ∙ c.in-None.is)
+
+pub returns-in-Some-clause-place : goal.returns-in-Some-clause-place
+returns-in-Some-clause-place c =
+    let v = c.in-Some.field-0 in
+    breaks_at c.args.arch.now c.args.kernel.now c.args.mapping c.units-valid_arch.ensures.valid c.nodes-valid_kernel.ensures.valid c.requires.shape v.rule v.place (sym (c.in_ok-rule.ensures) ∙ c.in-Some.is)
+
+pub returns-in-None-clause-place : goal.returns-in-None-clause-place
+returns-in-None-clause-place c rule p inside =
+    let A = c.args.arch.now in
+    let K = c.args.kernel.now in
+    let M = c.args.mapping in
+    keeps_at rule A K M p (keeps_all A K M c.units-valid_arch.ensures.valid c.nodes-valid_kernel.ensures.valid c.requires.shape (sym (c.in_ok-rule.ensures) ∙ c.in-None.is) rule) inside
