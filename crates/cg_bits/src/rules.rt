@@ -1,5 +1,5 @@
 //! The rules of canonical configurations on the fields of a unit.
-ghost use Rattle.std.specs.Prelude.{◌≡◌, ◌+◌, ◌*◌, ◌<◌, ◌≤◌, ◌^◌, length};
+ghost use Rattle.std.specs.Prelude.{◌≡◌, ◌||◌, ◌+◌, ◌*◌, ◌<◌, ◌≤◌, ◌^◌, length};
 ghost use Rattle.cg_model.specs.Config.{arg};
 ghost use Rattle.cg_model.specs.Canonical.{arity_of, names_port, gives_output, stage_right, port_right, immediate_right};
 ghost use Rattle.cg_bits.specs.Parts.{joined};
@@ -52,10 +52,17 @@ fn port_right(fields: &UnitFields) -> bool
     names_port(fields.op) || fields.port == 0
 }
 
+/// Whether an argument of these fields has its mode bit set.
+fn any_fixed(fields: &UnitFields) -> bool
+    ensures { result ≡ (arg fields.now 0).fixed || ((arg fields.now 1).fixed || (arg fields.now 2).fixed) }
+{
+    fields.args[0].fixed || fields.args[1].fixed || fields.args[2].fixed
+}
+
 fn immediate_right(fields: &UnitFields) -> bool
     ensures { result ≡ immediate_right fields.now }
 {
-    fields.args[0].fixed || fields.args[1].fixed || fields.args[2].fixed || fields.immediate == 0
+    (fields.op.is_some() && any_fixed(fields)) || fields.immediate == 0
 }
 
 fn mode_right(arg: &ArgFields, used: bool, fixed_before: bool) -> bool

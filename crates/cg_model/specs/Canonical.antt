@@ -45,9 +45,9 @@ stage_right f = nat_le f.stage latest_time && (is_on f.op || eqb f.stage 0)
 abbrev pub port_right : UnitFields → Bool
 port_right f = names_port f.op || eqb f.port 0
 
--- the immediate is 0 where no argument is fixed, that is, has its mode bit set
+-- the immediate is 0 where no argument is fixed, that is, has its mode bit set, and under an off unit
 abbrev pub immediate_right : UnitFields → Bool
-immediate_right f = ((arg f 0).fixed || ((arg f 1).fixed || (arg f 2).fixed)) || eqb f.immediate 0
+immediate_right f = (is_on f.op && ((arg f 0).fixed || ((arg f 1).fixed || (arg f 2).fixed))) || eqb f.immediate 0
 
 -- an argument below p is fixed
 unfoldable pub fixed_below : UnitFields → ℕ → Bool

@@ -1,5 +1,5 @@
 -- What is not read of the fields of a unit is zero.
-use Rattle.std.proofs.Common.{◌≡◌, ℕ, ◌+◌, ◌*◌, ◌<◌, ◌≤◌, ◌&&◌, ◌||◌, not, Bool, true, false, cond, eqb, ltb, leb, List, replicate, Some, None, refl, sym, ap, ◌∙◌, arith}
+use Rattle.std.proofs.Common.{◌≡◌, ℕ, ◌+◌, ◌*◌, ◌<◌, ◌≤◌, ◌&&◌, ◌||◌, not, Bool, true, false, cond, eqb, ltb, leb, List, replicate, Option, Some, None, refl, sym, ap, ◌∙◌, arith}
 use Rattle.std.specs.Prelude.{slice_index}
 use Rattle.std.proofs.lemmas.Bool.{lt-ltb, le-ltb, leb-true, eqb-true, and_parts, and_right}
 use Rattle.std.proofs.lemmas.List.FromFn.{fill_by_all, get_or-map-range_with_len}
@@ -35,7 +35,9 @@ port_zero f op are e = by_case (has_port op) (ap names_port (sym e))
 -- the immediate that no argument takes
 pub immediate_zero : (f : UnitFields) (fixed : Bool) → AreFields all_ops f → fixed ≡ ((arg f 0).fixed || ((arg f 1).fixed || (arg f 2).fixed)) → f.immediate ≡ cond fixed f.immediate 0
 immediate_zero f true are e = refl
-immediate_zero f false are e = eqb-true f.immediate 0 (right_of ((arg f 0).fixed || ((arg f 1).fixed || (arg f 2).fixed)) (eqb f.immediate 0) are.immediate (sym e))
+immediate_zero f false are e =
+    let any = (arg f 0).fixed || ((arg f 1).fixed || (arg f 2).fixed) in
+    eqb-true f.immediate 0 (right_of (is_on f.op && any) (eqb f.immediate 0) are.immediate (and_right (is_on f.op) any (sym e)))
   where
     right_of : (b c : Bool) → (b || c) ≡ true → b ≡ false → c ≡ true
     right_of true c g k = absurd cc
@@ -73,9 +75,8 @@ off_is f are e =
     let port = eqb-true f.port 0 (right_of (names_port f.op) (eqb f.port 0) are.port (ap names_port e)) in
     let none : arity_of f.op ≡ 0 = ap arity_of e in
     let each : (p : ℕ) → p < 3 → arg f p ≡ no_arg = λ p lt. idle all_ops f p are lt (omega arith) in
-    let fixed : ((arg f 0).fixed || ((arg f 1).fixed || (arg f 2).fixed)) ≡ false =
-    ap (λ (a : ArgFields). a.fixed || ((arg f 1).fixed || (arg f 2).fixed)) (each 0 (omega arith)) ∙ ap (λ (a : ArgFields). a.fixed || (arg f 2).fixed) (each 1 (omega arith)) ∙ ap (λ (a : ArgFields). a.fixed) (each 2 (omega arith)) in
-    let immediate = eqb-true f.immediate 0 (right_of ((arg f 0).fixed || ((arg f 1).fixed || (arg f 2).fixed)) (eqb f.immediate 0) are.immediate fixed) in
+    let any = (arg f 0).fixed || ((arg f 1).fixed || (arg f 2).fixed) in
+    let immediate = eqb-true f.immediate 0 (right_of (is_on f.op && any) (eqb f.immediate 0) are.immediate (ap (λ (o : Option Op). is_on o && any) e)) in
     unit_same f off e stage port immediate (fill_by_all (λ p. no_arg) f.args 3 no_arg are.args each)
   where
     right_of : (b c : Bool) → (b || c) ≡ true → b ≡ false → c ≡ true
