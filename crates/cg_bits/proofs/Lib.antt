@@ -21,3 +21,4 @@ pub mod Written
 pub mod Tables
 mod Rows
 pub mod Packed
+pub mod Rising

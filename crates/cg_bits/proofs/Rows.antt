@@ -157,6 +157,11 @@ immediate_alone : first_fault ((67 ∷ 71 ∷ 66 ∷ 50 ∷ 0 ∷ 3 ∷ 0 ∷ 1 
 unfolding bits_of number_after total width_by op_of operations.op_of arg_in unit_in config_in joined greatest_of fixed_below any_below
 immediate_alone = refl
 
+-- B8: an immediate under an off unit whose mode bit is set
+immediate_of_off : first_fault ((67 ∷ 71 ∷ 66 ∷ 50 ∷ 0 ∷ 3 ∷ 0 ∷ 1 ∷ []) ++ (replicate 32 7 ++ ((64 ∷ 0 ∷ 0 ∷ 0 ∷ 0 ∷ 0 ∷ 0 ∷ 7 ∷ 128 ∷ []) ++ (replicate 32 0 ++ ((164 ∷ 64 ∷ []) ++ (replicate 6 0 ++ ((16 ∷ []) ++ (replicate 32 0 ++ ((17 ∷ 96 ∷ []) ++ (replicate 39 0)))))))))) ≡ Some (NotCanonical 352)
+unfolding bits_of number_after total width_by op_of operations.op_of arg_in unit_in config_in joined greatest_of fixed_below any_below
+immediate_of_off = refl
+
 -- B8: a mode bit from the arity on
 mode_past_arity : first_fault ((67 ∷ 71 ∷ 66 ∷ 50 ∷ 0 ∷ 3 ∷ 0 ∷ 1 ∷ []) ++ (replicate 32 7 ++ ((64 ∷ 32 ∷ []) ++ (replicate 39 0 ++ ((164 ∷ 64 ∷ []) ++ (replicate 6 0 ++ ((16 ∷ []) ++ (replicate 32 0 ++ ((17 ∷ 96 ∷ []) ++ (replicate 22 0 ++ ((8 ∷ []) ++ (replicate 16 0)))))))))))) ≡ Some (NotCanonical 1172)
 unfolding bits_of number_after total width_by op_of operations.op_of arg_in unit_in config_in joined greatest_of fixed_below any_below

@@ -4,6 +4,7 @@ pub mod Format
 pub mod Spelling
 pub mod Reading
 pub mod Faults
+pub mod Rising
 pub mod Answers
 pub mod Ranges
 pub mod Checks

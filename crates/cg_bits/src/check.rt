@@ -4,6 +4,7 @@ ghost use Rattle.cg_model.specs.Array.{IsArch};
 ghost use Rattle.cg_model.specs.Config.{Config};
 ghost use Rattle.cg_bits.specs.Spelling.{AreBits};
 ghost use Rattle.cg_bits.specs.Answers.{faults_of, config_of, unless_fault};
+ghost use Rattle.cg_bits.specs.Rising.{PlacesRise};
 ghost use Rattle.cg_arch.specs.Kept.{digest_of};
 ghost use Rattle.cg_bits.specs.Ranges.{IsFormat};
 ghost use Rattle.cg_bits.specs.Numbers.{bits_of_bytes};
@@ -92,6 +93,8 @@ pub fn check_bits(arch: &Arch, bytes: &[u8]) -> Result<(), BitsFault>
     ensures bits { IfOk result (λ _. AreBits arch.now (config_of arch.now bytes.now) bytes.now) }
     // A bitstream of any configuration has no fault, and it is that one which is read.
     ensures all { (C : Config) → AreBits arch.now C bytes.now → (result ≡ Ok tt) × (config_of arch.now bytes.now ≡ C) }
+    // The bits of each fault rise in its list, so the first of them is the least.
+    ensures rising { PlacesRise arch.now bytes.now }
 {
     check(CGB2, arch, bytes)
 }

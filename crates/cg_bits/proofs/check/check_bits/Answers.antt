@@ -7,6 +7,7 @@ use Rattle.cg_bits.specs.Checks.{Checks}
 use Rattle.cg_arch.specs.Kept.{digest_of}
 use Rattle.cg_bits.specs.Answers.{faults_of, config_of}
 use Rattle.cg_bits.proofs.Answered.{answer_is, bits_of, none_of, config_is}
+use Rattle.cg_bits.proofs.Rising.{places_rise}
 use Rattle.cg_bits.proofs.check.check_bits.Goals as goal
 
 accepted : (r : Result (Unit {0}) BitsFault) (A : Arch) (bytes : List ℕ) → IsArch A → length (digest_of A) ≡ 32 → IsBytes bytes → Checks r (faults_of A bytes) → IfOk r (λ u. AreBits A (config_of A bytes) bytes)
@@ -30,3 +31,6 @@ returns-clause-all c = λ C bits. (
 
 pub returns-clause-answer : goal.returns-clause-answer
 returns-clause-answer c = answer_is c.check.result tt (faults_of c.args.arch.now c.args.bytes.now) (λ y e. refl) c.check.ensures.faults
+
+pub returns-clause-rising : goal.returns-clause-rising
+returns-clause-rising c = places_rise c.args.arch.now c.args.bytes.now
