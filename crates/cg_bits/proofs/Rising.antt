@@ -1,18 +1,18 @@
 -- The bits at fault rise, since each field ends before the next one begins.
-use Rattle.std.proofs.Common.{◌≡◌, ℕ, zero, suc, ◌+◌, ◌-◌, ◌*◌, ◌/◌, ◌<◌, ◌≤◌, not, leb, Bool, true, false, List, [], ◌∷◌, ◌++◌, length, get_or, refl, sym, ap, ◌∙◌, arith, ⊎_elim}
+use Rattle.std.proofs.Common.{◌≡◌, ℕ, zero, suc, ◌+◌, ◌-◌, ◌*◌, ◌<◌, ◌≤◌, not, Bool, true, false, List, [], ◌∷◌, ◌++◌, length, get_or, ap, ◌∙◌, arith, ⊎_elim}
 use Rattle.std.specs.Prelude.{slice_index_or, eqb, nat_le}
 use Rattle.std.proofs.lemmas.Bool.{cases_lt, le-leb}
 use Rattle.std.proofs.lemmas.Nat.{row_fits}
 use Rattle.cg_model.specs.declared.config.UnitFields.{UnitFields}
 use Rattle.cg_model.specs.Array.{Arch, resource, unit}
 use Rattle.cg_model.specs.Config.{Config, select, fields}
-use Rattle.cg_model.specs.Canonical.{offered, stage_right, port_right, immediate_right, mode_right, count_right, word_right, last_stage, port_free}
+use Rattle.cg_model.specs.Canonical.{stage_right, port_right, immediate_right, mode_right, count_right, word_right, last_stage}
 use Rattle.cg_arch.specs.Kept.{digest_of}
-use Rattle.cg_flat.specs.Slots.{total, select_bits, select_at}
+use Rattle.cg_flat.specs.Slots.{total, select_bits}
 use Rattle.cg_bits.specs.declared.format.Format.{Format}
 use Rattle.cg_bits.specs.Numbers.{number_at, number_after}
 use Rattle.cg_bits.specs.Parts.{joined}
-use Rattle.cg_bits.specs.Format.{cgb2, ports, arg_len, args_at, unit_len, unit_at, slot_len}
+use Rattle.cg_bits.specs.Format.{cgb2, ports, arg_len, args_at, unit_len, slot_len}
 use Rattle.cg_bits.specs.Reading.{select_place, unit_place, body_bits, ii_in, stages_in, config_in}
 use Rattle.cg_bits.specs.Ranges.{IsFormat}
 use Rattle.cg_bits.specs.Faults as Faults

@@ -1,11 +1,12 @@
 -- The checks of bits as the code makes them, part by part of the list of faults.
-use Rattle.std.specs.Prelude.{◌≡◌, ℕ, ◌+◌, ◌*◌, ◌/◌, ◌-◌, ◌<◌, ◌≤◌, ◌^◌, nat_le, nat_lt, eqb, not, ◌&&◌, ◌||◌, Bool, false, List, [], ◌++◌, length, map, slice_index, slice_index_or, Some, Result, Ok, Err}
+use Rattle.std.specs.Prelude.{◌≡◌, ℕ, ◌+◌, ◌*◌, ◌/◌, ◌-◌, ◌<◌, ◌≤◌, ◌^◌, nat_le, eqb, not, ◌&&◌, ◌||◌, Bool, false, List, [], ◌++◌, length, map, slice_index_or, Some, Result, Ok, Err}
 use Rattle.cg_model.specs.declared.config.ArgFields.{ArgFields}
 use Rattle.cg_model.specs.declared.config.UnitFields.{UnitFields}
 use Rattle.cg_model.specs.declared.array.Unit.{Unit}
 use Rattle.cg_model.specs.Array.{Arch, resource, unit}
 use Rattle.cg_model.specs.Canonical.{offered, stage_of, greatest_of, any_below, gives_output}
 use Rattle.cg_flat.specs.Slots.{select_bits}
+use Rattle.cg_contexts.specs.Rules.{mode_ok, count_ok, word_ok}
 use Rattle.cg_bits.specs.declared.format.Format.{Format}
 use Rattle.cg_bits.specs.declared.fault.BitsFault.{BitsFault}
 use Rattle.cg_bits.specs.declared.fault.BitsFault.TheVariants.{BadSelect, BadOp, NotOffered, NotCanonical, BadPadding, Trailing, RepeatedPort}
@@ -19,18 +20,6 @@ use Rattle.cg_bits.specs.Faults.{first, unless, unit_breaches, wrong_magic, too_
 use Rattle.cg_bits.specs.Ranges.{IsFormat}
 
 -- ---- an argument, where it is told whether the operation has it and whether one before it is fixed
-
--- at most one argument is fixed, and it is one of the operation's
-abbrev pub mode_ok : ArgFields → Bool → Bool → Bool
-mode_ok a used before = not a.fixed || (used && not before)
-
--- a count is at most 4, and 0 unless the argument may have words
-abbrev pub count_ok : ArgFields → Bool → Bool
-count_ok a used = nat_le a.count 4 && (eqb a.count 0 || (used && not a.fixed))
-
--- word k is 0 unless the argument may have it
-abbrev pub word_ok : ArgFields → Bool → ℕ → Bool
-word_ok a used k = eqb (slice_index a.init k) 0 || ((used && not a.fixed) && nat_lt k a.count)
 
 -- what is wrong with word k
 abbrev pub word_fault : ArgFields → Bool → ℕ → ℕ → List ℕ

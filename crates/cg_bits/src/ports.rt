@@ -10,7 +10,7 @@ use crate::all_slots::Slots;
 use crate::checking::HEADER_BITS;
 use crate::field::number_at;
 use crate::reading::op_of;
-use crate::rules::gives_output;
+use cg_contexts::gives_output;
 use cg_word::Op;
 
 /// Notes an output to a port as used. Whether it was free: no output, or one to a port that wasn't used.

@@ -1,88 +1,15 @@
 //! The rules of canonical configurations on the fields of a unit.
-ghost use Rattle.std.specs.Prelude.{◌≡◌, ◌||◌, ◌+◌, ◌*◌, ◌<◌, ◌≤◌, ◌^◌, length};
-ghost use Rattle.cg_model.specs.Config.{arg};
-ghost use Rattle.cg_model.specs.Canonical.{arity_of, names_port, gives_output, stage_right, port_right, immediate_right};
+ghost use Rattle.std.specs.Prelude.{◌≡◌, ◌+◌, ◌*◌, ◌<◌, ◌≤◌, ◌^◌};
 ghost use Rattle.cg_bits.specs.Parts.{joined};
 ghost use Rattle.cg_bits.specs.Ranges.{IsFormat};
 ghost use Rattle.cg_bits.specs.Faults.{first, arg_breaches, unit_breaches};
-ghost use Rattle.cg_bits.specs.Checks.{arg_faults, mode_ok, count_ok, word_ok};
+ghost use Rattle.cg_bits.specs.Checks.{arg_faults};
 
 use crate::format::Format;
-use cg_contexts::{ArgFields, UnitFields};
-use cg_word::Op;
-
-/// The number of arguments of an operation, 0 for none.
-fn arity_of(op: Option<Op>) -> usize
-    ensures { result ≡ arity_of op }
-{
-    match op {
-        Some(op) => op.arity() as usize,
-        None => 0,
-    }
-}
-
-fn names_port(op: Option<Op>) -> bool
-    ensures { result ≡ names_port op }
-{
-    match op {
-        Some(op) => op.has_port(),
-        None => false,
-    }
-}
-
-/// Whether an operation is an output or outputif.
-pub(crate) fn gives_output(op: Option<Op>) -> bool
-    ensures { result ≡ gives_output op }
-{
-    match op {
-        Some(op) => op.is_output(),
-        None => false,
-    }
-}
-
-fn stage_right(fields: &UnitFields) -> bool
-    ensures { result ≡ stage_right fields.now }
-{
-    fields.stage <= 65_534 && (fields.op.is_some() || fields.stage == 0)
-}
-
-fn port_right(fields: &UnitFields) -> bool
-    ensures { result ≡ port_right fields.now }
-{
-    names_port(fields.op) || fields.port == 0
-}
-
-/// Whether an argument of these fields has its mode bit set.
-fn any_fixed(fields: &UnitFields) -> bool
-    ensures { result ≡ (arg fields.now 0).fixed || ((arg fields.now 1).fixed || (arg fields.now 2).fixed) }
-{
-    fields.args[0].fixed || fields.args[1].fixed || fields.args[2].fixed
-}
-
-fn immediate_right(fields: &UnitFields) -> bool
-    ensures { result ≡ immediate_right fields.now }
-{
-    (fields.op.is_some() && any_fixed(fields)) || fields.immediate == 0
-}
-
-fn mode_right(arg: &ArgFields, used: bool, fixed_before: bool) -> bool
-    ensures { result ≡ mode_ok arg.now used fixed_before }
-{
-    !arg.fixed || (used && !fixed_before)
-}
-
-fn count_right(arg: &ArgFields, used: bool) -> bool
-    ensures { result ≡ count_ok arg.now used }
-{
-    arg.count <= 4 && (arg.count == 0 || (used && !arg.fixed))
-}
-
-fn word_right(arg: &ArgFields, used: bool, k: usize) -> bool
-    requires { k < 4 }
-    ensures { result ≡ word_ok arg.now used k }
-{
-    arg.init[k] == 0 || (used && !arg.fixed && k < arg.count as usize)
-}
+use cg_contexts::{
+    ArgFields, UnitFields, arity_of, count_right, immediate_right, mode_right, port_right,
+    stage_right, word_right,
+};
 
 /// The first field of an argument that breaks a rule, by its bit; the argument begins at a place. It is told whether the
 /// operation has the argument, and whether one before it is fixed.

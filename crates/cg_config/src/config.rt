@@ -1,10 +1,11 @@
 //! Configurations in tables.
-ghost use Rattle.std.specs.Prelude.{◌≡◌, replicate, IfOk};
-ghost use Rattle.cg_model.specs.Canonical.{stage_of};
+ghost use Rattle.std.specs.Prelude.{◌≡◌, ℕ, ◌<◌, true, false, length, replicate, slice_index_or, IfOk};
+ghost use Rattle.cg_model.specs.Config.{off};
+ghost use Rattle.cg_model.specs.Canonical.{stage_of, clash};
 
 use crate::rows::Row;
 use cg_arch::Arch;
-use cg_contexts::{ArgFields, Contexts, UnitFields, UnitHead, told_by};
+use cg_contexts::{ArgFields, Contexts, UnitFields, UnitHead, gives_output, told_by};
 use std::alloc::{AllocError, Global};
 use std::marker::Model;
 
@@ -42,10 +43,10 @@ impl Model for Config {
 }
 
 impl Config {
-    ghost use Rattle.std.specs.Prelude.{◌≡◌, [], ◌<◌, ◌≤◌, length, slice_index_or, None, IfOk};
+    ghost use Rattle.std.specs.Prelude.{◌≡◌, ℕ, [], ◌<◌, ◌≤◌, ◌↔◌, true, false, length, slice_index_or, None, IfOk, IsTrue};
     ghost use Rattle.cg_model.specs.Array as arrays;
     ghost use Rattle.cg_model.specs.Config as configs;
-    ghost use Rattle.cg_model.specs.Canonical.{IsCanonical, AreFields};
+    ghost use Rattle.cg_model.specs.Canonical.{IsCanonical, AreFields, clash};
     ghost use Rattle.cg_config.specs.Changes.{all_off, with_select, with_fields, LeavesPortsFree};
 
     /// Returns a configuration of `ii` slots that is off everywhere.
@@ -96,6 +97,7 @@ impl Config {
     }
 
     /// Sets the fields of a unit in a slot, where it was off. The stages become one more than the greatest stage in use.
+    /// `are_fields` and `leaves_ports_free` tell whether `fields` may be set.
     pub fn set_unit(&mut self, arch: &Arch, unit: u32, slot: u32, fields: UnitFields)
         requires canonical { IsCanonical arch.now self.old }
         requires unit { unit < length arch.now.units }
@@ -107,6 +109,26 @@ impl Config {
         ensures canonical { IsCanonical arch.now self.new }
     {
         self.put_fields(unit as usize, slot as usize, fields);
+    }
+
+    /// Tells whether a field of the configuration gives output to a port that `fields` give output to.
+    fn clashes(&self, fields: &UnitFields) -> bool
+        ensures some { result ≡ true → (slot : ℕ) × (slot < length self.now.units) × (x : ℕ) × (x < length (slice_index_or self.now.units slot [])) × (clash (configs.fields self.now x slot) fields.now ≡ true) }
+        ensures none { result ≡ false → (slot x : ℕ) → slot < length self.now.units → x < length (slice_index_or self.now.units slot []) → clash (configs.fields self.now x slot) fields.now ≡ false }
+    {
+        for slot in 0..self.units.len() {
+            if clashes_in(self.fields_in(slot), fields) {
+                return true;
+            }
+        }
+        false
+    }
+
+    /// Tells whether no field of the configuration gives output to a port that `fields` give output to, as `set_unit` asks.
+    pub fn leaves_ports_free(&self, fields: &UnitFields) -> bool
+        ensures { (A : arrays.Arch) → IsCanonical A self.now → (IsTrue result ↔ LeavesPortsFree A self.now fields.now) }
+    {
+        !self.clashes(fields)
     }
 
     /// Sets fields in the tables, and stages enough for them.
@@ -166,6 +188,26 @@ fn stage_of(fields: &UnitFields) -> u32
         Some(_) => fields.stage,
         None => 0,
     }
+}
+
+/// Tells whether `one` and `other` give output to the same port.
+fn clash(one: &UnitFields, other: &UnitFields) -> bool
+    ensures { result ≡ clash one.now other.now }
+{
+    gives_output(one.op) && gives_output(other.op) && one.port == other.port
+}
+
+/// Tells whether one of the fields in `row` gives output to a port that `fields` give output to.
+fn clashes_in(row: &[UnitFields], fields: &UnitFields) -> bool
+    ensures some { result ≡ true → (x : ℕ) × (x < length row.now) × (clash (slice_index_or row.now x off) fields.now ≡ true) }
+    ensures none { result ≡ false → (x : ℕ) → x < length row.now → clash (slice_index_or row.now x off) fields.now ≡ false }
+{
+    for x in 0..row.len() {
+        if clash(&row[x], fields) {
+            return true;
+        }
+    }
+    false
 }
 
 /// Returns a row of `count` items, each of them `item`.

@@ -1,1 +1,2 @@
 pub mod ByCase
+pub mod Fielded

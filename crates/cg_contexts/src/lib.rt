@@ -8,11 +8,16 @@ ghost use Rattle.cg_contexts.specs.Known.{HasSelect, HasUnit};
 ghost use Rattle.cg_contexts.specs.Told.{head_of, told};
 
 mod head;
+mod rules;
 mod told;
 
 pub use cg_model::{ArgFields, UnitFields};
 pub use cg_word::Op;
 pub use head::UnitHead;
+pub use rules::{
+    are_fields, arity_of, count_right, gives_output, immediate_right, mode_right, port_right,
+    stage_right, word_right,
+};
 pub use told::told_by;
 
 /// A configuration of an array.
