@@ -3,6 +3,7 @@ pub mod Bits
 pub mod Ports
 pub mod Nets
 pub mod Valid
+pub mod Named
 pub mod Whole
 pub mod Lines
 pub mod Printable

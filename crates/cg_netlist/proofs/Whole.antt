@@ -1,12 +1,9 @@
 -- The netlist of a valid architecture is a graph of nets and cells.
-use Rattle.std.proofs.Common.{◌≡◌, ℕ, suc, ◌+◌, ◌^◌, ◌<◌, ◌≤◌, inl, inr, ⊎_elim, true, false, eqb, List, [], ◌∷◌, ◌++◌, length, map, get_or, refl, ap, sym, ◌∙◌, subst, arith}
+use Rattle.std.proofs.Common.{◌≡◌, ℕ, suc, ◌+◌, ◌^◌, ◌<◌, ◌≤◌, inl, inr, ⊎_elim, true, false, eqb, List, [], ◌∷◌, ◌++◌, length, map, refl, ap, sym, ◌∙◌, subst, arith}
 use Rattle.std.specs.Prelude.{All, Contains, codes, bytes_eq, flat_map, slice_index}
 use Rattle.std.specs.List.{IsDistinct}
-use Rattle.std.proofs.lemmas.Bool.{cases_lt, cases_Bool, cond_both, eqb-false}
-use Rattle.std.proofs.lemmas.List.{get_or-map, length-map}
+use Rattle.std.proofs.lemmas.Bool.{cases_lt, cond_both, eqb-false}
 use Rattle.std.proofs.lemmas.List.Elements.{All-nil, All-cons, All-append, All-head, All-tail, All-from_get_or, All-map}
-use Rattle.std.proofs.lemmas.Map.Keys.{IsDistinct-from_apart}
-use Rattle.std.proofs.lemmas.Slice.Eq.{bytes_eq-Decides}
 use Rattle.cg_model.specs.declared.array.Kind.{Kind}
 use Rattle.cg_model.specs.declared.array.Kind.TheVariants.{Wire, Register, Port, Out}
 use Rattle.cg_model.specs.declared.array.Resource.{Resource}
@@ -20,7 +17,8 @@ use Rattle.cg_netlist.specs.Built.{IsDriven}
 use Rattle.cg_netlist.proofs.Letters.{IsPlain, word_name, select_name, context_name, preselect_name, mux_name, register_name, zero_name, unit_name}
 use Rattle.cg_netlist.proofs.Bits.{bits_below, bits_some}
 use Rattle.cg_netlist.proofs.Ports.{choice_ports, unit_ports}
-use Rattle.cg_netlist.proofs.Nets.{net_names, own_names, has_word, has_select, nets_once}
+use Rattle.cg_netlist.proofs.Nets.{net_names, has_word, has_select}
+use Rattle.cg_netlist.proofs.Named.{distinct_from, distinct_nets, one, two}
 use Rattle.cg_netlist.proofs.Valid.{resource_plain, unit_plain, is_driven, is_placed}
 
 all_flat : {X Y : Type 0} (P : Y → Type 0) (f : X → List Y) (xs : List X) → All (λ x. All P (f x)) xs → All P (flat_map f xs)
@@ -71,20 +69,8 @@ all_nets A arch =
     all_flat IsNet nets_of A.resources (All-from_get_or (λ r. All IsNet (nets_of r)) A.resources (record { name = []; kind = Wire; drivers = [] })
     (λ r l. nets_are (resource A r) (resource_plain A arch r l) (is_driven A arch r l).few))
 
--- no two resources have one name
-own_apart : (A : Arch) → IsArch A → (i j : ℕ) (d : List ℕ) → i < j → j < length (own_names A.resources) → bytes_eq (get_or (own_names A.resources) i d) (get_or (own_names A.resources) j d) ≡ false
-own_apart A arch i j d lt within =
-    let all : length (own_names A.resources) ≡ length A.resources = length-map A.resources (λ (r : Resource). r.name) in
-    let inside : j < length A.resources = omega (arith, all) in
-    let first : get_or (own_names A.resources) i d ≡ (resource A i).name = get_or-map (λ (r : Resource). r.name) A.resources i (record { name = []; kind = Wire; drivers = [] }) d (omega arith) in
-    let second : get_or (own_names A.resources) j d ≡ (resource A j).name = get_or-map (λ (r : Resource). r.name) A.resources j (record { name = []; kind = Wire; drivers = [] }) d inside in
-    ⊎_elim
-    (λ e. let same = arch.names.resources_apart i j (omega arith) inside (sym first ∙ (bytes_eq-Decides _ _).0 e ∙ second) in absurd (omega (arith, same)))
-    (λ e. e)
-    (cases_Bool (bytes_eq (get_or (own_names A.resources) i d) (get_or (own_names A.resources) j d)))
-
 names_once : (A : Arch) → IsArch A → IsDistinct bytes_eq (net_names A.resources)
-names_once A arch = nets_once A.resources (IsDistinct-from_apart bytes_eq (own_names A.resources) (own_apart A arch))
+names_once A arch = distinct_from (λ (n : Net). n.name) (flat_map nets_of A.resources) (distinct_nets A arch).once
 
 -- ---- pins
 
@@ -192,23 +178,20 @@ wired A arch r l e =
       select = has_select A.resources r (record { name = []; kind = Wire; drivers = [] }) l some;
     }
 
-two : (A : Arch) (c d : Cell) → IsCellIn A c → IsCellIn A d → All (IsCellIn A) (c ∷ d ∷ [])
-two A c d p q = All-cons (IsCellIn A) c (d ∷ []) p (All-cons (IsCellIn A) d [] q (All-nil (IsCellIn A)))
-
 unwired : (A : Arch) → IsArch A → (r : ℕ) → r < length A.resources → All (IsCellIn A) (zero_cell (resource A r) ∷ [])
-unwired A arch r l = All-cons (IsCellIn A) (zero_cell (resource A r)) [] (zero_is A (resource A r) (resource_plain A arch r l) (word_known A r l)) (All-nil (IsCellIn A))
+unwired A arch r l = one (IsCellIn A) (zero_cell (resource A r)) (zero_is A (resource A r) (resource_plain A arch r l) (word_known A r l))
 
 wires_are : (A : Arch) → IsArch A → (r : ℕ) → r < length A.resources → All (IsCellIn A) (wire_cells A (resource A r))
 wires_are A arch r l =
     let q = resource A r in
     cond_both (eqb (length q.drivers) 0) (zero_cell q ∷ []) (context_cell q ∷ mux_cell A q ∷ []) (All (IsCellIn A))
-    (λ e. unwired A arch r l) (λ e. let h = wired A arch r l e in two A (context_cell q) (mux_cell A q) (context_is A q h) (mux_is A q h))
+    (λ e. unwired A arch r l) (λ e. let h = wired A arch r l e in two (IsCellIn A) (context_cell q) (mux_cell A q) (context_is A q h) (mux_is A q h))
 
 registers_are : (A : Arch) → IsArch A → (r : ℕ) → r < length A.resources → All (IsCellIn A) (register_cells A (resource A r))
 registers_are A arch r l =
     let q = resource A r in
     cond_both (eqb (length q.drivers) 0) (zero_cell q ∷ []) (preselect_cell q ∷ register_cell A q ∷ []) (All (IsCellIn A))
-    (λ e. unwired A arch r l) (λ e. let h = wired A arch r l e in two A (preselect_cell q) (register_cell A q) (preselect_is A q h) (register_is A q h))
+    (λ e. unwired A arch r l) (λ e. let h = wired A arch r l e in two (IsCellIn A) (preselect_cell q) (register_cell A q) (preselect_is A q h) (register_is A q h))
 
 cells_are : (A : Arch) → IsArch A → (r : ℕ) → r < length A.resources → (kind : Kind) → All (IsCellIn A) (cells_by kind A (resource A r))
 cells_are A arch r l Wire = wires_are A arch r l

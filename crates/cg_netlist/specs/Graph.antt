@@ -1,5 +1,5 @@
 -- What a graph of nets and cells has to be.
-use Rattle.std.specs.Prelude.{◌≡◌, ◌≢◌, ℕ, ◌<◌, ◌≤◌, ◌⊎◌, true, List, map, All, Contains, codes, bytes_eq}
+use Rattle.std.specs.Prelude.{◌≡◌, ◌≢◌, ℕ, ◌<◌, ◌≤◌, ◌⊎◌, true, List, Some, map, slice_get, All, Contains, codes, bytes_eq}
 use Rattle.std.specs.List.{IsDistinct}
 use Rattle.cg_verilog.specs.Words.{is_name}
 use Rattle.cg_netlist.specs.Forms.{Form, form_name, form_ports, IsForm}
@@ -35,3 +35,14 @@ pub record IsNetGraph (G : NetGraph) : Type 0 where
   pub nets : All IsNet G.nets
   pub once : IsDistinct bytes_eq (names G.nets)
   pub cells : All (IsCell (names G.nets)) G.cells
+
+-- nets and cells share one scope (IEEE 1364-2005, 12.7): no two have one name, and no cell that of the clock or the reset
+pub record HasDistinctNames (G : NetGraph) : Type 0 where
+  pub nets : (i j : ℕ) (m n : Net) → slice_get G.nets i ≡ Some m → slice_get G.nets j ≡ Some n →
+      m.name ≡ n.name → i ≡ j
+  pub cells : (i j : ℕ) (c d : Cell) → slice_get G.cells i ≡ Some c → slice_get G.cells j ≡ Some d →
+      c.name ≡ d.name → i ≡ j
+  pub apart : (i j : ℕ) (n : Net) (c : Cell) → slice_get G.nets i ≡ Some n →
+      slice_get G.cells j ≡ Some c → n.name ≢ c.name
+  pub no_clock : (j : ℕ) (c : Cell) → slice_get G.cells j ≡ Some c → c.name ≢ codes "clk"
+  pub no_reset : (j : ℕ) (c : Cell) → slice_get G.cells j ≡ Some c → c.name ≢ codes "rst"

@@ -3,7 +3,7 @@ ghost use Rattle.std.specs.Prelude.{◌≡◌, ◌++◌, ◌≤◌, length, map,
 ghost use Rattle.cg_model.specs.Array.{IsArch};
 ghost use Rattle.cg_netlist.specs.Netlist as spec;
 ghost use Rattle.cg_netlist.specs.Built.{IsDriven, IsPlaced};
-ghost use Rattle.cg_netlist.specs.Graph.{IsNetGraph};
+ghost use Rattle.cg_netlist.specs.Graph.{IsNetGraph, HasDistinctNames};
 
 use crate::cells::{context_cell, mux_cell, preselect_cell, register_cell, unit_cell, zero_cell};
 use crate::graph::NetGraph;
@@ -14,10 +14,11 @@ use cg_flat::select_bits;
 use cg_model::{Kind, Resource};
 use std::alloc::{AllocError, Global};
 
-/// The netlist of an architecture.
+/// The netlist of an architecture. No two of its nets and cells have one name.
 pub fn netlist(alloc: Global, arch: &Arch) -> Result<NetGraph, AllocError>
     ensures graph { IfOk result (λ graph. graph ≡ spec.netlist_of arch.now) }
     ensures valid { OnOk result (IsNetGraph (spec.netlist_of arch.now)) }
+    ensures names { IfOk result HasDistinctNames }
 {
     let nets = nets_of(alloc, arch)?;
     let mut cells = Vec::new(alloc);

@@ -1,4 +1,5 @@
 use Rattle.std.proofs.Common.{◌∙◌}
+use Rattle.cg_netlist.proofs.Named.{named_apart}
 use Rattle.cg_netlist.proofs.Whole.{built, built_is, is_graph}
 use Rattle.cg_netlist.proofs.build.netlist.Goals as goal
 
@@ -16,3 +17,6 @@ returns-clause-graph c =
 
 pub returns-clause-valid : goal.returns-clause-valid
 returns-clause-valid c = is_graph c.args.arch.now c.nets_of.ensures.valid
+
+pub returns-clause-names : goal.returns-clause-names
+returns-clause-names c = named_apart c.args.arch.now _ c.nets_of.ensures.valid (returns-clause-graph c)
