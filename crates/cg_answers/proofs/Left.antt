@@ -45,100 +45,100 @@ silent command inputs outputs WriteFault before after h = tt
 abbrev names_in : List File → List Name
 names_in files = map (λ file. file.name) files
 
-left_done : (command : Command) (outputs : List Name) (files : List File) (o : Outcome) (before after : Moment)
+left_done : (command : Command) (files : List File) (outputs : List Name) (o : Outcome) (before after : Moment)
     → AreRead before.held (names_in files) files → IsAnswer command files outputs o → o.status ≡ Done → Completed o before after Done → LeavesDone command (names_in files) outputs before after
-left_done (Turns n) [] (f ∷ []) o before after read answer is done = turned_left n f.name f o before after (one_read before.held f.name f read) answer is done
-left_done (TurnsOnImage n) (out ∷ []) (f ∷ g ∷ []) o before after read answer is done =
+left_done (Turns n) (f ∷ []) [] o before after read answer is done = turned_left n f.name f o before after (one_read before.held f.name f read) answer is done
+left_done (TurnsOnImage n) (f ∷ g ∷ []) (out ∷ []) o before after read answer is done =
     ordered_left n f.name g.name out f g o before after (first_read before.held f.name g.name f g read) (second_read before.held f.name g.name f g read) answer is done
-left_done Flat (out ∷ []) (f ∷ []) o before after read answer is done = flattened_left f.name out f o before after (one_read before.held f.name f read) answer is done
-left_done (Run n) (out ∷ []) (f ∷ g ∷ h ∷ []) o before after read answer is done =
+left_done Flat (f ∷ []) (out ∷ []) o before after read answer is done = flattened_left f.name out f o before after (one_read before.held f.name f read) answer is done
+left_done (Run n) (f ∷ g ∷ h ∷ []) (out ∷ []) o before after read answer is done =
     let r = three_read before.held f.name g.name h.name f g h read in
     run_left n f.name g.name h.name out f g h o before after r.0 r.1 r.2 answer is done
-left_done Bound [] (f ∷ g ∷ []) o before after read answer is done =
+left_done Bound (f ∷ g ∷ []) [] o before after read answer is done =
     bound_left f.name g.name f g before after (first_read before.held f.name g.name f g read) (second_read before.held f.name g.name f g read) o answer is done
-left_done Check [] (f ∷ g ∷ h ∷ []) o before after read answer is done =
+left_done Check (f ∷ g ∷ h ∷ []) [] o before after read answer is done =
     let r = three_read before.held f.name g.name h.name f g h read in
     legal_left f.name g.name h.name f g h before after r.0 r.1 r.2 o answer is done
-left_done Emit (out ∷ []) (f ∷ g ∷ h ∷ []) o before after read answer is done =
+left_done Emit (f ∷ g ∷ h ∷ []) (out ∷ []) o before after read answer is done =
     let r = three_read before.held f.name g.name h.name f g h read in
     emitted_left f.name g.name h.name out f g h before after r.0 r.1 r.2 o answer is done
-left_done (Map s) outs (f ∷ g ∷ []) o before after read answer is done =
+left_done (Map s) (f ∷ g ∷ []) outs o before after read answer is done =
     map_left s f.name g.name outs f g before after (first_read before.held f.name g.name f g read) (second_read before.held f.name g.name f g read) o answer is done
-left_done (Search s) outs (f ∷ g ∷ []) o before after read answer is done =
+left_done (Search s) (f ∷ g ∷ []) outs o before after read answer is done =
     search_left s f.name g.name outs f g before after (first_read before.held f.name g.name f g read) (second_read before.held f.name g.name f g read) o answer is done
 left_done (Trial seed) [] [] o before after read answer is done = trial_left seed o before after answer is done
-left_done Verilog (out ∷ []) (f ∷ []) o before after read answer is done = netlisted_left f.name out f o before after (one_read before.held f.name f read) answer is done
+left_done Verilog (f ∷ []) (out ∷ []) o before after read answer is done = netlisted_left f.name out f o before after (one_read before.held f.name f read) answer is done
 left_done _ _ _ o before after read answer is done = absurd answer
 
-left_no : (command : Command) (outputs : List Name) (files : List File) (o : Outcome) (before after : Moment)
+left_no : (command : Command) (files : List File) (outputs : List Name) (o : Outcome) (before after : Moment)
     → AreRead before.held (names_in files) files → IsAnswer command files outputs o → o.status ≡ No → Completed o before after No → LeavesNo command (names_in files) outputs before after
-left_no (TurnsOnImage n) (out ∷ []) (f ∷ g ∷ []) o before after read answer is done =
+left_no (TurnsOnImage n) (f ∷ g ∷ []) (out ∷ []) o before after read answer is done =
     unordered_left n f.name g.name out f g o before after (first_read before.held f.name g.name f g read) (second_read before.held f.name g.name f g read) answer is done
-left_no Check [] (f ∷ g ∷ h ∷ []) o before after read answer is done =
+left_no Check (f ∷ g ∷ h ∷ []) [] o before after read answer is done =
     let r = three_read before.held f.name g.name h.name f g h read in
     illegal_left f.name g.name h.name f g h before after r.0 r.1 r.2 o answer is done
-left_no Emit (out ∷ []) (f ∷ g ∷ h ∷ []) o before after read answer is done =
+left_no Emit (f ∷ g ∷ h ∷ []) (out ∷ []) o before after read answer is done =
     let r = three_read before.held f.name g.name h.name f g h read in
     unemitted_left f.name g.name h.name out f g h before after r.0 r.1 r.2 o answer is done
-left_no (Turns n) outputs files o before after read answer is done = absurd (never (owns_of (Turns n)) No o (sound (Turns n) files outputs o answer) refl is)
-left_no Flat outputs files o before after read answer is done = absurd (never (owns_of Flat) No o (sound Flat files outputs o answer) refl is)
-left_no (Run n) outputs files o before after read answer is done = absurd (never (owns_of (Run n)) No o (sound (Run n) files outputs o answer) refl is)
-left_no Bound outputs files o before after read answer is done = absurd (never (owns_of Bound) No o (sound Bound files outputs o answer) refl is)
-left_no (Map s) outputs files o before after read answer is done = absurd (never (owns_of (Map s)) No o (sound (Map s) files outputs o answer) refl is)
-left_no (Search s) outputs files o before after read answer is done = absurd (never (owns_of (Search s)) No o (sound (Search s) files outputs o answer) refl is)
-left_no (Trial seed) outputs files o before after read answer is done = absurd (never (owns_of (Trial seed)) No o (sound (Trial seed) files outputs o answer) refl is)
-left_no Verilog outputs files o before after read answer is done = absurd (never (owns_of Verilog) No o (sound Verilog files outputs o answer) refl is)
+left_no (Turns n) files outputs o before after read answer is done = absurd (never (owns_of (Turns n)) No o (sound (Turns n) files outputs o answer) refl is)
+left_no Flat files outputs o before after read answer is done = absurd (never (owns_of Flat) No o (sound Flat files outputs o answer) refl is)
+left_no (Run n) files outputs o before after read answer is done = absurd (never (owns_of (Run n)) No o (sound (Run n) files outputs o answer) refl is)
+left_no Bound files outputs o before after read answer is done = absurd (never (owns_of Bound) No o (sound Bound files outputs o answer) refl is)
+left_no (Map s) files outputs o before after read answer is done = absurd (never (owns_of (Map s)) No o (sound (Map s) files outputs o answer) refl is)
+left_no (Search s) files outputs o before after read answer is done = absurd (never (owns_of (Search s)) No o (sound (Search s) files outputs o answer) refl is)
+left_no (Trial seed) files outputs o before after read answer is done = absurd (never (owns_of (Trial seed)) No o (sound (Trial seed) files outputs o answer) refl is)
+left_no Verilog files outputs o before after read answer is done = absurd (never (owns_of Verilog) No o (sound Verilog files outputs o answer) refl is)
 left_no _ _ _ o before after read answer is done = absurd answer
 
-left_impossible : (command : Command) (outputs : List Name) (files : List File) (o : Outcome) (before after : Moment)
+left_impossible : (command : Command) (files : List File) (outputs : List Name) (o : Outcome) (before after : Moment)
     → AreRead before.held (names_in files) files → IsAnswer command files outputs o → o.status ≡ Impossible → Completed o before after Impossible → LeavesImpossible command (names_in files) before after
-left_impossible (Map s) outs (f ∷ g ∷ []) o before after read answer is done =
+left_impossible (Map s) (f ∷ g ∷ []) outs o before after read answer is done =
     impossible_left s f.name g.name outs f g before after (first_read before.held f.name g.name f g read) (second_read before.held f.name g.name f g read) o answer is done
-left_impossible (Search s) outs (f ∷ g ∷ []) o before after read answer is done =
+left_impossible (Search s) (f ∷ g ∷ []) outs o before after read answer is done =
     search_impossible_left s f.name g.name outs f g before after (first_read before.held f.name g.name f g read) (second_read before.held f.name g.name f g read) o answer is done
-left_impossible (Turns n) outputs files o before after read answer is done = absurd (never (owns_of (Turns n)) Impossible o (sound (Turns n) files outputs o answer) refl is)
-left_impossible (TurnsOnImage n) outputs files o before after read answer is done = absurd (never (owns_of (TurnsOnImage n)) Impossible o (sound (TurnsOnImage n) files outputs o answer) refl is)
-left_impossible Flat outputs files o before after read answer is done = absurd (never (owns_of Flat) Impossible o (sound Flat files outputs o answer) refl is)
-left_impossible (Run n) outputs files o before after read answer is done = absurd (never (owns_of (Run n)) Impossible o (sound (Run n) files outputs o answer) refl is)
-left_impossible Bound outputs files o before after read answer is done = absurd (never (owns_of Bound) Impossible o (sound Bound files outputs o answer) refl is)
-left_impossible Check outputs files o before after read answer is done = absurd (never (owns_of Check) Impossible o (sound Check files outputs o answer) refl is)
-left_impossible Emit outputs files o before after read answer is done = absurd (never (owns_of Emit) Impossible o (sound Emit files outputs o answer) refl is)
-left_impossible (Trial seed) outputs files o before after read answer is done = absurd (never (owns_of (Trial seed)) Impossible o (sound (Trial seed) files outputs o answer) refl is)
-left_impossible Verilog outputs files o before after read answer is done = absurd (never (owns_of Verilog) Impossible o (sound Verilog files outputs o answer) refl is)
+left_impossible (Turns n) files outputs o before after read answer is done = absurd (never (owns_of (Turns n)) Impossible o (sound (Turns n) files outputs o answer) refl is)
+left_impossible (TurnsOnImage n) files outputs o before after read answer is done = absurd (never (owns_of (TurnsOnImage n)) Impossible o (sound (TurnsOnImage n) files outputs o answer) refl is)
+left_impossible Flat files outputs o before after read answer is done = absurd (never (owns_of Flat) Impossible o (sound Flat files outputs o answer) refl is)
+left_impossible (Run n) files outputs o before after read answer is done = absurd (never (owns_of (Run n)) Impossible o (sound (Run n) files outputs o answer) refl is)
+left_impossible Bound files outputs o before after read answer is done = absurd (never (owns_of Bound) Impossible o (sound Bound files outputs o answer) refl is)
+left_impossible Check files outputs o before after read answer is done = absurd (never (owns_of Check) Impossible o (sound Check files outputs o answer) refl is)
+left_impossible Emit files outputs o before after read answer is done = absurd (never (owns_of Emit) Impossible o (sound Emit files outputs o answer) refl is)
+left_impossible (Trial seed) files outputs o before after read answer is done = absurd (never (owns_of (Trial seed)) Impossible o (sound (Trial seed) files outputs o answer) refl is)
+left_impossible Verilog files outputs o before after read answer is done = absurd (never (owns_of Verilog) Impossible o (sound Verilog files outputs o answer) refl is)
 left_impossible _ _ _ o before after read answer is done = absurd answer
 
-left_spent : (command : Command) (outputs : List Name) (files : List File) (o : Outcome) (before after : Moment)
+left_spent : (command : Command) (files : List File) (outputs : List Name) (o : Outcome) (before after : Moment)
     → AreRead before.held (names_in files) files → IsAnswer command files outputs o → o.status ≡ BudgetSpent → Completed o before after BudgetSpent → LeavesSpent command (names_in files) before after
-left_spent (Map s) outs (f ∷ g ∷ []) o before after read answer is done =
+left_spent (Map s) (f ∷ g ∷ []) outs o before after read answer is done =
     spent_left s f.name g.name outs f g before after (first_read before.held f.name g.name f g read) (second_read before.held f.name g.name f g read) o answer is done
-left_spent (Search s) outs (f ∷ g ∷ []) o before after read answer is done =
+left_spent (Search s) (f ∷ g ∷ []) outs o before after read answer is done =
     search_spent_left s f.name g.name outs f g before after (first_read before.held f.name g.name f g read) (second_read before.held f.name g.name f g read) o answer is done
-left_spent (Turns n) outputs files o before after read answer is done = absurd (never (owns_of (Turns n)) BudgetSpent o (sound (Turns n) files outputs o answer) refl is)
-left_spent (TurnsOnImage n) outputs files o before after read answer is done = absurd (never (owns_of (TurnsOnImage n)) BudgetSpent o (sound (TurnsOnImage n) files outputs o answer) refl is)
-left_spent Flat outputs files o before after read answer is done = absurd (never (owns_of Flat) BudgetSpent o (sound Flat files outputs o answer) refl is)
-left_spent (Run n) outputs files o before after read answer is done = absurd (never (owns_of (Run n)) BudgetSpent o (sound (Run n) files outputs o answer) refl is)
-left_spent Bound outputs files o before after read answer is done = absurd (never (owns_of Bound) BudgetSpent o (sound Bound files outputs o answer) refl is)
-left_spent Check outputs files o before after read answer is done = absurd (never (owns_of Check) BudgetSpent o (sound Check files outputs o answer) refl is)
-left_spent Emit outputs files o before after read answer is done = absurd (never (owns_of Emit) BudgetSpent o (sound Emit files outputs o answer) refl is)
-left_spent (Trial seed) outputs files o before after read answer is done = absurd (never (owns_of (Trial seed)) BudgetSpent o (sound (Trial seed) files outputs o answer) refl is)
-left_spent Verilog outputs files o before after read answer is done = absurd (never (owns_of Verilog) BudgetSpent o (sound Verilog files outputs o answer) refl is)
+left_spent (Turns n) files outputs o before after read answer is done = absurd (never (owns_of (Turns n)) BudgetSpent o (sound (Turns n) files outputs o answer) refl is)
+left_spent (TurnsOnImage n) files outputs o before after read answer is done = absurd (never (owns_of (TurnsOnImage n)) BudgetSpent o (sound (TurnsOnImage n) files outputs o answer) refl is)
+left_spent Flat files outputs o before after read answer is done = absurd (never (owns_of Flat) BudgetSpent o (sound Flat files outputs o answer) refl is)
+left_spent (Run n) files outputs o before after read answer is done = absurd (never (owns_of (Run n)) BudgetSpent o (sound (Run n) files outputs o answer) refl is)
+left_spent Bound files outputs o before after read answer is done = absurd (never (owns_of Bound) BudgetSpent o (sound Bound files outputs o answer) refl is)
+left_spent Check files outputs o before after read answer is done = absurd (never (owns_of Check) BudgetSpent o (sound Check files outputs o answer) refl is)
+left_spent Emit files outputs o before after read answer is done = absurd (never (owns_of Emit) BudgetSpent o (sound Emit files outputs o answer) refl is)
+left_spent (Trial seed) files outputs o before after read answer is done = absurd (never (owns_of (Trial seed)) BudgetSpent o (sound (Trial seed) files outputs o answer) refl is)
+left_spent Verilog files outputs o before after read answer is done = absurd (never (owns_of Verilog) BudgetSpent o (sound Verilog files outputs o answer) refl is)
 left_spent _ _ _ o before after read answer is done = absurd answer
 
 -- of files that were read, by their own names
-left_named : (command : Command) (outputs : List Name) (files : List File) (o : Outcome) (status : Status) (before after : Moment)
+left_named : (command : Command) (files : List File) (outputs : List Name) (o : Outcome) (status : Status) (before after : Moment)
     → AreRead before.held (names_in files) files → IsAnswer command files outputs o → o.status ≡ status → Completed o before after status → Leaves command (names_in files) outputs status before after
-left_named command outputs files o Done before after read answer is done = left_done command outputs files o before after read answer is done
-left_named command outputs files o No before after read answer is done = left_no command outputs files o before after read answer is done
-left_named command outputs files o Impossible before after read answer is done = left_impossible command outputs files o before after read answer is done
-left_named command outputs files o BudgetSpent before after read answer is done = left_spent command outputs files o before after read answer is done
-left_named command outputs files o Usage before after read answer is done = absurd (never (owns_of command) Usage o (sound command files outputs o answer) refl is)
-left_named command outputs files o Memory before after read answer is done = tt
-left_named command outputs files o Malformed before after read answer is done = tt
-left_named command outputs files o ReadFault before after read answer is done = tt
-left_named command outputs files o WriteFault before after read answer is done = tt
+left_named command files outputs o Done before after read answer is done = left_done command files outputs o before after read answer is done
+left_named command files outputs o No before after read answer is done = left_no command files outputs o before after read answer is done
+left_named command files outputs o Impossible before after read answer is done = left_impossible command files outputs o before after read answer is done
+left_named command files outputs o BudgetSpent before after read answer is done = left_spent command files outputs o before after read answer is done
+left_named command files outputs o Usage before after read answer is done = absurd (never (owns_of command) Usage o (sound command files outputs o answer) refl is)
+left_named command files outputs o Memory before after read answer is done = tt
+left_named command files outputs o Malformed before after read answer is done = tt
+left_named command files outputs o ReadFault before after read answer is done = tt
+left_named command files outputs o WriteFault before after read answer is done = tt
 
 pub left : (command : Command) (inputs outputs : List Name) (files : List File) (o : Outcome) (status : Status) (before after : Moment)
     → AreRead before.held inputs files → IsAnswer command files outputs o → o.status ≡ status → Completed o before after status → Leaves command inputs outputs status before after
 left command inputs outputs files o status before after read answer is done =
     subst (λ names. Leaves command names outputs status before after) read.names_are
-    (left_named command outputs files o status before after (record { names_are = refl; each = read.each }) answer is done)
+    (left_named command files outputs o status before after (record { names_are = refl; each = read.each }) answer is done)

@@ -51,24 +51,24 @@ free (Search s) (w ∷ ws) inputs before h = absurd (cc)
 abbrev names_in : List File → List Name
 names_in files = map (λ file. file.name) files
 
-by_names : (c : Command) (outputs : List Name) (files : List File) (o : Outcome) (before : Moment) → AreRead before.held (names_in files) files → IsAnswer c files outputs o → RunWrites o.writes c (names_in files) before
-by_names (Map s) outs (f ∷ g ∷ []) o before read answer =
+by_names : (c : Command) (files : List File) (outputs : List Name) (o : Outcome) (before : Moment) → AreRead before.held (names_in files) files → IsAnswer c files outputs o → RunWrites o.writes c (names_in files) before
+by_names (Map s) (f ∷ g ∷ []) outs o before read answer =
     of_map s f.name g.name before o.writes (map_writes_run s f.name g.name outs f g before before (first_read before.held f.name g.name f g read) (second_read before.held f.name g.name f g read) o answer)
-by_names (Search s) outs (f ∷ g ∷ []) o before read answer =
+by_names (Search s) (f ∷ g ∷ []) outs o before read answer =
     of_search s f.name g.name before o.writes (search_writes_run s f.name g.name outs f g before before (first_read before.held f.name g.name f g read) (second_read before.held f.name g.name f g read) o answer)
-by_names Emit (out ∷ []) (f ∷ g ∷ h ∷ []) o before read answer =
+by_names Emit (f ∷ g ∷ h ∷ []) (out ∷ []) o before read answer =
     let r = three_read before.held f.name g.name h.name f g h read in
     of_emit f.name g.name h.name before o.writes (emit_writes_run f.name g.name h.name out f g h before before r.0 r.1 r.2 o answer)
-by_names (Turns n) outputs files o before read answer = free (Turns n) o.writes (names_in files) before refl
-by_names (TurnsOnImage n) outputs files o before read answer = free (TurnsOnImage n) o.writes (names_in files) before refl
-by_names Flat outputs files o before read answer = free Flat o.writes (names_in files) before refl
-by_names (Run n) outputs files o before read answer = free (Run n) o.writes (names_in files) before refl
-by_names Bound outputs files o before read answer = free Bound o.writes (names_in files) before refl
-by_names Check outputs files o before read answer = free Check o.writes (names_in files) before refl
-by_names (Trial seed) outputs files o before read answer = free (Trial seed) o.writes (names_in files) before refl
-by_names Verilog outputs files o before read answer = free Verilog o.writes (names_in files) before refl
+by_names (Turns n) files outputs o before read answer = free (Turns n) o.writes (names_in files) before refl
+by_names (TurnsOnImage n) files outputs o before read answer = free (TurnsOnImage n) o.writes (names_in files) before refl
+by_names Flat files outputs o before read answer = free Flat o.writes (names_in files) before refl
+by_names (Run n) files outputs o before read answer = free (Run n) o.writes (names_in files) before refl
+by_names Bound files outputs o before read answer = free Bound o.writes (names_in files) before refl
+by_names Check files outputs o before read answer = free Check o.writes (names_in files) before refl
+by_names (Trial seed) files outputs o before read answer = free (Trial seed) o.writes (names_in files) before refl
+by_names Verilog files outputs o before read answer = free Verilog o.writes (names_in files) before refl
 by_names _ _ _ o before read answer = absurd answer
 
 pub writes_run : (c : Command) (inputs outputs : List Name) (files : List File) (o : Outcome) (before : Moment) → AreRead before.held inputs files → IsAnswer c files outputs o → RunWrites o.writes c inputs before
 writes_run c inputs outputs files o before read answer =
-    subst (λ names. RunWrites o.writes c names before) read.names_are (by_names c outputs files o before (record { names_are = refl; each = read.each }) answer)
+    subst (λ names. RunWrites o.writes c names before) read.names_are (by_names c files outputs o before (record { names_are = refl; each = read.each }) answer)
