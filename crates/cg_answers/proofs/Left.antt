@@ -1,9 +1,10 @@
 -- What commands leave where their outcome came. A command is a case of each.
-use Rattle.std.proofs.Common.{◌≡◌, List, [], ◌∷◌, Bool, true, false, map, refl, subst}
+use Rattle.std.proofs.Common.{◌≡◌, List, [], ◌∷◌, All, Bool, true, false, map, refl, subst}
+use Rattle.std.proofs.lemmas.List.Elements.{All-head, All-tail}
 use Rattle.cg_ending.specs.declared.outcome.Status.{Status}
 use Rattle.cg_ending.specs.declared.outcome.Status.TheVariants.{Done, Memory, Usage, Malformed, Impossible, ReadFault, WriteFault, BudgetSpent, No}
 use Rattle.cg_ending.specs.Outcome.{Name, File, Outcome}
-use Rattle.cg_ending.specs.Reads.{AreRead}
+use Rattle.cg_ending.specs.Reads.{AreRead, HoldsBytes}
 use Rattle.cg_ending.specs.Ends.{Moment, Completed}
 use Rattle.cg_command.specs.declared.plans.Command.{Command}
 use Rattle.cg_command.specs.declared.plans.Command.TheVariants.{Turns, TurnsOnImage, Flat, Run, Bound, Check, Emit, Map, Search, Trial, Verilog}
@@ -46,29 +47,29 @@ abbrev names_in : List File → List Name
 names_in files = map (λ file. file.name) files
 
 left_done : (command : Command) (files : List File) (outputs : List Name) (o : Outcome) (before after : Moment)
-    → AreRead before.held (names_in files) files → IsAnswer command files outputs o → o.status ≡ Done → Completed o before after Done → LeavesDone command (names_in files) outputs before after
-left_done (Turns n) (f ∷ []) [] o before after read answer is done = turned_left n f.name f o before after (one_read before.held f.name f read) answer is done
-left_done (TurnsOnImage n) (f ∷ g ∷ []) (out ∷ []) o before after read answer is done =
+    → AreRead before.held (names_in files) files → All HoldsBytes files → IsAnswer command files outputs o → o.status ≡ Done → Completed o before after Done → LeavesDone command (names_in files) outputs before after
+left_done (Turns n) (f ∷ []) [] o before after read bytes answer is done = turned_left n f.name f o before after (one_read before.held f.name f read) answer is done
+left_done (TurnsOnImage n) (f ∷ g ∷ []) (out ∷ []) o before after read bytes answer is done =
     ordered_left n f.name g.name out f g o before after (first_read before.held f.name g.name f g read) (second_read before.held f.name g.name f g read) answer is done
-left_done Flat (f ∷ []) (out ∷ []) o before after read answer is done = flattened_left f.name out f o before after (one_read before.held f.name f read) answer is done
-left_done (Run n) (f ∷ g ∷ h ∷ []) (out ∷ []) o before after read answer is done =
+left_done Flat (f ∷ []) (out ∷ []) o before after read bytes answer is done = flattened_left f.name out f o before after (one_read before.held f.name f read) answer is done
+left_done (Run n) (f ∷ g ∷ h ∷ []) (out ∷ []) o before after read bytes answer is done =
     let r = three_read before.held f.name g.name h.name f g h read in
-    run_left n f.name g.name h.name out f g h o before after r.0 r.1 r.2 answer is done
-left_done Bound (f ∷ g ∷ []) [] o before after read answer is done =
+    run_left n f.name g.name h.name out f g h o before after r.0 r.1 (All-head HoldsBytes g (h ∷ []) (All-tail HoldsBytes f (g ∷ h ∷ []) bytes)) r.2 answer is done
+left_done Bound (f ∷ g ∷ []) [] o before after read bytes answer is done =
     bound_left f.name g.name f g before after (first_read before.held f.name g.name f g read) (second_read before.held f.name g.name f g read) o answer is done
-left_done Check (f ∷ g ∷ h ∷ []) [] o before after read answer is done =
+left_done Check (f ∷ g ∷ h ∷ []) [] o before after read bytes answer is done =
     let r = three_read before.held f.name g.name h.name f g h read in
     legal_left f.name g.name h.name f g h before after r.0 r.1 r.2 o answer is done
-left_done Emit (f ∷ g ∷ h ∷ []) (out ∷ []) o before after read answer is done =
+left_done Emit (f ∷ g ∷ h ∷ []) (out ∷ []) o before after read bytes answer is done =
     let r = three_read before.held f.name g.name h.name f g h read in
     emitted_left f.name g.name h.name out f g h before after r.0 r.1 r.2 o answer is done
-left_done (Map s) (f ∷ g ∷ []) outs o before after read answer is done =
+left_done (Map s) (f ∷ g ∷ []) outs o before after read bytes answer is done =
     map_left s f.name g.name outs f g before after (first_read before.held f.name g.name f g read) (second_read before.held f.name g.name f g read) o answer is done
-left_done (Search s) (f ∷ g ∷ []) outs o before after read answer is done =
+left_done (Search s) (f ∷ g ∷ []) outs o before after read bytes answer is done =
     search_left s f.name g.name outs f g before after (first_read before.held f.name g.name f g read) (second_read before.held f.name g.name f g read) o answer is done
-left_done (Trial seed) [] [] o before after read answer is done = trial_left seed o before after answer is done
-left_done Verilog (f ∷ []) (out ∷ []) o before after read answer is done = netlisted_left f.name out f o before after (one_read before.held f.name f read) answer is done
-left_done _ _ _ o before after read answer is done = absurd answer
+left_done (Trial seed) [] [] o before after read bytes answer is done = trial_left seed o before after answer is done
+left_done Verilog (f ∷ []) (out ∷ []) o before after read bytes answer is done = netlisted_left f.name out f o before after (one_read before.held f.name f read) answer is done
+left_done _ _ _ o before after read bytes answer is done = absurd answer
 
 left_no : (command : Command) (files : List File) (outputs : List Name) (o : Outcome) (before after : Moment)
     → AreRead before.held (names_in files) files → IsAnswer command files outputs o → o.status ≡ No → Completed o before after No → LeavesNo command (names_in files) outputs before after
@@ -126,19 +127,19 @@ left_spent _ _ _ o before after read answer is done = absurd answer
 
 -- of files that were read, by their own names
 left_named : (command : Command) (files : List File) (outputs : List Name) (o : Outcome) (status : Status) (before after : Moment)
-    → AreRead before.held (names_in files) files → IsAnswer command files outputs o → o.status ≡ status → Completed o before after status → Leaves command (names_in files) outputs status before after
-left_named command files outputs o Done before after read answer is done = left_done command files outputs o before after read answer is done
-left_named command files outputs o No before after read answer is done = left_no command files outputs o before after read answer is done
-left_named command files outputs o Impossible before after read answer is done = left_impossible command files outputs o before after read answer is done
-left_named command files outputs o BudgetSpent before after read answer is done = left_spent command files outputs o before after read answer is done
-left_named command files outputs o Usage before after read answer is done = absurd (never (owns_of command) Usage o (sound command files outputs o answer) refl is)
-left_named command files outputs o Memory before after read answer is done = tt
-left_named command files outputs o Malformed before after read answer is done = tt
-left_named command files outputs o ReadFault before after read answer is done = tt
-left_named command files outputs o WriteFault before after read answer is done = tt
+    → AreRead before.held (names_in files) files → All HoldsBytes files → IsAnswer command files outputs o → o.status ≡ status → Completed o before after status → Leaves command (names_in files) outputs status before after
+left_named command files outputs o Done before after read bytes answer is done = left_done command files outputs o before after read bytes answer is done
+left_named command files outputs o No before after read bytes answer is done = left_no command files outputs o before after read answer is done
+left_named command files outputs o Impossible before after read bytes answer is done = left_impossible command files outputs o before after read answer is done
+left_named command files outputs o BudgetSpent before after read bytes answer is done = left_spent command files outputs o before after read answer is done
+left_named command files outputs o Usage before after read bytes answer is done = absurd (never (owns_of command) Usage o (sound command files outputs o answer) refl is)
+left_named command files outputs o Memory before after read bytes answer is done = tt
+left_named command files outputs o Malformed before after read bytes answer is done = tt
+left_named command files outputs o ReadFault before after read bytes answer is done = tt
+left_named command files outputs o WriteFault before after read bytes answer is done = tt
 
 pub left : (command : Command) (inputs outputs : List Name) (files : List File) (o : Outcome) (status : Status) (before after : Moment)
-    → AreRead before.held inputs files → IsAnswer command files outputs o → o.status ≡ status → Completed o before after status → Leaves command inputs outputs status before after
-left command inputs outputs files o status before after read answer is done =
+    → AreRead before.held inputs files → All HoldsBytes files → IsAnswer command files outputs o → o.status ≡ status → Completed o before after status → Leaves command inputs outputs status before after
+left command inputs outputs files o status before after read bytes answer is done =
     subst (λ names. Leaves command names outputs status before after) read.names_are
-    (left_named command files outputs o status before after (record { names_are = refl; each = read.each }) answer is done)
+    (left_named command files outputs o status before after (record { names_are = refl; each = read.each }) bytes answer is done)

@@ -1,3 +1,4 @@
 pub mod Canonical
+pub mod Canonicals
 pub mod Changed
 pub mod Ports

@@ -163,6 +163,13 @@ impl Config {
         }
     }
 
+    /// Tells whether there are `slots` rows of selects and as many rows of fields.
+    pub(crate) fn has_slots(&self, slots: usize) -> bool
+        ensures { IsTrue result ↔ ((length self.now.selects ≡ slots) × (length self.now.units ≡ slots)) }
+    {
+        self.selects.len() == slots && self.units.len() == slots
+    }
+
     /// The selects of a slot, by resource.
     pub fn selects_in(&self, slot: usize) -> &[u32]
         requires { slot < length self.now.selects }
@@ -181,7 +188,7 @@ impl Config {
 }
 
 /// The stage of a unit, 0 where it is off.
-fn stage_of(fields: &UnitFields) -> u32
+pub(crate) fn stage_of(fields: &UnitFields) -> u32
     ensures { result ≡ stage_of fields.now }
 {
     match fields.op {

@@ -1,5 +1,5 @@
 -- The input files of a command, read in order.
-use Rattle.std.specs.Prelude.{◌≡◌, ◌≤◌, ◌++◌, ◌∷◌, [], ◌⊎◌, ℕ, List, map, length, All, codes}
+use Rattle.std.specs.Prelude.{◌≡◌, ◌<◌, ◌≤◌, ◌++◌, ◌∷◌, [], ◌⊎◌, ℕ, List, map, length, All, codes, slice_index}
 use Rattle.cg_files.specs.Held.{Held, Holds, IsMissing, IsLonger}
 use Rattle.cg_ending.specs.declared.outcome.Status.TheVariants.{ReadFault, Malformed}
 use Rattle.cg_ending.specs.declared.read.Stop.{Stop}
@@ -13,6 +13,10 @@ read_limit = 16777216
 -- the file is held under its name, and isn't too long
 abbrev pub IsRead : Held → File → Type 0
 IsRead held file = Holds held file.name file.bytes × (length file.bytes ≤ read_limit)
+
+-- each number of the file is one that a byte has
+abbrev pub HoldsBytes : File → Type 0
+HoldsBytes file = (i : ℕ) → slice_index file.bytes i < 256
 
 -- the files are those of these names, one for each, as they are held
 pub record AreRead (held : Held) (names : List Name) (files : List File) : Type 0 where

@@ -1,9 +1,9 @@
 //! Reads the input files of a command.
-ghost use Rattle.std.specs.Prelude.{◌≡◌, ◌≤◌, IfOk, IfErr, OnOk, map, string_bytes};
+ghost use Rattle.std.specs.Prelude.{◌≡◌, ◌<◌, ◌≤◌, ℕ, All, IfOk, IfErr, OnOk, map, slice_index, string_bytes};
 ghost use Rattle.cg_files.specs.Asked.{NotesAll, NotesPart};
 ghost use Rattle.cg_files.specs.Causes.{Rose};
 ghost use Rattle.cg_ending.specs.Outcome.{file_of, outcome_of};
-ghost use Rattle.cg_ending.specs.Reads.{AreRead, IsStop, read_fault_of, too_long_of};
+ghost use Rattle.cg_ending.specs.Reads.{AreRead, HoldsBytes, IsStop, read_fault_of, too_long_of};
 
 use crate::outcome::{File, Outcome, Status};
 use cg_files::{Store, StoreFail};
@@ -47,6 +47,8 @@ impl<T: Drop> From<AllocFailed<T>> for Stop {
 pub fn read_all<S: Store>(alloc: Global, names: &[String], store: &mut S) -> Result<Vec<File>, Stop>
     ensures ok { IfOk result (λ files.
         AreRead (S.held store.old) (map string_bytes names.now) (map file_of files.items)) }
+    // Also where the store doesn't tell what it holds.
+    ensures bytes { IfOk result (λ files. All HoldsBytes (map file_of files.items)) }
     ensures stopped { IfErr result (IsStop (S.held store.old)
         (Rose (S.read_faults store.old) (S.read_faults store.new)) (map string_bytes names.now)) }
     // Each name was asked for once, in order, up to the one at which the reading ended.
@@ -62,6 +64,7 @@ pub fn read_all<S: Store>(alloc: Global, names: &[String], store: &mut S) -> Res
     for name in names {
         match store.read(alloc, name.as_str(), READ_LIMIT) {
             Ok(bytes) => {
+                are_bytes(&bytes);
                 let name = String::from_str(alloc, name.as_str())?;
                 files.push(File { name, bytes })?;
             }
@@ -72,6 +75,11 @@ pub fn read_all<S: Store>(alloc: Global, names: &[String], store: &mut S) -> Res
     }
     Ok(files)
 }
+
+/// A law: each item of a list of bytes is below 256.
+fn are_bytes(_bytes: &[u8])
+    ensures { (i : ℕ) → slice_index _bytes.now i < 256 }
+{}
 
 fn read_fault(alloc: Global, name: &str) -> Result<Outcome, AllocError>
     ensures { IfOk result (λ outcome. outcome_of outcome ≡ read_fault_of name.now) }

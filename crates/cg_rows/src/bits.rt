@@ -3,6 +3,7 @@ ghost use Rattle.cg_model.specs.Canonical.{IsCanonical};
 
 use cg_arch::Arch;
 use cg_bits::{BitsFault, Config, Contexts, read_bits, write_bits};
+use cg_config::is_canonical;
 use cg_model::Kernel;
 use cg_pad::{Image, write_image};
 use cg_sim::{Sim, SimFault};
@@ -54,6 +55,16 @@ pub(crate) fn two_slots_that_are_off(alloc: Global, arch: &Arch) -> Result<bool,
     bytes.extend_from_slice(&arch.digest())?;
     bytes.extend_from_slice(&[0; 82])?;
     Ok(write_bits(alloc, arch, &config)? == bytes)
+}
+
+/// Checks whether a configuration that is off is told to be canonical, and one without slots and with a stage too many not.
+pub(crate) fn tells_canonical(alloc: Global, arch: &Arch) -> Result<bool, AllocError> {
+    if arch.contexts() < 2 {
+        return Ok(false);
+    }
+    let config = Config::new(alloc, arch, 2)?;
+    let other = Config::from_rows(2, 2, Vec::new(alloc), Vec::new(alloc));
+    Ok(is_canonical(arch, &config) && !is_canonical(arch, &other))
 }
 
 /// Checks whether tables and view answer of all first parts of `bytes` that they are truncated.

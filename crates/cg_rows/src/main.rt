@@ -50,6 +50,7 @@ fn first_rows(
 ) -> io::Result<()> {
     rows_of_texts(rt, arch, sum)?;
     rows_of_bits(rt, arch, sum)?;
+    rows_of_tests(rt, arch, sum)?;
     rows_of_routes(rt, arch)?;
     rows_of_sum(rt, arch, sum)
 }
@@ -171,6 +172,30 @@ fn rows_of_sum(rt: &(impl Print + AllocGlobal), arch: &Arch, sum: &Kernel) -> io
     say(rt, "running sum one after another", six)?;
     let first = walks::maps_sum(rt.alloc(), arch, sum)?;
     say(rt, "running sum at its first places", first)
+}
+
+/// Prints the rows of the tests that a caller can ask: whether a configuration is canonical, and of which shape a mapping is.
+fn rows_of_tests(
+    rt: &(impl Files + Print + AllocGlobal),
+    arch: &Arch,
+    sum: &Kernel,
+) -> io::Result<()> {
+    let canonical = bits::tells_canonical(rt.alloc(), arch)?;
+    say(rt, "canonical, or not", canonical)?;
+    row_of_shape(rt, arch, sum)
+}
+
+fn row_of_shape(
+    rt: &(impl Files + Print + AllocGlobal),
+    arch: &Arch,
+    sum: &Kernel,
+) -> io::Result<()> {
+    let Some(outputs) = kernel_in(rt, "outputs.json")? else {
+        return rt.print("outputs.json is no kernel\n");
+    };
+    let mixed = fs::read(rt, "mixed.map")?;
+    let holds = texts::tells_shape(rt.alloc(), arch, sum, &outputs, mixed.as_slice())?;
+    say(rt, "shape of a mapping, or not", holds)
 }
 
 /// Prints the row of two outputs on one unit.

@@ -133,7 +133,7 @@ leaves_turns A n image C bytes valid read K M good legal spelled ordered =
     sym (ap (λ D. machine_left A D n image) same) ∙ (leaves_the_same A K M n image valid good legal unaliased).all
 
 module _ (n : ℕ) (arch file input out : Name) (f g h : File) (o : Outcome) (before after : Moment)
-    (arch_held : Holds before.held arch f.bytes) (held : Holds before.held file g.bytes) (image_held : Holds before.held input h.bytes)
+    (arch_held : Holds before.held arch f.bytes) (held : Holds before.held file g.bytes) (fits : IsBytes g.bytes) (image_held : Holds before.held input h.bytes)
     (done : o.status ≡ Done) (c : Completed o before after Done)
   where
     run_by_size : (A : Arch) (C : Config) (image : Image) (b : Bool) → nat_lt A.memory (length image.memory) ≡ b → AreValidBytes f.bytes A → bits.answer_of A g.bytes ≡ Ok C → images.answer_of h.bytes ≡ Ok image
@@ -148,7 +148,7 @@ module _ (n : ℕ) (arch file input out : Name) (f g h : File) (o : Outcome) (be
       held = held;
       config = C;
       config_is = config_is;
-      spelled = spelled_answer A C g.bytes (valid_array f.bytes A given) config_is;
+      spelled = spelled_answer A C g.bytes (valid_array f.bytes A given) config_is fits;
       image_bytes = h.bytes;
       image_held = image_held;
       image = image;
@@ -168,12 +168,12 @@ module _ (n : ℕ) (arch file input out : Name) (f g h : File) (o : Outcome) (be
     run_on_bits A (Err e) config_is given is = absurd (let z : Malformed ≡ Done = differ o Done (ap (λ x. x.status) is) done in cc)
 
 run_done : (n : ℕ) (arch file input out : Name) (f g h : File) (r : Result Arch TilesFault) (o : Outcome) (before after : Moment)
-    → Holds before.held arch f.bytes → Holds before.held file g.bytes → Holds before.held input h.bytes → tiles.IsAnswer f.bytes r → o ≡ run_by n f g h out r → o.status ≡ Done
+    → Holds before.held arch f.bytes → Holds before.held file g.bytes → IsBytes g.bytes → Holds before.held input h.bytes → tiles.IsAnswer f.bytes r → o ≡ run_by n f g h out r → o.status ≡ Done
     → Completed o before after Done → IsArrayRun n arch file input out before after
-run_done n arch file input out f g h (Ok A) o before after a b d given is done c = run_on_bits n arch file input out f g h o before after a b d done c A (bits.answer_of A g.bytes) refl given is
-run_done n arch file input out f g h (Err e) o before after a b d given is done c = absurd (let z : Malformed ≡ Done = differ o Done (ap (λ x. x.status) is) done in cc)
+run_done n arch file input out f g h (Ok A) o before after a b fits d given is done c = run_on_bits n arch file input out f g h o before after a b fits d done c A (bits.answer_of A g.bytes) refl given is
+run_done n arch file input out f g h (Err e) o before after a b fits d given is done c = absurd (let z : Malformed ≡ Done = differ o Done (ap (λ x. x.status) is) done in cc)
 
 pub run_left : (n : ℕ) (arch file input out : Name) (f g h : File) (o : Outcome) (before after : Moment)
-    → Holds before.held arch f.bytes → Holds before.held file g.bytes → Holds before.held input h.bytes → IsRun n f g h out o → o.status ≡ Done
+    → Holds before.held arch f.bytes → Holds before.held file g.bytes → IsBytes g.bytes → Holds before.held input h.bytes → IsRun n f g h out o → o.status ≡ Done
     → Completed o before after Done → IsArrayRun n arch file input out before after
-run_left n arch file input out f g h o before after a b d p done c = run_done n arch file input out f g h p.given o before after a b d p.is_given p.outcome done c
+run_left n arch file input out f g h o before after a b fits d p done c = run_done n arch file input out f g h p.given o before after a b fits d p.is_given p.outcome done c

@@ -21,7 +21,6 @@ use Rattle.cg_tiles.specs.Answer.{AreValidBytes}
 use Rattle.cg_grid.specs.Texts.{tiles_fault_text}
 use Rattle.cg_bits.specs.declared.fault.BitsFault.{BitsFault}
 use Rattle.cg_bits.specs.Answers as bits
-use Rattle.cg_bits.specs.Ranges.{IsBytes}
 use Rattle.cg_bits.specs.Spelling.{AreBits}
 use Rattle.cg_bits.specs.Texts.{bits_fault_text}
 use Rattle.cg_pad.specs.declared.fault.ImageFault.{ImageFault}
@@ -98,7 +97,7 @@ pub record IsArrayRun (n : ℕ) (arch file input out : Name) (before after : Mom
   pub held : Holds before.held file bytes
   pub config : Config
   pub config_is : bits.answer_of array bytes ≡ Ok config
-  pub spelled : IsBytes bytes → AreBits array config bytes
+  pub spelled : AreBits array config bytes
   pub image_bytes : Bytes
   pub image_held : Holds before.held input image_bytes
   pub image : Image

@@ -6,6 +6,7 @@ use Rattle.cg_ending.specs.declared.outcome.Status.TheVariants.{Done, Memory, Im
 use Rattle.cg_ending.specs.Outcome.{Name, File}
 use Rattle.cg_ending.specs.Ends.{Moment, Finished}
 use Rattle.cg_ending.proofs.Reading.{all, reads_all}
+use Rattle.cg_top.proofs.Planned.{is_outcome}
 use Rattle.cg_top.specs.TopCall.{Ends, IsComplete, IsImpossible}
 use Rattle.cg_answers.proofs.Commands.{accepted, forbidden}
 use Rattle.cg_top.proofs.Exact.{IsOf, told}
@@ -15,7 +16,7 @@ complete words before after status (inr g) files plan inputs held fits read acce
 complete words before after status (inl e) files plan inputs held fits read accepts r w f = by_way e.finished
   where
     is_done : e.outcome.status ≡ Done
-    is_done = elim (told files (Rose before.read_faults after.read_faults) plan e.outcome (rw (held, fits) at e.is_outcome)) [
+    is_done = elim (told files (Rose before.read_faults after.read_faults) plan e.outcome (rw (held, fits) at (is_outcome words before after status e))) [
       | inl x ↦ absurd (r x.0)
       | inr y ↦ let z : IsOf plan (all inputs) e.outcome = rw (reads_all files plan.inputs inputs read) at y in accepted plan.command inputs plan.outputs e.outcome accepts z
     ]
@@ -36,7 +37,7 @@ impossible words before after status (inr g) files plan inputs held fits read fo
 impossible words before after status (inl e) files plan inputs held fits read forbids r = by_way e.finished
   where
     says : (e.outcome.status ≡ Impossible) × (e.outcome.writes ≡ [])
-    says = elim (told files (Rose before.read_faults after.read_faults) plan e.outcome (rw (held, fits) at e.is_outcome)) [
+    says = elim (told files (Rose before.read_faults after.read_faults) plan e.outcome (rw (held, fits) at (is_outcome words before after status e))) [
       | inl x ↦ absurd (r x.0)
       | inr y ↦ let z : IsOf plan (all inputs) e.outcome = rw (reads_all files plan.inputs inputs read) at y in forbidden plan.command inputs plan.outputs e.outcome forbids z
     ]

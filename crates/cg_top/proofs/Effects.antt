@@ -10,6 +10,7 @@ use Rattle.cg_command.specs.Words.{Plan, plan_of}
 use Rattle.cg_answers.specs.Commands.{judges, RunWrites}
 use Rattle.cg_answers.proofs.Judged.{judged}
 use Rattle.cg_answers.proofs.Written.{writes_run}
+use Rattle.cg_top.proofs.Planned.{is_outcome}
 use Rattle.cg_top.specs.TopCall.{IsPlanned, IsOutcome, WritesRun, Ends, Halted, Unput, Begun, IsEffect, is_answer}
 use Rattle.cg_top.proofs.Kept.{kept}
 use Rattle.cg_top.proofs.Table.{Known, known, stop_status}
@@ -81,26 +82,26 @@ effect words before after status (inl e) = by_way e.finished
     o = e.outcome
 
     k : Known words before after o
-    k = known words before after o (plan_of words) refl e.is_outcome
+    k = known words before after o (plan_of words) refl (is_outcome words before after status e)
 
     runs : WritesRun words before o
-    runs = runs_of words before after o e.is_outcome
+    runs = runs_of words before after o (is_outcome words before after status e)
 
     by_way : Finished o before after status → IsEffect words before after status
     by_way (inl d) = record {
-      came = λ _. record { outcome = o; is_outcome = e.is_outcome; status_is = sym d.status_is; held = d.held; put = subst (λ z. IsPut z o.report before after) (sym d.status_is) d.put; no_put = d.no_put };
+      came = λ _. record { outcome = o; is_outcome = is_outcome words before after status e; status_is = sym d.status_is; held = d.held; put = subst (λ z. IsPut z o.report before after) (sym d.status_is) d.put; no_put = d.no_put };
       failed = λ u. absurd (k.no_fault (sym d.status_is ∙ u));
       begun = λ u. absurd (k.no_memory (sym d.status_is ∙ u));
       silent = λ u. absurd (k.no_memory (sym d.status_is ∙ u));
       kept = λ h. let q : o.writes ≡ [] = k.quiet (rw d.status_is at h) in (rw q at d.held, d.no_write q);
       judged = λ u plan p j.
-          let q : o.writes ≡ [] = unwritten words before after o plan p j (sym d.status_is ∙ u) (rw p at e.is_outcome) in
+          let q : o.writes ≡ [] = unwritten words before after o plan p j (sym d.status_is ∙ u) (rw p at (is_outcome words before after status e)) in
           (rw q at d.held, d.no_write q);
       nothing_asked = kept words before after status (inl e);
     }
     by_way (inr (inl y)) = faulty words before after status y.status_is
-        (inl (record { outcome = o; is_outcome = e.is_outcome; cause = y.cause; held = y.held; put = y.put; runs = runs })) (inl e)
+        (inl (record { outcome = o; is_outcome = is_outcome words before after status e; cause = y.cause; held = y.held; put = y.put; runs = runs })) (inl e)
     by_way (inr (inr (inl y))) = faulty words before after status y.status_is
-        (inr (record { outcome = o; is_outcome = e.is_outcome; was = y.was; cause = y.cause; held = y.held; put = y.put; runs = runs })) (inl e)
+        (inr (record { outcome = o; is_outcome = is_outcome words before after status e; was = y.was; cause = y.cause; held = y.held; put = y.put; runs = runs })) (inl e)
     by_way (inr (inr (inr y))) = wanting words before after status y.status_is y.put
-        (inl (record { outcome = o; is_outcome = e.is_outcome; held = y.held; runs = runs })) (inl e)
+        (inl (record { outcome = o; is_outcome = is_outcome words before after status e; held = y.held; runs = runs })) (inl e)

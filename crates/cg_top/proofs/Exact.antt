@@ -11,6 +11,7 @@ use Rattle.cg_command.specs.Words.{Plan, plan_of}
 use Rattle.cg_command.specs.declared.plans.Command.{Command}
 use Rattle.cg_command.specs.declared.plans.Command.TheVariants.{Turns, TurnsOnImage, Flat, Run, Bound, Check, Emit, Map, Search, Trial, Verilog}
 use Rattle.cg_answers.specs.Commands.{IsAnswer, AgreeIn}
+use Rattle.cg_top.proofs.Planned.{is_outcome}
 use Rattle.cg_top.specs.TopCall.{IsPlanned, Ends, Agrees, IsExact}
 use Rattle.cg_answers.proofs.Commands.{agree_in}
 
@@ -61,7 +62,7 @@ exact words before after status (inr g) files o held d = inr (inl g.status_is)
 exact words before after status (inl e) files o held d = finished e.finished
   where
     is : (Rose before.read_faults after.read_faults × (e.outcome.status ≡ ReadFault)) ⊎ Agrees (plan_of words) e.outcome.status o.status
-    is = settled (plan_of words) files (Rose before.read_faults after.read_faults) e.outcome o (rw held at e.is_outcome) d
+    is = settled (plan_of words) files (Rose before.read_faults after.read_faults) e.outcome o (rw held at (is_outcome words before after status e)) d
 
     finished : Finished e.outcome before after status → Agrees (plan_of words) status o.status ⊎ ((status ≡ Memory)
         ⊎ (((status ≡ ReadFault) × Rose before.read_faults after.read_faults)

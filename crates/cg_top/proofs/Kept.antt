@@ -8,6 +8,7 @@ use Rattle.cg_ending.specs.Reads.{read_fault_of, too_long_of}
 use Rattle.cg_ending.specs.Ends.{Moment, Finished, Wrote}
 use Rattle.cg_command.specs.Words.{Plan, plan_of}
 use Rattle.cg_answers.specs.Commands.{IsAnswer}
+use Rattle.cg_top.proofs.Planned.{is_outcome}
 use Rattle.cg_top.specs.TopCall.{IsPlanned, Ends, WritesNothing}
 use Rattle.cg_answers.proofs.Commands.{quiet}
 
@@ -37,7 +38,7 @@ kept words before after status (inr g) w = subst (λ h. Wrote before.held [] h) 
 kept words before after status (inl e) w = by_way e.finished
   where
     none : e.outcome.writes ≡ []
-    none = quiet_plan before.held (Rose before.read_faults after.read_faults) (plan_of words) e.outcome w e.is_outcome
+    none = quiet_plan before.held (Rose before.read_faults after.read_faults) (plan_of words) e.outcome w (is_outcome words before after status e)
 
     by_way : Finished e.outcome before after status → Wrote before.held [] after.held
     by_way (inl y) = subst (λ fs. Wrote before.held fs after.held) none y.held

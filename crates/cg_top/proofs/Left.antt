@@ -8,7 +8,7 @@ use Rattle.cg_ending.specs.Reads.{StopsAt}
 use Rattle.cg_ending.specs.Ends.{Moment, Finished, Completed}
 use Rattle.cg_answers.specs.Commands.{Leaves}
 use Rattle.cg_answers.proofs.Left as commands
-use Rattle.cg_top.specs.TopCall.{IsPlanned, Ends, IsLeft}
+use Rattle.cg_top.specs.TopCall.{IsPlannedBytes, Ends, IsLeft}
 
 pub left : (words : List Name) (before after : Moment) (status : Status) → Ends words before after status → IsLeft words before after status
 left words before after status (inr g) plan p = subst (λ s. Leaves plan.command plan.inputs plan.outputs s before after) (sym g.status_is) (commands.silent plan.command plan.inputs plan.outputs Memory before after refl)
@@ -23,12 +23,12 @@ left words before after status (inl e) plan p = by_way e.finished
       | inr c ↦ at Malformed (is ∙ ap (λ x. x.status) c.0) refl
     ]
 
-    by_origin : IsPlanned before.held (Rose before.read_faults after.read_faults) (Some plan) e.outcome → Completed e.outcome before after status → Leaves plan.command plan.inputs plan.outputs status before after
-    by_origin (inl a) c = commands.left plan.command plan.inputs plan.outputs a.files e.outcome status before after a.read a.answer (sym c.status_is) c
+    by_origin : IsPlannedBytes before.held (Rose before.read_faults after.read_faults) (Some plan) e.outcome → Completed e.outcome before after status → Leaves plan.command plan.inputs plan.outputs status before after
+    by_origin (inl a) c = commands.left plan.command plan.inputs plan.outputs a.answers.files e.outcome status before after a.answers.read a.bytes a.answers.answer (sym c.status_is) c
     by_origin (inr s) c = by_cause e.outcome plan.inputs s c.status_is
 
     by_way : Finished e.outcome before after status → Leaves plan.command plan.inputs plan.outputs status before after
-    by_way (inl c) = by_origin (rw p at e.is_outcome) c
+    by_way (inl c) = by_origin (rw p at e.planned) c
     by_way (inr (inl y)) = at WriteFault y.status_is refl
     by_way (inr (inr (inl y))) = at WriteFault y.status_is refl
     by_way (inr (inr (inr y))) = at Memory y.status_is refl

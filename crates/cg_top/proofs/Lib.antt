@@ -1,3 +1,4 @@
+pub mod Planned
 pub mod Exact
 pub mod Kept
 pub mod Table
@@ -7,4 +8,3 @@ pub mod Left
 pub mod Call
 pub mod Defined
 pub mod Calls
-pub mod Planned

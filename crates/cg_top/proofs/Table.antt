@@ -12,6 +12,7 @@ use Rattle.cg_ending.specs.Ends.{Moment, Finished}
 use Rattle.cg_ending.specs.Status.{leaves_all}
 use Rattle.cg_command.specs.Words.{Plan, plan_of}
 use Rattle.cg_ending.specs.Refusals.{usage_outcome}
+use Rattle.cg_top.proofs.Planned.{is_outcome}
 use Rattle.cg_top.specs.TopCall.{IsPlanned, Ends, IsAnswered, IsStopped, IsByTable}
 use Rattle.cg_top.proofs.Kept.{no_part}
 use Rattle.cg_answers.proofs.Commands.{owns_of, sound}
@@ -199,10 +200,10 @@ table words before after status (inl e) = by_way e.finished
     rose = Rose before.read_faults after.read_faults
 
     k : Known words before after o
-    k = known words before after o (plan_of words) refl e.is_outcome
+    k = known words before after o (plan_of words) refl (is_outcome words before after status e)
 
     from : Origin words before.held rose o
-    from = origin words before.held rose o (plan_of words) refl e.is_outcome
+    from = origin words before.held rose o (plan_of words) refl (is_outcome words before after status e)
 
     by_way : Finished o before after status → IsByTable words before after status
     by_way (inl d) = record {

@@ -1,5 +1,5 @@
 -- How a call of the top call ends. No command is named here.
-use Rattle.std.specs.Prelude.{◌≡◌, ◌≤◌, ◌⊎◌, Bool, true, false, List, [], Contains, Option, Some, None}
+use Rattle.std.specs.Prelude.{◌≡◌, ◌≤◌, ◌⊎◌, Bool, true, false, List, [], All, Contains, Option, Some, None}
 use Rattle.cg_files.specs.Asked.{Names, NotesPart}
 use Rattle.cg_files.specs.Causes.{Rose}
 use Rattle.cg_files.specs.Held.{Held, IsMissing, AppendsSome}
@@ -7,7 +7,7 @@ use Rattle.cg_ending.specs.declared.outcome.Status.{Status}
 use Rattle.cg_ending.specs.declared.outcome.Status.TheVariants.{Done, Memory, Usage, Malformed, Impossible, ReadFault, WriteFault, BudgetSpent, No}
 use Rattle.cg_ending.specs.Status.{leaves_all}
 use Rattle.cg_ending.specs.Outcome.{Name, Bytes, File, Outcome}
-use Rattle.cg_ending.specs.Reads.{AreRead, StopsAt}
+use Rattle.cg_ending.specs.Reads.{AreRead, HoldsBytes, StopsAt}
 use Rattle.cg_ending.specs.Ends.{Moment, Finished, Wrote, WrotePart, FailedAt, IsPut}
 use Rattle.cg_command.specs.Words.{Plan, plan_of}
 use Rattle.cg_ending.specs.Refusals.{usage_outcome}
@@ -21,9 +21,18 @@ pub record Answers (held : Held) (plan : Plan) (o : Outcome) : Type 0 where
   pub read : AreRead held plan.inputs files
   pub answer : IsAnswer plan.command files plan.outputs o
 
+-- the same of files whose numbers are bytes', as all that a store gives are, also where it doesn't tell what it holds
+pub record AnswersBytes (held : Held) (plan : Plan) (o : Outcome) : Type 0 where
+  pub answers : Answers held plan o
+  pub bytes : All HoldsBytes answers.files
+
 abbrev pub IsPlanned : Held → Type 0 → Option Plan → Outcome → Type 0
 IsPlanned held rose None o = o ≡ usage_outcome
 IsPlanned held rose (Some plan) o = Answers held plan o ⊎ StopsAt held rose plan.inputs o
+
+abbrev pub IsPlannedBytes : Held → Type 0 → Option Plan → Outcome → Type 0
+IsPlannedBytes held rose None o = o ≡ usage_outcome
+IsPlannedBytes held rose (Some plan) o = AnswersBytes held plan o ⊎ StopsAt held rose plan.inputs o
 
 -- for these words, over what is held, where `rose` says that a read failed
 abbrev pub IsOutcome : List Name → Held → Type 0 → Outcome → Type 0
@@ -38,7 +47,7 @@ IsDefined words files o = IsOutcome words (Some files) ⊥ o
 -- there was an outcome, and it came, or as much of it as faults and running out of memory left
 pub record CarriedOut (words : List Name) (before after : Moment) (status : Status) : Type 0 where
   pub outcome : Outcome
-  pub is_outcome : IsOutcome words before.held (Rose before.read_faults after.read_faults) outcome
+  pub planned : IsPlannedBytes before.held (Rose before.read_faults after.read_faults) (plan_of words) outcome
   pub finished : Finished outcome before after status
 
 -- memory ran out before there was an outcome

@@ -7,7 +7,7 @@ ghost use Rattle.cg_ending.specs.Allowed.{Allows};
 ghost use Rattle.cg_ending.specs.Outcome.{outcome_of};
 ghost use Rattle.cg_ending.specs.Ends.{moment};
 ghost use Rattle.cg_command.specs.Words.{HasShape, plan_of, planned};
-ghost use Rattle.cg_top.specs.TopCall.{IsOutcome, IsPlanned, Ends, IsCall, Asks, MakesCalls};
+ghost use Rattle.cg_top.specs.TopCall.{IsPlannedBytes, Ends, IsCall, Asks, MakesCalls};
 
 mod laws;
 
@@ -69,8 +69,8 @@ fn carry_out<S: Store, O: Sink>(
 
 /// Returns the outcome that `words` define, over what `store` gives.
 fn outcome<S: Store>(alloc: Global, words: &[String], store: &mut S) -> Result<Outcome, AllocError>
-    ensures ok { IfOk result (λ o. IsOutcome (map string_bytes words.now) (S.held store.old)
-        (Rose (S.read_faults store.old) (S.read_faults store.new)) (outcome_of o)) }
+    ensures ok { IfOk result (λ o. IsPlannedBytes (S.held store.old)
+        (Rose (S.read_faults store.old) (S.read_faults store.new)) (plan_of (map string_bytes words.now)) (outcome_of o)) }
     ensures asks { Asks (plan_of (map string_bytes words.now)) (S.asked store.old) (S.asked store.new) }
     ensures wrote { S.wrote store.new ≡ S.wrote store.old }
     ensures no_call { plan_of (map string_bytes words.now) ≡ None → store.new ≡ store.old }
@@ -91,7 +91,7 @@ fn outcome<S: Store>(alloc: Global, words: &[String], store: &mut S) -> Result<O
 /// Returns the outcome of the planned command, over what `store` gives.
 fn answered<S: Store>(alloc: Global, plan: &Plan, store: &mut S) -> Result<Outcome, Stop>
     requires { HasShape plan.now.command (length plan.now.inputs.items) (length plan.now.outputs.items) }
-    ensures planned { Allows (IsPlanned (S.held store.old) (Rose (S.read_faults store.old) (S.read_faults store.new))
+    ensures planned { Allows (IsPlannedBytes (S.held store.old) (Rose (S.read_faults store.old) (S.read_faults store.new))
         (Some (planned plan.now))) result }
     ensures asks { Asks (Some (planned plan.now)) (S.asked store.old) (S.asked store.new) }
     ensures wrote { S.wrote store.new ≡ S.wrote store.old }

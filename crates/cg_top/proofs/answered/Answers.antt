@@ -6,7 +6,7 @@ use Rattle.cg_ending.proofs.Allowed.{allows_weaker, stopped}
 use Rattle.cg_command.specs.Words.{HasShape, planned}
 use Rattle.cg_answers.specs.Commands.{IsAnswer}
 use Rattle.cg_answers.proofs.Shapes.{as_many}
-use Rattle.cg_top.specs.TopCall.{IsPlanned}
+use Rattle.cg_top.specs.TopCall.{IsPlannedBytes}
 use Rattle.cg_top.proofs.Planned.{not_read}
 use Rattle.cg_top.proofs.answered.Goals as goal
 
@@ -23,7 +23,7 @@ returns-in_err-files-clause-planned g c =
     let rose : Type 0 = Rose (g.S.Store.read_faults c.args.store.now) (g.S.Store.read_faults c.read_all.new.store) in
     let plan = planned c.args.plan.now in
     let names : c.as_slice.result.now ≡ c.args.plan.now.inputs.items = search rules in
-    stopped (IsPlanned held rose (Some plan)) c.in_err-files.field-0.0 _ c.from_residual.ensures.1 (not_read held rose plan _ (rw names at c.in_err-files.ensures.stopped))
+    stopped (IsPlannedBytes held rose (Some plan)) c.in_err-files.field-0.0 _ c.from_residual.ensures.1 (not_read held rose plan _ (rw names at c.in_err-files.ensures.stopped))
 
 pub returns-clause-planned : goal.returns-clause-planned
 returns-clause-planned g c =
@@ -33,6 +33,6 @@ returns-clause-planned g c =
     let files = map file_of c.in_ok-files.files.items in
     let names : c.as_slice.result.now ≡ c.args.plan.now.inputs.items = search rules in
     let given : c.as_slice-2.result.now ≡ c.in_ok-files.files.items = search rules in
-    allows_weaker (IsAnswer plan.command files plan.outputs) (IsPlanned held rose (Some plan)) c.answer.result
-    (λ o a. inl (record { files = files; read = rw names at c.in_ok-files.ensures.ok; answer = a }))
+    allows_weaker (IsAnswer plan.command files plan.outputs) (IsPlannedBytes held rose (Some plan)) c.answer.result
+    (λ o a. inl (record { answers = record { files = files; read = rw names at c.in_ok-files.ensures.ok; answer = a }; bytes = c.in_ok-files.ensures.bytes }))
     (rw given at c.answer.ensures)

@@ -1,6 +1,8 @@
-use Rattle.std.proofs.Common.{rules, ◌≡◌, arith, string_bytes, inl, inr}
+use Rattle.std.proofs.Common.{rules, ◌≡◌, ◌<◌, ℕ, arith, slice_index, string_bytes, inl, inr, subst}
 use Rattle.std.proofs.lemmas.List.{map-append}
+use Rattle.std.proofs.lemmas.List.Elements.{All-push}
 use Rattle.cg_ending.specs.Outcome.{file_of}
+use Rattle.cg_ending.specs.Reads.{HoldsBytes}
 use Rattle.cg_ending.proofs.Writes.{map_more, map_split}
 use Rattle.cg_ending.proofs.Noted.{noted_more, noted_next, noted_part}
 use Rattle.cg_ending.proofs.ReadsLemmas.{read_one, stopped, caused}
@@ -66,6 +68,10 @@ loop-name-preserved g c = record {
       (let e : c.as_str.result.now ≡ string_bytes c.in_ok-name-in-Ok.name = search rules in rw (c.loop-name.invariant.held, e) at c.in-Ok.ensures.ok)
       (let e : string_bytes c.in_ok-name-in-Ok.name ≡ string_bytes c.name-item.result = search rules in
       rw e (map_more string_bytes c.args.names.now c.loop-name.name-index c.name-item.result c.loop-name-test.true c.name-item.is)));
+  bytes = rw (c.in_ok-push-in-Ok.ensures.items, map-append) (All-push HoldsBytes _
+      (file_of (record { name = c.in_ok-name-in-Ok.name; bytes = c.in-Ok.bytes }))
+      c.loop-name.invariant.bytes
+      (subst (λ bytes. (i : ℕ) → slice_index bytes i < 256) c.deref.ensures.value c.are_bytes.ensures));
   asked = noted_more string_bytes c.args.names.now c.loop-name.name-index c.name-item.result c.as_str.result.now _ _ _ c.loop-name-test.true c.name-item.is
       (search rules) c.loop-name.invariant.asked (c.in-Ok.ensures.noted (search rules));
   wrote = grind arith;
