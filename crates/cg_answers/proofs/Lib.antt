@@ -1,6 +1,7 @@
 pub mod Shapes
 pub mod Trialed
 pub mod Netlisted
+pub mod Depended
 pub mod Commands
 pub mod Judged
 pub mod Left

@@ -1,3 +1,4 @@
 pub mod Trial
 pub mod Verilog
+pub mod Depend
 pub mod Commands

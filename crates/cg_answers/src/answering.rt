@@ -39,5 +39,6 @@ fn answer_to(
         Command::Search(request) => shaped::search(alloc, request, files, outputs),
         Command::Trial { seed } => shaped::trial(alloc, seed, files, outputs),
         Command::Verilog => shaped::verilog(alloc, files, outputs),
+        Command::Depend => shaped::depend(alloc, files, outputs),
     }
 }

@@ -2,6 +2,7 @@
 #![tactic(auto)]
 
 mod answering;
+mod depending;
 mod netlisting;
 mod shaped;
 

@@ -5,7 +5,7 @@ ghost use Rattle.cg_ending.specs.Outcome.{file_of};
 ghost use Rattle.cg_command.specs.Words.{HasShape};
 ghost use Rattle.cg_answers.specs.Commands.{IsAnswer};
 
-use crate::netlisting;
+use crate::{depending, netlisting};
 use cg_command::Command;
 use cg_ending::{File, Outcome, Status, Stop};
 use cg_model::Request;
@@ -137,4 +137,12 @@ pub(crate) fn verilog(alloc: Global, files: &[File], outputs: &[String]) -> Resu
     ensures { Allows (IsAnswer (Command.Verilog) (map file_of files.now) (map string_bytes outputs.now)) result }
 {
     netlisting::verilog(alloc, &files[0], outputs[0].as_str())
+}
+
+/// Answers `depend KERNEL OUT` over `files`; `outputs` is the name of the new kernel.
+pub(crate) fn depend(alloc: Global, files: &[File], outputs: &[String]) -> Result<Outcome, Stop>
+    requires { HasShape (Command.Depend) (length files.now) (length outputs.now) }
+    ensures { Allows (IsAnswer (Command.Depend) (map file_of files.now) (map string_bytes outputs.now)) result }
+{
+    depending::depend(alloc, &files[0], outputs[0].as_str())
 }

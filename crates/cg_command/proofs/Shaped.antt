@@ -6,10 +6,10 @@ use Rattle.std.specs.Str.Parse.{digits_value}
 use Rattle.std.proofs.lemmas.Bool.{leb-true}
 use Rattle.cg_model.specs.Limits.{most_turns, most_contexts, most_moves}
 use Rattle.cg_command.specs.declared.plans.Command.{Command}
-use Rattle.cg_command.specs.declared.plans.Command.TheVariants.{Turns, TurnsOnImage, Flat, Run, Bound, Check, Emit, Map, Search, Trial, Verilog}
+use Rattle.cg_command.specs.declared.plans.Command.TheVariants.{Turns, TurnsOnImage, Flat, Run, Bound, Check, Emit, Map, Search, Trial, Verilog, Depend}
 use Rattle.cg_model.specs.declared.request.Request.{Request}
 use Rattle.cg_model.specs.Request.{IsInRange}
-use Rattle.cg_command.specs.Words.{Text, Given, Arguments, Plan, HasShape, values_said, said_once, asked_interval, named_file, request_of, written_plan, searching_plan, map_plan, search_plan, usual_moves, usual_responses, positive, seed_of, moves_of, is_number, number_up_to, turns_of, turns_plan, flat_plan, run_plan, bound_plan, check_plan, emit_plan, trial_plan, verilog_plan, is_empty, without_options, command_plan, arguments_of, plan_of}
+use Rattle.cg_command.specs.Words.{Text, Given, Arguments, Plan, HasShape, values_said, said_once, asked_interval, named_file, request_of, written_plan, searching_plan, map_plan, search_plan, usual_moves, usual_responses, positive, seed_of, moves_of, is_number, number_up_to, turns_of, turns_plan, flat_plan, run_plan, bound_plan, check_plan, emit_plan, trial_plan, verilog_plan, depend_plan, is_empty, without_options, command_plan, arguments_of, plan_of}
 
 -- the plan has the shape of its command
 abbrev pub IsShaped : Plan → Type 0
@@ -98,6 +98,12 @@ verilog_shaped [] = none_shaped
 verilog_shaped (a ∷ []) = none_shaped
 verilog_shaped (arch ∷ out ∷ []) = one_shaped (record { command = Verilog; inputs = arch ∷ []; outputs = out ∷ [] }) (refl, refl)
 verilog_shaped (a ∷ b ∷ c ∷ more) = none_shaped
+
+depend_shaped : (words : List Text) → AreShaped (depend_plan words)
+depend_shaped [] = none_shaped
+depend_shaped (a ∷ []) = none_shaped
+depend_shaped (kernel ∷ out ∷ []) = one_shaped (record { command = Depend; inputs = kernel ∷ []; outputs = out ∷ [] }) (refl, refl)
+depend_shaped (a ∷ b ∷ c ∷ more) = none_shaped
 
 without_shaped : (plan : List Text → Option Plan) (said : Arguments) → AreShaped (plan said.words) → AreShaped (without_options plan said)
 without_shaped plan said is = either_shaped (is_empty said.options) (plan said.words) None is none_shaped
@@ -190,7 +196,8 @@ command_shaped name said =
     (either_shaped (bytes_eq name (codes "map")) (map_plan said) _ (map_shaped said)
     (either_shaped (bytes_eq name (codes "search")) (search_plan said) _ (search_shaped said)
     (either_shaped (bytes_eq name (codes "trial")) (without_options trial_plan said) _ (without_shaped trial_plan said (trial_shaped said.words))
-    (either_shaped (bytes_eq name (codes "verilog")) (without_options verilog_plan said) None (without_shaped verilog_plan said (verilog_shaped said.words)) none_shaped)))))))))
+    (either_shaped (bytes_eq name (codes "verilog")) (without_options verilog_plan said) _ (without_shaped verilog_plan said (verilog_shaped said.words))
+    (either_shaped (bytes_eq name (codes "depend")) (without_options depend_plan said) None (without_shaped depend_plan said (depend_shaped said.words)) none_shaped))))))))))
 
 said_shaped : (name : Text) (o : Option Arguments) → AreShaped (option_and_then (command_plan name) o)
 said_shaped name None = none_shaped

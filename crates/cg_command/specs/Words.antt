@@ -6,7 +6,7 @@ use Rattle.cg_model.specs.Limits.{most_turns}
 use Rattle.cg_model.specs.Request.{IsInRange}
 pub use Rattle.cg_command.specs.Numbers.{Text, is_number, number_up_to, positive, turns_of, interval_of, seed_of, moves_of, usual_seed, usual_moves, usual_responses}
 use Rattle.cg_command.specs.declared.plans.Command.{Command}
-use Rattle.cg_command.specs.declared.plans.Command.TheVariants.{Turns, TurnsOnImage, Flat, Run, Bound, Check, Emit, Map, Search, Trial, Verilog}
+use Rattle.cg_command.specs.declared.plans.Command.TheVariants.{Turns, TurnsOnImage, Flat, Run, Bound, Check, Emit, Map, Search, Trial, Verilog, Depend}
 use Rattle.cg_model.specs.declared.request.Request.{Request}
 use Rattle.cg_command.specs.declared.plans.Plan.{Plan as PlanValue}
 use Rattle.cg_command.specs.declared.arguments.Arguments.{Arguments as ArgumentsValue}
@@ -182,6 +182,11 @@ abbrev pub verilog_plan : List Text → Option Plan
 verilog_plan (arch ∷ out ∷ []) = Some (record { command = Verilog; inputs = arch ∷ []; outputs = out ∷ [] })
 verilog_plan _ = None
 
+-- depend KERNEL OUT
+abbrev pub depend_plan : List Text → Option Plan
+depend_plan (kernel ∷ out ∷ []) = Some (record { command = Depend; inputs = kernel ∷ []; outputs = out ∷ [] })
+depend_plan _ = None
+
 -- trial SEED
 abbrev pub trial_plan : List Text → Option Plan
 trial_plan (seed ∷ []) = option_map (λ n. record { command = Trial n; inputs = []; outputs = [] }) (seed_of seed)
@@ -254,7 +259,8 @@ command_plan name said =
     else (if bytes_eq name (codes "search") then search_plan said
     else (if bytes_eq name (codes "trial") then without_options trial_plan said
     else (if bytes_eq name (codes "verilog") then without_options verilog_plan said
-    else None)))))))))
+    else (if bytes_eq name (codes "depend") then without_options depend_plan said
+    else None))))))))))
 
 -- what the words ask, None where they fit no command
 unfoldable pub plan_of : List Text → Option Plan
@@ -274,3 +280,4 @@ HasShape (Map request) inputs outputs = (inputs ≡ 2) × ((outputs ≡ 1) ⊎ (
 HasShape (Search request) inputs outputs = (inputs ≡ 2) × ((outputs ≡ 1) ⊎ (outputs ≡ 2)) × IsInRange request
 HasShape (Trial seed) inputs outputs = (inputs ≡ 0) × (outputs ≡ 0)
 HasShape Verilog inputs outputs = (inputs ≡ 1) × (outputs ≡ 1)
+HasShape Depend inputs outputs = (inputs ≡ 1) × (outputs ≡ 1)

@@ -35,6 +35,8 @@ pub enum Command {
     Trial { seed: u64 },
     /// `verilog ARCH OUT`: the netlist of an architecture, as structural Verilog.
     Verilog,
+    /// `depend KERNEL OUT`: the kernel with the order edges that its accesses need.
+    Depend,
 }
 
 /// A command with the names of its files: the inputs in the order of reading, the outputs in
@@ -114,6 +116,7 @@ fn command_plan(alloc: Global, name: &str, said: &Arguments) -> Result<Option<Pl
         "search" => search_plan(alloc, said),
         "trial" if has_no_options(said) => trial_plan(alloc, said.words.as_slice()),
         "verilog" if has_no_options(said) => verilog_plan(alloc, said.words.as_slice()),
+        "depend" if has_no_options(said) => depend_plan(alloc, said.words.as_slice()),
         _ => Ok(None),
     }
 }
@@ -257,6 +260,18 @@ fn verilog_plan(alloc: Global, words: &[&str]) -> Result<Option<Plan>, AllocErro
 {
     match words {
         [arch, out] => plan_with(alloc, Command::Verilog, &[*arch], &[*out]),
+        _ => Ok(None),
+    }
+}
+
+fn depend_plan(alloc: Global, words: &[&str]) -> Result<Option<Plan>, AllocError>
+    ensures plan { IfOk result
+        (λ p. option_map spec.planned p ≡ spec.depend_plan (map (λ word. word.now) words.now)) }
+    ensures shape { IfOk result (λ p. IfSome p
+        (λ plan. HasShape plan.command (vec_len plan.inputs) (vec_len plan.outputs))) }
+{
+    match words {
+        [kernel, out] => plan_with(alloc, Command::Depend, &[*kernel], &[*out]),
         _ => Ok(None),
     }
 }

@@ -4,6 +4,7 @@
 pub const COMMANDS: &str =
     "bound ARCH KERNEL             finds the least interval that nothing forbids
 check ARCH KERNEL MAPPING     says whether a mapping is legal
+depend KERNEL OUT             writes a kernel with the order edges that its accesses need
 emit ARCH KERNEL MAPPING OUT  writes the bits of a legal mapping
 flat ARCH OUT                 writes the flat text of an architecture
 map ARCH KERNEL OUT           searches a mapping, and writes its bits (--ii N, --seed N, --moves N, --mapping FILE)

@@ -1,0 +1,85 @@
+-- `depend KERNEL OUT`.
+use Rattle.std.specs.Prelude.{◌≡◌, ℕ, ◌≤◌, ◌+◌, nat_lt, if◌then◌else◌, List, length, Result, Ok, Err, codes, decimal, [], ◌∷◌}
+use Rattle.serde_json.specs.Written.{compact_text}
+use Rattle.cg_model.specs.Limits.{most_order_edges}
+use Rattle.cg_model.specs.Kernel.{Kernel}
+use Rattle.cg_model.specs.declared.kernel.OrderEdge.{OrderEdge}
+use Rattle.cg_model.specs.Order.{IsUnaliased}
+use Rattle.cg_model.specs.Turns.{turns_left}
+use Rattle.cg_model.specs.Work.{Image}
+use Rattle.cg_ending.specs.declared.outcome.Status.TheVariants.{Done}
+use Rattle.cg_files.specs.Held.{Holds, Appends}
+use Rattle.cg_ending.specs.Outcome.{Name, Bytes, File, Outcome, line_of, line_then}
+use Rattle.cg_ending.specs.Ends.{Moment}
+use Rattle.cg_ending.specs.Refusals.{malformed_of, writes_one}
+use Rattle.cg_kernel.specs.declared.fault.KernelFault.{KernelFault}
+use Rattle.cg_kernel.specs.Answer.{answer_of}
+use Rattle.cg_kernel.specs.Texts.{kernel_fault_text}
+use Rattle.cg_kernel_text.specs.Printed.{data_of}
+use Rattle.cg_depend.specs.declared.fault.DependFault.TheVariants.{TooManyEdges}
+use Rattle.cg_depend.specs.Depend.{AreNeeded, IsDepend, with_order}
+use Rattle.cg_depend.specs.Texts.{depend_fault_text}
+
+-- how many order edges were added, and how many there are
+abbrev pub depend_report : ℕ → ℕ → Bytes
+depend_report added all = line_then (codes "added " ∷ decimal added ∷ []) (line_of (codes "order " ∷ decimal all ∷ []))
+
+-- the text of a kernel
+abbrev pub kernel_text : Kernel → Bytes
+kernel_text K = compact_text (data_of K)
+
+-- the number of its order edges with these
+abbrev pub order_with : Kernel → List OrderEdge → ℕ
+order_with K es = length K.order + length es
+
+-- the kernel is written, of whose order edges so many were added
+abbrev pub written_of : ℕ → Kernel → Name → Outcome
+written_of added K out = writes_one Done (depend_report added (length K.order)) out (kernel_text K)
+
+-- the kernel with these edges is written
+abbrev pub depended : Kernel → List OrderEdge → Name → Outcome
+depended K es out = written_of (length es) (with_order K es) out
+
+-- there are more than a kernel may have
+abbrev pub too_many : Name → Kernel → List OrderEdge → Outcome
+too_many file K es = malformed_of file (depend_fault_text (TooManyEdges (order_with K es)))
+
+-- by the edges that the kernel's accesses need
+abbrev pub depend_by_edges : Name → Name → Kernel → List OrderEdge → Outcome
+depend_by_edges file out K es = if nat_lt most_order_edges (order_with K es) then too_many file K es else depended K es out
+
+abbrev pub DependOf : Name → Name → Kernel → Outcome → Type 0
+DependOf file out K o = (es : List OrderEdge) × AreNeeded K es × (o ≡ depend_by_edges file out K es)
+
+-- by what the file spells: a kernel, or a fault
+abbrev pub DependBy : File → Name → Outcome → Result Kernel KernelFault → Type 0
+DependBy file out o (Ok K) = DependOf file.name out K o
+DependBy file out o (Err f) = o ≡ malformed_of file.name (kernel_fault_text f)
+
+abbrev pub IsDependOf : File → Name → Outcome → Type 0
+IsDependOf file out o = DependBy file out o (answer_of file.bytes)
+
+-- the bytes spell a kernel that has few enough order edges with those that its accesses need
+pub record IsDependable (file : File) : Type 0 where
+  pub kernel : Kernel
+  pub kernel_is : answer_of file.bytes ≡ Ok kernel
+  pub edges : List OrderEdge
+  pub needed : AreNeeded kernel edges
+  pub few : order_with kernel edges ≤ most_order_edges
+
+-- Done: a kernel was read; the text of the kernel with the edges that its accesses need is held under the other name, and
+-- their numbers were put. It does the same turns, and no run of it of at most 1,000,000 turns leaves accesses unordered
+-- that matter, whatever the image: so what holds of its mappings needs no premise on the image
+pub record IsDepended (file out : Name) (before after : Moment) : Type 0 where
+  pub bytes : Bytes
+  pub held : Holds before.held file bytes
+  pub kernel : Kernel
+  pub spelled : answer_of bytes ≡ Ok kernel
+  pub edges : List OrderEdge
+  pub needed : AreNeeded kernel edges
+  pub depended : Kernel
+  pub is : depended ≡ with_order kernel edges
+  pub same : (n : ℕ) (image : Image) → turns_left depended n image ≡ turns_left kernel n image
+  pub free : (n : ℕ) (image : Image) → n ≤ 1000000 → IsUnaliased depended n image
+  pub written : Holds after.held out (kernel_text depended)
+  pub put : Appends before.taken (depend_report (length edges) (length depended.order)) after.taken

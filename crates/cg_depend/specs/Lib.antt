@@ -1,0 +1,5 @@
+pub mod Affine
+pub mod Congruence
+pub mod Depend
+pub mod Gathered
+pub mod Texts

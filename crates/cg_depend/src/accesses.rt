@@ -1,0 +1,221 @@
+//! The accesses of a kernel: which edge a pair of them needs.
+ghost use Rattle.std.specs.Prelude.{◌≡◌, ◌<◌, ◌≤◌, ◌↔◌, IfOk, IsTrue, option_map, Some};
+ghost use Rattle.cg_model.specs.Kernel.{Kernel as KernelValue, size};
+ghost use Rattle.cg_depend.specs.Affine.{address_pair};
+ghost use Rattle.cg_depend.specs.Depend.{Ask, Gap, Within, distance_for};
+ghost use Rattle.cg_depend.specs.Gathered.{HasLines, HasRoles, meet, pair_in, role_of};
+
+use crate::gap::{Stride, gap, parted};
+use crate::table::{AffineTable, affine};
+use cg_distance::{DistanceTable, min_distance};
+use cg_model::{Kernel, MOST_ORDER_DISTANCE, OrderEdge};
+use cg_word::Op;
+use std::alloc::{AllocError, Global};
+use std::marker::Model;
+
+/// The pair of an address, with its stride made ready.
+#[derive(Drop)]
+pub(crate) struct Line {
+    pub base: u32,
+    pub stride: Stride,
+}
+
+/// How a node accesses the memory.
+#[derive(Clone, Copy, Debug, PartialEq, Eq)]
+pub(crate) enum Role {
+    /// It doesn't.
+    Apart,
+    Loads,
+    Stores,
+}
+
+/// A kernel with the roles of its nodes, the pairs of their addresses and the distances of its chains. Contracts see it as
+/// the kernel.
+#[derive(Drop)]
+pub(crate) struct Accesses<'k> {
+    kernel: &'k Kernel,
+    roles: Vec<Role>,
+    lines: Vec<Option<Line>>,
+    table: DistanceTable<'k>,
+}
+
+impl<'k> Model for Accesses<'k> {
+    ghost use Rattle.std.specs.Prelude.{◌≡◌};
+    ghost use Rattle.cg_model.specs.Kernel as kernels;
+    ghost use Rattle.cg_depend.specs.Gathered.{HasLines, HasRoles};
+
+    ghost Value = { kernels.Kernel };
+
+    ghost view = { λ a. a.kernel.now };
+
+    ghost invariant = { λ a. HasRoles a.kernel.now a.roles.items × HasLines a.kernel.now a.lines.items × (a.table ≡ a.kernel.now) };
+}
+
+impl<'k> Accesses<'k> {
+    ghost use Rattle.std.specs.Prelude.{◌≡◌, ◌<◌, ◌≤◌, ◌∷◌, [], IfOk};
+    ghost use Rattle.cg_word.specs.Word.{is_access};
+    ghost use Rattle.cg_model.specs.Kernel.{node, size};
+    ghost use Rattle.cg_depend.specs.Depend.{Added, conflict};
+    ghost use Rattle.cg_depend.specs.Gathered.{ask, list_of};
+
+    /// Returns the accesses of `kernel`.
+    pub fn of(alloc: Global, kernel: &'k Kernel) -> Result<Accesses<'k>, AllocError>
+        ensures { IfOk result (λ a. a ≡ kernel.now) }
+    {
+        let roles = roles_of(alloc, kernel)?;
+        let lines = lines_of(alloc, kernel)?;
+        let table = min_distance(alloc, kernel)?;
+        Ok(Accesses {
+            kernel,
+            roles,
+            lines,
+            table,
+        })
+    }
+
+    /// Returns the number of nodes.
+    pub fn size(&self) -> usize
+        ensures { result ≡ size self.now }
+    {
+        self.kernel.nodes().len()
+    }
+
+    /// Tells whether the node `u` accesses the memory.
+    pub fn is_access(&self, u: u32) -> bool
+        requires { u < size self.now }
+        ensures { result ≡ is_access (node self.now u).op }
+    {
+        self.kernel.nodes()[u as usize].op.is_access()
+    }
+
+    /// Tells whether the nodes `u` and `v` access the memory and at least one of them stores.
+    pub fn conflict(&self, u: u32, v: u32) -> bool
+        requires u { u < size self.now }
+        requires v { v < size self.now }
+        ensures { result ≡ conflict self.now u v }
+    {
+        meet(self.roles[u as usize], self.roles[v as usize])
+    }
+
+    /// Returns the edge that is to be added so that `to` comes after `from` wherever it reaches the same word, `least`
+    /// turns later or more; None where none is needed.
+    pub fn edge(&self, from: u32, to: u32, least: u32) -> Option<OrderEdge>
+        requires from { from < size self.now }
+        requires to { to < size self.now }
+        requires least { least ≤ 1 }
+        ensures { Added self.now (ask from to least ∷ []) (list_of result) }
+    {
+        let source = &self.lines[from as usize];
+        let target = &self.lines[to as usize];
+        let Some(gap) = gap_between(source, target, least) else {
+            return None;
+        };
+        let distance = distance_for(gap);
+        if is_within(&self.table, from, to, distance) {
+            None
+        } else {
+            Some(OrderEdge { from, to, distance })
+        }
+    }
+}
+
+/// Returns the roles of the nodes of `kernel`.
+fn roles_of(alloc: Global, kernel: &Kernel) -> Result<Vec<Role>, AllocError>
+    ensures { IfOk result (λ roles. HasRoles kernel.now roles.items) }
+{
+    let nodes = kernel.nodes();
+    let mut roles = Vec::new(alloc);
+    for number in 0..nodes.len() {
+        roles.push(role_of(nodes[number].op))?;
+    }
+    Ok(roles)
+}
+
+/// Returns the role of a node of the operation `op`.
+fn role_of(op: Op) -> Role
+    ensures { result ≡ role_of op }
+{
+    if op.is_store() {
+        Role::Stores
+    } else if op.is_access() {
+        Role::Loads
+    } else {
+        Role::Apart
+    }
+}
+
+/// Tells whether both nodes access the memory and one stores, by their roles.
+fn meet(one: Role, other: Role) -> bool
+    ensures { result ≡ meet one other }
+{
+    match (one, other) {
+        (Role::Apart, _) | (_, Role::Apart) | (Role::Loads, Role::Loads) => false,
+        _ => true,
+    }
+}
+
+/// Returns how far an order edge goes for a gap of `gap` turns.
+fn distance_for(gap: u32) -> u32
+    ensures { result ≡ distance_for gap }
+{
+    gap.min(MOST_ORDER_DISTANCE)
+}
+
+/// Returns for each node of `kernel` the pair of its address.
+fn lines_of(alloc: Global, kernel: &Kernel) -> Result<Vec<Option<Line>>, AllocError>
+    ensures { IfOk result (λ lines. HasLines kernel.now lines.items) }
+{
+    let table = affine(alloc, kernel)?;
+    let mut lines = Vec::new(alloc);
+    for node in 0..kernel.nodes().len() {
+        lines.push(line_at(&table, node as u32))?;
+    }
+    Ok(lines)
+}
+
+/// Returns the pair of the address of the node of number `node`, made ready.
+fn line_at(table: &AffineTable, node: u32) -> Option<Line>
+    requires { node < size table.now }
+    ensures { option_map pair_in result ≡ address_pair table.now node }
+{
+    match table.address(node) {
+        Some(pair) => Some(Line {
+            base: pair.base,
+            stride: parted(pair.stride),
+        }),
+        None => None,
+    }
+}
+
+/// Returns the least number of turns, from `least` on, after which an access at `to` may reach the word of one at `from`;
+/// None where it doesn't in any run.
+fn gap_between(from: &Option<Line>, to: &Option<Line>, least: u32) -> Option<u32>
+    requires { least ≤ 1 }
+    ensures { (K : KernelValue) (a : Ask) → address_pair K a.source ≡ option_map pair_in from.now → address_pair K a.target ≡ option_map pair_in to.now → a.least ≡ least → Gap K a result }
+{
+    match (from, to) {
+        (Some(one), Some(other)) => line_gap(one, other, least),
+        _ => Some(least),
+    }
+}
+
+/// Returns the same for two addresses that have pairs.
+fn line_gap(from: &Line, to: &Line, least: u32) -> Option<u32>
+    requires { least ≤ 1 }
+    ensures { (K : KernelValue) (a : Ask) → address_pair K a.source ≡ Some (pair_in from.now) → address_pair K a.target ≡ Some (pair_in to.now) → a.least ≡ least → Gap K a result }
+{
+    if from.stride.word() != to.stride.word() {
+        return Some(least);
+    }
+    gap(&from.stride, from.base.wrapping_sub(to.base), least)
+}
+
+/// Tells whether a chain leads from `from` to `to` over at most `most` turns.
+fn is_within(table: &DistanceTable, from: u32, to: u32, most: u32) -> bool
+    ensures { IsTrue result ↔ Within table.now from to most }
+{
+    match table.get(from, to) {
+        Some(distance) => distance <= most,
+        None => false,
+    }
+}

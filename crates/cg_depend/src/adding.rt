@@ -1,0 +1,63 @@
+//! The order edges that a kernel's accesses need, added to it.
+ghost use Rattle.std.specs.Prelude.{◌≡◌, ◌≢◌, ◌≤◌, ◌<◌, ◌+◌, ℕ, Err, IfOk, IfErr, length};
+ghost use Rattle.cg_model.specs.Kernel.{IsKernel};
+ghost use Rattle.cg_model.specs.Order.{IsUnaliased};
+ghost use Rattle.cg_model.specs.Turns.{turns_left};
+ghost use Rattle.cg_model.specs.Work.{Image};
+ghost use Rattle.cg_depend.specs.Depend.{BeginsWith, IsDepend, NeedsOrder, with_order};
+
+use crate::copy::copy_of;
+use crate::fault::DependFault;
+use crate::gather::needed_edges;
+use cg_model::{Kernel, MOST_ORDER_EDGES, OrderEdge};
+use std::alloc::{AllocError, Global};
+
+/// A kernel with the order edges that its accesses need.
+#[derive(Drop)]
+pub struct DependDone {
+    /// The kernel. Its order edges are those it had, and after them the added ones.
+    pub kernel: Kernel,
+    /// How many were added.
+    pub added: u32,
+}
+
+/// Returns a copy of `kernel` with the order edges that its accesses need beside its own: in no run of at most 1,000,000
+/// turns, on no image, two accesses to one word are left unordered of which one is a store.
+///
+/// Which edges these are is said in `docs/dependence.md`.
+///
+/// # Errors
+///
+/// `TooManyEdges` where the kernel would have more than 4,096 order edges.
+pub fn depend(alloc: Global, kernel: &Kernel) -> Result<DependDone, DependFault>
+    ensures done { IfOk result (λ d. IsDepend kernel.now d.kernel) }
+    ensures added { IfOk result (λ d. length d.kernel.order ≡ length kernel.now.order + d.added) }
+    ensures begins { IfOk result (λ d. BeginsWith kernel.now d.kernel) }
+    ensures same { IfOk result (λ d. (n : ℕ) (image : Image) → turns_left d.kernel n image ≡ turns_left kernel.now n image) }
+    ensures unaliased { IfOk result (λ d. (n : ℕ) (image : Image) → n ≤ 1000000 → IsUnaliased d.kernel n image) }
+    // With at most 4,096 order edges in all the answer is Ok, or memory ran out; with more it is their number.
+    ensures few { IfOk result (λ d. length d.kernel.order ≤ 4096) }
+    ensures many { (n : ℕ) → result ≡ Err (DependFault.TooManyEdges n) → NeedsOrder kernel.now n × (4096 < n) }
+{
+    let needed = needed_edges(alloc, kernel)?;
+    if needed.total > MOST_ORDER_EDGES {
+        return Err(DependFault::TooManyEdges(needed.total));
+    }
+    Ok(with_order(alloc, kernel, needed.edges.as_slice())?)
+}
+
+/// Returns a copy of `kernel` with the edges `added` after its own.
+fn with_order(alloc: Global, kernel: &Kernel, added: &[OrderEdge]) -> Result<DependDone, AllocError>
+    requires valid { IsKernel (with_order kernel.now added.now) }
+    requires few { length added.now ≤ 4096 }
+    ensures kernel { IfOk result (λ d. d.kernel ≡ with_order kernel.now added.now) }
+    ensures added { IfOk result (λ d. d.added ≡ length added.now) }
+{
+    let nodes = copy_of(alloc, kernel.nodes())?;
+    let mut order = Vec::from_slice(alloc, kernel.order())?;
+    order.extend_from_slice(added)?;
+    Ok(DependDone {
+        kernel: Kernel::new(nodes, order),
+        added: added.len() as u32,
+    })
+}

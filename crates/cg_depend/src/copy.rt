@@ -1,0 +1,57 @@
+//! Copies of nodes.
+ghost use Rattle.std.specs.Prelude.{◌≡◌, IfOk};
+
+use cg_model::{Name, Node, Operand, Operands, Words};
+use std::alloc::{AllocError, Global};
+
+/// Returns a copy of `nodes`, with their names, operands and initial words.
+pub(crate) fn copy_of(alloc: Global, nodes: &[Node]) -> Result<Vec<Node>, AllocError>
+    ensures { IfOk result (λ copy. copy.items ≡ nodes.now) }
+{
+    let mut copies = Vec::new(alloc);
+    for node in nodes {
+        copies.push(copy_node(alloc, node)?)?;
+    }
+    Ok(copies)
+}
+
+/// Returns a copy of `node`.
+fn copy_node(alloc: Global, node: &Node) -> Result<Node, AllocError>
+    ensures { IfOk result (λ copy. copy ≡ node.now) }
+{
+    Ok(Node {
+        name: Name::copy_of(alloc, node.name.as_str())?,
+        op: node.op,
+        port: node.port,
+        operands: copy_operands(alloc, node.operands.as_slice())?,
+    })
+}
+
+/// Returns a copy of `operands`.
+fn copy_operands(alloc: Global, operands: &[Operand]) -> Result<Operands, AllocError>
+    ensures { IfOk result (λ copy. copy ≡ operands.now) }
+{
+    let mut copies = Vec::new(alloc);
+    for operand in operands {
+        copies.push(copy_operand(alloc, operand)?)?;
+    }
+    Ok(Operands::new(copies))
+}
+
+/// Returns a copy of `operand`.
+fn copy_operand(alloc: Global, operand: &Operand) -> Result<Operand, AllocError>
+    ensures { IfOk result (λ copy. copy ≡ operand.now) }
+{
+    match operand {
+        Operand::Const(word) => Ok(Operand::Const(*word)),
+        Operand::Edge {
+            from,
+            distance,
+            init,
+        } => Ok(Operand::Edge {
+            from: *from,
+            distance: *distance,
+            init: Words::new(Vec::from_slice(alloc, init.as_slice())?),
+        }),
+    }
+}

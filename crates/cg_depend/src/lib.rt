@@ -1,0 +1,16 @@
+//! Affine addresses of a kernel, and the order edges that its accesses need, whatever the image.
+#![tactic(auto)]
+
+mod accesses;
+mod adding;
+mod copy;
+mod fault;
+mod gap;
+mod gather;
+mod laws;
+mod table;
+
+pub use adding::{DependDone, depend};
+pub use fault::{DependFault, depend_fault_text};
+pub use laws::always_needed;
+pub use table::{AffinePair, AffineTable, affine};
