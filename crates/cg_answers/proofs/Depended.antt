@@ -1,6 +1,6 @@
 -- What `depend` answers.
-use Rattle.std.proofs.Common.{◌≡◌, ℕ, ◌<◌, ◌≤◌, List, [], ◌∷◌, nat_lt, Bool, true, false, cond, Result, Ok, Err, refl, sym, ◌∙◌, ap, subst, inl, inr}
-use Rattle.std.proofs.lemmas.Bool.{le-ltb, lt-ltb}
+use Rattle.std.proofs.Common.{◌≡◌, ℕ, ◌≤◌, List, [], ◌∷◌, nat_lt, Bool, true, false, cond, Result, Ok, Err, refl, sym, ◌∙◌, ap, subst, inl, inr}
+use Rattle.std.proofs.lemmas.Bool.{le-ltb}
 use Rattle.cg_model.specs.Limits.{most_order_edges}
 use Rattle.cg_model.specs.Kernel.{Kernel}
 use Rattle.cg_model.specs.declared.kernel.OrderEdge.{OrderEdge}
@@ -105,10 +105,3 @@ depend_refused file out o t = subst (DependBy file out o) (sym t.is_fault) t.out
 
 pub depend_given : (file : File) (out : Name) (K : Kernel) (o : Outcome) → answer_of file.bytes ≡ Ok K → DependOf file.name out K o → IsDependOf file out o
 depend_given file out K o e p = subst (DependBy file out o) (sym e) p
-
--- from the answer for a kernel
-pub few_depended : (file out : Name) (K : Kernel) (es : List OrderEdge) (o : Outcome) → AreNeeded K es → order_with K es ≤ most_order_edges → o ≡ depended K es out → DependOf file out K o
-few_depended file out K es o needed few is = (es, needed, is ∙ sym (few_done file out K es few))
-
-pub many_depended : (file out : Name) (K : Kernel) (es : List OrderEdge) (o : Outcome) → AreNeeded K es → most_order_edges < order_with K es → o ≡ too_many file K es → DependOf file out K o
-many_depended file out K es o needed many is = (es, needed, is ∙ sym (ap (λ b. cond b (too_many file K es) (depended K es out)) (lt-ltb most_order_edges (order_with K es) many)))

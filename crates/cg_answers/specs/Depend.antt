@@ -20,7 +20,7 @@ use Rattle.cg_depend.specs.declared.fault.DependFault.TheVariants.{TooManyEdges}
 use Rattle.cg_depend.specs.Depend.{AreNeeded, IsDepend, with_order}
 use Rattle.cg_depend.specs.Texts.{depend_fault_text}
 
--- how many order edges were added, and how many there are
+-- the report: `added` order edges were added, and the kernel has `all`
 abbrev pub depend_report : ℕ → ℕ → Bytes
 depend_report added all = line_then (codes "added " ∷ decimal added ∷ []) (line_of (codes "order " ∷ decimal all ∷ []))
 
@@ -28,26 +28,27 @@ depend_report added all = line_then (codes "added " ∷ decimal added ∷ []) (l
 abbrev pub kernel_text : Kernel → Bytes
 kernel_text K = compact_text (data_of K)
 
--- the number of its order edges with these
+-- how many order edges K has with es
 abbrev pub order_with : Kernel → List OrderEdge → ℕ
 order_with K es = length K.order + length es
 
--- the kernel is written, of whose order edges so many were added
+-- Done: the text of K is written under the name `out`; the report says that `added` of its order edges are new
 abbrev pub written_of : ℕ → Kernel → Name → Outcome
 written_of added K out = writes_one Done (depend_report added (length K.order)) out (kernel_text K)
 
--- the kernel with these edges is written
+-- the same for K with the order edges es after its own
 abbrev pub depended : Kernel → List OrderEdge → Name → Outcome
 depended K es out = written_of (length es) (with_order K es) out
 
--- there are more than a kernel may have
+-- Malformed: with es K would have more order edges than a kernel may have
 abbrev pub too_many : Name → Kernel → List OrderEdge → Outcome
 too_many file K es = malformed_of file (depend_fault_text (TooManyEdges (order_with K es)))
 
--- by the edges that the kernel's accesses need
+-- one or the other, by how many there would be
 abbrev pub depend_by_edges : Name → Name → Kernel → List OrderEdge → Outcome
 depend_by_edges file out K es = if nat_lt most_order_edges (order_with K es) then too_many file K es else depended K es out
 
+-- the outcome o for K: es are the order edges that its accesses need
 abbrev pub DependOf : Name → Name → Kernel → Outcome → Type 0
 DependOf file out K o = (es : List OrderEdge) × AreNeeded K es × (o ≡ depend_by_edges file out K es)
 

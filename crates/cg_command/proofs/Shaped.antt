@@ -9,7 +9,7 @@ use Rattle.cg_command.specs.declared.plans.Command.{Command}
 use Rattle.cg_command.specs.declared.plans.Command.TheVariants.{Turns, TurnsOnImage, Flat, Run, Bound, Check, Emit, Map, Search, Trial, Verilog, Depend}
 use Rattle.cg_model.specs.declared.request.Request.{Request}
 use Rattle.cg_model.specs.Request.{IsInRange}
-use Rattle.cg_command.specs.Words.{Text, Given, Arguments, Plan, HasShape, values_said, said_once, asked_interval, named_file, request_of, written_plan, searching_plan, map_plan, search_plan, usual_moves, usual_responses, positive, seed_of, moves_of, is_number, number_up_to, turns_of, turns_plan, flat_plan, run_plan, bound_plan, check_plan, emit_plan, trial_plan, verilog_plan, depend_plan, is_empty, without_options, command_plan, arguments_of, plan_of}
+use Rattle.cg_command.specs.Words.{Text, Given, Arguments, Plan, HasShape, values_said, said_once, asked_interval, named_file, request_of, written_plan, searching_plan, map_plan, search_plan, usual_moves, usual_responses, positive, seed_of, moves_of, is_number, number_up_to, turns_of, turns_plan, file_plan, run_plan, bound_plan, check_plan, emit_plan, trial_plan, is_empty, without_options, command_plan, arguments_of, plan_of}
 
 -- the plan has the shape of its command
 abbrev pub IsShaped : Plan → Type 0
@@ -51,11 +51,11 @@ turns_shaped (kernel ∷ turns ∷ input ∷ output ∷ []) =
     numbered_shaped (turns_of turns) (λ n. record { command = TurnsOnImage n; inputs = kernel ∷ input ∷ []; outputs = output ∷ [] }) (λ n e. (refl, refl, number_few most_turns turns n e))
 turns_shaped (a ∷ b ∷ c ∷ d ∷ e ∷ more) = none_shaped
 
-flat_shaped : (words : List Text) → AreShaped (flat_plan words)
-flat_shaped [] = none_shaped
-flat_shaped (a ∷ []) = none_shaped
-flat_shaped (arch ∷ out ∷ []) = one_shaped (record { command = Flat; inputs = arch ∷ []; outputs = out ∷ [] }) (refl, refl)
-flat_shaped (a ∷ b ∷ c ∷ more) = none_shaped
+file_shaped : (command : Command) → HasShape command 1 1 → (words : List Text) → AreShaped (file_plan command words)
+file_shaped command shape [] = none_shaped
+file_shaped command shape (a ∷ []) = none_shaped
+file_shaped command shape (input ∷ output ∷ []) = one_shaped (record { command = command; inputs = input ∷ []; outputs = output ∷ [] }) shape
+file_shaped command shape (a ∷ b ∷ c ∷ more) = none_shaped
 
 run_shaped : (words : List Text) → AreShaped (run_plan words)
 run_shaped [] = none_shaped
@@ -92,18 +92,6 @@ trial_shaped : (words : List Text) → AreShaped (trial_plan words)
 trial_shaped [] = none_shaped
 trial_shaped (seed ∷ []) = numbered_shaped (seed_of seed) (λ n. record { command = Trial n; inputs = []; outputs = [] }) (λ n e. (refl, refl))
 trial_shaped (a ∷ b ∷ more) = none_shaped
-
-verilog_shaped : (words : List Text) → AreShaped (verilog_plan words)
-verilog_shaped [] = none_shaped
-verilog_shaped (a ∷ []) = none_shaped
-verilog_shaped (arch ∷ out ∷ []) = one_shaped (record { command = Verilog; inputs = arch ∷ []; outputs = out ∷ [] }) (refl, refl)
-verilog_shaped (a ∷ b ∷ c ∷ more) = none_shaped
-
-depend_shaped : (words : List Text) → AreShaped (depend_plan words)
-depend_shaped [] = none_shaped
-depend_shaped (a ∷ []) = none_shaped
-depend_shaped (kernel ∷ out ∷ []) = one_shaped (record { command = Depend; inputs = kernel ∷ []; outputs = out ∷ [] }) (refl, refl)
-depend_shaped (a ∷ b ∷ c ∷ more) = none_shaped
 
 without_shaped : (plan : List Text → Option Plan) (said : Arguments) → AreShaped (plan said.words) → AreShaped (without_options plan said)
 without_shaped plan said is = either_shaped (is_empty said.options) (plan said.words) None is none_shaped
@@ -188,7 +176,7 @@ search_shaped said = ranged_shaped (λ request. searching_plan (Search request) 
 command_shaped : (name : Text) (said : Arguments) → AreShaped (command_plan name said)
 command_shaped name said =
     either_shaped (bytes_eq name (codes "turns")) (without_options turns_plan said) _ (without_shaped turns_plan said (turns_shaped said.words))
-    (either_shaped (bytes_eq name (codes "flat")) (without_options flat_plan said) _ (without_shaped flat_plan said (flat_shaped said.words))
+    (either_shaped (bytes_eq name (codes "flat")) (without_options (file_plan Flat) said) _ (without_shaped (file_plan Flat) said (file_shaped Flat (refl, refl) said.words))
     (either_shaped (bytes_eq name (codes "run")) (without_options run_plan said) _ (without_shaped run_plan said (run_shaped said.words))
     (either_shaped (bytes_eq name (codes "bound")) (without_options bound_plan said) _ (without_shaped bound_plan said (bound_shaped said.words))
     (either_shaped (bytes_eq name (codes "check")) (without_options check_plan said) _ (without_shaped check_plan said (check_shaped said.words))
@@ -196,8 +184,8 @@ command_shaped name said =
     (either_shaped (bytes_eq name (codes "map")) (map_plan said) _ (map_shaped said)
     (either_shaped (bytes_eq name (codes "search")) (search_plan said) _ (search_shaped said)
     (either_shaped (bytes_eq name (codes "trial")) (without_options trial_plan said) _ (without_shaped trial_plan said (trial_shaped said.words))
-    (either_shaped (bytes_eq name (codes "verilog")) (without_options verilog_plan said) _ (without_shaped verilog_plan said (verilog_shaped said.words))
-    (either_shaped (bytes_eq name (codes "depend")) (without_options depend_plan said) None (without_shaped depend_plan said (depend_shaped said.words)) none_shaped))))))))))
+    (either_shaped (bytes_eq name (codes "verilog")) (without_options (file_plan Verilog) said) _ (without_shaped (file_plan Verilog) said (file_shaped Verilog (refl, refl) said.words))
+    (either_shaped (bytes_eq name (codes "depend")) (without_options (file_plan Depend) said) None (without_shaped (file_plan Depend) said (file_shaped Depend (refl, refl) said.words)) none_shaped))))))))))
 
 said_shaped : (name : Text) (o : Option Arguments) → AreShaped (option_and_then (command_plan name) o)
 said_shaped name None = none_shaped

@@ -151,10 +151,10 @@ turns_plan (kernel ∷ turns ∷ input ∷ output ∷ []) =
     option_map (λ n. record { command = TurnsOnImage n; inputs = kernel ∷ input ∷ []; outputs = output ∷ [] }) (turns_of turns)
 turns_plan _ = None
 
--- flat ARCH OUT
-abbrev pub flat_plan : List Text → Option Plan
-flat_plan (arch ∷ out ∷ []) = Some (record { command = Flat; inputs = arch ∷ []; outputs = out ∷ [] })
-flat_plan _ = None
+-- flat ARCH OUT, verilog ARCH OUT and depend KERNEL OUT: a command that reads one file and writes one
+abbrev pub file_plan : Command → List Text → Option Plan
+file_plan command (input ∷ output ∷ []) = Some (record { command = command; inputs = input ∷ []; outputs = output ∷ [] })
+file_plan command _ = None
 
 -- run ARCH BITS TURNS IN OUT
 abbrev pub run_plan : List Text → Option Plan
@@ -176,16 +176,6 @@ check_plan _ = None
 abbrev pub emit_plan : List Text → Option Plan
 emit_plan (arch ∷ kernel ∷ mapping ∷ out ∷ []) = Some (record { command = Emit; inputs = arch ∷ kernel ∷ mapping ∷ []; outputs = out ∷ [] })
 emit_plan _ = None
-
--- verilog ARCH OUT
-abbrev pub verilog_plan : List Text → Option Plan
-verilog_plan (arch ∷ out ∷ []) = Some (record { command = Verilog; inputs = arch ∷ []; outputs = out ∷ [] })
-verilog_plan _ = None
-
--- depend KERNEL OUT
-abbrev pub depend_plan : List Text → Option Plan
-depend_plan (kernel ∷ out ∷ []) = Some (record { command = Depend; inputs = kernel ∷ []; outputs = out ∷ [] })
-depend_plan _ = None
 
 -- trial SEED
 abbrev pub trial_plan : List Text → Option Plan
@@ -250,7 +240,7 @@ without_options plan said = if is_empty said.options then plan said.words else N
 abbrev pub command_plan : Text → Arguments → Option Plan
 command_plan name said =
     if bytes_eq name (codes "turns") then without_options turns_plan said
-    else (if bytes_eq name (codes "flat") then without_options flat_plan said
+    else (if bytes_eq name (codes "flat") then without_options (file_plan Flat) said
     else (if bytes_eq name (codes "run") then without_options run_plan said
     else (if bytes_eq name (codes "bound") then without_options bound_plan said
     else (if bytes_eq name (codes "check") then without_options check_plan said
@@ -258,8 +248,8 @@ command_plan name said =
     else (if bytes_eq name (codes "map") then map_plan said
     else (if bytes_eq name (codes "search") then search_plan said
     else (if bytes_eq name (codes "trial") then without_options trial_plan said
-    else (if bytes_eq name (codes "verilog") then without_options verilog_plan said
-    else (if bytes_eq name (codes "depend") then without_options depend_plan said
+    else (if bytes_eq name (codes "verilog") then without_options (file_plan Verilog) said
+    else (if bytes_eq name (codes "depend") then without_options (file_plan Depend) said
     else None))))))))))
 
 -- what the words ask, None where they fit no command

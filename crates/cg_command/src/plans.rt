@@ -107,7 +107,7 @@ fn command_plan(alloc: Global, name: &str, said: &Arguments) -> Result<Option<Pl
 {
     match name {
         "turns" if has_no_options(said) => turns_plan(alloc, said.words.as_slice()),
-        "flat" if has_no_options(said) => flat_plan(alloc, said.words.as_slice()),
+        "flat" if has_no_options(said) => file_plan(alloc, Command::Flat, said.words.as_slice()),
         "run" if has_no_options(said) => run_plan(alloc, said.words.as_slice()),
         "bound" if has_no_options(said) => bound_plan(alloc, said.words.as_slice()),
         "check" if has_no_options(said) => check_plan(alloc, said.words.as_slice()),
@@ -115,8 +115,16 @@ fn command_plan(alloc: Global, name: &str, said: &Arguments) -> Result<Option<Pl
         "map" => map_plan(alloc, said),
         "search" => search_plan(alloc, said),
         "trial" if has_no_options(said) => trial_plan(alloc, said.words.as_slice()),
-        "verilog" if has_no_options(said) => verilog_plan(alloc, said.words.as_slice()),
-        "depend" if has_no_options(said) => depend_plan(alloc, said.words.as_slice()),
+        "verilog" if has_no_options(said) => file_plan(
+            alloc,
+            Command::Verilog,
+            said.words.as_slice(),
+        ),
+        "depend" if has_no_options(said) => file_plan(
+            alloc,
+            Command::Depend,
+            said.words.as_slice(),
+        ),
         _ => Ok(None),
     }
 }
@@ -155,14 +163,16 @@ fn turns_plan(alloc: Global, words: &[&str]) -> Result<Option<Plan>, AllocError>
     }
 }
 
-fn flat_plan(alloc: Global, words: &[&str]) -> Result<Option<Plan>, AllocError>
+/// Returns the plan of `command`, which reads one file and writes one, with the files that `words` name.
+fn file_plan(alloc: Global, command: Command, words: &[&str]) -> Result<Option<Plan>, AllocError>
+    requires { HasShape command 1 1 }
     ensures plan { IfOk result
-        (λ p. option_map spec.planned p ≡ spec.flat_plan (map (λ word. word.now) words.now)) }
+        (λ p. option_map spec.planned p ≡ spec.file_plan command (map (λ word. word.now) words.now)) }
     ensures shape { IfOk result (λ p. IfSome p
         (λ plan. HasShape plan.command (vec_len plan.inputs) (vec_len plan.outputs))) }
 {
     match words {
-        [arch, out] => plan_with(alloc, Command::Flat, &[*arch], &[*out]),
+        [input, output] => plan_with(alloc, command, &[*input], &[*output]),
         _ => Ok(None),
     }
 }
@@ -248,30 +258,6 @@ fn trial_plan(alloc: Global, words: &[&str]) -> Result<Option<Plan>, AllocError>
             };
             plan_with(alloc, Command::Trial { seed }, &[], &[])
         }
-        _ => Ok(None),
-    }
-}
-
-fn verilog_plan(alloc: Global, words: &[&str]) -> Result<Option<Plan>, AllocError>
-    ensures plan { IfOk result
-        (λ p. option_map spec.planned p ≡ spec.verilog_plan (map (λ word. word.now) words.now)) }
-    ensures shape { IfOk result (λ p. IfSome p
-        (λ plan. HasShape plan.command (vec_len plan.inputs) (vec_len plan.outputs))) }
-{
-    match words {
-        [arch, out] => plan_with(alloc, Command::Verilog, &[*arch], &[*out]),
-        _ => Ok(None),
-    }
-}
-
-fn depend_plan(alloc: Global, words: &[&str]) -> Result<Option<Plan>, AllocError>
-    ensures plan { IfOk result
-        (λ p. option_map spec.planned p ≡ spec.depend_plan (map (λ word. word.now) words.now)) }
-    ensures shape { IfOk result (λ p. IfSome p
-        (λ plan. HasShape plan.command (vec_len plan.inputs) (vec_len plan.outputs))) }
-{
-    match words {
-        [kernel, out] => plan_with(alloc, Command::Depend, &[*kernel], &[*out]),
         _ => Ok(None),
     }
 }

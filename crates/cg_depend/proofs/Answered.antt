@@ -10,10 +10,10 @@ use Rattle.cg_model.specs.Kernel.{Kernel, node, size}
 use Rattle.cg_depend.specs.Affine.{AffinePair, address_pair}
 use Rattle.cg_depend.specs.Congruence.{HasNone, IsLeast}
 use Rattle.cg_depend.specs.Depend.{Ask, HaveOneStride, Gap, never, first, unknown, Within, Added, none, chained, added, apart, conflict, asks_of, distance_for}
-use Rattle.cg_depend.specs.declared.accesses.Line.{Line}
+use Rattle.cg_depend.specs.declared.accesses.Address.{Address}
 use Rattle.cg_depend.specs.declared.accesses.Role.{Role}
 use Rattle.cg_depend.specs.declared.accesses.Role.TheVariants.{Apart}
-use Rattle.cg_depend.specs.Gathered.{ask, pair_in, HasLines, HasRoles, meet, role_by, role_of}
+use Rattle.cg_depend.specs.Gathered.{ask, pair_in, HasAddresses, HasRoles, meet, role_by, role_of}
 
 -- ---- gaps
 
@@ -51,11 +51,11 @@ pub less : (b c : ℕ) → c < 2 ^ 32 → (b + (2 ^ 32 - c)) % 2 ^ 32 ≡ apply_
 unfolding apply_of
 less b c h = ap (λ z. z % 2 ^ 32) (let e : b + (2 ^ 32 - c) ≡ b + 2 ^ 32 - c = omega arith in e)
 
--- what the lines of a kernel have at a node
-pub line_of : (K L : Kernel) (lines : List (Option Line)) (v : ℕ) (d o : Option Line) → HasLines K lines → K ≡ L → v < size L → o ≡ slice_index_or lines v d → address_pair L v ≡ option_map pair_in o
-line_of K L lines v d o has same l e =
+-- what is kept of the address of node v is the pair of its address
+pub address_of : (K L : Kernel) (addresses : List (Option Address)) (v : ℕ) (d o : Option Address) → HasAddresses K addresses → K ≡ L → v < size L → o ≡ slice_index_or addresses v d → address_pair L v ≡ option_map pair_in o
+address_of K L addresses v d o has same l e =
     let h : v < size K = subst (λ (z : Kernel). v < size z) (sym same) l in
-    sym (ap (λ (z : Kernel). address_pair z v) same) ∙ sym (has.each v h) ∙ ap (option_map pair_in) (get_or_default lines v None d (omega (arith, has.long, h)) ∙ sym e)
+    sym (ap (λ (z : Kernel). address_pair z v) same) ∙ sym (has.each v h) ∙ ap (option_map pair_in) (get_or_default addresses v None d (omega (arith, has.long, h)) ∙ sym e)
 
 -- ---- edges
 

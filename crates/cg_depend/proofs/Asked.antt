@@ -1,4 +1,4 @@
--- Questions that are asked one after the other, and the edges that are taken up for them.
+-- Questions that are asked one after the other, and the edges that answer them.
 use Rattle.std.proofs.Common.{◌≡◌, ℕ, zero, suc, ◌+◌, ◌≤◌, List, [], ◌∷◌, ◌++◌, length, refl, sym, ap, ◌∙◌, arith}
 use Rattle.std.specs.Prelude.{flat_map}
 use Rattle.std.specs.List.{range_with_len}

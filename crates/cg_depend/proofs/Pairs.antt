@@ -17,7 +17,8 @@ use Rattle.cg_model.proofs.Lookups.{get_map}
 use Rattle.cg_model.proofs.Mappings.{operand_within}
 use Rattle.cg_model.proofs.Options.{some_cond}
 use Rattle.cg_overlap.proofs.Sequence.{work_is}
-use Rattle.cg_depend.specs.Affine.{AffinePair, pair_of, at_turn, ago, suits, delayed, operand_pair, pair_of_some, arg_pair, line, scaled, product, shift, itself, constant, climb, fall, or_else, pair_by, pairs, affine_of}
+use Rattle.std.specs.Option.{option_or}
+use Rattle.cg_depend.specs.Affine.{AffinePair, pair_of, at_turn, ago, suits, delayed, operand_pair, pair_of_some, arg_pair, line, scaled, product, shift, itself, constant, climb, fall, pair_by, pairs, affine_of}
 use Rattle.cg_depend.proofs.Numbers.{line_word, later, sooner, sum_line, difference_line, climb_line, fall_line}
 
 -- options
@@ -33,7 +34,7 @@ line_parts op (Some p) (Some q) r e = record { first = p; second = q; is_first =
 line_parts op (Some p) None r e = absurd (cc)
 line_parts op None y r e = absurd (cc)
 
-or_parts : (x y : Option AffinePair) (r : AffinePair) → or_else x y ≡ Some r → (x ≡ Some r) ⊎ (y ≡ Some r)
+or_parts : (x y : Option AffinePair) (r : AffinePair) → option_or x y ≡ Some r → (x ≡ Some r) ⊎ (y ≡ Some r)
 or_parts (Some p) y r e = inl e
 or_parts None y r e = inr e
 
@@ -332,7 +333,7 @@ affine_value K image v i p good e =
     (λ l. let z = sym (get_or_past (pairs K (size K)) v None (omega (arith, length-pairs K image good (size K)))) ∙ e in absurd (cc))
     (cases_lt v (size K))
 
--- the same of what a table answers
+-- what `AffineTable::get` answers for node v is v's value in every turn
 pub some_value : (K : Kernel) (image : Image) (v i : ℕ) (r : Option AffinePair) → IsWired K → r ≡ affine_of K v → IfSome r (λ p. val K image v i ≡ at_turn p i)
 some_value K image v i None good e = tt
 some_value K image v i (Some p) good e = affine_value K image v i p good (sym e)

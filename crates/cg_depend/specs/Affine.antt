@@ -1,5 +1,6 @@
 -- Nodes whose value in every turn is a base and a stride times the turn, modulo 2^32.
 use Rattle.std.specs.Prelude.{ℕ, zero, suc, ◌+◌, ◌-◌, ◌*◌, ◌%◌, eqb, if◌then◌else◌, Bool, true, ◌&&◌, List, [], ◌∷◌, ◌++◌, Option, Some, None, slice_get, slice_index, slice_index_or}
+use Rattle.std.specs.Option.{option_or}
 use Rattle.cg_word.specs.declared.op.Op.{Op}
 use Rattle.cg_word.specs.declared.op.Op.TheVariants.{Const, Iter, Add, Sub, Mul, Shl}
 use Rattle.cg_word.specs.Word.{words, apply_of, address_arg}
@@ -82,19 +83,15 @@ abbrev pub fall : Option ℕ → Option ℕ → Option AffinePair
 fall (Some w) (Some c) = Some (pair_of (apply_of Sub w c 0) (apply_of Sub 0 c 0))
 fall _ _ = None
 
-abbrev pub or_else : Option AffinePair → Option AffinePair → Option AffinePair
-or_else (Some p) q = Some p
-or_else None q = q
-
 -- the pair of node v, by its operation
 abbrev pub pair_by : ℕ → List (Option AffinePair) → List Operand → Op → Option AffinePair
 pair_by v earlier operands Iter = Some (pair_of 0 1)
 pair_by v earlier operands Const = arg_pair earlier operands 0
 pair_by v earlier operands Add =
-    or_else (line Add (arg_pair earlier operands 0) (arg_pair earlier operands 1))
-    (or_else (climb (itself v (slice_get operands 0)) (constant (slice_get operands 1))) (climb (itself v (slice_get operands 1)) (constant (slice_get operands 0))))
+    option_or (line Add (arg_pair earlier operands 0) (arg_pair earlier operands 1))
+    (option_or (climb (itself v (slice_get operands 0)) (constant (slice_get operands 1))) (climb (itself v (slice_get operands 1)) (constant (slice_get operands 0))))
 pair_by v earlier operands Sub =
-    or_else (line Sub (arg_pair earlier operands 0) (arg_pair earlier operands 1)) (fall (itself v (slice_get operands 0)) (constant (slice_get operands 1)))
+    option_or (line Sub (arg_pair earlier operands 0) (arg_pair earlier operands 1)) (fall (itself v (slice_get operands 0)) (constant (slice_get operands 1)))
 pair_by v earlier operands Mul = product (arg_pair earlier operands 0) (arg_pair earlier operands 1)
 pair_by v earlier operands Shl = shift (arg_pair earlier operands 0) (arg_pair earlier operands 1)
 pair_by v earlier operands _ = None

@@ -5,15 +5,15 @@ use Rattle.cg_word.specs.declared.op.Op.{Op}
 use Rattle.cg_word.specs.Word.{is_access, is_store}
 use Rattle.cg_model.specs.Kernel.{Kernel, node, size}
 use Rattle.cg_model.specs.Limits.{most_order_edges}
-use Rattle.cg_depend.specs.declared.accesses.Line.{Line}
+use Rattle.cg_depend.specs.declared.accesses.Address.{Address}
 use Rattle.cg_depend.specs.declared.accesses.Role.{Role}
 use Rattle.cg_depend.specs.declared.accesses.Role.TheVariants.{Apart, Loads, Stores}
 use Rattle.cg_depend.specs.declared.gather.Needed.{Needed}
 use Rattle.cg_depend.specs.Affine.{AffinePair, pair_of, address_pair}
 use Rattle.cg_depend.specs.Depend.{Ask, Added}
 
--- the pair that is made ready
-abbrev pub pair_in : Line → AffinePair
+-- the pair of an address
+abbrev pub pair_in : Address → AffinePair
 pair_in l = pair_of l.base l.stride
 
 -- the role of a node that stores or not, and accesses the memory or not
@@ -41,9 +41,9 @@ pub record HasRoles (K : Kernel) (roles : List Role) : Type 0 where
   pub each : (v : ℕ) → v < size K → slice_index_or roles v Apart ≡ role_of (node K v).op
 
 -- each node has the pair of its address
-pub record HasLines (K : Kernel) (lines : List (Option Line)) : Type 0 where
-  pub long : length lines ≡ size K
-  pub each : (v : ℕ) → v < size K → option_map pair_in (slice_index_or lines v None) ≡ address_pair K v
+pub record HasAddresses (K : Kernel) (addresses : List (Option Address)) : Type 0 where
+  pub long : length addresses ≡ size K
+  pub each : (v : ℕ) → v < size K → option_map pair_in (slice_index_or addresses v None) ≡ address_pair K v
 
 abbrev pub ask : ℕ → ℕ → ℕ → Ask
 ask source target least = record { source = source; target = target; least = least }
@@ -53,12 +53,12 @@ abbrev pub list_of : Option OrderEdge → List OrderEdge
 list_of None = []
 list_of (Some e) = e ∷ []
 
--- these edges were taken up: they are counted, and kept while there are few enough
+-- from `old` to `new` the edges es were added: all are counted, and kept while there are at most 4,096
 pub record Gains (es : List OrderEdge) (old new : Needed) : Type 0 where
   pub total : new.total ≡ old.total + length es
   pub kept : new.total ≤ most_order_edges → new.edges.items ≡ old.edges.items ++ es
 
--- the questions were asked, and the edges that answer them taken up
+-- from `old` to `new` the edges that answer the questions qs were added
 abbrev pub Answers : Kernel → List Ask → Needed → Needed → Type 0
 Answers K qs old new = (es : List OrderEdge) × Added K qs es × Gains es old new
 

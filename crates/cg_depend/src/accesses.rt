@@ -3,7 +3,7 @@ ghost use Rattle.std.specs.Prelude.{◌≡◌, ◌<◌, ◌≤◌, ◌↔◌, If
 ghost use Rattle.cg_model.specs.Kernel.{Kernel as KernelValue, size};
 ghost use Rattle.cg_depend.specs.Affine.{address_pair};
 ghost use Rattle.cg_depend.specs.Depend.{Ask, Gap, Within, distance_for};
-ghost use Rattle.cg_depend.specs.Gathered.{HasLines, HasRoles, meet, pair_in, role_of};
+ghost use Rattle.cg_depend.specs.Gathered.{HasAddresses, HasRoles, meet, pair_in, role_of};
 
 use crate::gap::{Stride, gap, parted};
 use crate::table::{AffineTable, affine};
@@ -13,9 +13,9 @@ use cg_word::Op;
 use std::alloc::{AllocError, Global};
 use std::marker::Model;
 
-/// The pair of an address, with its stride made ready.
+/// The address of an access that has a pair: its base, and its stride as `gap` takes it.
 #[derive(Drop)]
-pub(crate) struct Line {
+pub(crate) struct Address {
     pub base: u32,
     pub stride: Stride,
 }
@@ -23,32 +23,34 @@ pub(crate) struct Line {
 /// How a node accesses the memory.
 #[derive(Clone, Copy, Debug, PartialEq, Eq)]
 pub(crate) enum Role {
-    /// It doesn't.
+    /// It doesn't access it.
     Apart,
+    /// It is a load or loadif.
     Loads,
+    /// It is a store or storeif.
     Stores,
 }
 
-/// A kernel with the roles of its nodes, the pairs of their addresses and the distances of its chains. Contracts see it as
-/// the kernel.
+/// A kernel with the roles of its nodes, their addresses and the least distances of its chains. Contracts see it as the
+/// kernel.
 #[derive(Drop)]
 pub(crate) struct Accesses<'k> {
     kernel: &'k Kernel,
     roles: Vec<Role>,
-    lines: Vec<Option<Line>>,
+    addresses: Vec<Option<Address>>,
     table: DistanceTable<'k>,
 }
 
 impl<'k> Model for Accesses<'k> {
     ghost use Rattle.std.specs.Prelude.{◌≡◌};
     ghost use Rattle.cg_model.specs.Kernel as kernels;
-    ghost use Rattle.cg_depend.specs.Gathered.{HasLines, HasRoles};
+    ghost use Rattle.cg_depend.specs.Gathered.{HasAddresses, HasRoles};
 
     ghost Value = { kernels.Kernel };
 
     ghost view = { λ a. a.kernel.now };
 
-    ghost invariant = { λ a. HasRoles a.kernel.now a.roles.items × HasLines a.kernel.now a.lines.items × (a.table ≡ a.kernel.now) };
+    ghost invariant = { λ a. HasRoles a.kernel.now a.roles.items × HasAddresses a.kernel.now a.addresses.items × (a.table ≡ a.kernel.now) };
 }
 
 impl<'k> Accesses<'k> {
@@ -63,12 +65,12 @@ impl<'k> Accesses<'k> {
         ensures { IfOk result (λ a. a ≡ kernel.now) }
     {
         let roles = roles_of(alloc, kernel)?;
-        let lines = lines_of(alloc, kernel)?;
+        let addresses = addresses_of(alloc, kernel)?;
         let table = min_distance(alloc, kernel)?;
         Ok(Accesses {
             kernel,
             roles,
-            lines,
+            addresses,
             table,
         })
     }
@@ -105,8 +107,8 @@ impl<'k> Accesses<'k> {
         requires least { least ≤ 1 }
         ensures { Added self.now (ask from to least ∷ []) (list_of result) }
     {
-        let source = &self.lines[from as usize];
-        let target = &self.lines[to as usize];
+        let source = &self.addresses[from as usize];
+        let target = &self.addresses[to as usize];
         let Some(gap) = gap_between(source, target, least) else {
             return None;
         };
@@ -144,7 +146,7 @@ fn role_of(op: Op) -> Role
     }
 }
 
-/// Tells whether both nodes access the memory and one stores, by their roles.
+/// Tells whether two nodes of the roles `one` and `other` both access the memory, and at least one of them stores.
 fn meet(one: Role, other: Role) -> bool
     ensures { result ≡ meet one other }
 {
@@ -161,25 +163,25 @@ fn distance_for(gap: u32) -> u32
     gap.min(MOST_ORDER_DISTANCE)
 }
 
-/// Returns for each node of `kernel` the pair of its address.
-fn lines_of(alloc: Global, kernel: &Kernel) -> Result<Vec<Option<Line>>, AllocError>
-    ensures { IfOk result (λ lines. HasLines kernel.now lines.items) }
+/// Returns the address of each node of `kernel`, None where it has no pair.
+fn addresses_of(alloc: Global, kernel: &Kernel) -> Result<Vec<Option<Address>>, AllocError>
+    ensures { IfOk result (λ addresses. HasAddresses kernel.now addresses.items) }
 {
     let table = affine(alloc, kernel)?;
-    let mut lines = Vec::new(alloc);
+    let mut addresses = Vec::new(alloc);
     for node in 0..kernel.nodes().len() {
-        lines.push(line_at(&table, node as u32))?;
+        addresses.push(address_at(&table, node as u32))?;
     }
-    Ok(lines)
+    Ok(addresses)
 }
 
-/// Returns the pair of the address of the node of number `node`, made ready.
-fn line_at(table: &AffineTable, node: u32) -> Option<Line>
+/// Returns the address of the node of number `node`, None where it has no pair.
+fn address_at(table: &AffineTable, node: u32) -> Option<Address>
     requires { node < size table.now }
     ensures { option_map pair_in result ≡ address_pair table.now node }
 {
     match table.address(node) {
-        Some(pair) => Some(Line {
+        Some(pair) => Some(Address {
             base: pair.base,
             stride: parted(pair.stride),
         }),
@@ -189,18 +191,19 @@ fn line_at(table: &AffineTable, node: u32) -> Option<Line>
 
 /// Returns the least number of turns, from `least` on, after which an access at `to` may reach the word of one at `from`;
 /// None where it doesn't in any run.
-fn gap_between(from: &Option<Line>, to: &Option<Line>, least: u32) -> Option<u32>
+fn gap_between(from: &Option<Address>, to: &Option<Address>, least: u32) -> Option<u32>
     requires { least ≤ 1 }
     ensures { (K : KernelValue) (a : Ask) → address_pair K a.source ≡ option_map pair_in from.now → address_pair K a.target ≡ option_map pair_in to.now → a.least ≡ least → Gap K a result }
 {
     match (from, to) {
-        (Some(one), Some(other)) => line_gap(one, other, least),
+        (Some(one), Some(other)) => address_gap(one, other, least),
         _ => Some(least),
     }
 }
 
-/// Returns the same for two addresses that have pairs.
-fn line_gap(from: &Line, to: &Line, least: u32) -> Option<u32>
+/// Returns the least number of turns, from `least` on, after which an access at `to` reaches the word of one at `from`, both
+/// with pairs. Where their strides differ it is `least`; None where they don't meet in any run.
+fn address_gap(from: &Address, to: &Address, least: u32) -> Option<u32>
     requires { least ≤ 1 }
     ensures { (K : KernelValue) (a : Ask) → address_pair K a.source ≡ Some (pair_in from.now) → address_pair K a.target ≡ Some (pair_in to.now) → a.least ≡ least → Gap K a result }
 {

@@ -21,10 +21,10 @@ pub struct DependDone {
     pub added: u32,
 }
 
-/// Returns a copy of `kernel` with the order edges that its accesses need beside its own: in no run of at most 1,000,000
-/// turns, on no image, two accesses to one word are left unordered of which one is a store.
+/// Returns a copy of `kernel` with the order edges that its accesses need beside its own: those with which no run of at
+/// most 1,000,000 turns, on any image, leaves two accesses to one word unordered of which one is a store.
 ///
-/// Which edges these are is said in `docs/dependence.md`.
+/// `docs/dependence.md` says which edges these are.
 ///
 /// # Errors
 ///
@@ -35,9 +35,10 @@ pub fn depend(alloc: Global, kernel: &Kernel) -> Result<DependDone, DependFault>
     ensures begins { IfOk result (λ d. BeginsWith kernel.now d.kernel) }
     ensures same { IfOk result (λ d. (n : ℕ) (image : Image) → turns_left d.kernel n image ≡ turns_left kernel.now n image) }
     ensures unaliased { IfOk result (λ d. (n : ℕ) (image : Image) → n ≤ 1000000 → IsUnaliased d.kernel n image) }
-    // With at most 4,096 order edges in all the answer is Ok, or memory ran out; with more it is their number.
-    ensures few { IfOk result (λ d. length d.kernel.order ≤ 4096) }
+    // But for running out of memory it is refused exactly where there would be more than 4,096 order edges, with their number.
     ensures many { (n : ℕ) → result ≡ Err (DependFault.TooManyEdges n) → NeedsOrder kernel.now n × (4096 < n) }
+    ensures fits { IfOk result (λ d. (n : ℕ) → NeedsOrder kernel.now n → n ≤ 4096) }
+    ensures few { IfOk result (λ d. length d.kernel.order ≤ 4096) }
 {
     let needed = needed_edges(alloc, kernel)?;
     if needed.total > MOST_ORDER_EDGES {

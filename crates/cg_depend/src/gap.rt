@@ -4,7 +4,7 @@ ghost use Rattle.cg_depend.specs.Congruence.{HasNone, IsLeast};
 
 use std::marker::Model;
 
-/// A stride, made ready for `gap`: the power of two in it, and the inverse of its odd part. Contracts see it as the stride.
+/// A stride with the power of two in it and the inverse of its odd part, which `gap` needs. Contracts see it as the stride.
 #[derive(Debug, Drop)]
 pub(crate) struct Stride {
     stride: u32,
@@ -53,7 +53,7 @@ fn inverse(odd: u64) -> u64
     known
 }
 
-/// Returns `stride`, made ready.
+/// Splits `stride` into a power of two and an odd part, and finds the inverse of the odd part.
 pub(crate) fn parted(stride: u32) -> Stride
     ensures { result ≡ stride }
 {

@@ -22,7 +22,7 @@ impl Needed {
     ghost use Rattle.std.specs.Prelude.{◌+◌, ◌^◌, ◌<◌, ◌≤◌, ◌∷◌, [], OnOk};
     ghost use Rattle.cg_depend.specs.Gathered.{Gains};
 
-    /// Takes up one more.
+    /// Counts `edge`, and keeps it while there are few enough.
     fn add(&mut self, edge: OrderEdge) -> Result<(), AllocError>
         requires { self.old.total < 2 ^ 32 }
         ensures gains { OnOk result (Gains (edge ∷ []) self.old self.new) }
@@ -36,7 +36,7 @@ impl Needed {
     }
 }
 
-/// Takes up the edge that `to` needs after `from`, from `least` turns later on.
+/// Adds to `needed` the edge, if any, that puts accesses of `to` after those of `from`, `least` turns later or more.
 fn add_edge(
     accesses: &Accesses,
     from: u32,
@@ -57,7 +57,7 @@ fn add_edge(
     }
 }
 
-/// Takes up the edges that the nodes `u` and `v` need.
+/// Adds to `needed` the edges that the nodes `u` and `v` need.
 fn add_pair(accesses: &Accesses, u: u32, v: u32, needed: &mut Needed) -> Result<(), AllocError>
     requires order { u < v }
     requires known { v < size accesses.now }
@@ -72,7 +72,7 @@ fn add_pair(accesses: &Accesses, u: u32, v: u32, needed: &mut Needed) -> Result<
     Ok(())
 }
 
-/// Takes up the edges that the node `u` and those after it need.
+/// Adds to `needed` the edges that the node `u` and the nodes after it need.
 fn add_row(accesses: &Accesses, u: u32, needed: &mut Needed) -> Result<(), AllocError>
     requires known { u < size accesses.now }
     requires few { size accesses.now ≤ 1024 }

@@ -21,7 +21,8 @@ pub record Answers (held : Held) (plan : Plan) (o : Outcome) : Type 0 where
   pub read : AreRead held plan.inputs files
   pub answer : IsAnswer plan.command files plan.outputs o
 
--- the same of files whose numbers are bytes', as all that a store gives are, also where it doesn't tell what it holds
+-- all input files were read, each of them a list of bytes, and the command allows the outcome. What a store gives is bytes even
+-- where the store doesn't tell what it holds
 pub record AnswersBytes (held : Held) (plan : Plan) (o : Outcome) : Type 0 where
   pub answers : Answers held plan o
   pub bytes : All HoldsBytes answers.files
