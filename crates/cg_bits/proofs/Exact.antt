@@ -79,7 +79,7 @@ from_zero : (n : ℕ) → (n ≡ 0 → ⊥) → 0 < n
 from_zero zero h = absurd (h refl)
 from_zero (suc n) h = omega arith
 
-module _ (F : Format) (is : IsFormat F) (A : Arch) (room : HasRoom A) (digest : List ℕ) (sized : length digest ≡ 32) (bytes : List ℕ) (fits : IsBytes bytes) (none : HasNone F A digest bytes) where
+module _ (F : Format) (is : IsFormat F) (A : Arch) (room : HasRoom A) (digest : List ℕ) (sized : length digest ≡ 32) (bytes : List ℕ) (none : HasNone F A digest bytes) where
   abbrev C : Config
   C = config_at F A bytes
 
@@ -118,8 +118,8 @@ module _ (F : Format) (is : IsFormat F) (A : Arch) (room : HasRoom A) (digest : 
   digest_is : take 32 (drop 8 bytes) ≡ digest
   digest_is = same_is _ _ (none_unless _ _ none.digest_right)
 
-  field_back : (at : ℕ) → at + 2 ≤ 40 → to_be_bytes w16 (from_be_bytes w16 (take 2 (drop at bytes))) ≡ take 2 (drop at bytes)
-  field_back at le =
+  field_back : IsBytes bytes → (at : ℕ) → at + 2 ≤ 40 → to_be_bytes w16 (from_be_bytes w16 (take 2 (drop at bytes))) ≡ take 2 (drop at bytes)
+  field_back fits at le =
       let l = long in
       be_bytes_2 (take 2 (drop at bytes)) (from_be_bytes w16 (take 2 (drop at bytes))) (omega (arith, length-take 2 (drop at bytes), length-drop at bytes))
       (λ i. ⊎_elim (λ lt. subst (λ z. z < 256) (sym (get_or-take 2 (drop at bytes) i 0 lt ∙ get_or-drop at bytes i 0)) (fits (at + i)))
@@ -128,12 +128,12 @@ module _ (F : Format) (is : IsFormat F) (A : Arch) (room : HasRoom A) (digest : 
   split_at : (at n next : ℕ) → at + n ≡ next → drop at bytes ≡ take n (drop at bytes) ++ drop next bytes
   split_at at n next e = sym (take-append-drop n (drop at bytes)) ∙ ap (λ z. take n (drop at bytes) ++ z) (drop-drop n at bytes ∙ ap (λ k. drop k bytes) e)
 
-  header_is : bytes ≡ header F digest C ++ drop 40 bytes
+  header_is : IsBytes bytes → bytes ≡ header F digest C ++ drop 40 bytes
   unfolding config_in
-  header_is =
+  header_is fits =
       split_at 0 4 4 refl ∙ ap (λ z. z ++ drop 4 bytes) magic_is
-      ∙ ap (λ z. magic F ++ z) (split_at 4 2 6 refl ∙ ap (λ z. z ++ drop 6 bytes) (sym (field_back 4 (omega arith)))
-      ∙ ap (λ z. to_be_bytes w16 C.ii ++ z) (split_at 6 2 8 refl ∙ ap (λ z. z ++ drop 8 bytes) (sym (field_back 6 (omega arith)))
+      ∙ ap (λ z. magic F ++ z) (split_at 4 2 6 refl ∙ ap (λ z. z ++ drop 6 bytes) (sym (field_back fits 4 (omega arith)))
+      ∙ ap (λ z. to_be_bytes w16 C.ii ++ z) (split_at 6 2 8 refl ∙ ap (λ z. z ++ drop 8 bytes) (sym (field_back fits 6 (omega arith)))
       ∙ ap (λ z. to_be_bytes w16 C.stages ++ z) (split_at 8 32 40 refl ∙ ap (λ z. z ++ drop 40 bytes) digest_is)))
 
   -- ---- the header's rules
@@ -176,9 +176,9 @@ module _ (F : Format) (is : IsFormat F) (A : Arch) (room : HasRoom A) (digest : 
   unfolding unit_in
   known_in x slot coded = subst (λ z. z ≤ F.greatest) (sym (code_again F (number_at bits (unit_place F A x slot) F.op_bits) coded is.known)) coded
 
-  pub spelled : Spells F A digest C bytes
+  pub spelled : IsBytes bytes → Spells F A digest C bytes
   unfolding config_in
-  spelled =
+  spelled fits =
       let h = slots_stand F is A room bits C.ii C.stages slots_fit coded in
       let rest : padding ≡ h.0 = ap (drop len) h.1 ∙ drop_at (slots F A C) h.0 len (length-slots F is A C C.ii) in
       let size_is = padding_long in
@@ -187,7 +187,7 @@ module _ (F : Format) (is : IsFormat F) (A : Arch) (room : HasRoom A) (digest : 
         padding = length padding;
         short = omega arith;
         bits = h.1 ∙ ap (λ z. slots F A C ++ z) (sym rest ∙ padding_zero);
-        whole = header_is;
+        whole = header_is fits;
         known = λ x slot lt in_time.
             let c = coded x slot lt in_time in
             subst (λ (f : UnitFields). code_of f.op ≤ F.greatest) (sym (fields_read F is A bits C.ii C.stages x slot lt in_time))

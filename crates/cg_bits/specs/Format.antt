@@ -6,6 +6,10 @@ use Rattle.cg_model.specs.Array.{Arch, unit}
 use Rattle.cg_flat.specs.Slots.{total, select_at}
 use Rattle.cg_bits.specs.declared.format.Format.{Format}
 
+-- `CGB1`, of the time before guarded operations: the first 22
+abbrev pub cgb1 : Format
+cgb1 = record { sign = 49; op_bits = 5; greatest = 22 }
+
 -- `CGB2`, whose operations are all 25
 abbrev pub cgb2 : Format
 cgb2 = record { sign = 50; op_bits = 6; greatest = 25 }

@@ -11,7 +11,7 @@ use Rattle.cg_arch.specs.Kept.{digest_of}
 use Rattle.cg_bits.specs.declared.format.Format.{Format}
 use Rattle.cg_bits.specs.Numbers.{digit, bits_of, bits_of_bytes}
 use Rattle.cg_bits.specs.Parts.{joined}
-use Rattle.cg_bits.specs.Format.{cgb2, code_of, ports}
+use Rattle.cg_bits.specs.Format.{cgb1, cgb2, code_of, ports}
 
 -- the bits of an argument: its mode bit, its count and its four words
 abbrev pub arg_bits : ArgFields → List Bool
@@ -56,3 +56,8 @@ pub record Spells (F : Format) (A : Arch) (digest : List ℕ) (C : Config) (byte
 pub record AreBits (A : Arch) (C : Config) (bytes : List ℕ) : Type 0 where
   pub canonical : IsCanonical A C
   pub spelled : Spells cgb2 A (digest_of A) C bytes
+
+-- they are a bitstream of it in the first format: it is canonical, and they spell it in `CGB1`
+pub record AreFirstBits (A : Arch) (C : Config) (bytes : List ℕ) : Type 0 where
+  pub canonical : IsCanonical A C
+  pub spelled : Spells cgb1 A (digest_of A) C bytes

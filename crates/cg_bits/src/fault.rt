@@ -44,6 +44,9 @@ pub enum BitsFault {
     RepeatedPort(usize),
 }
 
+/// Why bytes are no bitstream of the first format for an architecture: the same faults at the same places, C1 to C11.
+pub type Bits1Fault = BitsFault;
+
 impl From<AllocError> for BitsFault {
     ghost use Rattle.std.specs.Prelude.{◌≡◌};
     ghost use Rattle.cg_bits.specs.declared.fault.BitsFault.TheVariants.{Memory};

@@ -11,6 +11,13 @@ pub struct Format {
     pub greatest: u32,
 }
 
+/// `CGB1`, of the time before guarded operations.
+pub const CGB1: Format = Format {
+    sign: b'1',
+    op_bits: 5,
+    greatest: 22,
+};
+
 /// `CGB2`.
 pub const CGB2: Format = Format {
     sign: b'2',

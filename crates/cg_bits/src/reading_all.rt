@@ -2,20 +2,23 @@
 ghost use Rattle.std.specs.Prelude.{◌≡◌, ℕ, ◌+◌, ◌*◌, ◌/◌, ◌<◌, ◌≤◌, ◌^◌, map, length, Ok, IfOk};
 ghost use Rattle.std.specs.List.{range_with_len};
 ghost use Rattle.cg_model.specs.Answers.{Gives};
+ghost use Rattle.cg_model.specs.Array.{IsArch};
+ghost use Rattle.cg_arch.specs.Kept.{digest_of};
 ghost use Rattle.cg_model.specs.Config as configs;
 ghost use Rattle.cg_flat.specs.Slots.{select_bits};
 ghost use Rattle.cg_bits.specs.Numbers.{number_at, bits_of_bytes};
-ghost use Rattle.cg_bits.specs.Format.{cgb2, slot_len};
-ghost use Rattle.cg_bits.specs.Reading.{select_place, ii_in};
-ghost use Rattle.cg_bits.specs.Spelling.{AreBits};
-ghost use Rattle.cg_bits.specs.Answers.{config_of, answer_of};
+ghost use Rattle.cg_bits.specs.Format.{cgb1, slot_len};
+ghost use Rattle.cg_bits.specs.Ranges.{IsFormat};
+ghost use Rattle.cg_bits.specs.Reading.{select_place, ii_in, config_at};
+ghost use Rattle.cg_bits.specs.Spelling.{AreBits, AreFirstBits};
+ghost use Rattle.cg_bits.specs.Answers.{answer_of, answer_in};
 ghost use Rattle.cg_bits.specs.Checks.{fields_there};
 
 use crate::all_slots::Slots;
-use crate::check::check_bits;
-use crate::fault::BitsFault;
+use crate::check::check;
+use crate::fault::{Bits1Fault, BitsFault};
 use crate::field::number_at;
-use crate::format::CGB2;
+use crate::format::{CGB1, CGB2, Format};
 use crate::header::{HEADER, ii_in, slot_len, stages_in};
 use crate::reading::unit_at;
 use cg_arch::Arch;
@@ -72,34 +75,55 @@ fn fields_rows(alloc: Global, slots: &Slots<'_>) -> Result<Vec<Row<UnitFields>>,
     Ok(rows)
 }
 
-/// The tables of bytes that hold the header and all slots.
-fn tables(alloc: Global, arch: &Arch, bytes: &[u8]) -> Result<Config, AllocError>
+/// Returns the tables of `bytes`, which hold the header and all slots in `format`.
+fn tables(alloc: Global, format: Format, arch: &Arch, bytes: &[u8]) -> Result<Config, AllocError>
+    requires known { IsFormat format }
     requires header { 40 ≤ length bytes.now }
-    requires whole { 40 + (ii_in bytes.now * slot_len cgb2 arch.now + 7) / 8 ≤ length bytes.now }
-    ensures { IfOk result (λ config. config ≡ config_of arch.now bytes.now) }
+    requires whole { 40 + (ii_in bytes.now * slot_len format arch.now + 7) / 8 ≤ length bytes.now }
+    ensures { IfOk result (λ config. config ≡ config_at format arch.now bytes.now) }
 {
     let ii = ii_in(bytes);
     let slots = Slots {
-        format: CGB2,
+        format,
         arch,
         body: &bytes[HEADER..],
         ii: ii as usize,
-        len: slot_len(CGB2, arch),
+        len: slot_len(format, arch),
     };
     let selects = selects_rows(alloc, &slots)?;
     let units = fields_rows(alloc, &slots)?;
     Ok(Config::from_rows(ii, stages_in(bytes), selects, units))
 }
 
-/// The configuration that the bytes spell for the architecture, in tables, or why they spell none: the lowest fault at its
+/// Returns the configuration that `bytes` spell in `format` for `arch`, or why they spell none.
+fn read(alloc: Global, format: Format, arch: &Arch, bytes: &[u8]) -> Result<Config, BitsFault>
+    requires { IsFormat format }
+    ensures answer { Gives BitsFault.Memory result (answer_in format arch.now bytes.now) }
+    ensures valid { IsArch arch.now }
+    ensures sized { length (digest_of arch.now) ≡ 32 }
+{
+    match check(format, arch, bytes) {
+        Ok(()) => Ok(tables(alloc, format, arch, bytes)?),
+        Err(fault) => Err(fault),
+    }
+}
+
+/// Returns the configuration that `bytes` spell for `arch`, in tables, or why they spell none: the lowest fault at its
 /// least place.
 pub fn read_bits(alloc: Global, arch: &Arch, bytes: &[u8]) -> Result<Config, BitsFault>
     ensures answer { Gives BitsFault.Memory result (answer_of arch.now bytes.now) }
     ensures bits { IfOk result (λ config. AreBits arch.now config bytes.now) }
     ensures all { (C : configs.Config) → AreBits arch.now C bytes.now → Gives BitsFault.Memory result (Ok C) }
 {
-    match check_bits(arch, bytes) {
-        Ok(()) => Ok(tables(alloc, arch, bytes)?),
-        Err(fault) => Err(fault),
-    }
+    read(alloc, CGB2, arch, bytes)
+}
+
+/// Returns the configuration that `bytes` spell in the first format for `arch`, in tables, or why they spell none: the
+/// lowest fault at its least place.
+pub fn read_bits_1(alloc: Global, arch: &Arch, bytes: &[u8]) -> Result<Config, Bits1Fault>
+    ensures answer { Gives BitsFault.Memory result (answer_in cgb1 arch.now bytes.now) }
+    ensures bits { IfOk result (λ config. AreFirstBits arch.now config bytes.now) }
+    ensures all { (C : configs.Config) → AreFirstBits arch.now C bytes.now → Gives BitsFault.Memory result (Ok C) }
+{
+    read(alloc, CGB1, arch, bytes)
 }

@@ -5,7 +5,6 @@ use Rattle.cg_model.specs.declared.config.UnitFields.{UnitFields}
 use Rattle.cg_model.specs.Config.{Config}
 use Rattle.cg_flat.specs.Slots.{select_bits}
 use Rattle.cg_bits.specs.Numbers.{number_at, bits_of_bytes}
-use Rattle.cg_bits.specs.Format.{cgb2}
 use Rattle.cg_bits.specs.Reading.{config_in, select_place, ii_in, stages_in}
 use Rattle.cg_bits.specs.Checks.{fields_there}
 use Rattle.cg_bits.proofs.reading_all.tables.Goals as goal
@@ -16,11 +15,12 @@ body_is bytes = take_all (length bytes - 40) (drop 40 bytes) (omega (arith, leng
 pub returns : goal.returns
 unfolding config_in
 returns c =
+    let F = c.args.format in
     let A = c.args.arch.now in
     let bytes = c.args.bytes.now in
     let body = take (length bytes - 40) (drop 40 bytes) in
-    let selects = λ (b : List ℕ) (n : ℕ). map (λ slot. map (λ r. number_at (bits_of_bytes b) (select_place cgb2 A r slot) (select_bits A r)) (range_with_len 0 (length A.resources))) (range_with_len 0 n) in
-    let units = λ (b : List ℕ) (n : ℕ). map (λ slot. map (fields_there cgb2 A (bits_of_bytes b) slot) (range_with_len 0 (length A.units))) (range_with_len 0 n) in
+    let selects = λ (b : List ℕ) (n : ℕ). map (λ slot. map (λ r. number_at (bits_of_bytes b) (select_place F A r slot) (select_bits A r)) (range_with_len 0 (length A.resources))) (range_with_len 0 n) in
+    let units = λ (b : List ℕ) (n : ℕ). map (λ slot. map (fields_there F A (bits_of_bytes b) slot) (range_with_len 0 (length A.units))) (range_with_len 0 n) in
     let s : c.in_ok-selects.selects.items ≡ selects (drop 40 bytes) (ii_in bytes) = c.in_ok-selects.ensures ∙ ap (λ b. selects b c.ii_in-ii.result) (body_is bytes) ∙ ap (selects (drop 40 bytes)) c.ii_in-ii.ensures.value in
     let u : c.in_ok-units.units.items ≡ units (drop 40 bytes) (ii_in bytes) = c.in_ok-units.ensures ∙ ap (λ b. units b c.ii_in-ii.result) (body_is bytes) ∙ ap (units (drop 40 bytes)) c.ii_in-ii.ensures.value in
     c.from_rows.ensures
