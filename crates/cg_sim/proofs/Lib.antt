@@ -9,3 +9,4 @@ mod Rooms
 mod Chosen
 mod Cycles
 mod Left
+pub mod First

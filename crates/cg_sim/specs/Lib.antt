@@ -6,3 +6,4 @@ pub mod Moment
 pub mod Run
 pub mod State
 pub mod Texts
+pub mod FirstMachine

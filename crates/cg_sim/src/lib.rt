@@ -3,6 +3,7 @@
 
 mod effects;
 mod fault;
+pub mod laws;
 mod moment;
 mod plan;
 mod settle;
