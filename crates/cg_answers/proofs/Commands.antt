@@ -4,7 +4,7 @@ use Rattle.cg_ending.specs.declared.outcome.Status.{Status}
 use Rattle.cg_ending.specs.declared.outcome.Status.TheVariants.{Done, Impossible}
 use Rattle.cg_ending.specs.Outcome.{Name, File, Outcome}
 use Rattle.cg_command.specs.declared.plans.Command.{Command}
-use Rattle.cg_command.specs.declared.plans.Command.TheVariants.{Turns, TurnsOnImage, Flat, Run, Bound, Check, Emit, Map, Search, Trial, Verilog, Depend}
+use Rattle.cg_command.specs.declared.plans.Command.TheVariants.{Turns, TurnsOnImage, Flat, Run, Bound, Check, Emit, Map, Search, Trial, Verilog, Depend, Migrate}
 use Rattle.cg_inputs.proofs.Sound.{owns, IsSound, IsNamed}
 use Rattle.cg_run_answers.proofs.TurnsAnswers.{sound_turns, quiet_turns, accepted_turns}
 use Rattle.cg_run_answers.proofs.OnImage.{same_on_image, sound_on_image, accepted_on_image, named_on_image}
@@ -19,6 +19,7 @@ use Rattle.cg_answers.specs.Commands.{IsAnswer, Accepts, Forbids, AgreeIn}
 use Rattle.cg_answers.proofs.Trialed.{same_trial, sound_trial, accepted_trial, quiet_trial}
 use Rattle.cg_answers.proofs.Netlisted.{same_verilog, sound_verilog, accepted_verilog, named_verilog}
 use Rattle.cg_answers.proofs.Depended.{same_depend, sound_depend, accepted_depend, named_depend}
+use Rattle.cg_answers.proofs.Migrated.{same_migrate, sound_migrate, accepted_migrate, named_migrate}
 
 -- where the outcome may be chosen, its status may not, but that of `search`
 pub agree_in : (c : Command) (files : List File) (outputs : List Name) (a b : Outcome) → IsAnswer c files outputs a → IsAnswer c files outputs b → AgreeIn c a.status b.status
@@ -34,6 +35,7 @@ agree_in (Search s) (f ∷ g ∷ []) outs a b p q = agree_search s f g outs a b 
 agree_in (Trial seed) [] [] a b p q = same_trial seed a b p q
 agree_in Verilog (f ∷ []) (out ∷ []) a b p q = same_verilog f out a b p q
 agree_in Depend (f ∷ []) (out ∷ []) a b p q = same_depend f out a b p q
+agree_in Migrate (f ∷ g ∷ []) (out ∷ []) a b p q = same_migrate f g out a b p q
 agree_in _ _ _ a b p q = absurd p
 
 -- the commands that may say no, and those that search
@@ -65,6 +67,7 @@ sound (Search s) (f ∷ g ∷ []) outs o p = sound_search s outs f g o p
 sound (Trial seed) [] [] o p = sound_trial seed o p
 sound Verilog (f ∷ []) (out ∷ []) o p = sound_verilog f out o p
 sound Depend (f ∷ []) (out ∷ []) o p = sound_depend f out o p
+sound Migrate (f ∷ g ∷ []) (out ∷ []) o p = sound_migrate f g out o p
 sound _ _ _ o p = absurd p
 
 -- what a command accepts it does
@@ -81,6 +84,7 @@ accepted (Search s) (f ∷ g ∷ []) outs o a p = accepted_search s f g outs o a
 accepted (Trial seed) [] [] o a p = accepted_trial seed o p
 accepted Verilog (f ∷ []) (out ∷ []) o a p = accepted_verilog f out a.0 o a.1 p
 accepted Depend (f ∷ []) (out ∷ []) o a p = accepted_depend f out o a p
+accepted Migrate (f ∷ g ∷ []) (out ∷ []) o a p = accepted_migrate f g out o a p
 accepted _ _ _ o a p = absurd p
 
 -- where an interval is forbidden, a command says that it is impossible, and writes nothing
@@ -136,6 +140,10 @@ quiet Verilog (f ∷ g ∷ fs) o p = absurd p
 quiet Depend [] o p = absurd p
 quiet Depend (f ∷ []) o p = absurd p
 quiet Depend (f ∷ g ∷ fs) o p = absurd p
+quiet Migrate [] o p = absurd p
+quiet Migrate (f ∷ []) o p = absurd p
+quiet Migrate (f ∷ g ∷ []) o p = absurd p
+quiet Migrate (f ∷ g ∷ h ∷ fs) o p = absurd p
 
 -- a command writes its output files, or nothing
 pub named : (c : Command) (files : List File) (outputs : List Name) (o : Outcome) → IsAnswer c files outputs o → IsNamed outputs o
@@ -151,4 +159,5 @@ named (Search s) (f ∷ g ∷ []) outs o p = named_search s outs f g o p
 named (Trial seed) [] [] o p = inr (quiet_trial seed o p)
 named Verilog (f ∷ []) (out ∷ []) o p = named_verilog f out o p
 named Depend (f ∷ []) (out ∷ []) o p = named_depend f out o p
+named Migrate (f ∷ g ∷ []) (out ∷ []) o p = named_migrate f g out o p
 named _ _ _ o p = absurd p

@@ -2,7 +2,7 @@
 use Rattle.std.proofs.Common.{List, [], ◌∷◌, length, refl, arith}
 use Rattle.cg_ending.specs.Outcome.{Name, File, Outcome}
 use Rattle.cg_command.specs.declared.plans.Command.{Command}
-use Rattle.cg_command.specs.declared.plans.Command.TheVariants.{Turns, TurnsOnImage, Flat, Run, Bound, Check, Emit, Map, Search, Trial, Verilog, Depend}
+use Rattle.cg_command.specs.declared.plans.Command.TheVariants.{Turns, TurnsOnImage, Flat, Run, Bound, Check, Emit, Map, Search, Trial, Verilog, Depend, Migrate}
 use Rattle.cg_command.specs.Words.{HasShape}
 use Rattle.cg_run_answers.specs.Turns.{turns_of}
 use Rattle.cg_run_answers.proofs.OnImage.{some_on_image}
@@ -17,6 +17,7 @@ use Rattle.cg_answers.specs.Commands.{IsAnswer}
 use Rattle.cg_answers.proofs.Trialed.{some_trial}
 use Rattle.cg_answers.proofs.Netlisted.{some_verilog}
 use Rattle.cg_answers.proofs.Depended.{some_depend}
+use Rattle.cg_answers.proofs.Migrated.{some_migrate}
 
 -- as many files as the command takes have an outcome
 pub some_outcome : (c : Command) (files : List File) (outputs : List Name) → HasShape c (length files) (length outputs) → (o : Outcome) × IsAnswer c files outputs o
@@ -81,3 +82,9 @@ some_outcome Depend [] outputs shape = absurd (omega (arith, shape.0))
 some_outcome Depend (f ∷ g ∷ fs) outputs shape = absurd (omega (arith, shape.0))
 some_outcome Depend (f ∷ []) [] shape = absurd (omega (arith, shape.1))
 some_outcome Depend (f ∷ []) (out ∷ other ∷ outs) shape = absurd (omega (arith, shape.1))
+some_outcome Migrate (f ∷ g ∷ []) (out ∷ []) shape = some_migrate f g out
+some_outcome Migrate [] outputs shape = absurd (omega (arith, shape.0))
+some_outcome Migrate (f ∷ []) outputs shape = absurd (omega (arith, shape.0))
+some_outcome Migrate (f ∷ g ∷ h ∷ fs) outputs shape = absurd (omega (arith, shape.0))
+some_outcome Migrate (f ∷ g ∷ []) [] shape = absurd (omega (arith, shape.1))
+some_outcome Migrate (f ∷ g ∷ []) (out ∷ other ∷ outs) shape = absurd (omega (arith, shape.1))

@@ -7,7 +7,7 @@ use Rattle.cg_ending.specs.Outcome.{Name, File, Outcome}
 use Rattle.cg_ending.specs.Reads.{AreRead, HoldsBytes}
 use Rattle.cg_ending.specs.Ends.{Moment, Completed}
 use Rattle.cg_command.specs.declared.plans.Command.{Command}
-use Rattle.cg_command.specs.declared.plans.Command.TheVariants.{Turns, TurnsOnImage, Flat, Run, Bound, Check, Emit, Map, Search, Trial, Verilog, Depend}
+use Rattle.cg_command.specs.declared.plans.Command.TheVariants.{Turns, TurnsOnImage, Flat, Run, Bound, Check, Emit, Map, Search, Trial, Verilog, Depend, Migrate}
 use Rattle.cg_inputs.proofs.Wholes.{one_read, first_read, second_read, three_read}
 use Rattle.cg_run_answers.proofs.TurnsAnswers.{turned_left}
 use Rattle.cg_run_answers.proofs.OnImage.{ordered_left, unordered_left}
@@ -24,6 +24,7 @@ use Rattle.cg_answers.proofs.Commands.{owns_of, sound}
 use Rattle.cg_answers.proofs.Trialed.{trial_left}
 use Rattle.cg_answers.proofs.Netlisted.{netlisted_left}
 use Rattle.cg_answers.proofs.Depended.{depended_left}
+use Rattle.cg_answers.proofs.Migrated.{migrated_left}
 
 -- nothing is said of what a command leaves at a fault or out of memory, or where it refuses a file
 abbrev pub is_silent : Status → Bool
@@ -71,6 +72,9 @@ left_done (Search s) (f ∷ g ∷ []) outs o before after read bytes answer is d
 left_done (Trial seed) [] [] o before after read bytes answer is done = trial_left seed o before after answer is done
 left_done Verilog (f ∷ []) (out ∷ []) o before after read bytes answer is done = netlisted_left f.name out f o before after (one_read before.held f.name f read) answer is done
 left_done Depend (f ∷ []) (out ∷ []) o before after read bytes answer is done = depended_left f.name out f o before after (one_read before.held f.name f read) is done answer
+left_done Migrate (f ∷ g ∷ []) (out ∷ []) o before after read bytes answer is done =
+    migrated_left f.name g.name out f g o before after (first_read before.held f.name g.name f g read) (second_read before.held f.name g.name f g read)
+    (All-head HoldsBytes g [] (All-tail HoldsBytes f (g ∷ []) bytes)) is done answer
 left_done _ _ _ o before after read bytes answer is done = absurd answer
 
 left_no : (command : Command) (files : List File) (outputs : List Name) (o : Outcome) (before after : Moment)

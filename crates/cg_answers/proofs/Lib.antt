@@ -2,6 +2,7 @@ pub mod Shapes
 pub mod Trialed
 pub mod Netlisted
 pub mod Depended
+pub mod Migrated
 pub mod Commands
 pub mod Judged
 pub mod Left

@@ -7,7 +7,7 @@ use Rattle.cg_ending.specs.Outcome.{Name, File, Outcome}
 use Rattle.cg_ending.specs.Ends.{Moment}
 use Rattle.cg_kernel.specs.Answer.{answer_of}
 use Rattle.cg_command.specs.declared.plans.Command.{Command}
-use Rattle.cg_command.specs.declared.plans.Command.TheVariants.{Turns, TurnsOnImage, Flat, Run, Bound, Check, Emit, Map, Search, Trial, Verilog, Depend}
+use Rattle.cg_command.specs.declared.plans.Command.TheVariants.{Turns, TurnsOnImage, Flat, Run, Bound, Check, Emit, Map, Search, Trial, Verilog, Depend, Migrate}
 use Rattle.cg_pad.specs.Bytes as images
 use Rattle.cg_model.specs.Work.{Image}
 use Rattle.cg_model.specs.Array.{Arch}
@@ -27,6 +27,7 @@ use Rattle.cg_search_answers.specs.Search.{IsSearch, IsSearchable, IsSearchRun, 
 use Rattle.cg_answers.specs.Trial.{IsTrialOf, IsTrialRun}
 use Rattle.cg_answers.specs.Verilog.{IsVerilog, IsNetlisted}
 use Rattle.cg_answers.specs.Depend.{IsDependOf, IsDependable, IsDepended}
+use Rattle.cg_answers.specs.Migrate.{IsMigrate, IsMigratable, IsMigrated}
 
 -- the outcomes that the command allows
 abbrev pub IsAnswer : Command → List File → List Name → Outcome → Type 0
@@ -42,6 +43,7 @@ IsAnswer (Search s) (arch ∷ kernel ∷ []) outs o = IsSearch s arch kernel out
 IsAnswer (Trial seed) [] [] o = IsTrialOf seed o
 IsAnswer Verilog (file ∷ []) (out ∷ []) o = IsVerilog file out o
 IsAnswer Depend (file ∷ []) (out ∷ []) o = IsDependOf file out o
+IsAnswer Migrate (arch ∷ file ∷ []) (out ∷ []) o = IsMigrate arch file out o
 IsAnswer _ _ _ o = ⊥
 
 -- how the statuses of two outcomes that the command allows for the same files agree: they are equal; but whether `search` finds
@@ -80,6 +82,7 @@ Accepts (Search s) (arch ∷ kernel ∷ []) = IsSearchable s arch kernel
 Accepts (Trial seed) [] = Unit {0}
 Accepts Verilog (file ∷ []) = GivesArch file
 Accepts Depend (file ∷ []) = IsDependable file
+Accepts Migrate (arch ∷ file ∷ []) = IsMigratable arch file
 Accepts _ _ = ⊥
 
 -- the input files for which the command says that an interval is impossible
@@ -111,6 +114,7 @@ LeavesDone (Search s) (arch ∷ kernel ∷ []) outs before after = IsSearchRun s
 LeavesDone (Trial seed) [] [] before after = IsTrialRun seed before after
 LeavesDone Verilog (file ∷ []) (out ∷ []) before after = IsNetlisted file out before after
 LeavesDone Depend (file ∷ []) (out ∷ []) before after = IsDepended file out before after
+LeavesDone Migrate (arch ∷ file ∷ []) (out ∷ []) before after = IsMigrated arch file out before after
 LeavesDone _ _ _ before after = ⊥
 
 -- the commands that judge a mapping before they write: where they end with No, they write nothing

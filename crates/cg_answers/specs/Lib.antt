@@ -1,4 +1,5 @@
 pub mod Trial
 pub mod Verilog
 pub mod Depend
+pub mod Migrate
 pub mod Commands

@@ -40,5 +40,6 @@ fn answer_to(
         Command::Trial { seed } => shaped::trial(alloc, seed, files, outputs),
         Command::Verilog => shaped::verilog(alloc, files, outputs),
         Command::Depend => shaped::depend(alloc, files, outputs),
+        Command::Migrate => shaped::migrate(alloc, files, outputs),
     }
 }

@@ -3,6 +3,7 @@
 
 mod answering;
 mod depending;
+mod migrating;
 mod netlisting;
 mod shaped;
 

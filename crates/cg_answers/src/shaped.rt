@@ -5,7 +5,7 @@ ghost use Rattle.cg_ending.specs.Outcome.{file_of};
 ghost use Rattle.cg_command.specs.Words.{HasShape};
 ghost use Rattle.cg_answers.specs.Commands.{IsAnswer};
 
-use crate::{depending, netlisting};
+use crate::{depending, migrating, netlisting};
 use cg_command::Command;
 use cg_ending::{File, Outcome, Status, Stop};
 use cg_model::Request;
@@ -145,4 +145,12 @@ pub(crate) fn depend(alloc: Global, files: &[File], outputs: &[String]) -> Resul
     ensures { Allows (IsAnswer (Command.Depend) (map file_of files.now) (map string_bytes outputs.now)) result }
 {
     depending::depend(alloc, &files[0], outputs[0].as_str())
+}
+
+/// Answers `migrate ARCH BITS OUT` over `files`; `outputs` is the name of the new bits.
+pub(crate) fn migrate(alloc: Global, files: &[File], outputs: &[String]) -> Result<Outcome, Stop>
+    requires { HasShape (Command.Migrate) (length files.now) (length outputs.now) }
+    ensures { Allows (IsAnswer (Command.Migrate) (map file_of files.now) (map string_bytes outputs.now)) result }
+{
+    migrating::migrate(alloc, &files[0], &files[1], outputs[0].as_str())
 }

@@ -6,10 +6,10 @@ use Rattle.std.specs.Str.Parse.{digits_value}
 use Rattle.std.proofs.lemmas.Bool.{leb-true}
 use Rattle.cg_model.specs.Limits.{most_turns, most_contexts, most_moves}
 use Rattle.cg_command.specs.declared.plans.Command.{Command}
-use Rattle.cg_command.specs.declared.plans.Command.TheVariants.{Turns, TurnsOnImage, Flat, Run, Bound, Check, Emit, Map, Search, Trial, Verilog, Depend}
+use Rattle.cg_command.specs.declared.plans.Command.TheVariants.{Turns, TurnsOnImage, Flat, Run, Bound, Check, Emit, Map, Search, Trial, Verilog, Depend, Migrate}
 use Rattle.cg_model.specs.declared.request.Request.{Request}
 use Rattle.cg_model.specs.Request.{IsInRange}
-use Rattle.cg_command.specs.Words.{Text, Given, Arguments, Plan, HasShape, values_said, said_once, asked_interval, named_file, request_of, written_plan, searching_plan, map_plan, search_plan, usual_moves, usual_responses, positive, seed_of, moves_of, is_number, number_up_to, turns_of, turns_plan, file_plan, run_plan, bound_plan, check_plan, emit_plan, trial_plan, is_empty, without_options, command_plan, arguments_of, plan_of}
+use Rattle.cg_command.specs.Words.{Text, Given, Arguments, Plan, HasShape, values_said, said_once, asked_interval, named_file, request_of, written_plan, searching_plan, map_plan, search_plan, usual_moves, usual_responses, positive, seed_of, moves_of, is_number, number_up_to, turns_of, turns_plan, file_plan, run_plan, bound_plan, check_plan, emit_plan, trial_plan, migrate_plan, is_empty, without_options, command_plan, arguments_of, plan_of}
 
 -- the plan has the shape of its command
 abbrev pub IsShaped : Plan → Type 0
@@ -92,6 +92,13 @@ trial_shaped : (words : List Text) → AreShaped (trial_plan words)
 trial_shaped [] = none_shaped
 trial_shaped (seed ∷ []) = numbered_shaped (seed_of seed) (λ n. record { command = Trial n; inputs = []; outputs = [] }) (λ n e. (refl, refl))
 trial_shaped (a ∷ b ∷ more) = none_shaped
+
+migrate_shaped : (words : List Text) → AreShaped (migrate_plan words)
+migrate_shaped [] = none_shaped
+migrate_shaped (a ∷ []) = none_shaped
+migrate_shaped (a ∷ b ∷ []) = none_shaped
+migrate_shaped (arch ∷ bits ∷ out ∷ []) = one_shaped (record { command = Migrate; inputs = arch ∷ bits ∷ []; outputs = out ∷ [] }) (refl, refl)
+migrate_shaped (a ∷ b ∷ c ∷ d ∷ more) = none_shaped
 
 without_shaped : (plan : List Text → Option Plan) (said : Arguments) → AreShaped (plan said.words) → AreShaped (without_options plan said)
 without_shaped plan said is = either_shaped (is_empty said.options) (plan said.words) None is none_shaped
@@ -185,7 +192,8 @@ command_shaped name said =
     (either_shaped (bytes_eq name (codes "search")) (search_plan said) _ (search_shaped said)
     (either_shaped (bytes_eq name (codes "trial")) (without_options trial_plan said) _ (without_shaped trial_plan said (trial_shaped said.words))
     (either_shaped (bytes_eq name (codes "verilog")) (without_options (file_plan Verilog) said) _ (without_shaped (file_plan Verilog) said (file_shaped Verilog (refl, refl) said.words))
-    (either_shaped (bytes_eq name (codes "depend")) (without_options (file_plan Depend) said) None (without_shaped (file_plan Depend) said (file_shaped Depend (refl, refl) said.words)) none_shaped))))))))))
+    (either_shaped (bytes_eq name (codes "depend")) (without_options (file_plan Depend) said) _ (without_shaped (file_plan Depend) said (file_shaped Depend (refl, refl) said.words))
+    (either_shaped (bytes_eq name (codes "migrate")) (without_options migrate_plan said) None (without_shaped migrate_plan said (migrate_shaped said.words)) none_shaped)))))))))))
 
 said_shaped : (name : Text) (o : Option Arguments) → AreShaped (option_and_then (command_plan name) o)
 said_shaped name None = none_shaped

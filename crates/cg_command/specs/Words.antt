@@ -6,7 +6,7 @@ use Rattle.cg_model.specs.Limits.{most_turns}
 use Rattle.cg_model.specs.Request.{IsInRange}
 pub use Rattle.cg_command.specs.Numbers.{Text, is_number, number_up_to, positive, turns_of, interval_of, seed_of, moves_of, usual_seed, usual_moves, usual_responses}
 use Rattle.cg_command.specs.declared.plans.Command.{Command}
-use Rattle.cg_command.specs.declared.plans.Command.TheVariants.{Turns, TurnsOnImage, Flat, Run, Bound, Check, Emit, Map, Search, Trial, Verilog, Depend}
+use Rattle.cg_command.specs.declared.plans.Command.TheVariants.{Turns, TurnsOnImage, Flat, Run, Bound, Check, Emit, Map, Search, Trial, Verilog, Depend, Migrate}
 use Rattle.cg_model.specs.declared.request.Request.{Request}
 use Rattle.cg_command.specs.declared.plans.Plan.{Plan as PlanValue}
 use Rattle.cg_command.specs.declared.arguments.Arguments.{Arguments as ArgumentsValue}
@@ -182,6 +182,11 @@ abbrev pub trial_plan : List Text → Option Plan
 trial_plan (seed ∷ []) = option_map (λ n. record { command = Trial n; inputs = []; outputs = [] }) (seed_of seed)
 trial_plan _ = None
 
+-- migrate ARCH BITS OUT
+abbrev pub migrate_plan : List Text → Option Plan
+migrate_plan (arch ∷ bits ∷ out ∷ []) = Some (record { command = Migrate; inputs = arch ∷ bits ∷ []; outputs = out ∷ [] })
+migrate_plan _ = None
+
 -- the values of an option among those given, in order
 abbrev pub values_said : Text → List Given → List Text
 values_said name [] = []
@@ -250,7 +255,8 @@ command_plan name said =
     else (if bytes_eq name (codes "trial") then without_options trial_plan said
     else (if bytes_eq name (codes "verilog") then without_options (file_plan Verilog) said
     else (if bytes_eq name (codes "depend") then without_options (file_plan Depend) said
-    else None))))))))))
+    else (if bytes_eq name (codes "migrate") then without_options migrate_plan said
+    else None)))))))))))
 
 -- what the words ask, None where they fit no command
 unfoldable pub plan_of : List Text → Option Plan
@@ -271,3 +277,4 @@ HasShape (Search request) inputs outputs = (inputs ≡ 2) × ((outputs ≡ 1) �
 HasShape (Trial seed) inputs outputs = (inputs ≡ 0) × (outputs ≡ 0)
 HasShape Verilog inputs outputs = (inputs ≡ 1) × (outputs ≡ 1)
 HasShape Depend inputs outputs = (inputs ≡ 1) × (outputs ≡ 1)
+HasShape Migrate inputs outputs = (inputs ≡ 2) × (outputs ≡ 1)

@@ -37,6 +37,8 @@ pub enum Command {
     Verilog,
     /// `depend KERNEL OUT`: the kernel with the order edges that its accesses need.
     Depend,
+    /// `migrate ARCH BITS OUT`: bits of the first format in that of today.
+    Migrate,
 }
 
 /// A command with the names of its files: the inputs in the order of reading, the outputs in
@@ -125,6 +127,7 @@ fn command_plan(alloc: Global, name: &str, said: &Arguments) -> Result<Option<Pl
             Command::Depend,
             said.words.as_slice(),
         ),
+        "migrate" if has_no_options(said) => migrate_plan(alloc, said.words.as_slice()),
         _ => Ok(None),
     }
 }
@@ -258,6 +261,18 @@ fn trial_plan(alloc: Global, words: &[&str]) -> Result<Option<Plan>, AllocError>
             };
             plan_with(alloc, Command::Trial { seed }, &[], &[])
         }
+        _ => Ok(None),
+    }
+}
+
+fn migrate_plan(alloc: Global, words: &[&str]) -> Result<Option<Plan>, AllocError>
+    ensures plan { IfOk result
+        (λ p. option_map spec.planned p ≡ spec.migrate_plan (map (λ word. word.now) words.now)) }
+    ensures shape { IfOk result (λ p. IfSome p
+        (λ plan. HasShape plan.command (vec_len plan.inputs) (vec_len plan.outputs))) }
+{
+    match words {
+        [arch, bits, out] => plan_with(alloc, Command::Migrate, &[*arch, *bits], &[*out]),
         _ => Ok(None),
     }
 }
