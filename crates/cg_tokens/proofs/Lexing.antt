@@ -1,10 +1,10 @@
 -- Steps of cutting bytes into tokens.
-use Rattle.std.proofs.Common.{◌≡◌, ℕ, zero, suc, ◌+◌, ◌-◌, ◌<◌, ◌≤◌, Bool, true, false, cond, List, [], ◌∷◌, ◌++◌, length, get_or, take, drop, refl, sym, ◌∙◌, ap, arith, add-one, length-drop, append_assoc}
+use Rattle.std.proofs.Common.{◌≡◌, ℕ, zero, suc, ◌+◌, ◌-◌, false, cond, List, [], ◌∷◌, length, get_or, take, drop, refl, sym, ◌∙◌, ap, arith, add-one}
 use Rattle.std.proofs.lemmas.List.{take_rest, drop-drop}
 use Rattle.std.specs.List.{prefix_len}
 use Rattle.std.proofs.lemmas.List.Folds.{length-prefix_len}
 use Rattle.cg_tokens.specs.declared.token.Kind.{Kind}
-use Rattle.cg_tokens.specs.Tokens.{Placed, is_blank, kind_of, goes_on, more_of, first_token, tokens_from}
+use Rattle.cg_tokens.specs.Tokens.{Placed, is_blank, kind_of, goes_on, more_of, first_token, tokens_from, tokens_at, end_of}
 
 -- the value of `&s[n..]`
 pub rest_is : (n : ℕ) (s : List ℕ) → take (length s - n) (drop n s) ≡ drop n s
@@ -12,12 +12,6 @@ rest_is n s = take_rest s n
 
 take_front : (n b : ℕ) (rest : List ℕ) → take (n + 1) (b ∷ rest) ≡ b ∷ take n rest
 take_front n b rest = rw (add-one n)
-
-prefix_short : (p : ℕ → Bool) (xs : List ℕ) → prefix_len p xs ≤ length xs
-prefix_short p [] = omega arith
-prefix_short p (x ∷ xs) =
-    let h = prefix_short p xs in
-    elim (p x) as (λ b. cond b (1 + prefix_len p xs) 0 ≤ suc (length xs)) [ true ↦ omega arith | false ↦ omega arith ]
 
 -- the token that was cut off is the first
 pub first_is : (bytes rest : List ℕ) (b : ℕ) (k : Kind) (n place : ℕ) → bytes ≡ b ∷ rest → k ≡ kind_of (get_or bytes 0 0) → n ≡ prefix_len (goes_on k) (take (length bytes - 1) (drop 1 bytes))
@@ -34,7 +28,7 @@ passed zero p bytes = ap (λ x. tokens_from 0 x bytes) (omega arith)
 passed (suc n) p [] = refl
 passed (suc n) p (b ∷ bytes) = passed n (p + 1) bytes ∙ ap (λ x. tokens_from 0 x (drop n bytes)) (omega arith)
 
-pub token_then : (place b : ℕ) (rest : List ℕ) (t : Placed) → is_blank b ≡ false → t ≡ first_token b rest place
+token_then : (place b : ℕ) (rest : List ℕ) (t : Placed) → is_blank b ≡ false → t ≡ first_token b rest place
     → tokens_from 0 place (b ∷ rest) ≡ t ∷ tokens_from 0 (place + length t.text) (drop (length t.text) (b ∷ rest))
 token_then place b rest t h e =
     let text : length t.text ≡ suc (more_of b rest) = ap (λ (x : Placed). length x.text) e ∙ ap suc (length-prefix_len (goes_on (kind_of b)) rest) in
@@ -44,25 +38,12 @@ token_then place b rest t h e =
     ∙ ap (λ x. t ∷ tokens_from 0 x (drop (more_of b rest) rest)) (omega (arith, text))
     ∙ ap (λ n. t ∷ tokens_from 0 (place + length t.text) (drop n (b ∷ rest))) (sym text)
 
-pub blank_then : (place b : ℕ) (rest : List ℕ) → is_blank b ≡ true → tokens_from 0 place (b ∷ rest) ≡ tokens_from 0 (place + 1) rest
-blank_then place b rest h = ap (λ x. cond x (tokens_from 0 (place + 1) rest) (first_token b rest place ∷ tokens_from (more_of b rest) (place + 1) rest)) h
-
--- one token more is found, and the rest is cut as before
-pub found_more : (bytes : List ℕ) (place : ℕ) (before after : List Placed) (t : Placed) (b : ℕ) (rest : List ℕ) → drop place bytes ≡ b ∷ rest → is_blank b ≡ false → t ≡ first_token b rest place → after ≡ before ++ t ∷ []
-    → after ++ tokens_from 0 (place + length t.text) (drop (place + length t.text) bytes) ≡ before ++ tokens_from 0 place (drop place bytes)
-found_more bytes place before after t b rest e h te ae =
+-- the token at a place, and then those behind it
+pub next_cut : (bytes : List ℕ) (place b : ℕ) (rest : List ℕ) (t : Placed) → drop place bytes ≡ b ∷ rest → is_blank b ≡ false → t ≡ first_token b rest place → tokens_at bytes place ≡ t ∷ tokens_at bytes (end_of t)
+next_cut bytes place b rest t e h te =
     let n = length t.text in
-    let left = tokens_from 0 (place + n) in
-    let more : drop (place + n) bytes ≡ drop n (b ∷ rest) = sym (drop-drop n place bytes) ∙ ap (drop n) e in
-    ap (λ x. x ++ left (drop (place + n) bytes)) ae
-    ∙ append_assoc before (t ∷ []) (left (drop (place + n) bytes))
-    ∙ ap (λ x. before ++ t ∷ left x) more
-    ∙ ap (λ x. before ++ x) (sym (token_then place b rest t h te))
-    ∙ ap (λ x. before ++ tokens_from 0 place x) (sym e)
-
-pub within_bytes : (bytes : List ℕ) (place : ℕ) (t : Placed) (b : ℕ) (rest : List ℕ) → place < length bytes → drop place bytes ≡ b ∷ rest → t ≡ first_token b rest place → place + length t.text ≤ length bytes
-within_bytes bytes place t b rest lt e te =
-    let text : length t.text ≡ suc (more_of b rest) = ap (λ (x : Placed). length x.text) te ∙ ap suc (length-prefix_len (goes_on (kind_of b)) rest) in
-    let size : length bytes - place ≡ suc (length rest) = sym (length-drop place bytes) ∙ ap length e in
-    let short : more_of b rest ≤ length rest = prefix_short (goes_on (kind_of b)) rest in
-    omega arith
+    ap (tokens_from 0 place) e
+    ∙ token_then place b rest t h te
+    ∙ ap (λ x. t ∷ tokens_from 0 (place + n) (drop n x)) (sym e)
+    ∙ ap (λ x. t ∷ tokens_from 0 (place + n) x) (drop-drop n place bytes)
+    ∙ ap (λ p. t ∷ tokens_at bytes (p + n)) (ap (λ (x : Placed). x.place) (sym te))

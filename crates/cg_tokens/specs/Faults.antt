@@ -1,6 +1,10 @@
 -- Where a list of tokens stops being the beginning of a file.
-use Rattle.std.specs.Prelude.{◌≡◌, ℕ, List, [], ◌∷◌, ◌++◌, length}
+use Rattle.std.specs.Prelude.{◌≡◌, ℕ, ◌-◌, List, [], ◌∷◌, ◌++◌, length, drop}
 use Rattle.cg_tokens.specs.Tokens.{Placed, tokens_of, texts, place_of}
+
+-- the tokens are the last of all
+abbrev pub AreLast : {T : Type 0} → List T → List T → Type 0
+AreLast rest all = drop (length all - length rest) all ≡ rest
 
 -- some file begins so
 abbrev pub Begins : {T : Type 0} → (List T → Type 0) → List T → Type 0

@@ -1,5 +1,5 @@
 -- The tokens of bytes, each with the place where it begins.
-use Rattle.std.specs.Prelude.{ℕ, zero, suc, ◌+◌, Bool, false, ◌||◌, ◌==◌, List, [], ◌∷◌, map, take, if◌then◌else◌}
+use Rattle.std.specs.Prelude.{ℕ, zero, suc, ◌+◌, Bool, false, ◌||◌, ◌==◌, List, [], ◌∷◌, length, map, take, drop, if◌then◌else◌}
 use Rattle.std.specs.List.{prefix_len}
 use Rattle.std.specs.Char.{is_ascii_alphabetic, is_ascii_digit}
 use Rattle.cg_tokens.specs.declared.token.Kind.{Kind}
@@ -49,6 +49,14 @@ tokens_from zero place (b ∷ bytes) =
 abbrev pub tokens_of : List ℕ → List Placed
 tokens_of bytes = tokens_from 0 0 bytes
 
+-- the tokens of the bytes from a place on, which no token before it reaches
+abbrev pub tokens_at : List ℕ → ℕ → List Placed
+tokens_at bytes place = tokens_from 0 place (drop place bytes)
+
+-- the place behind a token
+abbrev pub end_of : Placed → ℕ
+end_of t = t.place + length t.text
+
 -- a token of the program
 abbrev pub seen : Token → Placed
 seen t = record { text = t.text.now; place = t.place }
@@ -61,7 +69,3 @@ texts tokens = map (λ (t : Placed). t.text) tokens
 abbrev pub place_of : ℕ → List Placed → ℕ
 place_of end [] = end
 place_of end (t ∷ rest) = t.place
-
--- the texts of the program's tokens
-abbrev pub words : List Token → List (List ℕ)
-words tokens = map (λ (t : Token). t.text.now) tokens

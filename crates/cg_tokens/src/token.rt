@@ -1,9 +1,7 @@
 //! Bytes cut into tokens.
-ghost use Rattle.std.specs.Prelude.{◌≡◌, ◌+◌, ◌≤◌, ◌<◌, ◌∷◌, ℕ, List, IfOk, IsTrue, length, map, take};
+ghost use Rattle.std.specs.Prelude.{◌≡◌, ◌≤◌, ◌<◌, [], ◌∷◌, ℕ, List, MatchOption, IfSome, length, slice_index, false};
 ghost use Rattle.std.specs.List.{prefix_len};
-ghost use Rattle.cg_tokens.specs.Tokens.{is_blank, is_letter, kind_of, goes_on, first_token, more_of, seen, tokens_of};
-
-use std::alloc::{AllocError, Global};
+ghost use Rattle.cg_tokens.specs.Tokens.{is_blank, is_letter, kind_of, goes_on, first_token, end_of, seen, tokens_at};
 
 /// What a token is.
 #[derive(Clone, Copy, Debug, PartialEq, Eq, Drop)]
@@ -85,21 +83,27 @@ fn first_token(bytes: &[u8], place: usize) -> Token<'_>
     }
 }
 
-/// The tokens of the bytes.
-pub fn tokens(alloc: Global, bytes: &[u8]) -> Result<Vec<Token<'_>>, AllocError>
-    ensures { IfOk result (λ tokens. map seen tokens.items ≡ tokens_of bytes.now) }
+/// Finds the first byte of `bytes` from `at` on that is no blank; it gives its place, or `at` or the length where there is none.
+pub fn past_blanks(bytes: &[u8], at: usize) -> usize
+    ensures same { tokens_at bytes.now result ≡ tokens_at bytes.now at }
+    ensures solid { result < length bytes.now → is_blank (slice_index bytes.now result) ≡ false }
 {
-    let mut found = Vec::new(alloc);
-    let mut place = 0;
-    while place < bytes.len() {
-        let rest = &bytes[place..];
-        if is_blank(rest[0]) {
-            place += 1;
-        } else {
-            let token = first_token(rest, place);
-            place += token.text.len();
-            found.push(token)?;
-        }
+    let mut place = at;
+    while place < bytes.len() && is_blank(bytes[place]) {
+        place += 1;
     }
-    Ok(found)
+    place
+}
+
+/// Cuts the next token of `bytes` from `at` on.
+pub fn next_token(bytes: &[u8], at: usize) -> Option<Token<'_>>
+    ensures next { MatchOption result (tokens_at bytes.now at ≡ []) (λ token. tokens_at bytes.now at ≡ seen token ∷ tokens_at bytes.now (end_of (seen token))) }
+    ensures within { IfSome result (λ token. end_of (seen token) ≤ length bytes.now) }
+{
+    let place = past_blanks(bytes, at);
+    if place < bytes.len() {
+        Some(first_token(&bytes[place..], place))
+    } else {
+        None
+    }
 }

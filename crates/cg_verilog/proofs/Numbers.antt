@@ -1,5 +1,5 @@
 -- The numbers of greatest bits.
-use Rattle.std.proofs.Common.{◌≡◌, ◌<◌, ◌≤◌, ◌+◌, ◌-◌, ◌*◌, ℕ, zero, suc, arith, Bool, true, false, ◌&&◌, ◌||◌, ◌==◌, nat_le, List, [], ◌∷◌, ◌⊎◌, ⊎_elim, refl, sym, ◌∙◌, ap, ap₂}
+use Rattle.std.proofs.Common.{◌≡◌, ◌<◌, ◌≤◌, ◌+◌, ◌-◌, ◌*◌, ℕ, zero, suc, arith, Bool, true, false, ◌&&◌, ◌||◌, ◌==◌, nat_le, List, [], ◌∷◌, ⊎_elim, refl, sym, ◌∙◌, ap, ap₂}
 use Rattle.std.specs.Prelude.{decimal, not}
 use Rattle.std.specs.List.{list_all}
 use Rattle.cg_tokens.specs.Tokens.{is_letter}

@@ -1,12 +1,9 @@
 -- Steps of reading.
-use Rattle.std.proofs.Common.{◌≡◌, ℕ, ◌+◌, ◌<◌, true, false, cond, List, [], ◌∷◌, ◌++◌, length, drop, map, get_or, codes, Some, None, refl, sym, ◌∙◌, ap, subst, append_assoc, arith}
-use Rattle.std.proofs.lemmas.List.{drop_more, get_or-map, map-append}
-use Rattle.std.proofs.lemmas.List.{length-map}
+use Rattle.std.proofs.Common.{◌≡◌, ℕ, true, false, cond, List, [], ◌∷◌, ◌++◌, map, codes, Some, None, refl, sym, ◌∙◌, ap, subst, append_assoc}
+use Rattle.std.proofs.lemmas.List.{map-append}
 use Rattle.std.specs.Prelude.{decimal, ◌-◌}
-use Rattle.cg_tokens.specs.declared.token.Token.{Token}
 use Rattle.std.specs.List.{flat_map, AllByRecursion}
 use Rattle.std.specs.Cmp.Lexicographic.{same_text}
-use Rattle.cg_tokens.specs.Tokens.{words}
 use Rattle.cg_tokens.specs.Table.{going, run, Spelled, none}
 use Rattle.cg_tokens.proofs.Stacks.{through}
 use Rattle.cg_verilog.specs.Words.{same, is_name}
@@ -16,13 +13,6 @@ use Rattle.cg_verilog.specs.Read.{begins_with, Stops, Misses, MissesText}
 use Rattle.cg_verilog.specs.declared.fault.Misfit.{Misfit}
 use Rattle.cg_verilog.specs.declared.fault.Misfit.TheVariants.{Memory, Text}
 use Rattle.cg_verilog.proofs.Exact.{table, named_not, name_onto, exactly_onto, pin_onto, wire_onto, only}
-
-pub next_is : (tokens : List Token) (at : ℕ) (d : Token) → at < length tokens → drop at (words tokens) ≡ (get_or tokens at d).text.now ∷ drop (at + 1) (words tokens)
-next_is tokens at d lt =
-    let f : Token → List ℕ = λ x. x.text.now in
-    let long : length (words tokens) ≡ length tokens = simp length-map in
-    let short : at < length (words tokens) = omega arith in
-    drop_more (words tokens) at [] short ∙ ap (λ x. x ∷ drop (at + 1) (words tokens)) (get_or-map f tokens at d [] lt)
 
 pub missed_exactly : (s : List ℕ) (old : List (List ℕ)) → begins_with s old ≡ false → Stops (Exactly s ∷ []) old old
 missed_exactly s [] h = record { ran = λ stack. refl }

@@ -1,6 +1,6 @@
 -- What reading says of the tokens that it found and left.
-use Rattle.std.specs.Prelude.{◌≡◌, ℕ, Bool, false, List, [], ◌∷◌, ◌++◌, drop, map, Some, Result, Ok, Err}
-use Rattle.cg_tokens.specs.Tokens.{words}
+use Rattle.std.specs.Prelude.{◌≡◌, ℕ, Bool, false, List, [], ◌∷◌, ◌++◌, map, Some, Result, Ok, Err}
+use Rattle.cg_tokens.specs.Tokens.{tokens_at, texts}
 use Rattle.cg_tokens.specs.Table.{run}
 use Rattle.cg_verilog.specs.declared.reader.Reader.{Reader}
 use Rattle.cg_verilog.specs.declared.fault.Misfit.{Misfit}
@@ -16,9 +16,9 @@ use Rattle.cg_verilog.specs.Words.{same}
 use Rattle.cg_verilog.specs.Module.{PinText, CellText, WireText, ModuleText, IsText}
 use Rattle.cg_verilog.specs.Rules.{Symbol, rule, start}
 
--- the tokens that a reader has left
+-- the texts of the tokens that a reader has left
 abbrev pub left : Reader → List (List ℕ)
-left r = drop r.at (words r.tokens.now)
+left r = texts (tokens_at r.bytes.now r.at)
 
 abbrev pub begins_with : List ℕ → List (List ℕ) → Bool
 begins_with s [] = false

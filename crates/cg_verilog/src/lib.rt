@@ -12,7 +12,6 @@ pub mod laws;
 mod module;
 mod reader;
 
-use cg_tokens::tokens;
 use fault::Misfit;
 pub use fault::ModuleFault;
 pub use module::{Cell, Module, Pin, Wire};
@@ -40,13 +39,7 @@ fn read(alloc: Global, bytes: &[u8]) -> Result<Module<'_>, ModuleFault>
     // Which fault it is.
     ensures fault { IfErr result (λ e. IsFault e bytes.now) }
 {
-    let Ok(tokens) = tokens(alloc, bytes) else {
-        return Err(ModuleFault::Memory);
-    };
-    let mut reader = Reader {
-        tokens: tokens.as_slice(),
-        at: 0,
-    };
+    let mut reader = Reader::new(bytes);
     match reader.module(alloc) {
         Ok(module) => Ok(module),
         Err(Misfit::Memory) => Err(ModuleFault::Memory),

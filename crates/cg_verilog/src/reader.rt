@@ -1,13 +1,15 @@
-//! Reading tokens one after another.
+//! Reading the tokens of a text one after another.
 ghost use Rattle.std.specs.Prelude.{◌≡◌, true};
 ghost use Rattle.std.specs.List.{list_all};
 ghost use Rattle.cg_verilog.specs.Words.{same, is_word, is_reserved, is_name, is_name_byte};
 ghost use Rattle.cg_verilog.specs.Rules.{is_top, top_number};
-ghost use Rattle.cg_tokens.specs.Tokens.{is_letter};
+ghost use Rattle.cg_tokens.specs.Faults.{AreLast};
+ghost use Rattle.cg_tokens.specs.Tokens.{is_letter, tokens_at, tokens_of};
+ghost use Rattle.std.proofs.Props.{props};
 
 use crate::fault::Misfit;
 use crate::module::{Cell, Module, Pin, Wire};
-use cg_tokens::Token;
+use cg_tokens::{Token, next_token, past_blanks};
 use std::alloc::Global;
 
 fn is_letter(byte: u8) -> bool
@@ -78,46 +80,64 @@ fn top_number(text: &[u8]) -> u32
     }
 }
 
-/// Tokens, of which the first few are read.
+/// A text, and the place behind the tokens that are read.
 #[derive(Clone, Copy)]
-pub struct Reader<'t, 'a> {
-    pub tokens: &'t [Token<'a>],
+pub struct Reader<'a> {
+    pub bytes: &'a [u8],
     pub at: usize,
+    ghost last: { AreLast (tokens_at bytes.now at) (tokens_of bytes.now) } by { Prim.hlevel props },
 }
 
-impl<'a> Reader<'_, 'a> {
-    ghost use Rattle.std.specs.Prelude.{◌≡◌, decimal, [], ◌∷◌, ◌++◌, ◌<◌, ◌+◌, true, false, length, drop, map, codes, MatchOption, IfSome, OnOk, IfOk, IfErr};
+impl<'a> Reader<'a> {
+    ghost use Rattle.std.specs.Prelude.{◌≡◌, decimal, [], ◌∷◌, ◌++◌, ◌<◌, ◌≤◌, true, false, length, map, codes, MatchOption, IfSome, OnOk, IfOk, IfErr};
     ghost use Rattle.cg_verilog.specs.Words.{is_name};
     ghost use Rattle.std.specs.List.{AllByRecursion, flat_map};
     ghost use Rattle.cg_verilog.specs.Rules.{is_top, Exactly, Name, Top, Pins, Cells, Lines, pin_rule, wire_rule, cell_rule, pins_end, cells_end};
     ghost use Rattle.cg_verilog.specs.Module.{IsPin, pin_tokens, further_pin, IsWire, wire_tokens, IsCell, cell_tokens, title, clocks, input, header, IsModule, lines_tokens, module_tokens};
     ghost use Rattle.cg_verilog.specs.Read.{left, begins_with, Misses, pin_of, wire_of, cell_of, module_of, MissesText};
-    ghost use Rattle.cg_tokens.specs.Tokens.{place_of, seen};
+    ghost use Rattle.cg_tokens.specs.Tokens.{place_of, seen, end_of, texts, tokens_at, tokens_of};
 
-    /// The next token.
-    pub fn next(&self) -> Option<&'a [u8]>
-        ensures next { MatchOption result (left self.now ≡ []) (λ text. left self.now ≡ text.now ∷ left (record self.now { at = self.now.at + 1 })) }
-        ensures within { IfSome result (λ _. self.now.at < length self.now.tokens.now) }
+    /// Begins at the first token of `bytes`.
+    pub fn new(bytes: &'a [u8]) -> Self
+        ensures all { left result ≡ texts (tokens_of bytes.now) }
+        ensures bytes { result.bytes.now ≡ bytes.now }
     {
-        if self.at < self.tokens.len() {
-            Some(self.tokens[self.at].text)
-        } else {
-            None
+        Reader {
+            bytes,
+            at: past_blanks(bytes, 0),
         }
+    }
+
+    /// Cuts the next token.
+    pub fn next(&self) -> Option<Token<'a>>
+        ensures next { MatchOption result (left self.now ≡ []) (λ token. tokens_at self.now.bytes.now self.now.at ≡ seen token ∷ tokens_at self.now.bytes.now (end_of (seen token))) }
+        ensures within { IfSome result (λ token. end_of (seen token) ≤ length self.now.bytes.now) }
+    {
+        next_token(self.bytes, self.at)
+    }
+
+    /// Takes `token`, which is the next, and the blanks behind it.
+    fn take(&mut self, token: Token<'a>)
+        requires next { tokens_at self.old.bytes.now self.old.at ≡ seen token ∷ tokens_at self.old.bytes.now (end_of (seen token)) }
+        requires within { end_of (seen token) ≤ length self.old.bytes.now }
+        ensures taken { left self.old ≡ token.entry.text.now ∷ left self.new }
+        ensures same { self.new.bytes ≡ self.old.bytes }
+    {
+        self.at = past_blanks(self.bytes, token.place + token.text.len());
     }
 
     /// Takes this token.
     pub fn exactly(&mut self, text: &[u8]) -> Result<(), Misfit>
         ensures ok { OnOk result (left self.old ≡ text.now ∷ left self.new) }
         ensures misses { IfErr result (λ e. Misses e (Exactly text.now ∷ []) (left self.old) (left self.new)) }
-        ensures same { self.new.tokens ≡ self.old.tokens }
+        ensures same { self.new.bytes ≡ self.old.bytes }
     {
         match self.next() {
             Some(next) => {
-                if !same(next, text) {
+                if !same(next.text, text) {
                     return Err(Misfit::Text);
                 }
-                self.at += 1;
+                self.take(next);
                 Ok(())
             }
             None => Err(Misfit::Text),
@@ -128,15 +148,15 @@ impl<'a> Reader<'_, 'a> {
     pub fn name(&mut self) -> Result<&'a [u8], Misfit>
         ensures ok { IfOk result (λ name. (is_name name.now ≡ true) × (left self.old ≡ name.now ∷ left self.new)) }
         ensures misses { IfErr result (λ e. Misses e (Name ∷ []) (left self.old) (left self.new)) }
-        ensures same { self.new.tokens ≡ self.old.tokens }
+        ensures same { self.new.bytes ≡ self.old.bytes }
     {
         match self.next() {
             Some(next) => {
-                if !is_name(next) {
+                if !is_name(next.text) {
                     return Err(Misfit::Text);
                 }
-                self.at += 1;
-                Ok(next)
+                self.take(next);
+                Ok(next.text)
             }
             None => Err(Misfit::Text),
         }
@@ -147,15 +167,15 @@ impl<'a> Reader<'_, 'a> {
     pub fn top(&mut self) -> Result<u32, Misfit>
         ensures ok { IfOk result (λ top. (top < 32) × (is_top (decimal top) ≡ true) × (left self.old ≡ decimal top ∷ left self.new)) }
         ensures misses { IfErr result (λ e. Misses e (Top ∷ []) (left self.old) (left self.new)) }
-        ensures same { self.new.tokens ≡ self.old.tokens }
+        ensures same { self.new.bytes ≡ self.old.bytes }
     {
         match self.next() {
             Some(next) => {
-                if !is_top(next) {
+                if !is_top(next.text) {
                     return Err(Misfit::Text);
                 }
-                self.at += 1;
-                Ok(top_number(next))
+                self.take(next);
+                Ok(top_number(next.text))
             }
             None => Err(Misfit::Text),
         }
@@ -165,7 +185,7 @@ impl<'a> Reader<'_, 'a> {
     pub fn pin(&mut self) -> Result<Pin<'a>, Misfit>
         ensures ok { IfOk result (λ pin. IsPin (pin_of pin) × (left self.old ≡ pin_tokens (pin_of pin) ++ left self.new)) }
         ensures misses { IfErr result (λ e. Misses e pin_rule (left self.old) (left self.new)) }
-        ensures same { self.new.tokens ≡ self.old.tokens }
+        ensures same { self.new.bytes ≡ self.old.bytes }
     {
         self.exactly(b".")?;
         let port = self.name()?;
@@ -180,7 +200,7 @@ impl<'a> Reader<'_, 'a> {
         ensures { result ≡ begins_with text.now (left self.now) }
     {
         match self.next() {
-            Some(next) => same(next, text),
+            Some(next) => same(next.text, text),
             None => false,
         }
     }
@@ -189,7 +209,7 @@ impl<'a> Reader<'_, 'a> {
     fn further_pin(&mut self) -> Result<Pin<'a>, Misfit>
         ensures ok { IfOk result (λ pin. IsPin (pin_of pin) × (left self.old ≡ further_pin (pin_of pin) ++ left self.new)) }
         ensures misses { IfErr result (λ e. Misses e (Exactly (codes ",") ∷ pin_rule) (left self.old) (left self.new)) }
-        ensures same { self.new.tokens ≡ self.old.tokens }
+        ensures same { self.new.bytes ≡ self.old.bytes }
     {
         self.exactly(b",")?;
         self.pin()
@@ -200,7 +220,7 @@ impl<'a> Reader<'_, 'a> {
     fn further_pins(&mut self, alloc: Global) -> Result<Vec<Pin<'a>>, Misfit>
         ensures ok { IfOk result (λ pins. AllByRecursion IsPin (map pin_of pins.items) × (left self.old ≡ (flat_map further_pin (map pin_of pins.items) ++ pins_end) ++ left self.new)) }
         ensures misses { IfErr result (λ e. Misses e (Pins ∷ []) (left self.old) (left self.new)) }
-        ensures same { self.new.tokens ≡ self.old.tokens }
+        ensures same { self.new.bytes ≡ self.old.bytes }
     {
         let mut pins = Vec::new(alloc);
         while self.next_is(b",") {
@@ -216,7 +236,7 @@ impl<'a> Reader<'_, 'a> {
     fn wire(&mut self) -> Result<Wire<'a>, Misfit>
         ensures ok { IfOk result (λ wire. IsWire (wire_of wire) × (left self.old ≡ wire_tokens (wire_of wire) ++ left self.new)) }
         ensures misses { IfErr result (λ e. Misses e (Exactly (codes "wire") ∷ wire_rule) (left self.old) (left self.new)) }
-        ensures same { self.new.tokens ≡ self.old.tokens }
+        ensures same { self.new.bytes ≡ self.old.bytes }
     {
         self.exactly(b"wire")?;
         self.exactly(b"[")?;
@@ -238,7 +258,7 @@ impl<'a> Reader<'_, 'a> {
         ensures ok { IfOk result (λ wires. AllByRecursion IsWire (map wire_of wires.items) × (left self.old ≡ flat_map wire_tokens (map wire_of wires.items) ++ left self.new)) }
         ensures no_more { OnOk result (begins_with (codes "wire") (left self.new) ≡ false) }
         ensures misses { IfErr result (λ e. Misses e (Lines ∷ []) (left self.old) (left self.new)) }
-        ensures same { self.new.tokens ≡ self.old.tokens }
+        ensures same { self.new.bytes ≡ self.old.bytes }
     {
         let mut wires = Vec::new(alloc);
         while self.next_is(b"wire") {
@@ -251,7 +271,7 @@ impl<'a> Reader<'_, 'a> {
     fn cell(&mut self, alloc: Global) -> Result<Cell<'a>, Misfit>
         ensures ok { IfOk result (λ cell. IsCell (cell_of cell) × (left self.old ≡ cell_tokens (cell_of cell) ++ left self.new)) }
         ensures misses { IfErr result (λ e. Misses e (Name ∷ cell_rule) (left self.old) (left self.new)) }
-        ensures same { self.new.tokens ≡ self.old.tokens }
+        ensures same { self.new.bytes ≡ self.old.bytes }
     {
         let form = self.name()?;
         let name = self.name()?;
@@ -271,7 +291,7 @@ impl<'a> Reader<'_, 'a> {
     fn cells(&mut self, alloc: Global) -> Result<Vec<Cell<'a>>, Misfit>
         ensures ok { IfOk result (λ cells. AllByRecursion IsCell (map cell_of cells.items) × (left self.old ≡ (flat_map cell_tokens (map cell_of cells.items) ++ cells_end) ++ left self.new)) }
         ensures misses { IfErr result (λ e. Misses e (Cells ∷ []) (left self.old) (left self.new)) }
-        ensures same { self.new.tokens ≡ self.old.tokens }
+        ensures same { self.new.bytes ≡ self.old.bytes }
     {
         let mut cells = Vec::new(alloc);
         while !self.next_is(b"endmodule") {
@@ -285,7 +305,7 @@ impl<'a> Reader<'_, 'a> {
     fn title(&mut self) -> Result<(), Misfit>
         ensures ok { OnOk result (left self.old ≡ title ++ left self.new) }
         ensures misses { IfErr result (λ e. Misses e (map Exactly title) (left self.old) (left self.new)) }
-        ensures same { self.new.tokens ≡ self.old.tokens }
+        ensures same { self.new.bytes ≡ self.old.bytes }
     {
         self.exactly(b"module")?;
         self.exactly(b"cgra_array")
@@ -295,7 +315,7 @@ impl<'a> Reader<'_, 'a> {
     fn clocks(&mut self) -> Result<(), Misfit>
         ensures ok { OnOk result (left self.old ≡ clocks ++ left self.new) }
         ensures misses { IfErr result (λ e. Misses e (map Exactly clocks) (left self.old) (left self.new)) }
-        ensures same { self.new.tokens ≡ self.old.tokens }
+        ensures same { self.new.bytes ≡ self.old.bytes }
     {
         self.exactly(b"(")?;
         self.exactly(b"clk")?;
@@ -309,7 +329,7 @@ impl<'a> Reader<'_, 'a> {
     fn input(&mut self, name: &[u8]) -> Result<(), Misfit>
         ensures ok { OnOk result (left self.old ≡ input name.now ++ left self.new) }
         ensures misses { IfErr result (λ e. Misses e (map Exactly (input name.now)) (left self.old) (left self.new)) }
-        ensures same { self.new.tokens ≡ self.old.tokens }
+        ensures same { self.new.bytes ≡ self.old.bytes }
     {
         self.exactly(b"input")?;
         self.exactly(name)?;
@@ -321,7 +341,7 @@ impl<'a> Reader<'_, 'a> {
     fn header(&mut self) -> Result<(), Misfit>
         ensures ok { OnOk result (left self.old ≡ header ++ left self.new) }
         ensures misses { IfErr result (λ e. Misses e (map Exactly header) (left self.old) (left self.new)) }
-        ensures same { self.new.tokens ≡ self.old.tokens }
+        ensures same { self.new.bytes ≡ self.old.bytes }
     {
         self.title()?;
         self.clocks()?;
@@ -334,7 +354,7 @@ impl<'a> Reader<'_, 'a> {
     fn lines(&mut self, alloc: Global) -> Result<Module<'a>, Misfit>
         ensures ok { IfOk result (λ m. IsModule (module_of m) × (left self.old ≡ lines_tokens (module_of m) ++ left self.new)) }
         ensures misses { IfErr result (λ e. Misses e (Lines ∷ []) (left self.old) (left self.new)) }
-        ensures same { self.new.tokens ≡ self.old.tokens }
+        ensures same { self.new.bytes ≡ self.old.bytes }
     {
         let wires = self.wires(alloc)?;
         let cells = self.cells(alloc)?;
@@ -346,7 +366,7 @@ impl<'a> Reader<'_, 'a> {
     pub fn module(&mut self, alloc: Global) -> Result<Module<'a>, Misfit>
         ensures ok { IfOk result (λ m. IsModule (module_of m) × (left self.old ≡ module_tokens (module_of m))) }
         ensures misses { IfErr result (λ e. MissesText e (left self.old) (left self.new)) }
-        ensures same { self.new.tokens ≡ self.old.tokens }
+        ensures same { self.new.bytes ≡ self.old.bytes }
     {
         self.header()?;
         let module = self.lines(alloc)?;
@@ -356,14 +376,13 @@ impl<'a> Reader<'_, 'a> {
         }
     }
 
-    /// The place of the next token, or the end.
+    /// The place of the next token, or `end` where there is none.
     pub fn place(&self, end: usize) -> usize
-        ensures { result ≡ place_of end (map seen (drop self.now.at self.now.tokens.now)) }
+        ensures { result ≡ place_of end (tokens_at self.now.bytes.now self.now.at) }
     {
-        if self.at < self.tokens.len() {
-            self.tokens[self.at].place
-        } else {
-            end
+        match self.next() {
+            Some(next) => next.place,
+            None => end,
         }
     }
 }

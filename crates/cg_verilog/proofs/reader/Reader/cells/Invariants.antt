@@ -9,7 +9,7 @@ abbrev pub invariant-loop-alloc : goal.invariant-loop-alloc
 invariant-loop-alloc l = record {
   right : AllByRecursion IsCell (map cell_of l.cells.items);
   read : left l.fn.self ≡ flat_map cell_tokens (map cell_of l.cells.items) ++ left l.self;
-  same : l.self.tokens ≡ l.fn.self.tokens;
+  same : l.self.bytes ≡ l.fn.self.bytes;
 }
 
 abbrev pub decreases-loop-alloc : goal.decreases-loop-alloc

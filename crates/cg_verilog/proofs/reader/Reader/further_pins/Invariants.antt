@@ -9,7 +9,7 @@ abbrev pub invariant-loop-pins : goal.invariant-loop-pins
 invariant-loop-pins l = record {
   right : AllByRecursion IsPin (map pin_of l.pins.items);
   read : left l.fn.self ≡ flat_map further_pin (map pin_of l.pins.items) ++ left l.self;
-  same : l.self.tokens ≡ l.fn.self.tokens;
+  same : l.self.bytes ≡ l.fn.self.bytes;
 }
 
 abbrev pub decreases-loop-pins : goal.decreases-loop-pins

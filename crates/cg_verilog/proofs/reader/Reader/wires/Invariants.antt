@@ -9,7 +9,7 @@ abbrev pub invariant-loop-wires : goal.invariant-loop-wires
 invariant-loop-wires l = record {
   right : AllByRecursion IsWire (map wire_of l.wires.items);
   read : left l.fn.self ≡ flat_map wire_tokens (map wire_of l.wires.items) ++ left l.self;
-  same : l.self.tokens ≡ l.fn.self.tokens;
+  same : l.self.bytes ≡ l.fn.self.bytes;
 }
 
 abbrev pub decreases-loop-wires : goal.decreases-loop-wires
