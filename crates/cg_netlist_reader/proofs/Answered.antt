@@ -38,4 +38,4 @@ only_of bytes (Err (faults.UnknownNet name)) h f G graph g =
 pub printed_spells : (bytes : List ℕ) (G : NetGraph) → IsNetGraph G → bytes ≡ module_text (module_of G) → Spells bytes G
 printed_spells bytes G graph is =
     let valid = is_module G graph in
-    record { valid = valid; tokens = ap (λ b. texts (tokens_of b)) is ∙ printed (module_of G) valid }
+    record { valid = valid; tokens = ap (λ b. texts (tokens_of None b)) is ∙ printed (module_of G) valid }

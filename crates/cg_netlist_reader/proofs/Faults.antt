@@ -1,5 +1,5 @@
 -- Faults of nets and cells are faults of the bytes that spell them.
-use Rattle.std.proofs.Common.{◌≡◌, ℕ, List, Ok, Err, Result, ap, sym, ◌∙◌, subst}
+use Rattle.std.proofs.Common.{◌≡◌, ℕ, List, None, Ok, Err, Result, ap, sym, ◌∙◌, subst}
 use Rattle.std.specs.Prelude.{All, IfOk, IfErr}
 use Rattle.cg_tokens.specs.Tokens.{tokens_of, texts}
 use Rattle.cg_verilog.specs.Module.{ModuleText, WireText, CellText, IsModule, module_tokens}
@@ -39,10 +39,10 @@ graph_fault G m (Ok H) is h = tt
 graph_fault G m (Err e) is h = bad_wrong G m is e h
 
 -- a graph with the module that the bytes spell is spelled by them
-pub spelled : (bytes : List ℕ) (m : ModuleText) (G : NetGraph) → IsModule m → texts (tokens_of bytes) ≡ module_tokens m → module_of G ≡ m → Spells bytes G
+pub spelled : (bytes : List ℕ) (m : ModuleText) (G : NetGraph) → IsModule m → texts (tokens_of None bytes) ≡ module_tokens m → module_of G ≡ m → Spells bytes G
 spelled bytes m G valid tokens is = record { valid = subst IsModule (sym is) valid; tokens = tokens ∙ ap module_tokens (sym is) }
 
-pub wrong_is : (bytes : List ℕ) (m : ModuleText) → IsModule m → texts (tokens_of bytes) ≡ module_tokens m → (e : VerilogFault) → IsWrong e m → IsFault e bytes
+pub wrong_is : (bytes : List ℕ) (m : ModuleText) → IsModule m → texts (tokens_of None bytes) ≡ module_tokens m → (e : VerilogFault) → IsWrong e m → IsFault e bytes
 wrong_is bytes m valid tokens faults.Memory h = tt
 wrong_is bytes m valid tokens (faults.Text place) h = absurd h
 wrong_is bytes m valid tokens (faults.UnknownCell i) h = (h.0, spelled bytes m h.0 valid tokens h.1, h.2)
@@ -50,11 +50,11 @@ wrong_is bytes m valid tokens (faults.UnknownNet name) h = (h.0, spelled bytes m
 
 -- ---- what is answered of a module that the bytes spell
 
-pub read_found : (bytes : List ℕ) (m : ModuleText) (r : Result NetGraph VerilogFault) → IsModule m → texts (tokens_of bytes) ≡ module_tokens m → IfOk r (λ g. module_of g ≡ m) → IfOk r (λ g. Spells bytes g)
+pub read_found : (bytes : List ℕ) (m : ModuleText) (r : Result NetGraph VerilogFault) → IsModule m → texts (tokens_of None bytes) ≡ module_tokens m → IfOk r (λ g. module_of g ≡ m) → IfOk r (λ g. Spells bytes g)
 read_found bytes m (Ok g) valid tokens h = spelled bytes m g valid tokens h
 read_found bytes m (Err e) valid tokens h = tt
 
-pub read_fault : (bytes : List ℕ) (m : ModuleText) (r : Result NetGraph VerilogFault) → IsModule m → texts (tokens_of bytes) ≡ module_tokens m → IfErr r (λ e. IsWrong e m) → IfErr r (λ e. IsFault e bytes)
+pub read_fault : (bytes : List ℕ) (m : ModuleText) (r : Result NetGraph VerilogFault) → IsModule m → texts (tokens_of None bytes) ≡ module_tokens m → IfErr r (λ e. IsWrong e m) → IfErr r (λ e. IsFault e bytes)
 read_fault bytes m (Ok g) valid tokens h = tt
 read_fault bytes m (Err e) valid tokens h = wrong_is bytes m valid tokens e h
 

@@ -17,7 +17,7 @@ use Rattle.cg_netlist.specs.Text.{module_of}
 -- the bytes spell these nets and cells, whatever they stand for
 pub record Spells (bytes : List ℕ) (G : NetGraph) : Type 0 where
   pub valid : IsModule (module_of G)
-  pub tokens : texts (tokens_of bytes) ≡ module_tokens (module_of G)
+  pub tokens : texts (tokens_of None bytes) ≡ module_tokens (module_of G)
 
 -- ---- cells
 
@@ -73,7 +73,7 @@ unknown_net G = option_or (repeated given (names G.nets)) (unknown (given ++ nam
 -- why the bytes spell no netlist: the fault of the lowest number, at its first place
 abbrev pub IsFault : VerilogFault → List ℕ → Type 0
 IsFault faults.Memory bytes = Unit {0}
-IsFault (faults.Text place) bytes = FaultIn IsText bytes place
+IsFault (faults.Text place) bytes = FaultIn None IsText bytes place
 IsFault (faults.UnknownCell i) bytes = (G : NetGraph) × Spells bytes G × IsUnknownCell G.cells i
 IsFault (faults.UnknownNet name) bytes = (G : NetGraph) × Spells bytes G × All IsFormed G.cells × (unknown_net G ≡ Some name)
 

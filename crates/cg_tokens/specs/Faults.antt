@@ -1,5 +1,5 @@
 -- Where a list of tokens stops being the beginning of a file.
-use Rattle.std.specs.Prelude.{◌≡◌, ℕ, ◌-◌, List, [], ◌∷◌, ◌++◌, length, drop}
+use Rattle.std.specs.Prelude.{◌≡◌, ℕ, ◌-◌, Option, List, [], ◌∷◌, ◌++◌, length, drop}
 use Rattle.cg_tokens.specs.Tokens.{Placed, tokens_of, texts, place_of}
 
 -- the tokens are the last of all
@@ -23,10 +23,10 @@ pub record FaultAt {T : Type 0} (IsFile : List T → Type 0) (tokens rest : List
   pub after : Ends IsFile front rest
 
 -- The bytes are no file, and this is the place of the first token that no file goes on with, or their length where they end early.
-pub record FaultIn (IsFile : List (List ℕ) → Type 0) (bytes : List ℕ) (place : ℕ) : Type 0 where
+pub record FaultIn (double : Option ℕ) (IsFile : List (List ℕ) → Type 0) (bytes : List ℕ) (place : ℕ) : Type 0 where
   pub front : List Placed
   pub rest : List Placed
-  pub whole : tokens_of bytes ≡ front ++ rest
+  pub whole : tokens_of double bytes ≡ front ++ rest
   pub before : Begins IsFile (texts front)
   pub after : Ends IsFile (texts front) (texts rest)
   pub at : place ≡ place_of (length bytes) rest

@@ -1,5 +1,5 @@
 -- The tokens of bytes, each with the place where it begins.
-use Rattle.std.specs.Prelude.{ℕ, zero, suc, ◌+◌, Bool, false, ◌||◌, ◌==◌, List, [], ◌∷◌, length, map, take, drop, if◌then◌else◌}
+use Rattle.std.specs.Prelude.{ℕ, zero, suc, ◌+◌, Bool, false, ◌&&◌, ◌||◌, ◌==◌, Option, Some, None, List, [], ◌∷◌, length, map, take, drop, if◌then◌else◌}
 use Rattle.std.specs.List.{prefix_len}
 use Rattle.std.specs.Char.{is_ascii_alphabetic, is_ascii_digit}
 use Rattle.cg_tokens.specs.declared.token.Kind.{Kind}
@@ -29,29 +29,39 @@ goes_on Word b = is_letter b || is_ascii_digit b
 goes_on Number b = is_ascii_digit b
 goes_on Mark b = false
 
--- how many bytes a token has after its first, which it goes on with as far as it can
-abbrev pub more_of : ℕ → List ℕ → ℕ
-more_of b bytes = prefix_len (goes_on (kind_of b)) bytes
+-- whether two of the byte are one token, as a language may say of one byte
+abbrev pub is_double : Option ℕ → ℕ → Bool
+is_double None b = false
+is_double (Some d) b = b == d
+
+-- whether the bytes begin with b
+abbrev pub is_next : ℕ → List ℕ → Bool
+is_next b [] = false
+is_next b (c ∷ bytes) = c == b
+
+-- how many bytes a token has after its first: that byte once more where two of it are one token, and else all that it goes on with
+abbrev pub more_of : Option ℕ → ℕ → List ℕ → ℕ
+more_of double b bytes = if is_double double b && is_next b bytes then 1 else prefix_len (goes_on (kind_of b)) bytes
 
 -- the token at the front of bytes, which begin with b
-abbrev pub first_token : ℕ → List ℕ → ℕ → Placed
-first_token b bytes place = record { text = b ∷ take (more_of b bytes) bytes; place = place }
+abbrev pub first_token : Option ℕ → ℕ → List ℕ → ℕ → Placed
+first_token double b bytes place = record { text = b ∷ take (more_of double b bytes) bytes; place = place }
 
 -- the tokens of the bytes from a place on, of which the first few belong to the token before
-abbrev pub tokens_from : ℕ → ℕ → List ℕ → List Placed
-tokens_from inside place [] = []
-tokens_from (suc inside) place (b ∷ bytes) = tokens_from inside (place + 1) bytes
-tokens_from zero place (b ∷ bytes) =
-    if is_blank b then tokens_from 0 (place + 1) bytes
-    else (first_token b bytes place ∷ tokens_from (more_of b bytes) (place + 1) bytes)
+abbrev pub tokens_from : Option ℕ → ℕ → ℕ → List ℕ → List Placed
+tokens_from double inside place [] = []
+tokens_from double (suc inside) place (b ∷ bytes) = tokens_from double inside (place + 1) bytes
+tokens_from double zero place (b ∷ bytes) =
+    if is_blank b then tokens_from double 0 (place + 1) bytes
+    else (first_token double b bytes place ∷ tokens_from double (more_of double b bytes) (place + 1) bytes)
 
 -- the tokens of the bytes
-abbrev pub tokens_of : List ℕ → List Placed
-tokens_of bytes = tokens_from 0 0 bytes
+abbrev pub tokens_of : Option ℕ → List ℕ → List Placed
+tokens_of double bytes = tokens_from double 0 0 bytes
 
 -- the tokens of the bytes from a place on, which no token before it reaches
-abbrev pub tokens_at : List ℕ → ℕ → List Placed
-tokens_at bytes place = tokens_from 0 place (drop place bytes)
+abbrev pub tokens_at : Option ℕ → List ℕ → ℕ → List Placed
+tokens_at double bytes place = tokens_from double 0 place (drop place bytes)
 
 -- the place behind a token
 abbrev pub end_of : Placed → ℕ

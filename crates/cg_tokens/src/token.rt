@@ -1,7 +1,7 @@
 //! Bytes cut into tokens.
-ghost use Rattle.std.specs.Prelude.{◌≡◌, ◌≤◌, ◌<◌, [], ◌∷◌, ℕ, List, MatchOption, IfSome, length, slice_index, false};
+ghost use Rattle.std.specs.Prelude.{◌≡◌, ◌+◌, ◌≤◌, ◌<◌, [], ◌∷◌, ℕ, Option, List, MatchOption, IfSome, length, slice_index, false};
 ghost use Rattle.std.specs.List.{prefix_len};
-ghost use Rattle.cg_tokens.specs.Tokens.{is_blank, is_letter, kind_of, goes_on, first_token, end_of, seen, tokens_at};
+ghost use Rattle.cg_tokens.specs.Tokens.{is_blank, is_letter, kind_of, goes_on, is_double, is_next, more_of, first_token, end_of, seen, tokens_at};
 
 /// What a token is.
 #[derive(Clone, Copy, Debug, PartialEq, Eq, Drop)]
@@ -70,13 +70,46 @@ fn run_length(bytes: &[u8], kind: Kind) -> usize
     count
 }
 
-/// The token at the front of the bytes, which stand at that place.
-fn first_token(bytes: &[u8], place: usize) -> Token<'_>
-    requires { 0 < length bytes.now }
-    ensures { (b : ℕ) (rest : List ℕ) → bytes.now ≡ b ∷ rest → seen result ≡ first_token b rest place }
+/// Whether two of `byte` are one token.
+fn is_double(double: Option<u8>, byte: u8) -> bool
+    ensures { result ≡ is_double double byte }
 {
-    let kind = kind_of(bytes[0]);
-    let more = run_length(&bytes[1..], kind);
+    match double {
+        Some(doubled) => byte == doubled,
+        None => false,
+    }
+}
+
+/// Whether `bytes` begin with `byte`.
+fn is_next(byte: u8, bytes: &[u8]) -> bool
+    ensures { result ≡ is_next byte bytes.now }
+{
+    match bytes {
+        [] => false,
+        [first, ..] => *first == byte,
+    }
+}
+
+/// How many of `bytes` belong to the token of the byte `first` before them.
+#[tactic(auto, using(crate::proofs::Lexing::more_fits))]
+fn more_of(double: Option<u8>, first: u8, bytes: &[u8]) -> usize
+    ensures count { result ≡ more_of double first bytes.now }
+    ensures within { result ≤ length bytes.now }
+{
+    if is_double(double, first) && is_next(first, bytes) {
+        1
+    } else {
+        run_length(bytes, kind_of(first))
+    }
+}
+
+/// The token at the front of `bytes`, which stand at that place.
+fn first_token(double: Option<u8>, bytes: &[u8], place: usize) -> Token<'_>
+    requires { 0 < length bytes.now }
+    ensures first { (b : ℕ) (rest : List ℕ) → bytes.now ≡ b ∷ rest → seen result ≡ first_token double b rest place }
+    ensures within { end_of (seen result) ≤ place + length bytes.now }
+{
+    let more = more_of(double, bytes[0], &bytes[1..]);
     Token {
         text: &bytes[..more + 1],
         place,
@@ -85,7 +118,7 @@ fn first_token(bytes: &[u8], place: usize) -> Token<'_>
 
 /// Finds the first byte of `bytes` from `at` on that is no blank; it gives its place, or `at` or the length where there is none.
 pub fn past_blanks(bytes: &[u8], at: usize) -> usize
-    ensures same { tokens_at bytes.now result ≡ tokens_at bytes.now at }
+    ensures same { (double : Option ℕ) → tokens_at double bytes.now result ≡ tokens_at double bytes.now at }
     ensures solid { result < length bytes.now → is_blank (slice_index bytes.now result) ≡ false }
 {
     let mut place = at;
@@ -95,14 +128,14 @@ pub fn past_blanks(bytes: &[u8], at: usize) -> usize
     place
 }
 
-/// Cuts the next token of `bytes` from `at` on.
-pub fn next_token(bytes: &[u8], at: usize) -> Option<Token<'_>>
-    ensures next { MatchOption result (tokens_at bytes.now at ≡ []) (λ token. tokens_at bytes.now at ≡ seen token ∷ tokens_at bytes.now (end_of (seen token))) }
+/// Cuts the next token of `bytes` from `at` on, where two of the byte `double` are one token.
+pub fn next_token(double: Option<u8>, bytes: &[u8], at: usize) -> Option<Token<'_>>
+    ensures next { MatchOption result (tokens_at double bytes.now at ≡ []) (λ token. tokens_at double bytes.now at ≡ seen token ∷ tokens_at double bytes.now (end_of (seen token))) }
     ensures within { IfSome result (λ token. end_of (seen token) ≤ length bytes.now) }
 {
     let place = past_blanks(bytes, at);
     if place < bytes.len() {
-        Some(first_token(&bytes[place..], place))
+        Some(first_token(double, &bytes[place..], place))
     } else {
         None
     }

@@ -1,5 +1,5 @@
 -- A list of tokens is the text of one module at most.
-use Rattle.std.proofs.Common.{◌≡◌, ◌<◌, ◌-◌, arith, ℕ, true, false, List, [], ◌∷◌, ◌++◌, codes, refl, sym, ◌∙◌, ap, ap₂, append_assoc}
+use Rattle.std.proofs.Common.{◌≡◌, ◌<◌, ◌-◌, arith, ℕ, true, false, None, List, [], ◌∷◌, ◌++◌, codes, refl, sym, ◌∙◌, ap, ap₂, append_assoc}
 use Rattle.std.specs.List.{flat_map, AllByRecursion}
 use Rattle.cg_tokens.specs.Tokens.{tokens_of, texts}
 use Rattle.cg_tokens.proofs.Bytes.{no_text}
@@ -101,8 +101,8 @@ one_module m n h k e =
     let r = one_lines m.wires n.wires m.cells n.cells h.wires k.wires h.cells k.cells lines in
     ap₂ (λ x y. record { wires = x; cells = y }) r.0 r.1
 
-pub only_of : (bytes : List ℕ) (r : Result Module ModuleFault) → IfOk r (λ m. IsModule (module_of m) × (texts (tokens_of bytes) ≡ module_tokens (module_of m))) → IfErr r (λ e. IsFault e bytes)
-    → (m : ModuleText) → IsModule m → texts (tokens_of bytes) ≡ module_tokens m → Gives m r
+pub only_of : (bytes : List ℕ) (r : Result Module ModuleFault) → IfOk r (λ m. IsModule (module_of m) × (texts (tokens_of None bytes) ≡ module_tokens (module_of m))) → IfErr r (λ e. IsFault e bytes)
+    → (m : ModuleText) → IsModule m → texts (tokens_of None bytes) ≡ module_tokens m → Gives m r
 only_of bytes (Ok r) h f m k e = one_module (module_of r) m h.0 k (sym h.1 ∙ e)
 only_of bytes (Err faults.Memory) h f m k e = refl
 only_of bytes (Err (faults.Text place)) h f m k e = absurd (no_text IsText bytes place f (m, k, e))

@@ -1,12 +1,12 @@
 -- Laws of modules and their texts.
-use Rattle.std.specs.Prelude.{◌≡◌, ℕ, List}
+use Rattle.std.specs.Prelude.{◌≡◌, ℕ, None, List}
 use Rattle.cg_tokens.specs.Tokens.{tokens_of, texts}
 use Rattle.cg_verilog.specs.Module.{ModuleText, IsModule, module_tokens, IsText}
 use Rattle.cg_verilog.specs.Printed.{module_text}
 
 -- the printed text of a module has its tokens
 abbrev pub IsPrinted : Type 0
-IsPrinted = (m : ModuleText) → IsModule m → texts (tokens_of (module_text m)) ≡ module_tokens m
+IsPrinted = (m : ModuleText) → IsModule m → texts (tokens_of None (module_text m)) ≡ module_tokens m
 
 -- modules with the same tokens are one
 abbrev pub AreOne : Type 0
@@ -18,4 +18,4 @@ AreOneInPrint = (m n : ModuleText) → IsModule m → IsModule n → module_text
 
 -- the tokens of a module are those of some bytes, so what is said of tokens can be said of bytes
 abbrev pub AreWritten : Type 0
-AreWritten = (tokens : List (List ℕ)) → IsText tokens → (bytes : List ℕ) × (texts (tokens_of bytes) ≡ tokens)
+AreWritten = (tokens : List (List ℕ)) → IsText tokens → (bytes : List ℕ) × (texts (tokens_of None bytes) ≡ tokens)

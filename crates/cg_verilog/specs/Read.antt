@@ -1,5 +1,5 @@
 -- What reading says of the tokens that it found and left.
-use Rattle.std.specs.Prelude.{◌≡◌, ℕ, Bool, false, List, [], ◌∷◌, ◌++◌, map, Some, Result, Ok, Err}
+use Rattle.std.specs.Prelude.{◌≡◌, ℕ, Bool, false, List, [], ◌∷◌, ◌++◌, map, Some, None, Result, Ok, Err}
 use Rattle.cg_tokens.specs.Tokens.{tokens_at, texts}
 use Rattle.cg_tokens.specs.Table.{run}
 use Rattle.cg_verilog.specs.declared.reader.Reader.{Reader}
@@ -18,7 +18,7 @@ use Rattle.cg_verilog.specs.Rules.{Symbol, rule, start}
 
 -- the texts of the tokens that a reader has left
 abbrev pub left : Reader → List (List ℕ)
-left r = texts (tokens_at r.bytes.now r.at)
+left r = texts (tokens_at None r.bytes.now r.at)
 
 abbrev pub begins_with : List ℕ → List (List ℕ) → Bool
 begins_with s [] = false
@@ -51,7 +51,7 @@ module_of m = record { wires = map wire_of m.wires.items; cells = map cell_of m.
 
 abbrev pub IsFault : ModuleFault → List ℕ → Type 0
 IsFault faults.Memory bytes = Unit {0}
-IsFault (faults.Text place) bytes = FaultIn IsText bytes place
+IsFault (faults.Text place) bytes = FaultIn None IsText bytes place
 
 -- unless memory ran out, this module was read
 abbrev pub Gives : ModuleText → Result Module ModuleFault → Type 0

@@ -21,9 +21,9 @@ use std::alloc::Global;
 /// The module that the bytes spell.
 pub fn read_module(alloc: Global, bytes: &[u8]) -> Result<Module<'_>, ModuleFault>
     // What is read is spelled so.
-    ensures found { IfOk result (λ m. IsModule (module_of m) × (texts (tokens_of bytes.now) ≡ module_tokens (module_of m))) }
+    ensures found { IfOk result (λ m. IsModule (module_of m) × (texts (tokens_of None bytes.now) ≡ module_tokens (module_of m))) }
     // What is spelled so is read, unless memory runs out.
-    ensures only { (m : ModuleText) → IsModule m → texts (tokens_of bytes.now) ≡ module_tokens m → Gives m result }
+    ensures only { (m : ModuleText) → IsModule m → texts (tokens_of None bytes.now) ≡ module_tokens m → Gives m result }
     // So is what is printed.
     ensures printed { (m : ModuleText) → IsModule m → bytes.now ≡ module_text m → Gives m result }
     // Which fault it is.
@@ -35,7 +35,7 @@ pub fn read_module(alloc: Global, bytes: &[u8]) -> Result<Module<'_>, ModuleFaul
 /// The same, without the laws that follow from its two clauses.
 fn read(alloc: Global, bytes: &[u8]) -> Result<Module<'_>, ModuleFault>
     // What is read is spelled so.
-    ensures found { IfOk result (λ m. IsModule (module_of m) × (texts (tokens_of bytes.now) ≡ module_tokens (module_of m))) }
+    ensures found { IfOk result (λ m. IsModule (module_of m) × (texts (tokens_of None bytes.now) ≡ module_tokens (module_of m))) }
     // Which fault it is.
     ensures fault { IfErr result (λ e. IsFault e bytes.now) }
 {

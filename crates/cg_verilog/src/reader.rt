@@ -1,5 +1,5 @@
 //! Reading the tokens of a text one after another.
-ghost use Rattle.std.specs.Prelude.{◌≡◌, true};
+ghost use Rattle.std.specs.Prelude.{◌≡◌, None, true};
 ghost use Rattle.std.specs.List.{list_all};
 ghost use Rattle.cg_verilog.specs.Words.{same, is_word, is_reserved, is_name, is_name_byte};
 ghost use Rattle.cg_verilog.specs.Rules.{is_top, top_number};
@@ -85,7 +85,7 @@ fn top_number(text: &[u8]) -> u32
 pub struct Reader<'a> {
     pub bytes: &'a [u8],
     pub at: usize,
-    ghost last: { AreLast (tokens_at bytes.now at) (tokens_of bytes.now) } by { Prim.hlevel props },
+    ghost last: { AreLast (tokens_at None bytes.now at) (tokens_of None bytes.now) } by { Prim.hlevel props },
 }
 
 impl<'a> Reader<'a> {
@@ -99,7 +99,7 @@ impl<'a> Reader<'a> {
 
     /// Begins at the first token of `bytes`.
     pub fn new(bytes: &'a [u8]) -> Self
-        ensures all { left result ≡ texts (tokens_of bytes.now) }
+        ensures all { left result ≡ texts (tokens_of None bytes.now) }
         ensures bytes { result.bytes.now ≡ bytes.now }
     {
         Reader {
@@ -110,15 +110,15 @@ impl<'a> Reader<'a> {
 
     /// Cuts the next token.
     pub fn next(&self) -> Option<Token<'a>>
-        ensures next { MatchOption result (left self.now ≡ []) (λ token. tokens_at self.now.bytes.now self.now.at ≡ seen token ∷ tokens_at self.now.bytes.now (end_of (seen token))) }
+        ensures next { MatchOption result (left self.now ≡ []) (λ token. tokens_at None self.now.bytes.now self.now.at ≡ seen token ∷ tokens_at None self.now.bytes.now (end_of (seen token))) }
         ensures within { IfSome result (λ token. end_of (seen token) ≤ length self.now.bytes.now) }
     {
-        next_token(self.bytes, self.at)
+        next_token(None, self.bytes, self.at)
     }
 
     /// Takes `token`, which is the next, and the blanks behind it.
     fn take(&mut self, token: Token<'a>)
-        requires next { tokens_at self.old.bytes.now self.old.at ≡ seen token ∷ tokens_at self.old.bytes.now (end_of (seen token)) }
+        requires next { tokens_at None self.old.bytes.now self.old.at ≡ seen token ∷ tokens_at None self.old.bytes.now (end_of (seen token)) }
         requires within { end_of (seen token) ≤ length self.old.bytes.now }
         ensures taken { left self.old ≡ token.entry.text.now ∷ left self.new }
         ensures same { self.new.bytes ≡ self.old.bytes }
@@ -378,7 +378,7 @@ impl<'a> Reader<'a> {
 
     /// The place of the next token, or `end` where there is none.
     pub fn place(&self, end: usize) -> usize
-        ensures { result ≡ place_of end (tokens_at self.now.bytes.now self.now.at) }
+        ensures { result ≡ place_of end (tokens_at None self.now.bytes.now self.now.at) }
     {
         match self.next() {
             Some(next) => next.place,

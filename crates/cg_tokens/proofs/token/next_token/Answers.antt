@@ -9,5 +9,5 @@ returns-then-place-bytes-clause-next c =
     let place = c.past_blanks-place.result in
     let b = get_or bytes place 0 in
     let cut : drop place bytes ≡ b ∷ drop (place + 1) bytes = drop_more bytes place 0 c.if-place-bytes.true in
-    sym c.past_blanks-place.ensures.same
-    ∙ next_cut bytes place b (drop (place + 1) bytes) _ cut (c.past_blanks-place.ensures.solid c.if-place-bytes.true) (c.first_token.ensures b (drop (place + 1) bytes) (rest_is place bytes ∙ cut))
+    sym (c.past_blanks-place.ensures.same c.args.double)
+    ∙ next_cut c.args.double bytes place b (drop (place + 1) bytes) _ cut (c.past_blanks-place.ensures.solid c.if-place-bytes.true) (c.first_token.ensures.first b (drop (place + 1) bytes) (rest_is place bytes ∙ cut))
