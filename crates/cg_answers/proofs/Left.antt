@@ -96,6 +96,7 @@ left_no (Search s) files outputs o before after read answer is done = absurd (ne
 left_no (Trial seed) files outputs o before after read answer is done = absurd (never (owns_of (Trial seed)) No o (sound (Trial seed) files outputs o answer) refl is)
 left_no Verilog files outputs o before after read answer is done = absurd (never (owns_of Verilog) No o (sound Verilog files outputs o answer) refl is)
 left_no Depend files outputs o before after read answer is done = absurd (never (owns_of Depend) No o (sound Depend files outputs o answer) refl is)
+left_no Migrate files outputs o before after read answer is done = absurd (never (owns_of Migrate) No o (sound Migrate files outputs o answer) refl is)
 left_no _ _ _ o before after read answer is done = absurd answer
 
 left_impossible : (command : Command) (files : List File) (outputs : List Name) (o : Outcome) (before after : Moment)
@@ -114,6 +115,7 @@ left_impossible Emit files outputs o before after read answer is done = absurd (
 left_impossible (Trial seed) files outputs o before after read answer is done = absurd (never (owns_of (Trial seed)) Impossible o (sound (Trial seed) files outputs o answer) refl is)
 left_impossible Verilog files outputs o before after read answer is done = absurd (never (owns_of Verilog) Impossible o (sound Verilog files outputs o answer) refl is)
 left_impossible Depend files outputs o before after read answer is done = absurd (never (owns_of Depend) Impossible o (sound Depend files outputs o answer) refl is)
+left_impossible Migrate files outputs o before after read answer is done = absurd (never (owns_of Migrate) Impossible o (sound Migrate files outputs o answer) refl is)
 left_impossible _ _ _ o before after read answer is done = absurd answer
 
 left_spent : (command : Command) (files : List File) (outputs : List Name) (o : Outcome) (before after : Moment)
@@ -132,6 +134,7 @@ left_spent Emit files outputs o before after read answer is done = absurd (never
 left_spent (Trial seed) files outputs o before after read answer is done = absurd (never (owns_of (Trial seed)) BudgetSpent o (sound (Trial seed) files outputs o answer) refl is)
 left_spent Verilog files outputs o before after read answer is done = absurd (never (owns_of Verilog) BudgetSpent o (sound Verilog files outputs o answer) refl is)
 left_spent Depend files outputs o before after read answer is done = absurd (never (owns_of Depend) BudgetSpent o (sound Depend files outputs o answer) refl is)
+left_spent Migrate files outputs o before after read answer is done = absurd (never (owns_of Migrate) BudgetSpent o (sound Migrate files outputs o answer) refl is)
 left_spent _ _ _ o before after read answer is done = absurd answer
 
 -- of files that were read, by their own names
