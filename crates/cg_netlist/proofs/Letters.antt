@@ -1,11 +1,14 @@
 -- The names of nets, cells and forms are names.
-use Rattle.std.proofs.Common.{◌≡◌, ℕ, zero, suc, ◌+◌, ◌/◌, ◌%◌, ◌<◌, ◌≤◌, Bool, true, false, ◌&&◌, ◌||◌, eqb, List, [], ◌∷◌, ◌++◌, refl, ap, sym, ◌∙◌, arith}
+use Rattle.std.proofs.Common.{◌≡◌, ℕ, zero, suc, ◌+◌, ◌/◌, ◌%◌, ◌<◌, ◌≤◌, ⊎_elim, Bool, true, false, ◌&&◌, ◌||◌, eqb, List, [], ◌∷◌, ◌++◌, refl, ap, sym, ◌∙◌, arith}
 use Rattle.std.specs.Prelude.{codes, decimal, slice_index, nat_le}
 use Rattle.std.specs.List.{list_all, range_with_len}
 use Rattle.std.specs.Fmt.{digits, digits_onto, digit_glyph}
-use Rattle.std.proofs.lemmas.Bool.{and_parts, and_from, cond_both, eqb-true, eqb-false}
+use Rattle.std.specs.Char.{is_ascii_digit}
+use Rattle.std.specs.Str.{IsAscii}
+use Rattle.std.proofs.lemmas.Bool.{and_parts, and_from, or_cases, cond_both, eqb-true, eqb-false, leb-true}
 use Rattle.std.proofs.Common.{length}
 use Rattle.cg_model.specs.Names.{within_name}
+use Rattle.cg_tokens.specs.Tokens.{is_letter}
 use Rattle.cg_verilog.specs.Words.{is_name, is_name_byte}
 use Rattle.cg_netlist.specs.Forms.{Form, ContextForm, PreselectForm, MuxForm, RegisterForm, ZeroForm, UnitForm, form_name, hexadecimal, driver_port, argument_port}
 
@@ -54,13 +57,36 @@ onto (suc k) base n rest some few plain =
     cond_both (eqb (n / base) 0) (digit_glyph false (n % base) ∷ rest) (digits_onto k base false (n / base) (digit_glyph false (n % base) ∷ rest)) IsPlain
     (λ e. more) (λ e. onto k base (n / base) (digit_glyph false (n % base) ∷ rest) some few more)
 
-pub plain_decimal : (n : ℕ) → IsPlain (decimal n)
+pub plain_digits : (base n : ℕ) → 0 < base → base ≤ 16 → IsPlain (digits base false n)
 unfolding digits
-plain_decimal n = onto 64 10 n [] (omega arith) (omega arith) refl
+plain_digits base n some few = onto 64 base n [] some few refl
+
+pub plain_decimal : (n : ℕ) → IsPlain (decimal n)
+plain_decimal n = plain_digits 10 n (omega arith) (omega arith)
 
 pub plain_hexadecimal : (n : ℕ) → IsPlain (hexadecimal n)
-unfolding digits
-plain_hexadecimal n = onto 64 16 n [] (omega arith) (omega arith) refl
+plain_hexadecimal n = plain_digits 16 n (omega arith) (omega arith)
+
+-- ---- they are texts of ASCII
+
+low_in : (low high b : ℕ) → high < 128 → (nat_le low b && nat_le b high) ≡ true → b < 128
+low_in low high b h e = let most = leb-true b high (and_parts (nat_le low b) (nat_le b high) e).1 in omega (arith, most)
+
+letter_low : (b : ℕ) → is_letter b ≡ true → b < 128
+letter_low b e =
+    ⊎_elim
+    (λ x. ⊎_elim (λ y. low_in 65 90 b (omega arith) y) (λ y. low_in 97 122 b (omega arith) y) (or_cases (nat_le 65 b && nat_le b 90) (nat_le 97 b && nat_le b 122) x))
+    (λ x. let is = eqb-true b 95 x in omega (arith, is))
+    (or_cases ((nat_le 65 b && nat_le b 90) || (nat_le 97 b && nat_le b 122)) (eqb b 95) e)
+
+byte_low : (b : ℕ) → is_name_byte b ≡ true → b < 128
+byte_low b e =
+    ⊎_elim (λ x. letter_low b x) (λ x. low_in 48 57 b (omega arith) x) (or_cases (is_letter b) (is_ascii_digit b) e)
+
+pub plain_ascii : (bs : List ℕ) → IsPlain bs → IsAscii bs
+plain_ascii [] h i = omega arith
+plain_ascii (b ∷ bs) h zero = byte_low b (and_parts (is_name_byte b) (list_all is_name_byte bs) h).0
+plain_ascii (b ∷ bs) h (suc i) = plain_ascii bs (and_parts (is_name_byte b) (list_all is_name_byte bs) h).1 i
 
 -- ---- names
 

@@ -1,4 +1,6 @@
 pub mod Letters
+pub mod Digits
+pub mod Called
 pub mod Bits
 pub mod Ports
 pub mod Nets

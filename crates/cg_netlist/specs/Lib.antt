@@ -3,3 +3,4 @@ pub mod Netlist
 pub mod Graph
 pub mod Built
 pub mod Text
+pub mod Reads
