@@ -10,13 +10,7 @@ use Rattle.cg_netlist.specs.declared.parts.Cell.{Cell}
 use Rattle.cg_netlist.specs.Netlist.{NetGraph}
 use Rattle.cg_netlist.specs.Text.{module_of}
 use Rattle.cg_netlist_reader.specs.Reading.{Spells, IsFormed, unknown_net, IsFault}
-use Rattle.cg_netlist_reader.specs.Wrong.{IsOfNet, IsOfCell, IsBad, IsWrong}
-
-pub cell_bad : (G : NetGraph) (e : VerilogFault) → IsOfCell e G.cells → IsBad e G
-cell_bad G faults.Memory h = tt
-cell_bad G (faults.UnknownCell i) h = h
-cell_bad G (faults.Text place) h = h
-cell_bad G (faults.UnknownNet name) h = absurd h
+use Rattle.cg_netlist_reader.specs.Wrong.{IsOfNet, IsBad, IsWrong}
 
 pub net_bad : (G : NetGraph) (e : VerilogFault) → All IsFormed G.cells → IsOfNet e (unknown_net G) → IsBad e G
 net_bad G faults.Memory formed h = tt

@@ -1,30 +1,16 @@
--- What loops over ports, names and nets have found.
-use Rattle.std.proofs.Common.{◌≡◌, ℕ, zero, suc, ◌+◌, ◌<◌, Bool, true, false, cond, ◌||◌, List, [], ◌∷◌, ◌++◌, length, map, take, drop, get_or, Option, Some, None, refl, ap, sym, ◌∙◌, subst, arith, append_assoc, append-nil}
-use Rattle.std.specs.Prelude.{IsTrue, ◌↔◌, bytes_eq, is_some, find}
+-- What loops over names and nets have found.
+use Rattle.std.proofs.Common.{◌≡◌, ℕ, zero, suc, ◌+◌, ◌<◌, Bool, true, false, cond, ◌||◌, List, [], ◌∷◌, ◌++◌, length, map, take, drop, get_or, Option, Some, None, refl, ap, sym, ◌∙◌, subst, arith, append-nil}
+use Rattle.std.specs.Prelude.{is_some, find}
 use Rattle.std.specs.List.{flat_map, AllByRecursion}
 use Rattle.std.specs.Option.{option_or}
-use Rattle.std.proofs.lemmas.Bool.{cond-true, cond-false, both_ways}
+use Rattle.std.proofs.lemmas.Bool.{cond-true, cond-false}
 use Rattle.std.proofs.lemmas.Grind.{flat_map-append}
-use Rattle.std.proofs.lemmas.List.{take_all, take_more, take-append-drop, take-append-le, map-append}
-use Rattle.std.specs.List.{range_with_len}
-use Rattle.std.proofs.lemmas.List.FromFn.{map-range_with_len_more}
+use Rattle.std.proofs.lemmas.List.{take_more, take-append-drop, map-append}
 use Rattle.std.proofs.lemmas.List.Folds.{find-append}
-use Rattle.std.proofs.lemmas.Slice.Eq.{bytes_eq-Decides}
 use Rattle.std.proofs.Math.Seq.{drop-cons}
 use Rattle.cg_netlist.specs.declared.parts.Net.{Net}
 use Rattle.cg_netlist.specs.Graph.{names}
 use Rattle.cg_netlist_reader.specs.Reading.{given, has, repeated}
-
--- ---- lists that are compared item by item
-
-pub differ_length : (xs ys : List (List ℕ)) → (length xs ≡ length ys → ⊥) → xs ≡ ys → ⊥
-differ_length xs ys apart e = apart (ap length e)
-
-pub differ_item : (xs ys : List (List ℕ)) (i : ℕ) (d : List ℕ) → bytes_eq (get_or xs i d) (get_or ys i d) ≡ false → xs ≡ ys → ⊥
-differ_item xs ys i d apart e = both_ways (bytes_eq (get_or xs i d) (get_or ys i d)) apart ((bytes_eq-Decides (get_or xs i d) (get_or ys i d)).1 (ap (λ zs. get_or zs i d) e))
-
-pub same_lists : (xs ys : List (List ℕ)) (n : ℕ) → length xs ≡ n → length ys ≡ n → take n xs ≡ take n ys → xs ≡ ys
-same_lists xs ys n p q e = sym (take_all n xs (omega arith)) ∙ e ∙ take_all n ys (omega arith)
 
 -- ---- the first name that a test finds, item after item
 
@@ -101,31 +87,6 @@ knows_two o one two a b m n none first second =
 pub none_of : (o : Option ℕ) → is_some o ≡ false → o ≡ None
 none_of None e = refl
 none_of (Some x) e = let bad : true ≡ false = e in absurd (cc)
-
--- ---- ports that are numbered
-
-pub pushed_number : (f : ℕ → List ℕ) (a n j : ℕ) (old before after : List (List ℕ)) → a + n ≡ j → before ≡ old ++ map f (range_with_len a n) → after ≡ before ++ f j ∷ [] → after ≡ old ++ map f (range_with_len a (n + 1))
-pushed_number f a n j old before after place was is =
-    is ∙ ap (λ b. b ++ f j ∷ []) was ∙ append_assoc old (map f (range_with_len a n)) (f j ∷ []) ∙ ap (λ ps. old ++ ps) (sym (map-range_with_len_more f a n j place))
-
--- ---- what stands after a prefix
-
-pub after_some : (name prefix rest : List ℕ) → bytes_eq (take (length prefix) name) prefix ≡ true → rest ≡ drop (length prefix) name → name ≡ prefix ++ rest
-after_some name prefix rest first is =
-    sym (take-append-drop (length prefix) name) ∙ ap (λ t. t ++ drop (length prefix) name) ((bytes_eq-Decides (take (length prefix) name) prefix).0 first) ∙ ap (λ t. prefix ++ t) (sym is)
-
-pub after_none : (name prefix rest : List ℕ) → bytes_eq (take (length prefix) name) prefix ≡ false → name ≡ prefix ++ rest → ⊥
-after_none name prefix rest apart is =
-    let front : take (length prefix) name ≡ prefix = ap (take (length prefix)) is ∙ take-append-le (length prefix) prefix rest (omega arith) ∙ take_all (length prefix) prefix (omega arith) in
-    both_ways (bytes_eq (take (length prefix) name) prefix) apart ((bytes_eq-Decides (take (length prefix) name) prefix).1 front)
-
--- ---- what a function answers of a list of ports
-
-pub ports_differ : (xs ys : List (List ℕ)) → (xs ≡ ys → ⊥) → (IsTrue false ↔ (xs ≡ ys))
-ports_differ xs ys apart = (λ e. let bad : false ≡ true = e in absurd (cc), λ e. absurd (apart e))
-
-pub ports_same : (xs ys : List (List ℕ)) → xs ≡ ys → (IsTrue true ↔ (xs ≡ ys))
-ports_same xs ys same = (λ e. same, λ e. refl)
 
 -- ---- what holds of each item of a mapped list
 

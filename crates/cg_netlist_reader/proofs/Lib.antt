@@ -1,5 +1,6 @@
 pub mod Known
 pub mod Checked
+pub mod Places
 pub mod Shapes
 pub mod Ascii
 pub mod Found

@@ -1,5 +1,5 @@
 pub mod Reading
 pub mod FaultText
 pub mod Looked
-pub mod Formed
+pub mod Ported
 pub mod Wrong

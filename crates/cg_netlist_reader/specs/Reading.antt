@@ -5,7 +5,8 @@ use Rattle.std.specs.Option.{option_or}
 use Rattle.cg_tokens.specs.Tokens.{tokens_of, texts}
 use Rattle.cg_tokens.specs.Faults.{FaultIn}
 use Rattle.cg_verilog.specs.Module.{IsModule, IsText, module_tokens}
-use Rattle.cg_netlist.specs.Forms.{Form, form_name, form_ports, IsForm}
+use Rattle.cg_netlist.specs.declared.forms.Form.{Form}
+use Rattle.cg_netlist.specs.Forms.{form_name, form_ports, IsForm}
 use Rattle.cg_netlist_reader.specs.declared.fault.VerilogFault.{VerilogFault}
 use Rattle.cg_netlist_reader.specs.declared.fault.VerilogFault.TheVariants as faults
 use Rattle.cg_netlist.specs.declared.parts.Pin.{Pin}

@@ -3,7 +3,6 @@ use Rattle.std.specs.Prelude.{◌≡◌, ℕ, List, All, Option, Some}
 use Rattle.cg_verilog.specs.Module.{ModuleText}
 use Rattle.cg_netlist_reader.specs.declared.fault.VerilogFault.{VerilogFault}
 use Rattle.cg_netlist_reader.specs.declared.fault.VerilogFault.TheVariants as faults
-use Rattle.cg_netlist.specs.declared.parts.Cell.{Cell}
 use Rattle.cg_netlist.specs.Netlist.{NetGraph}
 use Rattle.cg_netlist.specs.Text.{module_of}
 use Rattle.cg_netlist_reader.specs.Reading.{IsFormed, IsUnknownCell, unknown_net}
@@ -14,13 +13,6 @@ IsOfNet faults.Memory found = Unit {0}
 IsOfNet (faults.UnknownNet name) found = found ≡ Some name
 IsOfNet (faults.Text place) found = ⊥
 IsOfNet (faults.UnknownCell i) found = ⊥
-
--- unless memory ran out, the fault is that of the first cell of no form
-abbrev pub IsOfCell : VerilogFault → List Cell → Type 0
-IsOfCell faults.Memory cells = Unit {0}
-IsOfCell (faults.UnknownCell i) cells = IsUnknownCell cells i
-IsOfCell (faults.Text place) cells = ⊥
-IsOfCell (faults.UnknownNet name) cells = ⊥
 
 -- unless memory ran out, it is the first fault of this graph's cells, or else of its nets
 abbrev pub IsBad : VerilogFault → NetGraph → Type 0

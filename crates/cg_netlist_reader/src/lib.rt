@@ -4,6 +4,8 @@
 mod fault;
 mod forming;
 mod joining;
+mod port;
+mod ports;
 mod read;
 mod taken;
 mod texts;

@@ -10,7 +10,7 @@ ghost use Rattle.cg_netlist_reader.specs.Reading as spec;
 ghost use Rattle.cg_verilog.specs.Printed as printed;
 
 use crate::fault::VerilogFault;
-use crate::forming::check_forms;
+use crate::forming::unknown_cell;
 use crate::joining::check_nets;
 use crate::taken::{cells_of, nets_of};
 use cg_netlist::{Cell, Net, NetGraph};
@@ -60,14 +60,14 @@ fn graph_of(alloc: Global, text: &Module<'_>) -> Result<NetGraph, VerilogFault>
 }
 
 /// The netlist of nets and cells, where it is one.
-#[tactic(auto, using(crate::proofs::Checked::graph_of, crate::proofs::Faults::cell_bad, crate::proofs::Faults::net_bad))]
+#[tactic(auto, using(crate::proofs::Checked::graph_of, crate::proofs::Faults::net_bad))]
 fn checked(alloc: Global, nets: Vec<Net>, cells: Vec<Cell>) -> Result<NetGraph, VerilogFault>
     requires { texts.IsModule (module_of (record { nets = nets.items; cells = cells.items })) }
     ensures found { IfOk result (λ graph. graph ≡ record { nets = nets.items; cells = cells.items }) }
     ensures fault { IfErr result (λ e. IsBad e (record { nets = nets.items; cells = cells.items })) }
 {
-    if let Err(fault) = check_forms(alloc, &cells) {
-        return Err(fault);
+    if let Some(number) = unknown_cell(&cells) {
+        return Err(VerilogFault::UnknownCell(number));
     }
     if let Err(fault) = check_nets(alloc, &nets, &cells) {
         return Err(fault);

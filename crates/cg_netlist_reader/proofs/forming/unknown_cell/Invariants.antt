@@ -1,7 +1,7 @@
 use Rattle.std.proofs.Common.{ℕ, ◌<◌, get_or}
 use Rattle.cg_netlist.specs.declared.parts.Cell.{Cell}
 use Rattle.cg_netlist_reader.specs.Reading.{IsFormed}
-use Rattle.cg_netlist_reader.proofs.forming.check_forms.Given as goal
+use Rattle.cg_netlist_reader.proofs.forming.unknown_cell.Given as goal
 
 abbrev pub invariant-loop-number : goal.invariant-loop-number
 invariant-loop-number l = (k : ℕ) (d : Cell) → k < l.number → IsFormed (get_or l.cells k d)
