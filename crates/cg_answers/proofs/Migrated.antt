@@ -30,7 +30,7 @@ use Rattle.cg_inputs.specs.Refused.{RefusesArch}
 use Rattle.cg_inputs.proofs.Arrays.{same_array, sized, valid_array}
 use Rattle.cg_inputs.proofs.Sound.{IsSound, plain, IsNamed}
 use Rattle.cg_inputs.proofs.Wholes.{whole, one_write, differ}
-use Rattle.cg_answers.specs.Migrate.{IsMigrate, IsMigratable, IsMigrated, IsRewritten, MigrateBits, MigrateBy, RunMappingsOf, migrate_report}
+use Rattle.cg_answers.specs.Migrate.{IsMigrate, IsMigratable, IsMigrated, MigrateBits, MigrateBy, RunMappingsOf, migrate_report}
 
 -- ---- status and writes
 

@@ -1,8 +1,8 @@
 //! `migrate ARCH BITS OUT`.
-ghost use Rattle.std.specs.Prelude.{◌≡◌, IfOk, length};
+ghost use Rattle.std.specs.Prelude.{◌≡◌, IfOk};
 ghost use Rattle.cg_model.specs.Canonical.{IsCanonical};
 ghost use Rattle.cg_ending.specs.Allowed.{Allows};
-ghost use Rattle.cg_ending.specs.Outcome.{file_of, Bytes};
+ghost use Rattle.cg_ending.specs.Outcome.{file_of};
 ghost use Rattle.cg_bits.specs.Answers.{answer_in};
 ghost use Rattle.cg_bits.specs.Format.{cgb1};
 ghost use Rattle.cg_answers.specs.Migrate.{IsMigrate, IsRewritten, MigrateBits, migrate_report};

@@ -1,5 +1,5 @@
 //! Configurations out of bytes.
-ghost use Rattle.std.specs.Prelude.{◌≡◌, ℕ, ◌+◌, ◌*◌, ◌/◌, ◌<◌, ◌≤◌, ◌^◌, map, length, Ok, IfOk};
+ghost use Rattle.std.specs.Prelude.{◌≡◌, ◌+◌, ◌*◌, ◌/◌, ◌<◌, ◌≤◌, map, length, Ok, IfOk};
 ghost use Rattle.std.specs.List.{range_with_len};
 ghost use Rattle.cg_model.specs.Answers.{Gives};
 ghost use Rattle.cg_model.specs.Array.{IsArch};
