@@ -14,6 +14,7 @@ use Rattle.cg_netlist.specs.declared.parts.Cell.{Cell}
 use Rattle.cg_netlist.specs.Netlist.{NetGraph}
 use Rattle.cg_netlist.specs.Graph.{names, IsNet, IsConnected, IsCell, IsNetGraph}
 use Rattle.cg_netlist.specs.Text.{wire_of, pin_of, cell_with, cell_of, module_of}
+use Rattle.cg_netlist_reader.specs.Ported.{net_taken, pin_taken, cell_taken, graph_taken}
 use Rattle.cg_netlist_reader.specs.Reading.{IsFormed, given, has, repeated, unknown, pin_net, pin_nets, unknown_net}
 use Rattle.cg_netlist_reader.proofs.Known.{IsFresh, IsKnown, none_repeated, never_repeated, none_unknown, never_unknown, connected, known_pin}
 use Rattle.cg_model.proofs.Options.{or_none}
@@ -102,13 +103,12 @@ graph_of G valid formed none =
     }
 
 -- the same for what a function has at hand
-pub graph_is : (nets n : List Net) (cells f m : List Cell) → text.IsModule (module_of (record { nets = nets; cells = cells })) → f ≡ cells → n ≡ nets → m ≡ cells → All IsFormed f
+pub graph_is : (nets n : List Net) (cells m : List Cell) → text.IsModule (module_of (record { nets = nets; cells = cells })) → n ≡ nets → m ≡ cells → All IsFormed cells
     → unknown_net (record { nets = n; cells = m }) ≡ None → IsNetGraph (record { nets = nets; cells = cells })
-graph_is nets n cells f m valid a b d formed none =
-    let P : List Cell → Type 0 = λ x. All IsFormed x in
+graph_is nets n cells m valid b d formed none =
     let Q : List Net → Type 0 = λ x. unknown_net (record { nets = x; cells = m }) ≡ None in
     let R : List Cell → Type 0 = λ x. unknown_net (record { nets = nets; cells = x }) ≡ None in
-    graph_of (record { nets = nets; cells = cells }) valid (subst P a formed) (subst R d (subst Q b none))
+    graph_of (record { nets = nets; cells = cells }) valid formed (subst R d (subst Q b none))
 
 -- ---- a graph passes what is checked
 
@@ -187,3 +187,32 @@ same_graph G H g h e =
     let nets : G.nets ≡ H.nets = same_wires G.nets H.nets (ap (λ (m : text.ModuleText). m.wires) e) in
     let cells : G.cells ≡ H.cells = same_cells G.cells H.cells g.cells h.cells (ap (λ (m : text.ModuleText). m.cells) e) in
     ap (λ (x : List Net). record { nets = x; cells = G.cells }) nets ∙ ap (λ (x : List Cell). record { nets = H.nets; cells = x }) cells
+
+-- ---- what is taken of a module's text
+
+wires_back : (ws : List text.WireText) → map wire_of (map net_taken ws) ≡ ws
+wires_back [] = refl
+wires_back (w ∷ ws) = ap (λ xs. w ∷ xs) (wires_back ws)
+
+pins_back : (ps : List text.PinText) → map pin_of (map pin_taken ps) ≡ ps
+pins_back [] = refl
+pins_back (p ∷ ps) = ap (λ xs. p ∷ xs) (pins_back ps)
+
+cells_back : (cs : List text.CellText) → map cell_of (map cell_taken cs) ≡ cs
+cells_back [] = refl
+cells_back (c ∷ cs) =
+    ap (λ (ps : List text.PinText). record { form = c.form; name = c.name; first = c.first; rest = ps } ∷ map cell_of (map cell_taken cs)) (pins_back c.rest)
+    ∙ ap (λ xs. c ∷ xs) (cells_back cs)
+
+pub module_back : (m : text.ModuleText) → module_of (graph_taken m) ≡ m
+module_back m =
+    ap (λ (ws : List text.WireText). record { wires = ws; cells = map cell_of (map cell_taken m.cells) }) (wires_back m.wires)
+    ∙ ap (λ (cs : List text.CellText). record { wires = m.wires; cells = cs }) (cells_back m.cells)
+
+-- cells that a text stands for are of forms where what is taken of it is
+pub formed_taken : (cs : List text.CellText) (own : List Cell) → AllByRecursion text.IsCell cs → map cell_of own ≡ cs → All IsFormed (map cell_taken cs) → All IsFormed own
+formed_taken cs own valid is formed =
+    let back = cells_back cs in
+    let P : List text.CellText → Type 0 = λ xs. AllByRecursion text.IsCell xs in
+    let same : own ≡ map cell_taken cs = same_cells own (map cell_taken cs) (subst P (sym is) valid) (subst P (sym back) valid) (is ∙ sym back) in
+    subst (λ (xs : List Cell). All IsFormed xs) (sym same) formed

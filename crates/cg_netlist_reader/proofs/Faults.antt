@@ -5,8 +5,6 @@ use Rattle.cg_tokens.specs.Tokens.{tokens_of, texts}
 use Rattle.cg_verilog.specs.Module.{ModuleText, WireText, CellText, IsModule, module_tokens}
 use Rattle.cg_netlist_reader.specs.declared.fault.VerilogFault.{VerilogFault}
 use Rattle.cg_netlist_reader.specs.declared.fault.VerilogFault.TheVariants as faults
-use Rattle.cg_netlist.specs.declared.parts.Net.{Net}
-use Rattle.cg_netlist.specs.declared.parts.Cell.{Cell}
 use Rattle.cg_netlist.specs.Netlist.{NetGraph}
 use Rattle.cg_netlist.specs.Text.{module_of}
 use Rattle.cg_netlist_reader.specs.Reading.{Spells, IsFormed, unknown_net, IsFault}
@@ -53,14 +51,6 @@ read_fault bytes m (Ok g) valid tokens h = tt
 read_fault bytes m (Err e) valid tokens h = wrong_is bytes m valid tokens e h
 
 -- ---- the same for what a function has at hand
-
-pub nets_bad : (nets n : List Net) (cells f m : List Cell) (e : VerilogFault) → f ≡ cells → n ≡ nets → m ≡ cells → All IsFormed f → IsOfNet e (unknown_net (record { nets = n; cells = m }))
-    → IsBad e (record { nets = nets; cells = cells })
-nets_bad nets n cells f m e a b d formed bad =
-    let P : List Cell → Type 0 = λ x. All IsFormed x in
-    let Q : List Net → Type 0 = λ x. IsOfNet e (unknown_net (record { nets = x; cells = m })) in
-    let R : List Cell → Type 0 = λ x. IsOfNet e (unknown_net (record { nets = nets; cells = x })) in
-    net_bad (record { nets = nets; cells = cells }) e (subst P a formed) (subst R d (subst Q b bad))
 
 pub same_module : (m n : ModuleText) → m.wires ≡ n.wires → m.cells ≡ n.cells → m ≡ n
 same_module m n wires cells = ap (λ (x : List WireText). record m { wires = x }) wires ∙ ap (λ (x : List CellText). record { wires = n.wires; cells = x }) cells

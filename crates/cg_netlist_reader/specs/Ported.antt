@@ -1,7 +1,12 @@
--- What ports are called.
+-- What ports are called, and the nets and cells that a module's text is taken for.
 use Rattle.std.specs.Prelude.{ℕ, List, map, codes}
+use Rattle.cg_verilog.specs.declared.module.Pin.{Pin as PinLent}
+use Rattle.cg_verilog.specs.Module.{PinText, CellText, WireText, ModuleText, pins_of}
 use Rattle.cg_netlist.specs.Forms.{driver_port, argument_port}
+use Rattle.cg_netlist.specs.declared.parts.Net.{Net}
 use Rattle.cg_netlist.specs.declared.parts.Pin.{Pin}
+use Rattle.cg_netlist.specs.declared.parts.Cell.{Cell}
+use Rattle.cg_netlist.specs.Netlist.{NetGraph}
 use Rattle.cg_netlist_reader.specs.declared.port.Port.{Port}
 use Rattle.cg_netlist_reader.specs.declared.port.Port.TheVariants.{Clock, Reset, Select, Driver, Argument, Output}
 
@@ -13,6 +18,18 @@ port_text (Driver n) = driver_port n
 port_text (Argument n) = argument_port n
 port_text Output = codes "q"
 
--- the ports of pins
-abbrev pub ports_of : List Pin → List (List ℕ)
-ports_of pins = map (λ (p : Pin). p.port) pins
+-- the ports of pins that a text lends
+abbrev pub lent_ports : List PinLent → List (List ℕ)
+lent_ports pins = map (λ (p : PinLent). p.port.now) pins
+
+abbrev pub net_taken : WireText → Net
+net_taken w = record { name = w.name; width = w.width }
+
+abbrev pub pin_taken : PinText → Pin
+pin_taken p = record { port = p.port; net = p.net }
+
+abbrev pub cell_taken : CellText → Cell
+cell_taken c = record { «module» = c.form; name = c.name; pins = map pin_taken (pins_of c) }
+
+abbrev pub graph_taken : ModuleText → NetGraph
+graph_taken m = record { nets = map net_taken m.wires; cells = map cell_taken m.cells }

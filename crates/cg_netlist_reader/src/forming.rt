@@ -1,15 +1,21 @@
 //! Whether cells have the names and the ports of forms.
-ghost use Rattle.std.specs.Prelude.{◌≡◌, ◌↔◌, All, IsTrue, MatchOption};
+ghost use Rattle.std.specs.Prelude.{◌≡◌, ◌↔◌, ◌+◌, All, IsTrue, MatchOption, map, length, drop};
+ghost use Rattle.std.specs.List.{AllByRecursion};
+ghost use Rattle.cg_verilog.specs.Module as texts;
+ghost use Rattle.cg_verilog.specs.Read as modules;
 ghost use Rattle.cg_netlist.specs.Forms as forms;
 ghost use Rattle.cg_netlist_reader.specs.Reading as spec;
 ghost use Rattle.cg_netlist_reader.specs.Ported as ported;
 
 use crate::ports::{is_called, port_at, port_count};
-use cg_netlist::{Cell, Form, Pin, form_of};
+use crate::taken::text_of;
+use cg_netlist::{Form, form_of};
+use cg_verilog::{Cell, Pin};
 
-/// Finds the first of the `cells` that is of no form.
-pub(crate) fn unknown_cell(cells: &[Cell]) -> Option<usize>
-    ensures { MatchOption result (All spec.IsFormed cells.now) (λ i. spec.IsUnknownCell cells.now i) }
+/// Finds the first of the `cells` of a text that is of no form.
+pub(crate) fn unknown_cell(cells: &[Cell<'_>]) -> Option<usize>
+    requires { AllByRecursion texts.IsCell (map modules.cell_of cells.now) }
+    ensures { MatchOption result (All spec.IsFormed (map ported.cell_taken (map modules.cell_of cells.now))) (λ i. spec.IsUnknownCell (map ported.cell_taken (map modules.cell_of cells.now)) i) }
 {
     for (number, cell) in cells.iter().enumerate() {
         if !is_formed(cell) {
@@ -21,24 +27,38 @@ pub(crate) fn unknown_cell(cells: &[Cell]) -> Option<usize>
 
 /// Tells whether `cell` is of the form that its module's name says.
 #[tactic(auto, using(crate::proofs::Shapes::formed_found, crate::proofs::Shapes::formed_missed))]
-fn is_formed(cell: &Cell) -> bool
-    ensures { IsTrue result ↔ spec.IsFormed cell.now }
+fn is_formed(cell: &Cell<'_>) -> bool
+    requires { texts.IsCell (modules.cell_of cell.now) }
+    ensures { IsTrue result ↔ spec.IsFormed (ported.cell_taken (modules.cell_of cell.now)) }
 {
-    match form_of(cell.module.as_str()) {
-        Some(form) => has_ports(cell.pins.as_slice(), form),
+    match form_of(text_of(cell.form)) {
+        Some(form) => has_ports(cell, form),
         None => false,
     }
 }
 
-/// Tells whether `pins` have the ports of `form` in order.
-fn has_ports(pins: &[Pin], form: Form) -> bool
-    ensures { IsTrue result ↔ (ported.ports_of pins.now ≡ forms.form_ports form) }
+/// Tells whether the pins of `cell` have the ports of `form` in order.
+fn has_ports(cell: &Cell<'_>, form: Form) -> bool
+    requires { texts.IsCell (modules.cell_of cell.now) }
+    ensures { IsTrue result ↔ (spec.ports (ported.cell_taken (modules.cell_of cell.now)) ≡ forms.form_ports form) }
 {
-    if pins.len() != port_count(form) {
+    if cell.rest.len() != port_count(form) - 1 {
         return false;
     }
+    if !is_called(port_at(form, 0), text_of(cell.first.port)) {
+        return false;
+    }
+    has_further_ports(&cell.rest, form)
+}
+
+/// Tells whether `pins` have the ports of `form` after the first.
+fn has_further_ports(pins: &[Pin<'_>], form: Form) -> bool
+    requires pins { AllByRecursion texts.IsPin (map modules.pin_of pins.now) }
+    requires many { length pins.now + 1 ≡ length (forms.form_ports form) }
+    ensures { IsTrue result ↔ (ported.lent_ports pins.now ≡ drop 1 (forms.form_ports form)) }
+{
     for (place, pin) in pins.iter().enumerate() {
-        if !is_called(port_at(form, place), pin.port.as_str()) {
+        if !is_called(port_at(form, place + 1), text_of(pin.port)) {
             return false;
         }
     }

@@ -10,7 +10,8 @@ use cg_netlist::{Form, is_driver_port};
 /// Returns the number of ports of `form`.
 #[tactic(auto, using(crate::proofs::Places::drivers_length, crate::proofs::Places::arguments_length))]
 pub(crate) fn port_count(form: Form) -> usize
-    ensures { result ≡ length (forms.form_ports form) }
+    ensures count { result ≡ length (forms.form_ports form) }
+    ensures some { 0 < result }
 {
     match form {
         Form::Context(_) => 3,

@@ -1,5 +1,5 @@
 //! Netlists from texts.
-ghost use Rattle.std.specs.Prelude.{◌≡◌, IfOk, IfErr};
+ghost use Rattle.std.specs.Prelude.{◌≡◌, All, IfOk, IfErr};
 ghost use Rattle.cg_verilog.specs.Module as texts;
 ghost use Rattle.cg_verilog.specs.Read as modules;
 ghost use Rattle.cg_netlist.specs.Netlist as netlists;
@@ -54,21 +54,22 @@ fn graph_of(alloc: Global, text: &Module<'_>) -> Result<NetGraph, VerilogFault>
     ensures found { IfOk result (λ graph. module_of graph ≡ modules.module_of text.now) }
     ensures fault { IfErr result (λ e. IsWrong e (modules.module_of text.now)) }
 {
+    if let Some(number) = unknown_cell(&text.cells) {
+        return Err(VerilogFault::UnknownCell(number));
+    }
     let nets = nets_of(alloc, &text.wires)?;
     let cells = cells_of(alloc, &text.cells)?;
     checked(alloc, nets, cells)
 }
 
-/// The netlist of nets and cells, where it is one.
+/// Returns the netlist of `nets` and `cells`, where each pin's net is declared once.
 #[tactic(auto, using(crate::proofs::Checked::graph_of, crate::proofs::Faults::net_bad))]
 fn checked(alloc: Global, nets: Vec<Net>, cells: Vec<Cell>) -> Result<NetGraph, VerilogFault>
-    requires { texts.IsModule (module_of (record { nets = nets.items; cells = cells.items })) }
+    requires text { texts.IsModule (module_of (record { nets = nets.items; cells = cells.items })) }
+    requires formed { All spec.IsFormed cells.items }
     ensures found { IfOk result (λ graph. graph ≡ record { nets = nets.items; cells = cells.items }) }
     ensures fault { IfErr result (λ e. IsBad e (record { nets = nets.items; cells = cells.items })) }
 {
-    if let Some(number) = unknown_cell(&cells) {
-        return Err(VerilogFault::UnknownCell(number));
-    }
     if let Err(fault) = check_nets(alloc, &nets, &cells) {
         return Err(fault);
     }

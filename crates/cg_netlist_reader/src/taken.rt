@@ -11,7 +11,7 @@ use cg_netlist::{Cell, Net, Pin};
 use std::alloc::{AllocError, Global};
 
 /// The text of a name.
-fn text_of(bytes: &[u8]) -> &str
+pub(crate) fn text_of(bytes: &[u8]) -> &str
     requires { is_name bytes.now ≡ true }
     ensures { result.now ≡ bytes.now }
 {

@@ -1,15 +1,16 @@
-use Rattle.std.proofs.Common.{◌≡◌, true, rules}
+use Rattle.std.proofs.Common.{◌≡◌, ◌<◌, List, length, drop, true, arith, rules, subst}
+use Rattle.std.specs.Prelude.{IsTrue, ◌↔◌}
 use Rattle.std.proofs.lemmas.Bool.{not-false}
+use Rattle.cg_verilog.specs.declared.module.Pin.{Pin as PinLent}
 use Rattle.cg_netlist.specs.Forms.{form_ports}
-use Rattle.cg_netlist_reader.proofs.Compared.{item_same}
+use Rattle.cg_netlist_reader.specs.Ported.{lent_ports}
+use Rattle.cg_netlist_reader.proofs.Compared.{ports_found}
 use Rattle.cg_netlist_reader.proofs.forming.has_ports.Goals as goal
 
-pub loop-place-preserved : goal.loop-place-preserved
-loop-place-preserved c =
+pub returns : goal.returns
+returns c =
     let found : c.is_called.result ≡ true = search (rules, not-false) in
-    record {
-      long = c.loop-place.invariant.long;
-      same =
-          item_same c.args.pins.now (form_ports c.args.form) c.loop-place.place c.index-pins-place.result c.as_str.result.now _ c.is_called.result
-          c.loop-place.invariant.long c.index-pins-place.is c.loop-place-test.true c.as_str.ensures c.port_at.ensures c.is_called.ensures found c.loop-place.invariant.same;
-    }
+    let P : List PinLent → Type 0 = λ ps. IsTrue c.has_further_ports.result ↔ (lent_ports ps ≡ drop 1 (form_ports c.args.form)) in
+    let some : 0 < length (form_ports c.args.form) = let count = c.port_count.ensures.count in let positive = c.port_count.ensures.some in omega (arith, count, positive) in
+    ports_found c.args.cell.now.first c.args.cell.now.rest.items (form_ports c.args.form) c.text_of.result.now _ c.is_called.result c.has_further_ports.result
+    some c.text_of.ensures c.port_at.ensures c.is_called.ensures found (subst P c.deref.ensures.value c.has_further_ports.ensures)
