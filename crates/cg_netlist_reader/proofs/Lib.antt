@@ -5,6 +5,7 @@ pub mod Shapes
 pub mod Ascii
 pub mod Found
 pub mod Faults
+pub mod NotBoth
 pub mod Answered
 pub mod Looks
 pub mod Compared

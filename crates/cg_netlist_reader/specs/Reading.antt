@@ -1,5 +1,5 @@
 -- What a text of structural Verilog stands for, and why it stands for no netlist.
-use Rattle.std.specs.Prelude.{◌≡◌, ℕ, ◌<◌, Bool, List, [], ◌∷◌, ◌++◌, map, All, codes, bytes_eq, not, Option, Some, None, Result, Ok, Err, find, length, slice_index_or, if◌then◌else◌}
+use Rattle.std.specs.Prelude.{◌≡◌, ℕ, ◌<◌, ◌⊎◌, Bool, List, [], ◌∷◌, ◌++◌, map, All, codes, bytes_eq, not, Option, Some, None, Result, Ok, Err, find, length, slice_index_or, if◌then◌else◌}
 use Rattle.std.specs.List.{list_any, flat_map}
 use Rattle.std.specs.Option.{option_or}
 use Rattle.cg_tokens.specs.Tokens.{tokens_of, texts}
@@ -12,7 +12,7 @@ use Rattle.cg_netlist_reader.specs.declared.fault.VerilogFault.TheVariants as fa
 use Rattle.cg_netlist.specs.declared.parts.Pin.{Pin}
 use Rattle.cg_netlist.specs.declared.parts.Cell.{Cell}
 use Rattle.cg_netlist.specs.Netlist.{NetGraph}
-use Rattle.cg_netlist.specs.Graph.{names}
+use Rattle.cg_netlist.specs.Graph.{names, IsNetGraph}
 use Rattle.cg_netlist.specs.Text.{module_of}
 
 -- the bytes spell these nets and cells, whatever they stand for
@@ -82,3 +82,12 @@ IsFault (faults.UnknownNet name) bytes = (G : NetGraph) × Spells bytes G × All
 abbrev pub Gives : NetGraph → Result NetGraph VerilogFault → Type 0
 Gives G (Ok H) = H ≡ G
 Gives G (Err e) = e ≡ faults.Memory
+
+-- unless memory ran out, this fault was answered
+abbrev pub GivesFault : VerilogFault → Result NetGraph VerilogFault → Type 0
+GivesFault e r = (r ≡ Err e) ⊎ (r ≡ Err faults.Memory)
+
+-- a valid graph that the bytes spell, or a fault that they have, or that memory ran out
+abbrev pub IsAnswer : List ℕ → Result NetGraph VerilogFault → Type 0
+IsAnswer bytes (Ok G) = IsNetGraph G × Spells bytes G
+IsAnswer bytes (Err e) = IsFault e bytes

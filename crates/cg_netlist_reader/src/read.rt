@@ -1,10 +1,11 @@
 //! Netlists from texts.
-ghost use Rattle.std.specs.Prelude.{◌≡◌, All, IfOk, IfErr};
+ghost use Rattle.std.specs.Prelude.{◌≡◌, ◌≢◌, All, IfOk, IfErr};
 ghost use Rattle.cg_verilog.specs.Module as texts;
 ghost use Rattle.cg_verilog.specs.Read as modules;
 ghost use Rattle.cg_netlist.specs.Netlist as netlists;
 ghost use Rattle.cg_netlist.specs.Graph.{IsNetGraph};
 ghost use Rattle.cg_netlist.specs.Text.{module_of};
+ghost use Rattle.cg_netlist_reader.specs.declared.fault.VerilogFault as faults;
 ghost use Rattle.cg_netlist_reader.specs.Wrong.{IsBad, IsWrong};
 ghost use Rattle.cg_netlist_reader.specs.Reading as spec;
 ghost use Rattle.cg_verilog.specs.Printed as printed;
@@ -28,15 +29,20 @@ pub fn read_verilog(alloc: Global, bytes: &[u8]) -> Result<NetGraph, VerilogFaul
     ensures printed { (graph : netlists.NetGraph) → IsNetGraph graph → bytes.now ≡ printed.module_text (module_of graph) → spec.Gives graph result }
     // Which fault it is.
     ensures fault { IfErr result (λ e. spec.IsFault e bytes.now) }
+    // A fault that applies is the answer, unless memory runs out.
+    ensures exact { (e : faults.VerilogFault) → e ≢ VerilogFault.Memory → spec.IsFault e bytes.now → spec.GivesFault e result }
+    // What is answered is an answer.
+    ensures answer { spec.IsAnswer bytes.now result }
 {
     read(alloc, bytes)
 }
 
-/// The same, without the laws that follow from its two clauses.
+/// The same, without the laws that follow from its clauses.
 #[tactic(auto, using(crate::proofs::Faults::read_found, crate::proofs::Faults::read_fault))]
 fn read(alloc: Global, bytes: &[u8]) -> Result<NetGraph, VerilogFault>
     // What is read is spelled so.
     ensures found { IfOk result (λ graph. spec.Spells bytes.now graph) }
+    ensures valid { IfOk result IsNetGraph }
     // Which fault it is.
     ensures fault { IfErr result (λ e. spec.IsFault e bytes.now) }
 {
@@ -52,6 +58,7 @@ fn read(alloc: Global, bytes: &[u8]) -> Result<NetGraph, VerilogFault>
 fn graph_of(alloc: Global, text: &Module<'_>) -> Result<NetGraph, VerilogFault>
     requires { texts.IsModule (modules.module_of text.now) }
     ensures found { IfOk result (λ graph. module_of graph ≡ modules.module_of text.now) }
+    ensures valid { IfOk result IsNetGraph }
     ensures fault { IfErr result (λ e. IsWrong e (modules.module_of text.now)) }
 {
     if let Some(number) = unknown_cell(&text.cells) {
@@ -68,6 +75,7 @@ fn checked(alloc: Global, nets: Vec<Net>, cells: Vec<Cell>) -> Result<NetGraph, 
     requires text { texts.IsModule (module_of (record { nets = nets.items; cells = cells.items })) }
     requires formed { All spec.IsFormed cells.items }
     ensures found { IfOk result (λ graph. graph ≡ record { nets = nets.items; cells = cells.items }) }
+    ensures valid { IfOk result IsNetGraph }
     ensures fault { IfErr result (λ e. IsBad e (record { nets = nets.items; cells = cells.items })) }
 {
     if let Err(fault) = check_nets(alloc, &nets, &cells) {
