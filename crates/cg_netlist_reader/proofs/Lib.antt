@@ -7,5 +7,6 @@ pub mod Found
 pub mod Faults
 pub mod NotBoth
 pub mod Answered
+pub mod Solved
 pub mod Looks
 pub mod Compared
