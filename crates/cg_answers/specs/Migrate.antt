@@ -69,8 +69,8 @@ RunMappingsOf A C bytes =
 
 -- Done: an architecture and a configuration of it, which the bytes `old` spell in the first format, were read; under the last
 -- name bytes `new` are held that spell the same configuration in the format of today, and its interval, its stages and their
--- number were put. The array of the first format's time and that of today leave the same of it, for every number of turns and
--- from every image; and where it is the configuration of a legal mapping, `new` runs that mapping
+-- number were put. Under it the array of the first format's time and that of today leave the same memory, streams and count, for
+-- every number of turns and from every image; and where it is the configuration of a legal mapping, `new` runs that mapping
 pub record IsMigrated (arch file out : Name) (before after : Moment) : Type 0 where
   pub arch_bytes : Bytes
   pub arch_held : Holds before.held arch arch_bytes

@@ -34,7 +34,7 @@ fn parsed(text: &[u8], base: u32) -> Option<u32>
     }
 }
 
-/// Returns the same of a `text` that is one.
+/// Returns the number that `text` is in base `base`, with leading zeros or without.
 fn parsed_text(text: &str, base: u32) -> Option<u32>
     requires low { 10 ≤ base }
     requires high { base ≤ 16 }

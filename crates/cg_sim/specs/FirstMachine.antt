@@ -35,7 +35,7 @@ first_missed_by size args Load = if nat_le size (slice_index args 0) then 1 else
 first_missed_by size args Store = if nat_le size (slice_index args 0) then 1 else 0
 first_missed_by size args _ = 0
 
--- the same of an operation at work
+-- these four for an operation at work
 abbrev pub first_value : Image → List ℕ → Work → ℕ
 first_value image memory w = first_value_by image memory w.port w.turn w.args w.op
 
@@ -128,6 +128,7 @@ pub record IsFirst (C : Config) : Type 0 where
   pub interval : 0 < C.ii
   pub known : (x slot : ℕ) → slot < C.ii → IsFirstOp (fields C x slot).op
 
--- whatever the architecture: both machines leave the same of it, for every number of turns and every image
+-- under this configuration both machines leave the same memory, streams and count, for every architecture, number of turns and
+-- image
 abbrev pub MachinesAgree : Config → Type 0
 MachinesAgree C = (A : Arch) (n : ℕ) (image : Image) → first_left A C n image ≡ machine_left A C n image
