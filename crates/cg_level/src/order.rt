@@ -1,8 +1,7 @@
 //! The order of resources.
-ghost use Rattle.std.specs.Prelude.{◌≤◌, IfOk, IfErr, length};
+ghost use Rattle.std.specs.Prelude.{◌≤◌, ◌^◌, IfOk, IfErr, length};
 ghost use Rattle.cg_level.specs.Topological.{AreKnown, IsTopological};
 ghost use Rattle.cg_level.specs.Fault.{IsFaultOf};
-ghost use Rattle.cg_model.specs.Limits.{most_resources};
 
 use crate::fault::OrderFault;
 use crate::walk::Walk;
@@ -12,7 +11,8 @@ use std::alloc::Global;
 /// An order of all resources in which each stands after those that drive it in the same cycle. Where
 /// there is none, the fault names a loop.
 pub fn topological_order(alloc: Global, resources: &[Resource]) -> Result<Words, OrderFault>
-    requires few { length resources.now ≤ most_resources }
+    // Each has a number of 32 bits.
+    requires few { length resources.now ≤ 2 ^ 32 }
     requires known { AreKnown resources.now }
     ensures order { IfOk result (IsTopological resources.now) }
     ensures ring { IfErr result (IsFaultOf resources.now) }
