@@ -26,8 +26,8 @@ use Rattle.cg_bits.specs.Texts.{bits_fault_text}
 use Rattle.cg_pad.specs.declared.fault.ImageFault.{ImageFault}
 use Rattle.cg_pad.specs.Bytes as images
 use Rattle.cg_pad.specs.Texts.{image_fault_text}
-use Rattle.cg_sim.specs.declared.fault.SimFault.TheVariants.{ImageTooLarge}
-use Rattle.cg_sim.specs.Texts.{sim_fault_text}
+use Rattle.cg_cycle.specs.declared.fault.SimFault.TheVariants.{ImageTooLarge}
+use Rattle.cg_cycle.specs.Texts.{sim_fault_text}
 
 -- how many cycles the turns took, and how many accesses reached outside the memory
 abbrev pub run_report : ℕ → ℕ → Bytes

@@ -6,7 +6,7 @@ ghost use Rattle.cg_ending.specs.Allowed.{Allows, EndsBy};
 ghost use Rattle.cg_ending.specs.Outcome.{file_of};
 ghost use Rattle.cg_ending.specs.Refusals.{malformed_of};
 ghost use Rattle.cg_pad.specs.Bytes as images;
-ghost use Rattle.cg_sim.specs.Texts.{sim_fault_text};
+ghost use Rattle.cg_cycle.specs.Texts.{sim_fault_text};
 ghost use Rattle.cg_run_answers.specs.Run.{IsRun, ran, run_by_image, run_report};
 
 use cg_arch::Arch;

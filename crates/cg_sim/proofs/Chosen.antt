@@ -13,11 +13,12 @@ use Rattle.cg_model.specs.Machine.{driver, driven}
 use Rattle.cg_overlap.proofs.Wires.{out_within}
 use Rattle.cg_sim.specs.declared.plan.Link.{Link}
 use Rattle.cg_sim.specs.declared.plan.Links.{Links}
-use Rattle.cg_sim.specs.declared.plan.Terminals.{Terminals}
+use Rattle.cg_cycle.specs.declared.terminals.Terminals.{Terminals}
 use Rattle.cg_sim.specs.declared.plan.Plan.{Plan}
-use Rattle.cg_sim.specs.Plan.{link, is_register, is_net, IsLinked, AreLinks, IsPlan, terminals_of}
-use Rattle.cg_sim.specs.Settle.{terminals, AreReadable, CanSettle}
-use Rattle.cg_sim.specs.Effects.{on_ports}
+use Rattle.cg_sim.specs.Plan.{link, is_register, is_net, IsLinked, AreLinks, IsPlan, AreTerminals, terminals_of}
+use Rattle.cg_sim.specs.Settle.{AreReadable, CanSettle}
+use Rattle.cg_cycle.specs.Terminals.{terminals, on_ports}
+use Rattle.cg_cycle.specs.Course.{AreShort}
 
 pub register_is : (k : Kind) → is_register k ≡ true → k ≡ Register
 register_is Wire h = absurd (true≢false (sym h))
@@ -50,14 +51,31 @@ module _ (A : Arch) (drivers : List ℕ) (l : Link) (is : IsLinked A drivers l) 
       let e = is.each k inside in
       omega (arith, e, known)
 
--- the terminals of unit x
-pub terminal_at : (A : Arch) (p : Plan) → IsPlan A p → (x : ℕ) → x < length A.units → terminals p.units.items x ≡ terminals_of (length A.resources) (unit A x)
-terminal_at A p is x l =
-    ap (λ (ts : List Terminals). terminals ts x) is.units
-    ∙ get_or-map (terminals_of (length A.resources)) A.units x (record { name = []; ops = []; latency = 1; ports = []; out = 0 }) (record { ports = []; out = 0; latency = 0 }) l
+module _ (A : Arch) (us : List Terminals) (is : AreTerminals A.units (length A.resources) us) where
+  -- the terminals of unit x
+  pub terminal_at : (x : ℕ) → x < length A.units → terminals us x ≡ terminals_of (length A.resources) (unit A x)
+  terminal_at x l =
+      ap (λ (ts : List Terminals). terminals ts x) is
+      ∙ get_or-map (terminals_of (length A.resources)) A.units x (record { name = []; ops = []; latency = 1; ports = []; out = 0 }) (record { ports = []; out = 0; latency = 0 }) l
 
-pub units_long : (A : Arch) (p : Plan) → IsPlan A p → length p.units.items ≡ length A.units
-units_long A p is = ap length is.units ∙ length-map A.units (terminals_of (length A.resources))
+  pub units_long : length us ≡ length A.units
+  units_long = ap length is ∙ length-map A.units (terminals_of (length A.resources))
+
+  pub are_short : IsArch A → AreShort us
+  are_short valid x h =
+      let long = units_long in
+      let l : x < length A.units = omega arith in
+      let e = ap (λ (t : Terminals). t.latency) (terminal_at x l) in
+      let b = (valid.latencies x l).1 in
+      omega (arith, e, b)
+
+  pub outs_known : IsArch A → (x : ℕ) → x < length us → (terminals us x).out < length A.resources + 1
+  outs_known valid x h =
+      let long = units_long in
+      let l : x < length A.units = omega arith in
+      let e = ap (λ (t : Terminals). t.out) (terminal_at x l) in
+      let b = out_within A (unit A x).out (valid.outs x l) in
+      omega (arith, e, b)
 
 module _ (A : Arch) (C : Config) (valid : IsArch A) (good : IsCanonical A C) (p : Plan) (is : IsPlan A p) (slot : ℕ) (ls : slot < C.ii) where
   can_read : (kinds : Kind → Bool) (l : Links) → AreLinks A kinds l.entries.items l.drivers.items → AreReadable C slot l (length A.resources + 1)
@@ -76,22 +94,7 @@ module _ (A : Arch) (C : Config) (valid : IsArch A) (good : IsCanonical A C) (p 
       }
 
   pub can_settle : CanSettle C slot p (length A.resources + 1)
-  can_settle =
-      let long = units_long A p is in
-      record {
-        latencies = λ x h.
-            let l : x < length A.units = omega arith in
-            let e = ap (λ (t : Terminals). t.latency) (terminal_at A p is x l) in
-            let b = (valid.latencies x l).1 in
-            omega (arith, e, b);
-        outs = λ x h.
-            let l : x < length A.units = omega arith in
-            let e = ap (λ (t : Terminals). t.out) (terminal_at A p is x l) in
-            let b = out_within A (unit A x).out (valid.outs x l) in
-            omega (arith, e, b);
-        registers = can_read is_register p.registers is.registers;
-        nets = can_read is_net p.nets is.nets;
-      }
+  can_settle = record { registers = can_read is_register p.registers is.registers; nets = can_read is_net p.nets is.nets }
 
 -- ---- ports
 
@@ -109,14 +112,14 @@ driven_port words ps none p e =
     (λ l. ap (slice_index words) (get_or_past ps p none l) ∙ e ∙ sym (ap (driven (slice_index words)) (slice_get_past ps p l)))
     (cases_lt p (length ps))
 
-module _ (A : Arch) (valid : IsArch A) (p : Plan) (is : IsPlan A p) (words : List ℕ) (long : length words ≡ length A.resources + 1) (x : ℕ) (l : x < length A.units) where
+module _ (A : Arch) (valid : IsArch A) (us : List Terminals) (is : AreTerminals A.units (length A.resources) us) (words : List ℕ) (long : length words ≡ length A.resources + 1) (x : ℕ) (l : x < length A.units) where
   -- the words on a unit's ports
-  pub ports_right : slice_index words (length A.resources) ≡ 0 → (q : ℕ) → on_ports (terminals p.units.items x).ports words q ≡ driven (slice_index words) (slice_get (unit A x).ports q)
+  pub ports_right : slice_index words (length A.resources) ≡ 0 → (q : ℕ) → on_ports (terminals us x).ports words q ≡ driven (slice_index words) (slice_get (unit A x).ports q)
   ports_right e q =
       let R = length A.resources in
       let last : length words - 1 ≡ R = omega arith in
-      let ps = ap (λ (t : Terminals). t.ports) (terminal_at A p is x l) in
-      ap (λ (k : ℕ). slice_index words (slice_index_or (terminals p.units.items x).ports q k)) last
+      let ps = ap (λ (t : Terminals). t.ports) (terminal_at A us is x l) in
+      ap (λ (k : ℕ). slice_index words (slice_index_or (terminals us x).ports q k)) last
       ∙ ap (λ (ts : List ℕ). slice_index words (slice_index_or ts q R)) ps
       ∙ ap (slice_index words) (padded_port (unit A x).ports R q (valid.few_ports x l))
       ∙ driven_port words (unit A x).ports R q e
@@ -134,7 +137,7 @@ module _ (A : Arch) (valid : IsArch A) (p : Plan) (is : IsPlan A p) (words : Lis
   padded_known (suc (suc zero)) b = port_known 2
   padded_known (suc (suc (suc k))) b = absurd (omega arith)
 
-  pub ports_known : (q : ℕ) → q < 3 → slice_index (terminals p.units.items x).ports q < length words
+  pub ports_known : (q : ℕ) → q < 3 → slice_index (terminals us x).ports q < length words
   ports_known q h =
-      let ps = ap (λ (t : Terminals). t.ports) (terminal_at A p is x l) in
+      let ps = ap (λ (t : Terminals). t.ports) (terminal_at A us is x l) in
       subst (λ (ts : List ℕ). slice_index ts q < length words) (sym ps) (padded_known q h)

@@ -1,11 +1,4 @@
 mod Listed
-mod Kept
-mod Arguments
-mod Begun
-mod EachUnit
-mod Facts
-mod Slots
-mod Rooms
 mod Chosen
 mod Cycles
 mod Left

@@ -1,9 +1,5 @@
 pub mod Plan
 pub mod Settle
-pub mod Reserved
-pub mod Effects
-pub mod Moment
 pub mod Run
 pub mod State
-pub mod Texts
 pub mod FirstMachine

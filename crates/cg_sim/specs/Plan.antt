@@ -5,7 +5,7 @@ use Rattle.cg_model.specs.declared.array.Kind.TheVariants.{Wire, Register, Port}
 use Rattle.cg_model.specs.declared.array.Unit.{Unit}
 use Rattle.cg_model.specs.Array.{Arch, resource}
 use Rattle.cg_sim.specs.declared.plan.Link.{Link}
-use Rattle.cg_sim.specs.declared.plan.Terminals.{Terminals}
+use Rattle.cg_cycle.specs.declared.terminals.Terminals.{Terminals}
 use Rattle.cg_sim.specs.declared.plan.Plan.{Plan}
 
 abbrev pub is_register : Kind → Bool
@@ -63,7 +63,6 @@ pub record AreLinks (A : Arch) (kinds : Kind → Bool) (ls : List Link) (drivers
 
 -- the flat lists of an architecture
 pub record IsPlan (A : Arch) (p : Plan) : Type 0 where
-  pub units : AreTerminals A.units (length A.resources) p.units.items
   pub registers : AreLinks A is_register p.registers.entries.items p.registers.drivers.items
   pub nets : AreLinks A is_net p.nets.entries.items p.nets.drivers.items
   pub rising : AreRising A p.nets.entries.items

@@ -4,6 +4,7 @@ use Rattle.cg_model.specs.Work.{Image}
 use Rattle.cg_model.specs.Array.{Arch}
 use Rattle.cg_model.specs.Config.{Config}
 use Rattle.cg_model.specs.Machine.{State, at_cycle, cycles}
+use Rattle.cg_cycle.specs.Course.{Course}
 
 -- an architecture with a configuration, the turns and the image that they start from, and the cycles that are over
 pub record Run : Type 0 where
@@ -24,3 +25,7 @@ state r = at_cycle r.arch r.config r.n r.image r.done
 -- the cycles of the whole run
 abbrev pub all_cycles : Run → ℕ
 all_cycles r = cycles r.config r.n
+
+-- what a course is a run of
+abbrev pub run_of : Course → Run
+run_of k = record { arch = k.arch; config = k.config; n = k.n; image = k.image; done = k.done }

@@ -1,20 +1,11 @@
 -- The words of one cycle, found one after the other.
-use Rattle.std.specs.Prelude.{◌≡◌, ℕ, ◌+◌, ◌-◌, ◌*◌, ◌%◌, ◌<◌, ◌≤◌, List, [], length, slice_index, slice_index_or}
+use Rattle.std.specs.Prelude.{◌≡◌, ℕ, ◌+◌, ◌<◌, List, length, slice_index}
 use Rattle.cg_contexts.specs.Known.{HasSelect}
 use Rattle.cg_model.specs.Config.{Config, select}
 use Rattle.cg_sim.specs.declared.plan.Links.{Links}
 use Rattle.cg_sim.specs.declared.plan.Plan.{Plan}
-use Rattle.cg_sim.specs.declared.plan.Terminals.{Terminals}
+use Rattle.cg_cycle.specs.Course.{Keeps}
 use Rattle.cg_sim.specs.Plan.{link}
-
--- unit x
-abbrev pub terminals : List Terminals → ℕ → Terminals
-terminals us x = slice_index_or us x (record { ports = []; out = 0; latency = 0 })
-
--- what unit x gave a latency ago, where the last four results of each unit stand together and those of this cycle are to
--- stand in that row
-abbrev pub delayed : List Terminals → ℕ → List ℕ → ℕ → ℕ
-delayed us row history x = slice_index history (4 * x + (row + 4 - (terminals us x).latency) % 4)
 
 -- the resource that entry j takes its word from
 abbrev pub chosen : Config → ℕ → Links → ℕ → ℕ
@@ -31,10 +22,6 @@ pub record IsReadable (C : Config) (slot : ℕ) (l : Links) (size j : ℕ) : Typ
 abbrev pub AreReadable : Config → ℕ → Links → ℕ → Type 0
 AreReadable C slot l size = (j : ℕ) → j < length l.entries.items → IsReadable C slot l size j
 
--- a word that was right is right
-abbrev pub Keeps : (ℕ → ℕ) → List ℕ → List ℕ → Type 0
-Keeps f old new = (r : ℕ) → slice_index old r ≡ f r → slice_index new r ≡ f r
-
 -- entry j has the right word as soon as those before it have theirs
 abbrev pub Follows : Config → ℕ → Links → List ℕ → (ℕ → ℕ) → ℕ → Type 0
 Follows C slot l old f j = (words : List ℕ) → Keeps f old words →
@@ -43,8 +30,6 @@ Follows C slot l old f j = (words : List ℕ) → Keeps f old words →
 
 -- all entries of a plan can be read
 pub record CanSettle (C : Config) (slot : ℕ) (p : Plan) (size : ℕ) : Type 0 where
-  pub latencies : (x : ℕ) → x < length p.units.items → (terminals p.units.items x).latency ≤ 4
-  pub outs : (x : ℕ) → x < length p.units.items → (terminals p.units.items x).out < size
   pub registers : AreReadable C slot p.registers size
   pub nets : AreReadable C slot p.nets size
 
@@ -52,14 +37,6 @@ pub record CanSettle (C : Config) (slot : ℕ) (p : Plan) (size : ℕ) : Type 0 
 abbrev pub AreRight : Links → ℕ → List ℕ → (ℕ → ℕ) → Type 0
 AreRight l i words f =
     (j : ℕ) → j < i → slice_index words (link l.entries.items j).resource ≡ f (link l.entries.items j).resource
-
--- the outs have their words
-abbrev pub AreOutsRight : List Terminals → List ℕ → (ℕ → ℕ) → Type 0
-AreOutsRight us words f = (x : ℕ) → x < length us → slice_index words (terminals us x).out ≡ f (terminals us x).out
-
--- the history gives the outs their words
-abbrev pub GiveOuts : List Terminals → ℕ → List ℕ → (ℕ → ℕ) → Type 0
-GiveOuts us row history f = (x : ℕ) → x < length us → delayed us row history x ≡ f (terminals us x).out
 
 -- the words before give the registers theirs
 abbrev pub GiveRegisters : Config → ℕ → Links → List ℕ → (ℕ → ℕ) → Type 0
@@ -70,18 +47,16 @@ GiveRegisters C slot l before f = (j : ℕ) → j < length l.entries.items →
 abbrev pub GiveNets : Config → ℕ → Links → List ℕ → (ℕ → ℕ) → Type 0
 GiveNets C slot l old f = (j : ℕ) → j < length l.entries.items → Follows C slot l old f j
 
--- the words f are those of the cycle: of the outs by the history, of the registers by the words before, and of a wire or
--- port by the words of those that come before it
-pub record Settles (C : Config) (slot row : ℕ) (p : Plan) (history before old : List ℕ) (f : ℕ → ℕ) : Type 0 where
-  pub outs : GiveOuts p.units.items row history f
+-- the words f are those of the cycle: of the registers by the words before, and of a wire or port by the words of those that
+-- come before it
+pub record Settles (C : Config) (slot : ℕ) (p : Plan) (before old : List ℕ) (f : ℕ → ℕ) : Type 0 where
   pub registers : GiveRegisters C slot p.registers before f
   pub nets : (j : ℕ) → j < length p.nets.entries.items → (words : List ℕ) → Keeps f old words →
-      AreOutsRight p.units.items words f → AreRight p.registers (length p.registers.entries.items) words f →
+      AreRight p.registers (length p.registers.entries.items) words f →
       AreRight p.nets j words f → slice_index words (chosen C slot p.nets j) ≡ f (link p.nets.entries.items j).resource
 
 -- all entries have their words
 pub record IsSettled (p : Plan) (old new : List ℕ) (f : ℕ → ℕ) : Type 0 where
   pub kept : Keeps f old new
-  pub outs : AreOutsRight p.units.items new f
   pub registers : AreRight p.registers (length p.registers.entries.items) new f
   pub nets : AreRight p.nets (length p.nets.entries.items) new f

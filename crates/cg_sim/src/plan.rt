@@ -3,6 +3,7 @@ ghost use Rattle.std.specs.Prelude.{◌≡◌, ◌∷◌, ◌++◌, [], IfOk, On
 ghost use Rattle.cg_sim.specs.Plan.{IsPlan, AreTerminals};
 
 use cg_arch::{Arch, Kind, Unit};
+use cg_cycle::Terminals;
 use std::alloc::{AllocError, Global};
 
 /// A resource with drivers: the place of what its select 0 stands for in the list of all drivers. Its drivers follow, so that select `j` is `j` places further.
@@ -19,18 +20,9 @@ pub(crate) struct Links {
     pub(crate) drivers: Vec<u32>,
 }
 
-/// The ports, the out and the latency of a unit. In place of a port that there isn't stands the number past the last resource.
-#[derive(Clone, Copy)]
-pub(crate) struct Terminals {
-    pub(crate) ports: [u32; 3],
-    pub(crate) out: u32,
-    pub(crate) latency: u32,
-}
-
-/// The units by number, the registers, and the wires and ports, each after those from which it takes its word in the same cycle.
+/// The registers, and the wires and ports, each after those from which it takes its word in the same cycle.
 #[derive(Drop)]
 pub(crate) struct Plan {
-    pub(crate) units: Vec<Terminals>,
     pub(crate) registers: Links,
     pub(crate) nets: Links,
 }
@@ -46,7 +38,7 @@ impl Links {
         }
     }
 
-    /// Adds a resource with its drivers.
+    /// Adds `resource` with its `drivers`; `none` stands for select 0.
     fn add(&mut self, resource: u32, none: u32, drivers: &[u32]) -> Result<(), AllocError>
         ensures entries { OnOk result (self.new.entries.items ≡ self.old.entries.items ++ record { resource = resource; first = length self.old.drivers.items } ∷ []) }
         ensures drivers { OnOk result (self.new.drivers.items ≡ self.old.drivers.items ++ none ∷ drivers.now) }
@@ -59,7 +51,7 @@ impl Links {
     }
 }
 
-/// The architecture in flat lists.
+/// Returns `arch` in flat lists.
 pub(crate) fn plan_of(alloc: Global, arch: &Arch) -> Result<Plan, AllocError>
     ensures { IfOk result (λ p. IsPlan arch.now p) }
 {
@@ -77,16 +69,15 @@ pub(crate) fn plan_of(alloc: Global, arch: &Arch) -> Result<Plan, AllocError>
             _ => nets.add(number, none, resource.drivers.as_slice())?,
         }
     }
-    let units = terminals_of(alloc, arch.units(), none)?;
-    Ok(Plan {
-        units,
-        registers,
-        nets,
-    })
+    Ok(Plan { registers, nets })
 }
 
-/// Each unit's ports, out and latency.
-fn terminals_of(alloc: Global, units: &[Unit], none: u32) -> Result<Vec<Terminals>, AllocError>
+/// Returns the ports, the out and the latency of each unit of `units`. In place of a port that there isn't stands `none`.
+pub(crate) fn terminals_of(
+    alloc: Global,
+    units: &[Unit],
+    none: u32,
+) -> Result<Vec<Terminals>, AllocError>
     ensures { IfOk result (λ ts. AreTerminals units.now none ts.items) }
 {
     let mut terminals = Vec::with_capacity(alloc, units.len())?;
@@ -105,7 +96,7 @@ fn terminals_of(alloc: Global, units: &[Unit], none: u32) -> Result<Vec<Terminal
     Ok(terminals)
 }
 
-/// A port of a unit, or what stands for none.
+/// Returns port number `place` of `ports`, or `none` past the last.
 fn port_or(ports: &[u32], place: usize, none: u32) -> u32
     ensures { result ≡ slice_index_or ports.now place none }
 {

@@ -6,9 +6,9 @@ use Rattle.cg_ending.specs.Refusals.{malformed_of}
 use Rattle.cg_ending.proofs.Allowed.{allows_weaker, ends_weaker, stopped}
 use Rattle.cg_pad.specs.Bytes as images
 use Rattle.cg_sim.specs.Run.{Run}
-use Rattle.cg_sim.specs.Texts.{sim_fault_text}
-use Rattle.cg_sim.specs.declared.fault.SimFault.{SimFault}
-use Rattle.cg_sim.specs.declared.fault.SimFault.TheVariants.{ImageTooLarge}
+use Rattle.cg_cycle.specs.Texts.{sim_fault_text}
+use Rattle.cg_cycle.specs.declared.fault.SimFault.{SimFault}
+use Rattle.cg_cycle.specs.declared.fault.SimFault.TheVariants.{ImageTooLarge}
 use Rattle.cg_run_answers.specs.Run.{ran, run_by_image, too_large}
 use Rattle.cg_run_answers.proofs.Allowed.{run_image_refused, run_ran, run_too_large}
 use Rattle.cg_run_answers.proofs.simulating.run_on.Goals as goal

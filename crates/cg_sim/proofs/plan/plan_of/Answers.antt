@@ -67,9 +67,7 @@ returns c =
     let n = c.loop-place.place in
     let inv = c.loop-place.invariant in
     let last : n ≡ length order = search rules in
-    let none : length c.resources-resources.result.now ≡ length A.resources = ap length c.resources-resources.ensures.resources in
     record {
-      units = c.in_ok-units.ensures ∙ (rw (none, c.units.ensures.units) refl);
       registers = all_listed A is_register order n _ _ last c.order-order.ensures inv.registers;
       nets = all_listed A is_net order n _ _ last c.order-order.ensures inv.nets;
       rising = inv.rising;

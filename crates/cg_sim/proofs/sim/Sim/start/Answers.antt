@@ -1,33 +1,36 @@
-use Rattle.std.proofs.Common.{◌≤◌, ℕ, sym, subst, refl, arith, rules}
-use Rattle.std.specs.Prelude.{◌<◌}
-use Rattle.cg_sim.proofs.Cycles.{first_state}
-use Rattle.cg_sim.proofs.Facts.{stages_few}
+use Rattle.std.proofs.Common.{arith}
+use Rattle.cg_cycle.specs.declared.fault.SimFault.TheVariants.{TooManyTurns, ImageTooLarge}
+use Rattle.cg_cycle.proofs.Carried.{carried}
+use Rattle.cg_sim.proofs.Chosen.{are_short}
+use Rattle.cg_sim.proofs.Cycles.{first_running, terminals_by}
 use Rattle.cg_sim.proofs.sim.Sim.start.Goals as goal
 
-pub length_in_cycles-length-requires-clause-stages : goal.length_in_cycles-length-requires-clause-stages
-length_in_cycles-length-requires-clause-stages g c =
-    let C = g.C.Contexts.config c.args.contexts.now in
-    let few = stages_few c.args.arch.now C c.requires.canonical in
-    subst (λ (s : ℕ). (0 < s) × (s ≤ 65535)) (sym c.stages.ensures) few
+pub new-requires-clause-latencies : goal.new-requires-clause-latencies
+new-requires-clause-latencies g c =
+    let A = c.args.arch.now in
+    let us = c.in_ok-terminals.terminals.items in
+    are_short A us (terminals_by A _ _ us c.units.ensures.units c.resources.ensures.resources c.in_ok-terminals.ensures) c.in_ok-none.ensures.valid
 
 pub invariant_of-result : goal.invariant_of-result
 invariant_of-result g c =
     let A = c.args.arch.now in
     let C = g.C.Contexts.config c.args.contexts.now in
-    let all = c.in_ok-values.ensures in
-    let fresh = c.in_ok-effects.ensures in
-    record {
-      valid = all.valid;
-      canonical = c.requires.canonical;
-      turns = c.requires.turns;
-      fits = c.requires.fits;
-      plan_is = c.in_ok-plan.ensures;
-      ii_is = c.ii-ii.ensures;
-      length_is = c.length_in_cycles-length.ensures.value C (sym c.ii-ii.ensures) (sym c.stages.ensures);
-      length_few = c.length_in_cycles-length.ensures.few;
-      within = omega arith;
-      moment_is = record { slot = omega arith; round = omega arith; row = refl };
-      state_is = first_state A C c.args.n c.args.image.now _ _ _ c.in_ok-effects.effects all.words all.before all.history fresh.memory fresh.ports fresh.empty fresh.room fresh.outside fresh.pending fresh.pending_room;
-      few = (let none = fresh.outside in omega arith);
-      finished_room = (search rules, (let h = c.in_ok-finished.ensures.exact in omega arith));
-    }
+    let us = c.in_ok-terminals.terminals.items in
+    let none = c.in_ok-none.ensures in
+    first_running A C c.args.n c.args.image.now us c.in_ok-none.none.words.items c.in_ok-none.none.before.items c.in-Ok.course none.words none.before c.in-Ok.ensures.ok none.valid c.requires.canonical c.in_ok-plan.plan c.in_ok-plan.ensures
+    (terminals_by A _ _ us c.units.ensures.units c.resources.ensures.resources c.in_ok-terminals.ensures)
+
+pub returns-in-Err-clause-few : goal.returns-in-Err-clause-few
+returns-in-Err-clause-few g c = λ t e.
+    let many = (carried _ c.in-Err.fault (TooManyTurns t) _ (c.in-Err.ensures.many t)).0 e in
+    let above = many.1 in
+    let few = c.requires.turns in
+    omega arith
+
+pub returns-in-Err-clause-small : goal.returns-in-Err-clause-small
+returns-in-Err-clause-small g c = λ w e.
+    let large = (carried _ c.in-Err.fault (ImageTooLarge w) _ (c.in-Err.ensures.large w)).0 e in
+    let same = large.0 in
+    let above = large.2 in
+    let fits = c.requires.fits in
+    omega arith

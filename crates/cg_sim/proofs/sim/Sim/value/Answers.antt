@@ -13,7 +13,7 @@ returns-clause-before_the_first g c =
     let r = c.args.resource in
     let is : slice_index words r ≡ (ago (at_cycle R.arch R.config R.n R.image R.done).past 1).words r =
     subst (λ (X : Run). slice_index words r ≡ (ago (at_cycle X.arch X.config X.n X.image X.done).past 1).words r) c.self.view_is (c.self.invariant.state_is.words_are r) in
-    let within : r < length c.self.inside.arch.now.resources = subst (λ (X : Run). r < length X.arch.resources) (sym c.self.view_is) c.requires in
+    let within : r < length c.self.inside.course.arch.resources = subst (λ (X : Run). r < length X.arch.resources) (sym c.self.view_is) c.requires in
     let long : r < length words = (let e = c.self.invariant.state_is.words_long in omega arith) in
     let read : c.index.result.now ≡ slice_index words r = get_or_read words r c.index.result.now long c.index.ensures 0 in
     λ e. read ∙ is ∙ last_first R.arch R.config R.n R.image R.done r e
@@ -25,7 +25,7 @@ returns-clause-last g c =
     let r = c.args.resource in
     let is : slice_index words r ≡ (ago (at_cycle R.arch R.config R.n R.image R.done).past 1).words r =
     subst (λ (X : Run). slice_index words r ≡ (ago (at_cycle X.arch X.config X.n X.image X.done).past 1).words r) c.self.view_is (c.self.invariant.state_is.words_are r) in
-    let within : r < length c.self.inside.arch.now.resources = subst (λ (X : Run). r < length X.arch.resources) (sym c.self.view_is) c.requires in
+    let within : r < length c.self.inside.course.arch.resources = subst (λ (X : Run). r < length X.arch.resources) (sym c.self.view_is) c.requires in
     let long : r < length words = (let e = c.self.invariant.state_is.words_long in omega arith) in
     let read : c.index.result.now ≡ slice_index words r = get_or_read words r c.index.result.now long c.index.ensures 0 in
     λ k e. read ∙ is ∙ last_later R.arch R.config R.n R.image R.done k r e

@@ -1,0 +1,11 @@
+pub mod Kept
+mod Arguments
+mod Begun
+mod EachUnit
+pub mod Facts
+pub mod Slots
+mod Rooms
+mod Next
+mod Given
+mod Advanced
+pub mod Carried

@@ -1,0 +1,9 @@
+-- Where a cycle stands.
+use Rattle.std.specs.Prelude.{◌≡◌, ℕ, ◌/◌, ◌%◌}
+use Rattle.cg_cycle.specs.declared.moment.Moment.{Moment}
+
+-- cycle c stands there
+pub record IsMoment (m : Moment) (ii c : ℕ) : Type 0 where
+  pub slot : m.slot ≡ c % ii
+  pub round : m.round ≡ c / ii
+  pub row : m.row ≡ c % 4

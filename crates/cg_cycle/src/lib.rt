@@ -1,0 +1,19 @@
+//! What a run of units keeps and does in a cycle, over words by number.
+#![tactic(auto)]
+
+mod course;
+mod effects;
+mod fault;
+mod moment;
+mod outs;
+mod start;
+mod streams;
+mod terminals;
+mod texts;
+mod unit_in_slot;
+mod units;
+
+pub use course::{Course, check_run};
+pub use fault::SimFault;
+pub use terminals::Terminals;
+pub use texts::sim_fault_text;

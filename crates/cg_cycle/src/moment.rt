@@ -1,0 +1,37 @@
+//! Where a run stands.
+
+/// Where a cycle stands: its slot, its round, and its number modulo 4, which is the row of its results.
+#[derive(Clone, Copy)]
+pub(crate) struct Moment {
+    pub(crate) slot: u32,
+    pub(crate) round: u32,
+    pub(crate) row: usize,
+}
+
+impl Moment {
+    ghost use Rattle.std.specs.Prelude.{◌<◌, ◌+◌, ◌^◌, ℕ};
+    ghost use Rattle.cg_cycle.specs.Moment.{IsMoment};
+
+    /// Returns where the next cycle stands, at the interval `ii`.
+    pub(crate) fn next(self, ii: u32) -> Moment
+        requires slot { self.slot < ii }
+        requires round { self.round + 1 < 2 ^ 32 }
+        requires row { self.row < 4 }
+        ensures { (c : ℕ) → IsMoment self ii c → IsMoment result ii (c + 1) }
+    {
+        let row = (self.row + 1) % 4;
+        if self.slot + 1 == ii {
+            Moment {
+                slot: 0,
+                round: self.round + 1,
+                row,
+            }
+        } else {
+            Moment {
+                slot: self.slot + 1,
+                round: self.round,
+                row,
+            }
+        }
+    }
+}

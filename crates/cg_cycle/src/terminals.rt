@@ -1,0 +1,9 @@
+//! Where a unit reads and gives its words.
+
+/// The ports, the out and the latency of a unit, as numbers of words. A port that there isn't has the number past the last word that is written.
+#[derive(Clone, Copy)]
+pub struct Terminals {
+    pub ports: [u32; 3],
+    pub out: u32,
+    pub latency: u32,
+}
