@@ -16,6 +16,7 @@ pub use build::netlist;
 pub use cg_model::{Items, Name};
 pub use forms::Form;
 pub use graph::NetGraph;
+pub use operations::bits_of;
 pub use parts::{Cell, Net, Pin};
 pub use print::verilog;
 pub use said::{form_of, is_driver_port};

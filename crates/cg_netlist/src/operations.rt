@@ -4,9 +4,9 @@ ghost use Rattle.cg_netlist.specs.Netlist as spec;
 
 use cg_word::{Op, OpSet};
 
-/// The set as a number, with bit k for the operation of code k.
+/// Returns the set `ops` as a number, with bit k for the operation of code k.
 #[tactic(auto, unfolding(crate::specs::Netlist::bits_of))]
-pub(crate) fn bits_of(ops: OpSet) -> u32
+pub fn bits_of(ops: OpSet) -> u32
     ensures { result ≡ spec.bits_of ops }
 {
     let mut bits = 0;

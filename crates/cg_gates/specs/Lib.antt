@@ -1,0 +1,10 @@
+pub mod Shape
+pub mod Gates
+pub mod Equations
+pub mod Accepts
+pub mod Order
+pub mod Tables
+pub mod Gated
+pub mod Laws
+pub mod Texts
+pub mod Numbers

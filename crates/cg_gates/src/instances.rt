@@ -1,0 +1,147 @@
+//! Whether cells are named after what they belong to, each otherwise.
+ghost use Rattle.std.specs.Prelude.{◌≡◌, ◌≤◌, IfOk, length, Some, None, drop, if◌then◌else◌};
+ghost use Rattle.std.specs.Option.{option_copied};
+ghost use Rattle.cg_model.specs.First.{first_from};
+ghost use Rattle.cg_netlist.specs.Forms.{begins};
+ghost use Rattle.cg_gates.specs.Numbers.{AreCells, AreResources, AreUnits, is_repeated, is_unknown};
+ghost use Rattle.cg_gates.specs.Shape.{form_said};
+ghost use Rattle.cg_gates.specs.Accepts as spec;
+
+use crate::joined::width_of;
+use crate::numbers::{named, numbers_of};
+use crate::pins::form_said;
+use cg_arch::Arch;
+use cg_model::{Resource, Unit};
+use cg_names::{Numbers, is_before, number_in};
+use cg_netlist::{Cell, Form, bits_of};
+use std::alloc::{AllocError, Global};
+
+/// Finds the first of `cells` that has the name of an earlier one.
+pub(crate) fn repeated_instance(alloc: Global, cells: &[Cell]) -> Result<Option<usize>, AllocError>
+    ensures { IfOk result (λ found. found ≡ first_from (is_repeated cells.now) 0 cells.now) }
+{
+    let numbers = numbers_of(alloc, cells)?;
+    Ok(first_repeated(&numbers, cells))
+}
+
+/// Finds the same. The `cells` have these `numbers`.
+fn first_repeated(numbers: &Numbers, cells: &[Cell]) -> Option<usize>
+    requires { AreCells numbers.now cells.now }
+    ensures { result ≡ first_from (is_repeated cells.now) 0 cells.now }
+{
+    for (number, cell) in cells.iter().enumerate() {
+        if is_before(number_in(numbers, cell.name.as_str()), number) {
+            return Some(number);
+        }
+    }
+    None
+}
+
+/// Finds the first of `cells` that isn't named after a resource or a unit of `arch` that it fits.
+pub(crate) fn unknown_instance(
+    alloc: Global,
+    arch: &Arch,
+    cells: &[Cell],
+) -> Result<Option<usize>, AllocError>
+    ensures { IfOk result (λ found. found ≡ first_from (is_unknown arch.now) 0 cells.now) }
+{
+    let resources = numbers_of(alloc, arch.resources())?;
+    let units = numbers_of(alloc, arch.units())?;
+    Ok(first_unknown(arch, &resources, &units, cells))
+}
+
+/// Finds the same. The `resources` and `units` of `arch` have these numbers.
+fn first_unknown(arch: &Arch, resources: &Numbers, units: &Numbers, cells: &[Cell]) -> Option<usize>
+    requires resources { AreResources resources.now arch.now.resources }
+    requires units { AreUnits units.now arch.now.units }
+    ensures { result ≡ first_from (is_unknown arch.now) 0 cells.now }
+{
+    for (number, cell) in cells.iter().enumerate() {
+        if !is_known(arch, resources, units, cell) {
+            return Some(number);
+        }
+    }
+    None
+}
+
+/// Tells whether `cell` has a name that its form may have. The `resources` and `units` of `arch` have these numbers.
+fn is_known(arch: &Arch, resources: &Numbers, units: &Numbers, cell: &Cell) -> bool
+    requires resources { AreResources resources.now arch.now.resources }
+    requires units { AreUnits units.now arch.now.units }
+    ensures { result ≡ spec.is_known arch.now cell.now.name (form_said cell.now) }
+{
+    let name = cell.name.as_str();
+    match form_said(cell) {
+        Form::Context(width) => names_resource(arch, resources, "c_", width, name),
+        Form::Preselect(width) => names_resource(arch, resources, "p_", width, name),
+        Form::FunctionalUnit {
+            ports,
+            latency,
+            operations,
+        } => names_unit(arch, units, ports, latency, operations, name),
+        Form::Mux(_) | Form::Register(_) | Form::Zero => true,
+    }
+}
+
+/// Tells whether `name` is, behind `front`, that of a resource of `arch` whose select has that `width`. The `resources` have
+/// these numbers.
+fn names_resource(arch: &Arch, resources: &Numbers, front: &str, width: u32, name: &str) -> bool
+    requires resources { AreResources resources.now arch.now.resources }
+    requires two { length front.now ≡ 2 }
+    ensures { result ≡ spec.names_resource arch.now front.now width name.now }
+{
+    match after_front(name, front) {
+        Some(stem) => match named(resources, arch.resources(), stem) {
+            Some(resource) => gives_select(width, resource),
+            None => false,
+        },
+        None => false,
+    }
+}
+
+/// Tells whether `resource` has drivers, and its select that `width`.
+fn gives_select(width: u32, resource: &Resource) -> bool
+    requires { length resource.now.drivers ≤ 65536 }
+    ensures { result ≡ spec.gives_select width resource.now }
+{
+    let count = resource.drivers.as_slice().len();
+    count != 0 && width_of(count as u32) == width
+}
+
+/// Tells whether `name` is, behind `u_`, that of a unit of `arch` with so many `ports`, that `latency` and these `operations`. The
+/// `units` have these numbers.
+fn names_unit(
+    arch: &Arch,
+    units: &Numbers,
+    ports: u32,
+    latency: u32,
+    operations: u32,
+    name: &str,
+) -> bool
+    requires { AreUnits units.now arch.now.units }
+    ensures { result ≡ spec.names_unit arch.now ports latency operations name.now }
+{
+    match after_front(name, "u_") {
+        Some(stem) => match named(units, arch.units(), stem) {
+            Some(unit) => is_unit_of(ports, latency, operations, unit),
+            None => false,
+        },
+        None => false,
+    }
+}
+
+/// Tells whether `unit` has so many `ports`, that `latency` and these `operations`.
+fn is_unit_of(ports: u32, latency: u32, operations: u32, unit: &Unit) -> bool
+    ensures { result ≡ spec.is_unit_of ports latency operations unit.now }
+{
+    unit.ports.as_slice().len() == ports as usize
+        && unit.latency == latency
+        && bits_of(unit.ops) == operations
+}
+
+/// Returns what comes after that `front` of `text`.
+pub fn after_front<'a>(text: &'a str, front: &str) -> Option<&'a str>
+    ensures { option_copied result ≡ (if begins front.now text.now then Some (drop (length front.now) text.now) else None) }
+{
+    text.strip_prefix(front)
+}

@@ -1,0 +1,4 @@
+mod Cells
+mod Settled
+mod Works
+mod Running
