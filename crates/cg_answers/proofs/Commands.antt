@@ -10,6 +10,7 @@ use Rattle.cg_run_answers.proofs.TurnsAnswers.{sound_turns, quiet_turns, accepte
 use Rattle.cg_run_answers.proofs.OnImage.{same_on_image, sound_on_image, accepted_on_image, named_on_image}
 use Rattle.cg_run_answers.proofs.FlatAnswers.{same_flat, sound_flat, accepted_flat, named_flat}
 use Rattle.cg_run_answers.proofs.RunAnswers.{same_run, sound_run, accepted_run, named_run}
+use Rattle.cg_gates_answers.proofs.NetlistAnswers.{same_netlist_run, sound_netlist_run, accepted_netlist_run, named_netlist_run}
 use Rattle.cg_mapping_answers.proofs.Bounded.{same_bound, sound_bound, accepted_bound, quiet_bound}
 use Rattle.cg_mapping_answers.proofs.Checked.{same_check, sound_check, accepted_check, quiet_check}
 use Rattle.cg_mapping_answers.proofs.Bitstream.{same_emit, sound_emit, accepted_emit, named_emit}
@@ -27,6 +28,7 @@ agree_in (Turns n) (f ∷ []) [] a b p q = ap (λ o. o.status) (p ∙ sym q)
 agree_in (TurnsOnImage n) (f ∷ g ∷ []) (out ∷ []) a b p q = same_on_image n f g out a b p q
 agree_in Flat (f ∷ []) (out ∷ []) a b p q = same_flat f out a b p q
 agree_in (Run n) (f ∷ g ∷ h ∷ []) (out ∷ []) a b p q = same_run n f g h out a b p q
+agree_in (Run n) (f ∷ g ∷ h ∷ k ∷ []) (out ∷ []) a b p q = same_netlist_run n f g h k out a b p q
 agree_in Bound (f ∷ g ∷ []) [] a b p q = same_bound f g a b p q
 agree_in Check (f ∷ g ∷ h ∷ []) [] a b p q = same_check f g h a b p q
 agree_in Emit (f ∷ g ∷ h ∷ []) (out ∷ []) a b p q = same_emit f g h out a b p q
@@ -59,6 +61,7 @@ sound (Turns n) (f ∷ []) [] o p = sound_turns n f o p
 sound (TurnsOnImage n) (f ∷ g ∷ []) (out ∷ []) o p = sound_on_image n f g out o p
 sound Flat (f ∷ []) (out ∷ []) o p = sound_flat f out o p
 sound (Run n) (f ∷ g ∷ h ∷ []) (out ∷ []) o p = sound_run n f g h out o p
+sound (Run n) (f ∷ g ∷ h ∷ k ∷ []) (out ∷ []) o p = sound_netlist_run n f g h k out o p
 sound Bound (f ∷ g ∷ []) [] o p = sound_bound f g o p
 sound Check (f ∷ g ∷ h ∷ []) [] o p = sound_check f g h o p
 sound Emit (f ∷ g ∷ h ∷ []) (out ∷ []) o p = sound_emit f g h out o p
@@ -76,6 +79,7 @@ accepted (Turns n) (f ∷ []) [] o a p = accepted_turns n f a.0 o a.1 p
 accepted (TurnsOnImage n) (f ∷ g ∷ []) (out ∷ []) o a p = accepted_on_image n a.kernel a.image f g out o a.kernel_is a.image_is a.unaliased p
 accepted Flat (f ∷ []) (out ∷ []) o a p = accepted_flat f out a.0 o a.1 p
 accepted (Run n) (f ∷ g ∷ h ∷ []) (out ∷ []) o a p = accepted_run n f g h out o a p
+accepted (Run n) (f ∷ g ∷ h ∷ k ∷ []) (out ∷ []) o a p = accepted_netlist_run n f g h k out o a p
 accepted Bound (f ∷ g ∷ []) [] o a p = accepted_bound f g o a p
 accepted Check (f ∷ g ∷ h ∷ []) [] o a p = accepted_check f g h o a p
 accepted Emit (f ∷ g ∷ h ∷ []) (out ∷ []) o a p = accepted_emit f g h out o a p
@@ -109,7 +113,8 @@ quiet (Run n) [] o p = absurd p
 quiet (Run n) (f ∷ []) o p = absurd p
 quiet (Run n) (f ∷ g ∷ []) o p = absurd p
 quiet (Run n) (f ∷ g ∷ h ∷ []) o p = absurd p
-quiet (Run n) (f ∷ g ∷ h ∷ k ∷ fs) o p = absurd p
+quiet (Run n) (f ∷ g ∷ h ∷ k ∷ []) o p = absurd p
+quiet (Run n) (f ∷ g ∷ h ∷ k ∷ l ∷ fs) o p = absurd p
 quiet Bound (f ∷ g ∷ []) o p = quiet_bound f g o p
 quiet Bound [] o p = absurd p
 quiet Bound (f ∷ []) o p = absurd p
@@ -151,6 +156,7 @@ named (Turns n) (f ∷ []) [] o p = inr (quiet_turns n f o p)
 named (TurnsOnImage n) (f ∷ g ∷ []) (out ∷ []) o p = named_on_image n f g out o p
 named Flat (f ∷ []) (out ∷ []) o p = named_flat f out o p
 named (Run n) (f ∷ g ∷ h ∷ []) (out ∷ []) o p = named_run n f g h out o p
+named (Run n) (f ∷ g ∷ h ∷ k ∷ []) (out ∷ []) o p = named_netlist_run n f g h k out o p
 named Bound (f ∷ g ∷ []) [] o p = inr (quiet_bound f g o p)
 named Check (f ∷ g ∷ h ∷ []) [] o p = inr (quiet_check f g h o p)
 named Emit (f ∷ g ∷ h ∷ []) (out ∷ []) o p = named_emit f g h out o p

@@ -1,5 +1,5 @@
 -- Each command has an outcome for its files.
-use Rattle.std.proofs.Common.{List, [], ◌∷◌, length, refl, arith}
+use Rattle.std.proofs.Common.{◌≡◌, ◌⊎◌, inl, inr, ℕ, List, [], ◌∷◌, length, refl, arith}
 use Rattle.cg_ending.specs.Outcome.{Name, File, Outcome}
 use Rattle.cg_command.specs.declared.plans.Command.{Command}
 use Rattle.cg_command.specs.declared.plans.Command.TheVariants.{Turns, TurnsOnImage, Flat, Run, Bound, Check, Emit, Map, Search, Trial, Verilog, Depend, Migrate}
@@ -8,6 +8,7 @@ use Rattle.cg_run_answers.specs.Turns.{turns_of}
 use Rattle.cg_run_answers.proofs.OnImage.{some_on_image}
 use Rattle.cg_run_answers.proofs.FlatAnswers.{some_flat}
 use Rattle.cg_run_answers.proofs.RunAnswers.{some_run}
+use Rattle.cg_gates_answers.proofs.NetlistAnswers.{some_netlist_run}
 use Rattle.cg_mapping_answers.proofs.Bounded.{some_bounding}
 use Rattle.cg_mapping_answers.proofs.Checked.{some_check}
 use Rattle.cg_mapping_answers.proofs.Bitstream.{some_emit}
@@ -18,6 +19,11 @@ use Rattle.cg_answers.proofs.Trialed.{some_trial}
 use Rattle.cg_answers.proofs.Netlisted.{some_verilog}
 use Rattle.cg_answers.proofs.Depended.{some_depend}
 use Rattle.cg_answers.proofs.Migrated.{some_migrate}
+
+-- neither of two numbers of files
+few : {n : ℕ} → (n ≡ 3) ⊎ (n ≡ 4) → (n ≡ 3 → ⊥) → (n ≡ 4 → ⊥) → ⊥
+few (inl e) three four = three e
+few (inr e) three four = four e
 
 -- as many files as the command takes have an outcome
 pub some_outcome : (c : Command) (files : List File) (outputs : List Name) → HasShape c (length files) (length outputs) → (o : Outcome) × IsAnswer c files outputs o
@@ -37,12 +43,15 @@ some_outcome Flat (f ∷ g ∷ fs) outputs shape = absurd (omega (arith, shape.0
 some_outcome Flat (f ∷ []) [] shape = absurd (omega (arith, shape.1))
 some_outcome Flat (f ∷ []) (out ∷ other ∷ outs) shape = absurd (omega (arith, shape.1))
 some_outcome (Run n) (f ∷ g ∷ h ∷ []) (out ∷ []) shape = some_run n f g h out
-some_outcome (Run n) [] outputs shape = absurd (omega (arith, shape.0))
-some_outcome (Run n) (f ∷ []) outputs shape = absurd (omega (arith, shape.0))
-some_outcome (Run n) (f ∷ g ∷ []) outputs shape = absurd (omega (arith, shape.0))
-some_outcome (Run n) (f ∷ g ∷ h ∷ k ∷ fs) outputs shape = absurd (omega (arith, shape.0))
+some_outcome (Run n) (f ∷ g ∷ h ∷ k ∷ []) (out ∷ []) shape = some_netlist_run n f g h k out
+some_outcome (Run n) [] outputs shape = absurd (few shape.0 (λ e. omega (arith, e)) (λ e. omega (arith, e)))
+some_outcome (Run n) (f ∷ []) outputs shape = absurd (few shape.0 (λ e. omega (arith, e)) (λ e. omega (arith, e)))
+some_outcome (Run n) (f ∷ g ∷ []) outputs shape = absurd (few shape.0 (λ e. omega (arith, e)) (λ e. omega (arith, e)))
+some_outcome (Run n) (f ∷ g ∷ h ∷ k ∷ l ∷ fs) outputs shape = absurd (few shape.0 (λ e. omega (arith, e)) (λ e. omega (arith, e)))
 some_outcome (Run n) (f ∷ g ∷ h ∷ []) [] shape = absurd (omega (arith, shape.1))
 some_outcome (Run n) (f ∷ g ∷ h ∷ []) (out ∷ other ∷ outs) shape = absurd (omega (arith, shape.1))
+some_outcome (Run n) (f ∷ g ∷ h ∷ k ∷ []) [] shape = absurd (omega (arith, shape.1))
+some_outcome (Run n) (f ∷ g ∷ h ∷ k ∷ []) (out ∷ other ∷ outs) shape = absurd (omega (arith, shape.1))
 some_outcome Bound (f ∷ g ∷ []) [] shape = some_bounding f g
 some_outcome Bound [] outputs shape = absurd (omega (arith, shape.0))
 some_outcome Bound (f ∷ []) outputs shape = absurd (omega (arith, shape.0))

@@ -13,6 +13,7 @@ use Rattle.cg_run_answers.proofs.TurnsAnswers.{turned_left}
 use Rattle.cg_run_answers.proofs.OnImage.{ordered_left, unordered_left}
 use Rattle.cg_run_answers.proofs.FlatAnswers.{flattened_left}
 use Rattle.cg_run_answers.proofs.RunAnswers.{run_left}
+use Rattle.cg_gates_answers.proofs.NetlistAnswers.{four_read, netlist_run_left}
 use Rattle.cg_mapping_answers.proofs.Bounded.{bound_left}
 use Rattle.cg_mapping_answers.proofs.Checked.{legal_left, illegal_left}
 use Rattle.cg_mapping_answers.proofs.Bitstream.{emitted_left, unemitted_left}
@@ -57,6 +58,9 @@ left_done Flat (f ∷ []) (out ∷ []) o before after read bytes answer is done 
 left_done (Run n) (f ∷ g ∷ h ∷ []) (out ∷ []) o before after read bytes answer is done =
     let r = three_read before.held f.name g.name h.name f g h read in
     run_left n f.name g.name h.name out f g h o before after r.0 r.1 (All-head HoldsBytes g (h ∷ []) (All-tail HoldsBytes f (g ∷ h ∷ []) bytes)) r.2 answer is done
+left_done (Run n) (f ∷ g ∷ h ∷ k ∷ []) (out ∷ []) o before after read bytes answer is done =
+    let r = four_read before.held f.name g.name h.name k.name f g h k read in
+    netlist_run_left n f.name g.name h.name k.name out f g h k o before after r.0 r.1 (All-head HoldsBytes g (h ∷ k ∷ []) (All-tail HoldsBytes f (g ∷ h ∷ k ∷ []) bytes)) r.2 r.3 answer is done
 left_done Bound (f ∷ g ∷ []) [] o before after read bytes answer is done =
     bound_left f.name g.name f g before after (first_read before.held f.name g.name f g read) (second_read before.held f.name g.name f g read) o answer is done
 left_done Check (f ∷ g ∷ h ∷ []) [] o before after read bytes answer is done =

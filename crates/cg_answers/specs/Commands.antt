@@ -17,6 +17,7 @@ use Rattle.cg_run_answers.specs.Turns.{turns_of, IsTurned}
 use Rattle.cg_run_answers.specs.TurnsOnImage.{IsTurnsOnImage, IsOrderedRun, IsUnorderedRun}
 use Rattle.cg_run_answers.specs.Flat.{IsFlat, IsFlattened}
 use Rattle.cg_run_answers.specs.Run.{IsRun, IsRunnable, IsArrayRun}
+use Rattle.cg_gates_answers.specs.Netlist.{IsNetlistRun, IsNetlistRunnable, IsGatesRun}
 use Rattle.cg_mapping_answers.specs.Bound.{IsBoundOf, IsPairInput, IsBoundRun}
 use Rattle.cg_mapping_answers.specs.Check.{IsCheck, IsLegalInput, IsLegalCheck, IsIllegalCheck}
 use Rattle.cg_mapping_answers.specs.Emit.{IsEmit, RunsRead, IsEmittedRun}
@@ -35,6 +36,7 @@ IsAnswer (Turns n) (file ∷ []) [] o = o ≡ turns_of n file
 IsAnswer (TurnsOnImage n) (file ∷ input ∷ []) (out ∷ []) o = IsTurnsOnImage n file input out o
 IsAnswer Flat (file ∷ []) (out ∷ []) o = IsFlat file out o
 IsAnswer (Run n) (arch ∷ file ∷ input ∷ []) (out ∷ []) o = IsRun n arch file input out o
+IsAnswer (Run n) (arch ∷ file ∷ input ∷ netlist ∷ []) (out ∷ []) o = IsNetlistRun n arch file input netlist out o
 IsAnswer Bound (arch ∷ kernel ∷ []) [] o = IsBoundOf arch kernel o
 IsAnswer Check (arch ∷ kernel ∷ mapping ∷ []) [] o = IsCheck arch kernel mapping o
 IsAnswer Emit (arch ∷ kernel ∷ mapping ∷ []) (out ∷ []) o = IsEmit arch kernel mapping out o
@@ -74,6 +76,7 @@ Accepts (Turns n) (file ∷ []) = SpellsKernel file
 Accepts (TurnsOnImage n) (file ∷ input ∷ []) = IsUnaliasedRun n file input
 Accepts Flat (file ∷ []) = GivesArch file
 Accepts (Run n) (arch ∷ file ∷ input ∷ []) = IsRunnable arch file input
+Accepts (Run n) (arch ∷ file ∷ input ∷ netlist ∷ []) = IsNetlistRunnable arch file input netlist
 Accepts Bound (arch ∷ kernel ∷ []) = IsPairInput arch kernel
 Accepts Check (arch ∷ kernel ∷ mapping ∷ []) = IsLegalInput arch kernel mapping
 Accepts Emit (arch ∷ kernel ∷ mapping ∷ []) = IsLegalInput arch kernel mapping
@@ -106,6 +109,7 @@ LeavesDone (Turns n) (file ∷ []) [] before after = IsTurned n file before afte
 LeavesDone (TurnsOnImage n) (file ∷ input ∷ []) (out ∷ []) before after = IsOrderedRun n file input out before after
 LeavesDone Flat (file ∷ []) (out ∷ []) before after = IsFlattened file out before after
 LeavesDone (Run n) (arch ∷ file ∷ input ∷ []) (out ∷ []) before after = IsArrayRun n arch file input out before after
+LeavesDone (Run n) (arch ∷ file ∷ input ∷ netlist ∷ []) (out ∷ []) before after = IsGatesRun n arch file input netlist out before after
 LeavesDone Bound (arch ∷ kernel ∷ []) [] before after = IsBoundRun arch kernel before after
 LeavesDone Check (arch ∷ kernel ∷ mapping ∷ []) [] before after = IsLegalCheck arch kernel mapping before after
 LeavesDone Emit (arch ∷ kernel ∷ mapping ∷ []) (out ∷ []) before after = IsEmittedRun arch kernel mapping out before after

@@ -45,7 +45,8 @@ pub(crate) fn flat(alloc: Global, files: &[File], outputs: &[String]) -> Result<
     cg_run_answers::flat(alloc, &files[0], outputs[0].as_str())
 }
 
-/// Answers `run ARCH BITS TURNS IN OUT` over `files`; `outputs` is the name of the result image.
+/// Answers `run ARCH BITS TURNS IN OUT [--netlist FILE]` over `files`, of which a fourth is that of the netlist; `outputs` is
+/// the name of the result image.
 pub(crate) fn run(
     alloc: Global,
     turns: u32,
@@ -55,14 +56,21 @@ pub(crate) fn run(
     requires { HasShape (Command.Run turns) (length files.now) (length outputs.now) }
     ensures { Allows (IsAnswer (Command.Run turns) (map file_of files.now) (map string_bytes outputs.now)) result }
 {
-    cg_run_answers::run(
-        alloc,
-        turns,
-        &files[0],
-        &files[1],
-        &files[2],
-        outputs[0].as_str(),
-    )
+    match files {
+        [arch, file, input] => {
+            cg_run_answers::run(alloc, turns, arch, file, input, outputs[0].as_str())
+        }
+        [arch, file, input, netlist] => cg_gates_answers::run_netlist(
+            alloc,
+            turns,
+            arch,
+            file,
+            input,
+            netlist,
+            outputs[0].as_str(),
+        ),
+        _ => unreachable!(),
+    }
 }
 
 /// Answers `bound ARCH KERNEL` over `files`.

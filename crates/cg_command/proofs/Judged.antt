@@ -208,7 +208,7 @@ rows-parts parts all =
     let values_are : (id : Text) → bytes_eq (codes "words") id ≡ false → row_texts id rows ≡ values_of id parts = λ id other. texts-made id parts ∙ texts-values id other parts in
     ap (λ ts. judged ts (given_by (λ name. row_texts name rows) options)) words_are
     ∙ ap (judged (plain_words parts)) (given-same (λ name. row_texts name rows) (λ name. values_of name parts) options
-    (values_are (codes "ii") refl, (values_are (codes "seed") refl, (values_are (codes "moves") refl, (values_are (codes "mapping") refl, tt)))))
+    (values_are (codes "ii") refl, (values_are (codes "seed") refl, (values_are (codes "moves") refl, (values_are (codes "mapping") refl, (values_are (codes "netlist") refl, tt))))))
     ∙ judged-parts parts all
 
 abbrev in_rows : Option (List Part) → Option Arguments

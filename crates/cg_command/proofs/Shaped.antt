@@ -9,7 +9,7 @@ use Rattle.cg_command.specs.declared.plans.Command.{Command}
 use Rattle.cg_command.specs.declared.plans.Command.TheVariants.{Turns, TurnsOnImage, Flat, Run, Bound, Check, Emit, Map, Search, Trial, Verilog, Depend, Migrate}
 use Rattle.cg_model.specs.declared.request.Request.{Request}
 use Rattle.cg_model.specs.Request.{IsInRange}
-use Rattle.cg_command.specs.Words.{Text, Given, Arguments, Plan, HasShape, values_said, said_once, asked_interval, named_file, request_of, written_plan, searching_plan, map_plan, search_plan, usual_moves, usual_responses, positive, seed_of, moves_of, is_number, number_up_to, turns_of, turns_plan, file_plan, run_plan, bound_plan, check_plan, emit_plan, trial_plan, migrate_plan, is_empty, without_options, command_plan, arguments_of, plan_of}
+use Rattle.cg_command.specs.Words.{Text, Given, Arguments, Plan, HasShape, values_said, said_once, asked_interval, named_file, request_of, written_plan, searching_plan, map_plan, search_plan, usual_moves, usual_responses, positive, seed_of, moves_of, is_number, number_up_to, turns_of, turns_plan, file_plan, array_plan, run_plan, takes, with_options, search_options, run_options, bound_plan, check_plan, emit_plan, trial_plan, migrate_plan, is_empty, without_options, command_plan, arguments_of, plan_of}
 
 -- the plan has the shape of its command
 abbrev pub IsShaped : Plan → Type 0
@@ -57,16 +57,6 @@ file_shaped command shape (a ∷ []) = none_shaped
 file_shaped command shape (input ∷ output ∷ []) = one_shaped (record { command = command; inputs = input ∷ []; outputs = output ∷ [] }) shape
 file_shaped command shape (a ∷ b ∷ c ∷ more) = none_shaped
 
-run_shaped : (words : List Text) → AreShaped (run_plan words)
-run_shaped [] = none_shaped
-run_shaped (a ∷ []) = none_shaped
-run_shaped (a ∷ b ∷ []) = none_shaped
-run_shaped (a ∷ b ∷ c ∷ []) = none_shaped
-run_shaped (a ∷ b ∷ c ∷ d ∷ []) = none_shaped
-run_shaped (arch ∷ bits ∷ turns ∷ input ∷ output ∷ []) =
-    numbered_shaped (turns_of turns) (λ n. record { command = Run n; inputs = arch ∷ bits ∷ input ∷ []; outputs = output ∷ [] }) (λ n e. (refl, refl, number_few most_turns turns n e))
-run_shaped (a ∷ b ∷ c ∷ d ∷ e ∷ f ∷ more) = none_shaped
-
 bound_shaped : (words : List Text) → AreShaped (bound_plan words)
 bound_shaped [] = none_shaped
 bound_shaped (a ∷ []) = none_shaped
@@ -103,7 +93,10 @@ migrate_shaped (a ∷ b ∷ c ∷ d ∷ more) = none_shaped
 without_shaped : (plan : List Text → Option Plan) (said : Arguments) → AreShaped (plan said.words) → AreShaped (without_options plan said)
 without_shaped plan said is = either_shaped (is_empty said.options) (plan said.words) None is none_shaped
 
--- ---- `map` and `search`
+with_shaped : (names : List Text) (plan : Arguments → Option Plan) (said : Arguments) → AreShaped (plan said) → AreShaped (with_options names plan said)
+with_shaped names plan said is = either_shaped (takes names said.options) (plan said) None is none_shaped
+
+-- ---- `map`, `search` and `run`
 
 -- each value that an option may have
 abbrev Each : {T : Type 0} → (T → Type 0) → Option T → Type 0
@@ -151,6 +144,10 @@ outputs-few : (out : Text) (files : List Text) → (length files ≡ 0) ⊎ (len
 outputs-few out files (inl e) = inl (omega (arith, e))
 outputs-few out files (inr e) = inr (omega (arith, e))
 
+inputs-few : (arch bits input : Text) (files : List Text) → (length files ≡ 0) ⊎ (length files ≡ 1) → (length (arch ∷ bits ∷ input ∷ files) ≡ 3) ⊎ (length (arch ∷ bits ∷ input ∷ files) ≡ 4)
+inputs-few arch bits input files (inl e) = inl (omega (arith, e))
+inputs-few arch bits input files (inr e) = inr (omega (arith, e))
+
 written_shaped : (words : List Text) (command : Command) (files : List Text) → ((n : ℕ) → (n ≡ 1) ⊎ (n ≡ 2) → HasShape command 2 n) → (length files ≡ 0) ⊎ (length files ≡ 1) → AreShaped (written_plan words command files)
 written_shaped [] command files shape few = none_shaped
 written_shaped (a ∷ []) command files shape few = none_shaped
@@ -165,6 +162,24 @@ searching_shaped command said shape = by (said_once [] named_file (values_said (
     by : (files : Option (List Text)) → Each (λ fs. (length fs ≡ 0) ⊎ (length fs ≡ 1)) files → AreShaped (option_and_then (written_plan said.words command) files)
     by None few = none_shaped
     by (Some files) few = written_shaped said.words command files shape (few files refl)
+
+array_shaped : (words : List Text) (netlist : List Text) → (length netlist ≡ 0) ⊎ (length netlist ≡ 1) → AreShaped (array_plan words netlist)
+array_shaped [] netlist few = none_shaped
+array_shaped (a ∷ []) netlist few = none_shaped
+array_shaped (a ∷ b ∷ []) netlist few = none_shaped
+array_shaped (a ∷ b ∷ c ∷ []) netlist few = none_shaped
+array_shaped (a ∷ b ∷ c ∷ d ∷ []) netlist few = none_shaped
+array_shaped (arch ∷ bits ∷ turns ∷ input ∷ output ∷ []) netlist few =
+    numbered_shaped (turns_of turns) (λ n. record { command = Run n; inputs = arch ∷ bits ∷ input ∷ netlist; outputs = output ∷ [] })
+    (λ n e. (inputs-few arch bits input netlist few, refl, number_few most_turns turns n e))
+array_shaped (a ∷ b ∷ c ∷ d ∷ e ∷ f ∷ more) netlist few = none_shaped
+
+run_shaped : (said : Arguments) → AreShaped (run_plan said)
+run_shaped said = by (said_once [] named_file (values_said (codes "netlist") said.options)) (few-files (values_said (codes "netlist") said.options))
+  where
+    by : (files : Option (List Text)) → Each (λ fs. (length fs ≡ 0) ⊎ (length fs ≡ 1)) files → AreShaped (option_and_then (array_plan said.words) files)
+    by None few = none_shaped
+    by (Some files) few = array_shaped said.words files (few files refl)
 
 ranged_shaped : (plan : Request → Option Plan) (o : Option Request) → Each IsInRange o → ((request : Request) → IsInRange request → AreShaped (plan request)) → AreShaped (option_and_then plan o)
 ranged_shaped plan None range each = none_shaped
@@ -184,12 +199,12 @@ command_shaped : (name : Text) (said : Arguments) → AreShaped (command_plan na
 command_shaped name said =
     either_shaped (bytes_eq name (codes "turns")) (without_options turns_plan said) _ (without_shaped turns_plan said (turns_shaped said.words))
     (either_shaped (bytes_eq name (codes "flat")) (without_options (file_plan Flat) said) _ (without_shaped (file_plan Flat) said (file_shaped Flat (refl, refl) said.words))
-    (either_shaped (bytes_eq name (codes "run")) (without_options run_plan said) _ (without_shaped run_plan said (run_shaped said.words))
+    (either_shaped (bytes_eq name (codes "run")) (with_options run_options run_plan said) _ (with_shaped run_options run_plan said (run_shaped said))
     (either_shaped (bytes_eq name (codes "bound")) (without_options bound_plan said) _ (without_shaped bound_plan said (bound_shaped said.words))
     (either_shaped (bytes_eq name (codes "check")) (without_options check_plan said) _ (without_shaped check_plan said (check_shaped said.words))
     (either_shaped (bytes_eq name (codes "emit")) (without_options emit_plan said) _ (without_shaped emit_plan said (emit_shaped said.words))
-    (either_shaped (bytes_eq name (codes "map")) (map_plan said) _ (map_shaped said)
-    (either_shaped (bytes_eq name (codes "search")) (search_plan said) _ (search_shaped said)
+    (either_shaped (bytes_eq name (codes "map")) (with_options search_options map_plan said) _ (with_shaped search_options map_plan said (map_shaped said))
+    (either_shaped (bytes_eq name (codes "search")) (with_options search_options search_plan said) _ (with_shaped search_options search_plan said (search_shaped said))
     (either_shaped (bytes_eq name (codes "trial")) (without_options trial_plan said) _ (without_shaped trial_plan said (trial_shaped said.words))
     (either_shaped (bytes_eq name (codes "verilog")) (without_options (file_plan Verilog) said) _ (without_shaped (file_plan Verilog) said (file_shaped Verilog (refl, refl) said.words))
     (either_shaped (bytes_eq name (codes "depend")) (without_options (file_plan Depend) said) _ (without_shaped (file_plan Depend) said (file_shaped Depend (refl, refl) said.words))

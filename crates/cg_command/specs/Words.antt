@@ -1,6 +1,6 @@
 -- What the words of a command line ask.
 use Rattle.std.specs.Prelude.{◌≡◌, ◌≤◌, ◌==◌, ◌⊎◌, ℕ, Bool, true, false, not, List, [], ◌∷◌, ◌++◌, take, drop, find, map, Option, Some, None, option_map, option_and_then, if◌then◌else◌, codes, string_bytes}
-use Rattle.std.specs.List.{list_any, before_first, after_first}
+use Rattle.std.specs.List.{list_all, list_any, before_first, after_first}
 use Rattle.std.specs.Str.{bytes_eq}
 use Rattle.cg_model.specs.Limits.{most_turns}
 use Rattle.cg_model.specs.Request.{IsInRange}
@@ -35,7 +35,7 @@ and_then part rest = if is_file (text_of part) then option_map (λ parts. part �
 
 -- the names of the options
 abbrev pub options : List Text
-options = codes "ii" ∷ codes "seed" ∷ codes "moves" ∷ codes "mapping" ∷ []
+options = codes "ii" ∷ codes "seed" ∷ codes "moves" ∷ codes "mapping" ∷ codes "netlist" ∷ []
 
 -- the option of this name
 abbrev pub option_named : Text → Option Text
@@ -156,12 +156,6 @@ abbrev pub file_plan : Command → List Text → Option Plan
 file_plan command (input ∷ output ∷ []) = Some (record { command = command; inputs = input ∷ []; outputs = output ∷ [] })
 file_plan command _ = None
 
--- run ARCH BITS TURNS IN OUT
-abbrev pub run_plan : List Text → Option Plan
-run_plan (arch ∷ bits ∷ turns ∷ input ∷ output ∷ []) =
-    option_map (λ n. record { command = Run n; inputs = arch ∷ bits ∷ input ∷ []; outputs = output ∷ [] }) (turns_of turns)
-run_plan _ = None
-
 -- bound ARCH KERNEL
 abbrev pub bound_plan : List Text → Option Plan
 bound_plan (arch ∷ kernel ∷ []) = Some (record { command = Bound; inputs = arch ∷ kernel ∷ []; outputs = [] })
@@ -202,7 +196,7 @@ said_once usual read (value ∷ other ∷ values) = None
 abbrev pub asked_interval : Text → Option (Option ℕ)
 asked_interval value = option_map Some (interval_of value)
 
--- the file that a value of `--mapping` names
+-- the file that a value of `--mapping` or `--netlist` names
 abbrev pub named_file : Text → Option (List Text)
 named_file value = Some (value ∷ [])
 
@@ -232,6 +226,31 @@ map_plan said = option_and_then (λ request. searching_plan (Map request) said) 
 abbrev pub search_plan : Arguments → Option Plan
 search_plan said = option_and_then (λ request. searching_plan (Search request) said) (request_of usual_responses said.options)
 
+-- the plan of a run of an array, or of the netlist that the last file has
+abbrev pub array_plan : List Text → List Text → Option Plan
+array_plan (arch ∷ bits ∷ turns ∷ input ∷ output ∷ []) netlist =
+    option_map (λ n. record { command = Run n; inputs = arch ∷ bits ∷ input ∷ netlist; outputs = output ∷ [] }) (turns_of turns)
+array_plan _ netlist = None
+
+-- run ARCH BITS TURNS IN OUT [--netlist FILE]
+abbrev pub run_plan : Arguments → Option Plan
+run_plan said = option_and_then (array_plan said.words) (said_once [] named_file (values_said (codes "netlist") said.options))
+
+-- the options that a search takes, and those that a run takes
+abbrev pub search_options : List Text
+search_options = codes "ii" ∷ codes "seed" ∷ codes "moves" ∷ codes "mapping" ∷ []
+
+abbrev pub run_options : List Text
+run_options = codes "netlist" ∷ []
+
+-- each option that was given is one of these
+abbrev pub takes : List Text → List Given → Bool
+takes names given = list_all (λ (g : Given). list_any (bytes_eq g.name) names) given
+
+-- the plan of a command that takes these options
+abbrev pub with_options : List Text → (Arguments → Option Plan) → Arguments → Option Plan
+with_options names plan said = if takes names said.options then plan said else None
+
 -- no option was given
 abbrev pub is_empty : List Given → Bool
 is_empty [] = true
@@ -246,12 +265,12 @@ abbrev pub command_plan : Text → Arguments → Option Plan
 command_plan name said =
     if bytes_eq name (codes "turns") then without_options turns_plan said
     else (if bytes_eq name (codes "flat") then without_options (file_plan Flat) said
-    else (if bytes_eq name (codes "run") then without_options run_plan said
+    else (if bytes_eq name (codes "run") then with_options run_options run_plan said
     else (if bytes_eq name (codes "bound") then without_options bound_plan said
     else (if bytes_eq name (codes "check") then without_options check_plan said
     else (if bytes_eq name (codes "emit") then without_options emit_plan said
-    else (if bytes_eq name (codes "map") then map_plan said
-    else (if bytes_eq name (codes "search") then search_plan said
+    else (if bytes_eq name (codes "map") then with_options search_options map_plan said
+    else (if bytes_eq name (codes "search") then with_options search_options search_plan said
     else (if bytes_eq name (codes "trial") then without_options trial_plan said
     else (if bytes_eq name (codes "verilog") then without_options (file_plan Verilog) said
     else (if bytes_eq name (codes "depend") then without_options (file_plan Depend) said
@@ -268,7 +287,7 @@ abbrev pub HasShape : Command → ℕ → ℕ → Type 0
 HasShape (Turns turns) inputs outputs = (inputs ≡ 1) × (outputs ≡ 0) × (turns ≤ most_turns)
 HasShape (TurnsOnImage turns) inputs outputs = (inputs ≡ 2) × (outputs ≡ 1) × (turns ≤ most_turns)
 HasShape Flat inputs outputs = (inputs ≡ 1) × (outputs ≡ 1)
-HasShape (Run turns) inputs outputs = (inputs ≡ 3) × (outputs ≡ 1) × (turns ≤ most_turns)
+HasShape (Run turns) inputs outputs = ((inputs ≡ 3) ⊎ (inputs ≡ 4)) × (outputs ≡ 1) × (turns ≤ most_turns)
 HasShape Bound inputs outputs = (inputs ≡ 2) × (outputs ≡ 0)
 HasShape Check inputs outputs = (inputs ≡ 3) × (outputs ≡ 0)
 HasShape Emit inputs outputs = (inputs ≡ 3) × (outputs ≡ 1)

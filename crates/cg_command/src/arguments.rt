@@ -60,7 +60,8 @@ fn words_command<'a>(alloc: Global) -> Result<Command<'a>, AllocError>
 {
     numbered_command(alloc)?
         .arg(option_named(alloc, "moves"))?
-        .arg(option_named(alloc, "mapping"))
+        .arg(option_named(alloc, "mapping"))?
+        .arg(option_named(alloc, "netlist"))
 }
 
 /// Returns the command with its plain words and its first two options, `--ii` and `--seed`.
@@ -103,6 +104,7 @@ fn arguments_in<'a>(
     add_option(&mut options, matches, "seed")?;
     add_option(&mut options, matches, "moves")?;
     add_option(&mut options, matches, "mapping")?;
+    add_option(&mut options, matches, "netlist")?;
     Ok(judged(words, options))
 }
 

@@ -1,11 +1,12 @@
 //! Commands, each with its files and its numbers.
-ghost use Rattle.std.specs.Prelude.{◌≡◌, Some, IfOk, IfSome, length, map, option_map, string_bytes, vec_len};
+ghost use Rattle.std.specs.Prelude.{◌≡◌, ◌∷◌, [], Some, IfOk, IfSome, bytes_eq, length, map, option_and_then, option_map, string_bytes, vec_len};
+ghost use Rattle.std.specs.List.{list_any};
 ghost use Rattle.cg_command.specs.Words as spec;
-ghost use Rattle.cg_command.specs.Words.{HasShape};
+ghost use Rattle.cg_command.specs.Words.{HasShape, said_once};
 
 use crate::arguments::{Arguments, arguments_of};
 use crate::numbers::{seed_of, turns_of};
-use crate::requests::{map_plan, search_plan};
+use crate::requests::{map_plan, search_plan, values_said};
 use cg_model::Request;
 use std::alloc::{AllocError, Global};
 
@@ -18,8 +19,8 @@ pub enum Command {
     TurnsOnImage { turns: u32 },
     /// `flat ARCH OUT`: the flat text of an architecture.
     Flat,
-    /// `run ARCH BITS TURNS IN OUT`: a number of turns of the array under a configuration, from an image, and the
-    /// result image.
+    /// `run ARCH BITS TURNS IN OUT [--netlist FILE]`: a number of turns of the array, or of a netlist in its place, under a
+    /// configuration, from an image, and the result image.
     Run { turns: u32 },
     /// `bound ARCH KERNEL`: the least interval that nothing forbids, and what forbids the one below it.
     Bound,
@@ -110,12 +111,14 @@ fn command_plan(alloc: Global, name: &str, said: &Arguments) -> Result<Option<Pl
     match name {
         "turns" if has_no_options(said) => turns_plan(alloc, said.words.as_slice()),
         "flat" if has_no_options(said) => file_plan(alloc, Command::Flat, said.words.as_slice()),
-        "run" if has_no_options(said) => run_plan(alloc, said.words.as_slice()),
+        "run" if takes_only(said, &["netlist"]) => run_plan(alloc, said),
         "bound" if has_no_options(said) => bound_plan(alloc, said.words.as_slice()),
         "check" if has_no_options(said) => check_plan(alloc, said.words.as_slice()),
         "emit" if has_no_options(said) => emit_plan(alloc, said.words.as_slice()),
-        "map" => map_plan(alloc, said),
-        "search" => search_plan(alloc, said),
+        "map" if takes_only(said, &["ii", "seed", "moves", "mapping"]) => map_plan(alloc, said),
+        "search" if takes_only(said, &["ii", "seed", "moves", "mapping"]) => {
+            search_plan(alloc, said)
+        }
         "trial" if has_no_options(said) => trial_plan(alloc, said.words.as_slice()),
         "verilog" if has_no_options(said) => file_plan(
             alloc,
@@ -136,6 +139,30 @@ fn has_no_options(said: &Arguments) -> bool
     ensures { result ≡ spec.is_empty (spec.heard said.now).options }
 {
     matches!(said.options.as_slice(), [])
+}
+
+/// Checks whether each option that was given, as `said` has them, is one of `names`.
+fn takes_only(said: &Arguments, names: &[&str]) -> bool
+    ensures { result ≡ spec.takes (map (λ name. name.now) names.now) (spec.heard said.now).options }
+{
+    for option in said.options.as_slice() {
+        if !is_among(option.name, names) {
+            return false;
+        }
+    }
+    true
+}
+
+/// Checks whether `name` is one of `names`.
+fn is_among(name: &str, names: &[&str]) -> bool
+    ensures { result ≡ list_any (bytes_eq name.now) (map (λ other. other.now) names.now) }
+{
+    for other in names {
+        if name == *other {
+            return true;
+        }
+    }
+    false
 }
 
 fn turns_plan(alloc: Global, words: &[&str]) -> Result<Option<Plan>, AllocError>
@@ -180,9 +207,40 @@ fn file_plan(alloc: Global, command: Command, words: &[&str]) -> Result<Option<P
     }
 }
 
-fn run_plan(alloc: Global, words: &[&str]) -> Result<Option<Plan>, AllocError>
+/// Returns the plan of `run ARCH BITS TURNS IN OUT [--netlist FILE]`, whose arguments are `said`.
+fn run_plan(alloc: Global, said: &Arguments) -> Result<Option<Plan>, AllocError>
     ensures plan { IfOk result
-        (λ p. option_map spec.planned p ≡ spec.run_plan (map (λ word. word.now) words.now)) }
+        (λ p. option_map spec.planned p ≡ spec.run_plan (spec.heard said.now)) }
+    ensures shape { IfOk result (λ p. IfSome p
+        (λ plan. HasShape plan.command (vec_len plan.inputs) (vec_len plan.outputs))) }
+{
+    let files = values_said(alloc, said.options.as_slice(), "netlist")?;
+    run_plan_with_files(alloc, said.words.as_slice(), files.as_slice())
+}
+
+/// Returns the plan of a run with the plain words `words`, where `files` are the values of `--netlist`, at most one.
+fn run_plan_with_files(
+    alloc: Global,
+    words: &[&str],
+    files: &[&str],
+) -> Result<Option<Plan>, AllocError>
+    ensures plan { IfOk result
+        (λ p. option_map spec.planned p ≡ option_and_then (spec.array_plan (map (λ word. word.now) words.now))
+        (said_once [] spec.named_file (map (λ file. file.now) files.now))) }
+    ensures shape { IfOk result (λ p. IfSome p
+        (λ plan. HasShape plan.command (vec_len plan.inputs) (vec_len plan.outputs))) }
+{
+    match files {
+        [] => array_plan(alloc, words),
+        [file] => netlist_plan(alloc, words, file),
+        _ => Ok(None),
+    }
+}
+
+/// Returns the plan of a run of the array; `words` are its files, and among them the number of turns.
+fn array_plan(alloc: Global, words: &[&str]) -> Result<Option<Plan>, AllocError>
+    ensures plan { IfOk result
+        (λ p. option_map spec.planned p ≡ spec.array_plan (map (λ word. word.now) words.now) []) }
     ensures shape { IfOk result (λ p. IfSome p
         (λ plan. HasShape plan.command (vec_len plan.inputs) (vec_len plan.outputs))) }
 {
@@ -195,6 +253,29 @@ fn run_plan(alloc: Global, words: &[&str]) -> Result<Option<Plan>, AllocError>
                 alloc,
                 Command::Run { turns },
                 &[*arch, *bits, *input],
+                &[*output],
+            )
+        }
+        _ => Ok(None),
+    }
+}
+
+/// Returns the plan of a run of the netlist in the file `netlist`.
+fn netlist_plan(alloc: Global, words: &[&str], netlist: &str) -> Result<Option<Plan>, AllocError>
+    ensures plan { IfOk result
+        (λ p. option_map spec.planned p ≡ spec.array_plan (map (λ word. word.now) words.now) (netlist.now ∷ [])) }
+    ensures shape { IfOk result (λ p. IfSome p
+        (λ plan. HasShape plan.command (vec_len plan.inputs) (vec_len plan.outputs))) }
+{
+    match words {
+        [arch, bits, turns, input, output] => {
+            let Some(turns) = turns_of(turns) else {
+                return Ok(None);
+            };
+            plan_with(
+                alloc,
+                Command::Run { turns },
+                &[*arch, *bits, *input, netlist],
                 &[*output],
             )
         }

@@ -132,7 +132,7 @@ fn request_of(alloc: Global, usual: u32, options: &[Given]) -> Result<Option<Req
 }
 
 /// Returns the values of the option `name` among `options`, in order.
-fn values_said<'a>(
+pub(crate) fn values_said<'a>(
     alloc: Global,
     options: &[Given<'a>],
     name: &str,

@@ -5,6 +5,7 @@ mod alike;
 mod archs;
 mod bits;
 mod graphs;
+mod netlists;
 mod places;
 mod routes;
 mod texts;
@@ -129,7 +130,8 @@ fn rows_of_bits(
     let bits = fs::read(rt, "sum.bits")?;
     row_of_cuts(rt, arch, bits.as_slice())?;
     row_of_turned_bits(rt, arch, bits.as_slice())?;
-    row_of_turns(rt, arch, sum, bits.as_slice())
+    row_of_turns(rt, arch, sum, bits.as_slice())?;
+    row_of_nets(rt, arch, bits.as_slice())
 }
 
 fn row_of_cuts(rt: &(impl Print + AllocGlobal), arch: &Arch, bits: &[u8]) -> io::Result<()> {
@@ -154,6 +156,11 @@ fn row_of_turns(
 ) -> io::Result<()> {
     let holds = bits::too_many_turns(rt.alloc(), arch, sum, bits)?;
     say(rt, "too many turns", holds)
+}
+
+fn row_of_nets(rt: &(impl Print + AllocGlobal), arch: &Arch, bits: &[u8]) -> io::Result<()> {
+    let holds = netlists::bits_alike(rt.alloc(), arch, bits)?;
+    say(rt, "netlist, each word by tables and view", holds)
 }
 
 /// Prints the rows of the graph of one unit, and of the least paths in it.

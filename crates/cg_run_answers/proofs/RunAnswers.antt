@@ -122,7 +122,7 @@ some_run n arch file input out =
 -- ---- what is left
 
 -- the configuration that is read of a legal mapping's bits leaves what the turns leave
-leaves_turns : (A : Arch) (n : ℕ) (image : Image) (C : Config) (bytes : List ℕ) → IsArch A → bits.answer_of A bytes ≡ Ok C → LeavesTurns A n image C bytes
+pub leaves_turns : (A : Arch) (n : ℕ) (image : Image) (C : Config) (bytes : List ℕ) → IsArch A → bits.answer_of A bytes ≡ Ok C → LeavesTurns A n image C bytes
 leaves_turns A n image C bytes valid read K M good legal spelled ordered =
     let none : bits.faults_of A bytes ≡ [] = none_answered (bits.config_of A bytes) C (bits.faults_of A bytes) (sym read) in
     let answered : bits.answer_of A bytes ≡ Ok (bits.config_of A bytes) = ap (λ fs. bits.unless_fault fs (bits.config_of A bytes)) none in

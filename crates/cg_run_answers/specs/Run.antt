@@ -1,6 +1,6 @@
 -- `run ARCH BITS TURNS IN OUT`.
 use Rattle.std.specs.Prelude.{◌≡◌, ◌≢◌, ◌≤◌, ◌⊎◌, ℕ, nat_lt, if◌then◌else◌, [], ◌∷◌, length, Result, Ok, Err, codes, decimal}
-use Rattle.cg_model.specs.Work.{Image}
+use Rattle.cg_model.specs.Work.{Image, Left}
 use Rattle.cg_model.specs.Array.{Arch}
 use Rattle.cg_model.specs.Kernel.{Kernel, IsKernel}
 use Rattle.cg_model.specs.Turns.{turns_left}
@@ -34,13 +34,17 @@ abbrev pub run_report : ℕ → ℕ → Bytes
 run_report cycles outside =
     line_then (codes "cycles " ∷ decimal cycles ∷ []) (line_of (codes "outside " ∷ decimal outside ∷ []))
 
--- the array ran the configuration from the image: what it left is written
-abbrev pub ran : ℕ → Arch → Config → Image → Name → Outcome
-ran n A C image out = record {
+-- a run of that many cycles left this, which is written
+abbrev pub left_outcome : ℕ → Left → Name → Outcome
+left_outcome cycles left out = record {
   status = Done;
-  report = run_report (cycles C n) (machine_left A C n image).outside;
-  writes = record { name = out; bytes = images.image_bytes (machine_left A C n image).image } ∷ [];
+  report = run_report cycles left.outside;
+  writes = record { name = out; bytes = images.image_bytes left.image } ∷ [];
 }
+
+-- the array ran the configuration from the image
+abbrev pub ran : ℕ → Arch → Config → Image → Name → Outcome
+ran n A C image out = left_outcome (cycles C n) (machine_left A C n image) out
 
 -- the image has more words than the architecture's memory
 abbrev pub too_large : Name → Image → Outcome

@@ -11,5 +11,5 @@ mod turning;
 
 pub use flattening::flat;
 pub use imaging::turns_on_image;
-pub use simulating::run;
+pub use simulating::{left_outcome, run, too_large};
 pub use turning::turns;

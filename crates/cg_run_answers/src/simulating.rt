@@ -7,12 +7,12 @@ ghost use Rattle.cg_ending.specs.Outcome.{file_of};
 ghost use Rattle.cg_ending.specs.Refusals.{malformed_of};
 ghost use Rattle.cg_pad.specs.Bytes as images;
 ghost use Rattle.cg_cycle.specs.Texts.{sim_fault_text};
-ghost use Rattle.cg_run_answers.specs.Run.{IsRun, ran, run_by_image, run_report};
+ghost use Rattle.cg_run_answers.specs.Run.{IsRun, left_outcome, ran, run_by_image, run_report};
 
 use cg_arch::Arch;
 use cg_ending::{File, Outcome, Status, Stop, refusal};
 use cg_inputs::{arch_in, config_in, image_in};
-use cg_pad::write_image;
+use cg_pad::{Image, write_image};
 use cg_sim::{Sim, SimFault, sim_fault_text};
 use cg_view::ConfigView;
 use std::alloc::{AllocError, Global};
@@ -58,7 +58,7 @@ fn run_on(
 
 /// Returns the stop where a number of turns within the limit isn't run: the image in `input` has more words than the
 /// memory.
-fn too_large(alloc: Global, fault: SimFault, input: &File) -> Stop
+pub fn too_large(alloc: Global, fault: SimFault, input: &File) -> Stop
     requires { (t : ℕ) → fault ≡ SimFault.TooManyTurns t → ⊥ }
     ensures { EndsBy (λ o. (w : ℕ) × (fault ≡ SimFault.ImageTooLarge w)
         × (o ≡ malformed_of (file_of input.now).name (sim_fault_text fault))) result }
@@ -84,8 +84,23 @@ fn ran(alloc: Global, sim: Sim<'_, ConfigView<'_>>, out: &str) -> Result<Outcome
     sim.finish();
     let outside = sim.outside();
     let image = sim.into_image();
+    left_outcome(alloc, cycles, outside, &image, out)
+}
+
+/// Returns the outcome of a run of `cycles` cycles that left `image`, to be written under `out`, and `outside`, the number
+/// of accesses outside the memory.
+pub fn left_outcome(
+    alloc: Global,
+    cycles: u64,
+    outside: u64,
+    image: &Image,
+    out: &str,
+) -> Result<Outcome, Stop>
+    requires { images.IsStorable image.now }
+    ensures { Allows (λ o. o ≡ left_outcome cycles (record { image = image.now; outside = outside }) out.now) result }
+{
     let report = run_report(alloc, cycles, outside)?;
-    let bytes = write_image(alloc, &image)?;
+    let bytes = write_image(alloc, image)?;
     Ok(Outcome::with_file(alloc, Status::Done, report, out, bytes)?)
 }
 

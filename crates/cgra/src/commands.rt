@@ -9,7 +9,7 @@ emit ARCH KERNEL MAPPING OUT  writes the bits of a legal mapping
 flat ARCH OUT                 writes the flat text of an architecture
 map ARCH KERNEL OUT           searches a mapping, and writes its bits (--ii N, --seed N, --moves N, --mapping FILE)
 migrate ARCH BITS OUT         turns bits of the first format into those of today
-run ARCH BITS TURNS IN OUT    runs an array under a configuration from an image to an image
+run ARCH BITS TURNS IN OUT    runs an array, or a netlist of it, under a configuration from an image to an image (--netlist FILE)
 search ARCH KERNEL OUT        searches a mapping near the least interval, and writes its bits (options as map)
 trial SEED                    maps a drawn kernel over a hub, and runs the array and the kernel
 turns KERNEL TURNS            runs the turns of a kernel without memory

@@ -1,0 +1,2 @@
+mod Allowed
+pub mod NetlistAnswers

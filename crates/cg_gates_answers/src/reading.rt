@@ -1,0 +1,51 @@
+//! What the file of a netlist gives. Where it gives none, the call ends by the outcome of its refusal.
+ghost use Rattle.std.specs.Prelude.{◌≡◌, IfOk, IfErr, OnOk, Ok};
+ghost use Rattle.cg_ending.specs.Allowed.{EndsBy};
+ghost use Rattle.cg_ending.specs.Outcome.{file_of};
+ghost use Rattle.cg_netlist_reader.specs.Reading as netlists;
+ghost use Rattle.cg_gates.specs.Accepts.{IsAccepted};
+ghost use Rattle.cg_gates_answers.specs.Refused.{RefusesNetlist, RefusesGates};
+
+use cg_arch::Arch;
+use cg_ending::{File, Stop, refusal};
+use cg_gates::{GateFault, gate_fault_text};
+use cg_gates_build::Gates;
+use cg_netlist::NetGraph;
+use cg_netlist_reader::{VerilogFault, read_verilog, verilog_fault_text};
+use std::alloc::Global;
+
+/// Reads the netlist that `file` spells. A fault of it ends the call with status 3.
+pub(crate) fn netlist_in(alloc: Global, file: &File) -> Result<NetGraph, Stop>
+    ensures given { IfOk result (λ graph. netlists.IsAnswer (file_of file.now).bytes (Ok graph)) }
+    ensures refused { IfErr result (EndsBy (RefusesNetlist (file_of file.now))) }
+{
+    match read_verilog(alloc, file.bytes.as_slice()) {
+        Ok(graph) => Ok(graph),
+        Err(VerilogFault::Memory) => Err(Stop::Memory),
+        Err(fault) => {
+            let text = verilog_fault_text(alloc, &fault)?;
+            Err(refusal(alloc, file, text.as_str()))
+        }
+    }
+}
+
+/// Returns `graph`, which `file` spells, as it is meant over `arch`. A fault of it ends the call with status 3.
+pub(crate) fn gates_in<'a>(
+    alloc: Global,
+    arch: &'a Arch,
+    graph: &'a NetGraph,
+    file: &File,
+) -> Result<Gates<'a>, Stop>
+    ensures found { IfOk result (λ gates. gates ≡ record { arch = arch.now; netlist = graph.now }) }
+    ensures accepted { OnOk result (IsAccepted arch.now graph.now) }
+    ensures refused { IfErr result (EndsBy (RefusesGates arch.now graph.now (file_of file.now).name)) }
+{
+    match Gates::build(alloc, arch, graph) {
+        Ok(gates) => Ok(gates),
+        Err(GateFault::Memory) => Err(Stop::Memory),
+        Err(fault) => {
+            let text = gate_fault_text(alloc, &fault)?;
+            Err(refusal(alloc, file, text.as_str()))
+        }
+    }
+}
