@@ -1,5 +1,5 @@
 -- What `depend` answers.
-use Rattle.std.proofs.Common.{◌≡◌, ℕ, ◌≤◌, List, [], ◌∷◌, nat_lt, Bool, true, false, cond, Result, Ok, Err, refl, sym, ◌∙◌, ap, subst, inl, inr}
+use Rattle.std.proofs.Common.{◌≡◌, ◌≤◌, List, [], ◌∷◌, nat_lt, Bool, true, false, cond, Result, Ok, Err, refl, sym, ◌∙◌, ap, subst, inl, inr}
 use Rattle.std.proofs.lemmas.Bool.{le-ltb}
 use Rattle.cg_model.specs.Limits.{most_order_edges}
 use Rattle.cg_model.specs.Kernel.{Kernel}
@@ -18,7 +18,7 @@ use Rattle.cg_depend.proofs.Unique.{one_list}
 use Rattle.cg_inputs.proofs.Sound.{IsSound, plain, IsNamed}
 use Rattle.cg_inputs.proofs.Wholes.{whole, one_write, differ}
 use Rattle.cg_inputs.specs.Refused.{RefusesKernel}
-use Rattle.cg_answers.specs.Depend.{DependBy, DependOf, IsDependOf, IsDependable, IsDepended, depend_by_edges, depended, too_many, order_with, kernel_text, depend_report}
+use Rattle.cg_answers.specs.Depend.{DependBy, DependOf, IsDependOf, IsDependable, IsDepended, depend_by_edges, depended, too_many, order_with, kernel_text}
 
 -- ---- status and writes
 

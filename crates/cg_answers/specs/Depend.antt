@@ -17,7 +17,7 @@ use Rattle.cg_kernel.specs.Answer.{answer_of}
 use Rattle.cg_kernel.specs.Texts.{kernel_fault_text}
 use Rattle.cg_kernel_text.specs.Printed.{data_of}
 use Rattle.cg_depend.specs.declared.fault.DependFault.TheVariants.{TooManyEdges}
-use Rattle.cg_depend.specs.Depend.{AreNeeded, IsDepend, with_order}
+use Rattle.cg_depend.specs.Depend.{AreNeeded, with_order}
 use Rattle.cg_depend.specs.Texts.{depend_fault_text}
 
 -- the report: `added` order edges were added, and the kernel has `all`

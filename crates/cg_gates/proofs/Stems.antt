@@ -1,5 +1,5 @@
 -- What stands in the names of units' cells behind their letter.
-use Rattle.std.proofs.Common.{◌≡◌, ℕ, Bool, false, cond, ◌&&◌, List, Option, Some, None, drop, ap, sym, ◌∙◌}
+use Rattle.std.proofs.Common.{◌≡◌, ℕ, Bool, false, cond, ◌&&◌, List, Some, None, drop, ap, sym, ◌∙◌}
 use Rattle.std.specs.Prelude.{codes, bytes_eq, find}
 use Rattle.std.specs.Option.{option_map_or}
 use Rattle.cg_model.specs.declared.array.Unit.{Unit}

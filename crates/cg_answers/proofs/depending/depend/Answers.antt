@@ -1,4 +1,3 @@
-use Rattle.std.proofs.Common.{◌≡◌}
 use Rattle.cg_ending.specs.Outcome.{file_of}
 use Rattle.cg_ending.proofs.Allowed.{allows_weaker, ends_weaker, stopped}
 use Rattle.cg_inputs.specs.Refused.{RefusesKernel}
