@@ -230,54 +230,17 @@ fn run_plan_with_files(
     ensures shape { IfOk result (λ p. IfSome p
         (λ plan. HasShape plan.command (vec_len plan.inputs) (vec_len plan.outputs))) }
 {
-    match files {
-        [] => array_plan(alloc, words),
-        [file] => netlist_plan(alloc, words, file),
-        _ => Ok(None),
-    }
-}
-
-/// Returns the plan of a run of the array; `words` are its files, and among them the number of turns.
-fn array_plan(alloc: Global, words: &[&str]) -> Result<Option<Plan>, AllocError>
-    ensures plan { IfOk result
-        (λ p. option_map spec.planned p ≡ spec.array_plan (map (λ word. word.now) words.now) []) }
-    ensures shape { IfOk result (λ p. IfSome p
-        (λ plan. HasShape plan.command (vec_len plan.inputs) (vec_len plan.outputs))) }
-{
     match words {
         [arch, bits, turns, input, output] => {
             let Some(turns) = turns_of(turns) else {
                 return Ok(None);
             };
-            plan_with(
-                alloc,
-                Command::Run { turns },
-                &[*arch, *bits, *input],
-                &[*output],
-            )
-        }
-        _ => Ok(None),
-    }
-}
-
-/// Returns the plan of a run of the netlist in the file `netlist`.
-fn netlist_plan(alloc: Global, words: &[&str], netlist: &str) -> Result<Option<Plan>, AllocError>
-    ensures plan { IfOk result
-        (λ p. option_map spec.planned p ≡ spec.array_plan (map (λ word. word.now) words.now) (netlist.now ∷ [])) }
-    ensures shape { IfOk result (λ p. IfSome p
-        (λ plan. HasShape plan.command (vec_len plan.inputs) (vec_len plan.outputs))) }
-{
-    match words {
-        [arch, bits, turns, input, output] => {
-            let Some(turns) = turns_of(turns) else {
-                return Ok(None);
-            };
-            plan_with(
-                alloc,
-                Command::Run { turns },
-                &[*arch, *bits, *input, netlist],
-                &[*output],
-            )
+            let command = Command::Run { turns };
+            match files {
+                [] => plan_with(alloc, command, &[*arch, *bits, *input], &[*output]),
+                [file] => plan_with(alloc, command, &[*arch, *bits, *input, *file], &[*output]),
+                _ => Ok(None),
+            }
         }
         _ => Ok(None),
     }

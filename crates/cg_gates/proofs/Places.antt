@@ -72,7 +72,7 @@ first_more old new test items i x is l before added = record {
       ∙ sym more;
 }
 
--- ---- the same of an equal list
+-- ---- the numbers of one list are those of an equal one
 
 pub first_along : {S T : Type 0} (numbers : IndexMap (String Global) ℕ S) (test : List ℕ → T → Bool) (a b : List T) → a ≡ b → AreFirst numbers test a → AreFirst numbers test b
 first_along {S} {T} numbers test a b e h = let P : List T → Type 0 = λ xs. AreFirst numbers test xs in subst P e h

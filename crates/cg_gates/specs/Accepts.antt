@@ -118,7 +118,7 @@ repeated_instance N = first_from (λ i (c : Cell). is_before (cell_named N c.nam
 
 -- ---- E5 UnknownInstance: a context or preselect isn't named after a resource of its width, or a unit cell after its unit
 
--- the name is, behind that prefix, that of a resource with drivers whose select has that width
+-- the name is the prefix and then the name of a resource with drivers whose select has w bits
 abbrev pub gives_select : ℕ → Resource → Bool
 gives_select w r = not (eqb (length r.drivers) 0) && eqb (select_width r) w
 
@@ -126,7 +126,7 @@ abbrev pub names_resource : Arch → List ℕ → ℕ → List ℕ → Bool
 names_resource A prefix w name =
     begins prefix name && option_map_or (gives_select w) (find (λ (r : Resource). bytes_eq r.name (stem name)) A.resources) false
 
--- that of a unit with so many ports, that latency, and these operations
+-- a unit has p ports, latency l and the set h of operations; a name is `u_` and then that of such a unit
 abbrev pub is_unit_of : ℕ → ℕ → ℕ → Unit → Bool
 is_unit_of p l h u = eqb (length u.ports) p && (eqb u.latency l && eqb (bits_of u.ops) h)
 
@@ -176,7 +176,7 @@ pub record IsAccepted (A : Arch) (N : NetGraph) : Type 0 where
   pub no_loop : HasNoMuxLoop N
   pub late : fault_after_loops A N ≡ None
 
--- what is answered, unless memory ran out
+-- what is answered, but for out of memory
 abbrev pub IsGateAnswer : {T : Type 0} → Arch → NetGraph → Result T GateFault → Type 0
 IsGateAnswer A N (Ok g) = IsAccepted A N
 IsGateAnswer A N (Err f) = f ≢ fault.Memory → IsFault A N f

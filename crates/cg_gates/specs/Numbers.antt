@@ -27,7 +27,7 @@ pub record AreFirst {S T : Type 0} (numbers : IndexMap (String Global) ℕ S) (t
 abbrev pub by_name : {T : Type 0} → (T → List ℕ) → List ℕ → T → Bool
 by_name own name item = bytes_eq (own item) name
 
--- that of a net among the cells that drive nets
+-- the test of a net among the cells that drive nets
 abbrev pub by_net : List ℕ → Shape → Bool
 by_net net c = bytes_eq c.q net
 
@@ -83,6 +83,6 @@ pub record IsIndexed {S : Type 0} (N : NetGraph) (numbers drivers : IndexMap (St
   pub named : AreNets numbers N.nets
   pub driven : AreFirst drivers by_net (shapes N)
 
--- a ring of muxes is named, unless memory ran out
+-- a fault names a ring of muxes, but for out of memory
 abbrev pub IsRingFault : NetGraph → GateFault → Type 0
 IsRingFault N f = f ≢ fault.Memory → (loop : List ℕ) × IsMuxLoop N loop × (f ≡ fault.MuxLoop (names_of N loop))

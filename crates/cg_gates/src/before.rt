@@ -10,7 +10,7 @@ use cg_names::Numbers;
 use cg_netlist::NetGraph;
 use std::alloc::{AllocError, Global};
 
-/// Finds the lower of E1 and E2 that applies to `netlist`, at its first place. Its nets have these `numbers`.
+/// Finds the lower of E1 and E2 that applies to `netlist`, at its first place. `numbers` has the numbers of its nets by name.
 #[tactic(auto, unfolding(crate::specs::Accepts::fault_before_loops))]
 pub fn fault_before_loops(
     alloc: Global,
@@ -29,7 +29,7 @@ pub fn fault_before_loops(
     }
 }
 
-/// Finds the first cell of `netlist` with a pin on another net than it may be on. Its nets have these `numbers`.
+/// Finds the first cell of `netlist` with a pin on another net than it may be on. `numbers` has the numbers of its nets by name.
 #[tactic(auto, unfolding(crate::specs::Accepts::misjoined))]
 fn misjoined_of(netlist: &NetGraph, numbers: &Numbers) -> Option<usize>
     requires { AreNets numbers.now netlist.now.nets }

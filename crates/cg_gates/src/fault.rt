@@ -11,7 +11,7 @@ use thiserror::Error;
 /// Why a netlist has no meaning over an architecture. The variants after `Memory` are E1 to E6, in this order.
 #[derive(Drop, Error)]
 pub enum GateFault {
-    #[error("memory ran out")]
+    #[error("out of memory")]
     Memory,
     /// Not exactly one cell drives a declared net: the net's name.
     #[error("a net that not exactly one cell drives")]

@@ -23,7 +23,7 @@ pub fn drivers_of(alloc: Global, cells: &[Cell]) -> Result<Numbers, AllocError>
     Ok(numbers)
 }
 
-/// Returns the number of the first unit of each name among `cells`.
+/// Returns the number of the first unit's cell of each name among `cells`.
 pub fn unit_cells(alloc: Global, cells: &[Cell]) -> Result<Numbers, AllocError>
     ensures { IfOk result (λ numbers. AreFirst numbers is_instance (map shape_of cells.now)) }
 {
@@ -34,7 +34,7 @@ pub fn unit_cells(alloc: Global, cells: &[Cell]) -> Result<Numbers, AllocError>
     Ok(numbers)
 }
 
-/// Gives the name of `cell` that `number`, where it is a unit's and has none yet.
+/// Adds to `numbers` the `number` of `cell` under its name, where it is a unit's cell and the name has no number yet.
 #[tactic(auto, unfolding(crate::specs::Shape::shape_of))]
 fn add_unit(
     alloc: Global,
@@ -58,7 +58,7 @@ fn is_unit(form: Form) -> bool
     matches!(form, Form::FunctionalUnit { .. })
 }
 
-/// Finds the number of the cell of `unit` among the units' cells by name.
+/// Finds the number of the cell of `unit` in `cells`, the numbers of units' cells by name.
 pub fn cell_of_unit(
     alloc: Global,
     cells: &Numbers,

@@ -7,10 +7,10 @@ ghost use Rattle.cg_gates.specs.Numbers.{AreCells, AreResources, AreUnits, is_re
 ghost use Rattle.cg_gates.specs.Shape.{form_said};
 ghost use Rattle.cg_gates.specs.Accepts as spec;
 
-use crate::joined::width_of;
 use crate::numbers::{named, numbers_of};
 use crate::pins::form_said;
 use cg_arch::Arch;
+use cg_flat::select_bits;
 use cg_model::{Resource, Unit};
 use cg_names::{Numbers, is_before, number_in};
 use cg_netlist::{Cell, Form, bits_of};
@@ -24,7 +24,7 @@ pub(crate) fn repeated_instance(alloc: Global, cells: &[Cell]) -> Result<Option<
     Ok(first_repeated(&numbers, cells))
 }
 
-/// Finds the same. The `cells` have these `numbers`.
+/// Finds the first of `cells` that has the name of an earlier one. `numbers` has the number of the first cell of each name.
 fn first_repeated(numbers: &Numbers, cells: &[Cell]) -> Option<usize>
     requires { AreCells numbers.now cells.now }
     ensures { result ≡ first_from (is_repeated cells.now) 0 cells.now }
@@ -50,7 +50,8 @@ pub(crate) fn unknown_instance(
     Ok(first_unknown(arch, &resources, &units, cells))
 }
 
-/// Finds the same. The `resources` and `units` of `arch` have these numbers.
+/// Finds the first of `cells` that isn't named after a resource or a unit of `arch` that it fits. `resources` and `units` have
+/// their numbers by name.
 fn first_unknown(arch: &Arch, resources: &Numbers, units: &Numbers, cells: &[Cell]) -> Option<usize>
     requires resources { AreResources resources.now arch.now.resources }
     requires units { AreUnits units.now arch.now.units }
@@ -64,7 +65,7 @@ fn first_unknown(arch: &Arch, resources: &Numbers, units: &Numbers, cells: &[Cel
     None
 }
 
-/// Tells whether `cell` has a name that its form may have. The `resources` and `units` of `arch` have these numbers.
+/// Tells whether `cell` has a name that its form may have. `resources` and `units` have the numbers of those of `arch` by name.
 fn is_known(arch: &Arch, resources: &Numbers, units: &Numbers, cell: &Cell) -> bool
     requires resources { AreResources resources.now arch.now.resources }
     requires units { AreUnits units.now arch.now.units }
@@ -83,8 +84,8 @@ fn is_known(arch: &Arch, resources: &Numbers, units: &Numbers, cell: &Cell) -> b
     }
 }
 
-/// Tells whether `name` is, behind `front`, that of a resource of `arch` whose select has that `width`. The `resources` have
-/// these numbers.
+/// Tells whether `name` is `front` and then the name of a resource of `arch` with drivers, whose select has `width` bits.
+/// `resources` has the resources' numbers by name.
 fn names_resource(arch: &Arch, resources: &Numbers, front: &str, width: u32, name: &str) -> bool
     requires resources { AreResources resources.now arch.now.resources }
     requires two { length front.now ≡ 2 }
@@ -99,17 +100,17 @@ fn names_resource(arch: &Arch, resources: &Numbers, front: &str, width: u32, nam
     }
 }
 
-/// Tells whether `resource` has drivers, and its select that `width`.
+/// Tells whether `resource` has drivers and a select of `width` bits.
 fn gives_select(width: u32, resource: &Resource) -> bool
     requires { length resource.now.drivers ≤ 65536 }
     ensures { result ≡ spec.gives_select width resource.now }
 {
-    let count = resource.drivers.as_slice().len();
-    count != 0 && width_of(count as u32) == width
+    let drivers = resource.drivers.as_slice();
+    !drivers.is_empty() && select_bits(drivers) == width
 }
 
-/// Tells whether `name` is, behind `u_`, that of a unit of `arch` with so many `ports`, that `latency` and these `operations`. The
-/// `units` have these numbers.
+/// Tells whether `name` is `u_` and then the name of a unit of `arch` with the number of ports `ports`, the latency `latency` and
+/// the set of operations `operations`. `units` has the units' numbers by name.
 fn names_unit(
     arch: &Arch,
     units: &Numbers,
@@ -130,7 +131,8 @@ fn names_unit(
     }
 }
 
-/// Tells whether `unit` has so many `ports`, that `latency` and these `operations`.
+/// Tells whether `unit` has the number of ports `ports`, the latency `latency` in cycles, and the set of operations
+/// `operations`, bit k for the operation of code k.
 fn is_unit_of(ports: u32, latency: u32, operations: u32, unit: &Unit) -> bool
     ensures { result ≡ spec.is_unit_of ports latency operations unit.now }
 {
@@ -139,7 +141,7 @@ fn is_unit_of(ports: u32, latency: u32, operations: u32, unit: &Unit) -> bool
         && bits_of(unit.ops) == operations
 }
 
-/// Returns what comes after that `front` of `text`.
+/// Returns what comes after `front` in `text`, if it begins with it.
 pub fn after_front<'a>(text: &'a str, front: &str) -> Option<&'a str>
     ensures { option_copied result ≡ (if begins front.now text.now then Some (drop (length front.now) text.now) else None) }
 {

@@ -10,7 +10,7 @@ use crate::pins::form_said;
 use cg_names::Numbers;
 use cg_netlist::{Cell, Form, Net, Pin};
 
-/// Finds the first of `cells` with a pin on another net than it may be on. The `nets` have these `numbers`.
+/// Finds the first of `cells` with a pin on another net than it may be on. `numbers` has the numbers of `nets` by name.
 pub(crate) fn misjoined(nets: &[Net], numbers: &Numbers, cells: &[Cell]) -> Option<usize>
     requires { AreNets numbers.now nets.now }
     ensures { result ≡ first_from (is_misjoined nets.now) 0 cells.now }
@@ -23,7 +23,7 @@ pub(crate) fn misjoined(nets: &[Net], numbers: &Numbers, cells: &[Cell]) -> Opti
     None
 }
 
-/// Tells whether each pin of `cell` is on a net that it may be on. The `nets` have these `numbers`.
+/// Tells whether each pin of `cell` is on a net that it may be on. `numbers` has the numbers of `nets` by name.
 fn is_joined(nets: &[Net], numbers: &Numbers, cell: &Cell) -> bool
     requires { AreNets numbers.now nets.now }
     ensures { result ≡ spec.is_joined nets.now cell.now }
@@ -37,7 +37,7 @@ fn is_joined(nets: &[Net], numbers: &Numbers, cell: &Cell) -> bool
     true
 }
 
-/// Tells whether a `pin` of a cell of that `form` is on a net that it may be on. The `nets` have these `numbers`.
+/// Tells whether a `pin` of a cell of that `form` is on a net that it may be on. `numbers` has the numbers of `nets` by name.
 fn is_joined_pin(nets: &[Net], numbers: &Numbers, form: Form, pin: &Pin) -> bool
     requires { AreNets numbers.now nets.now }
     ensures { result ≡ spec.is_joined_pin nets.now form pin.now }
@@ -57,7 +57,7 @@ fn is_clock(port: &str) -> bool
     port == "clk" || port == "rst"
 }
 
-/// Tells whether a net of that `name` and `width` is declared. The `nets` have these `numbers`.
+/// Tells whether a net of that `name` and `width` is declared. `numbers` has the numbers of `nets` by name.
 fn has_width(nets: &[Net], numbers: &Numbers, name: &str, width: u32) -> bool
     requires { AreNets numbers.now nets.now }
     ensures { result ≡ spec.has_width nets.now name.now width }
@@ -103,7 +103,7 @@ fn output_width(form: Form) -> u32
 
 /// Returns the bits to tell 0 to `count` apart.
 #[tactic(auto, using(cg_flat::proofs::Widths::width_is))]
-pub(crate) fn width_of(count: u32) -> u32
+fn width_of(count: u32) -> u32
     ensures { result ≡ width count }
 {
     32 - count.leading_zeros()

@@ -7,23 +7,24 @@ ghost use Rattle.cg_model.specs.Config.{Config};
 ghost use Rattle.cg_netlist.specs.Netlist.{NetGraph};
 ghost use Rattle.cg_gates.specs.Laws.{AcceptsOwn, WordsFollow, LeavesAlike, SolvesEquations, HasOneSolution};
 
-/// The netlist of a valid architecture has a meaning over it: none of E1 to E6 applies.
+/// States that the netlist of a valid architecture has a meaning over it: none of E1 to E6 applies.
 pub fn accepts()
     ensures { (A : Arch) → AcceptsOwn A }
 {}
 
-/// Each net of a resource has, in every cycle and under every configuration, the resource's word.
+/// States that in the netlist of a valid architecture each net of a resource has, in every cycle and under every configuration,
+/// the resource's word.
 pub fn follows()
     ensures { (A : Arch) (C : Config) (n : ℕ) (image : Image) → WordsFollow A C n image }
 {}
 
-/// Under every configuration a run of the netlist leaves the memory, the output streams and the count of accesses outside that
-/// the array leaves.
+/// States that under every configuration a run of the netlist of a valid architecture leaves the memory, the output streams and
+/// the count of accesses outside that the array leaves.
 pub fn leaves()
     ensures { (A : Arch) (C : Config) (n : ℕ) (image : Image) → LeavesAlike A C n image }
 {}
 
-/// The equations of a netlist that has a meaning have exactly one solution: what is computed cycle by cycle solves them, and any
+/// States that the equations of a netlist that has a meaning have exactly one solution: what is computed cycle by cycle solves them, and any
 /// two solutions agree on each declared net and each unit, in memory, streams and count.
 pub fn equations()
     ensures solve { (A : Arch) (N : NetGraph) (C : Config) (n : ℕ) (image : Image) → SolvesEquations A N C n image }

@@ -62,7 +62,7 @@ pub fn numbers_of<T: HasName>(alloc: Global, items: &[T]) -> Result<Numbers, All
     Ok(numbers)
 }
 
-/// Finds the first of `items` that is called `name`. The items have these `numbers`.
+/// Finds the first of `items` that is called `name`. `numbers` has their numbers by name.
 pub(crate) fn named<'a, T: HasName>(numbers: &Numbers, items: &'a [T], name: &str) -> Option<&'a T>
     requires { AreFirst numbers.now (by_name T.own) items.now }
     ensures { option_copied result ≡ find (by_name T.own name.now) items.now }
@@ -76,7 +76,8 @@ pub(crate) fn named<'a, T: HasName>(numbers: &Numbers, items: &'a [T], name: &st
     }
 }
 
-/// Returns the number of the first of `items` that is called `name`, or how many these are. They have these `numbers`.
+/// Returns the number of the first of `items` that is called `name`, or how many items there are. `numbers` has their numbers by
+/// name.
 pub fn number_or_all<T: HasName>(numbers: &Numbers, items: &[T], name: &str) -> usize
     requires { AreFirst numbers.now (by_name T.own) items.now }
     ensures { result ≡ position_or_len (by_name T.own name.now) items.now }

@@ -30,7 +30,7 @@ pub(crate) fn ordered<'a>(
     }
 }
 
-/// Returns the same where muxes have this `order`.
+/// Returns the netlist of `nets` as it is meant over `arch`, or its fault. `order` is an order of its muxes.
 fn judged<'a>(
     alloc: Global,
     arch: &'a Arch,

@@ -66,7 +66,7 @@ fn selects_of(
     selects_by(alloc, arch, &resources, nets, given)
 }
 
-/// Returns the same. The `resources` of `arch` have these numbers.
+/// Returns the cells of `nets` that give such selects of `arch` as `given` says. `resources` has its resources' numbers by name.
 fn selects_by(
     alloc: Global,
     arch: &Arch,
@@ -87,7 +87,8 @@ fn selects_by(
     Ok(list)
 }
 
-/// Returns a `cell` of `nets` that gives such selects of `arch` as `given` says. The `resources` have these numbers.
+/// Returns `cell` of `nets`, which gives such selects of `arch` as `given` says, by numbers. `resources` has the resources'
+/// numbers by name.
 fn select_cell(
     arch: &Arch,
     resources: &Numbers,
@@ -108,7 +109,7 @@ fn select_cell(
     }
 }
 
-/// Returns the number of the resource of `arch` that is called `name`. The `resources` have these numbers.
+/// Returns the number of the resource of `arch` that is called `name`. `resources` has the resources' numbers by name.
 #[tactic(auto, unfolding(cg_gates::specs::Gates::resource_named))]
 fn resource_of(arch: &Arch, resources: &Numbers, name: &str) -> u32
     requires resources { AreResources resources.now arch.now.resources }

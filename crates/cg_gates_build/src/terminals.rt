@@ -32,7 +32,7 @@ pub(crate) fn terminals_of(
     terminals_by(alloc, arch, nets, &cells)
 }
 
-/// Returns the same. The units' `cells` have these numbers by name.
+/// Returns the nets of the cell in `nets` of each unit of `arch`. `cells` has the numbers of units' cells by name.
 fn terminals_by(
     alloc: Global,
     arch: &Arch,
@@ -51,7 +51,7 @@ fn terminals_by(
     Ok(list)
 }
 
-/// Returns the nets of the cell of `unit` in `nets`. The units' `cells` have these numbers by name.
+/// Returns the nets of the cell of `unit` in `nets`. `cells` has the numbers of units' cells by name.
 fn unit_terminals(
     alloc: Global,
     nets: &Nets<'_>,

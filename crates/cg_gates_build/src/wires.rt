@@ -9,7 +9,7 @@ use cg_model::{Kind, Name, Resource, Words};
 use cg_netlist::{Net, Pin};
 use std::alloc::{AllocError, Global};
 
-/// Returns each of the `nets` as a wire whose drivers are the nets that its mux hears.
+/// Returns each net of `nets`, by number, as a wire whose drivers are the nets that its mux hears.
 #[tactic(auto, unfolding(cg_gates::specs::Order::mux_graph))]
 pub(crate) fn mux_graph(alloc: Global, nets: &Nets<'_>) -> Result<Vec<Resource>, AllocError>
     ensures graph { IfOk result (λ resources. resources.items ≡ spec.mux_graph nets.now) }
@@ -19,7 +19,7 @@ pub(crate) fn mux_graph(alloc: Global, nets: &Nets<'_>) -> Result<Vec<Resource>,
     resources_of(alloc, nets, nets.netlist().nets())
 }
 
-/// Returns the same of those in a `list`.
+/// Returns each net of `list` as a wire whose drivers are the nets that its mux hears, by their numbers in `nets`.
 fn resources_of(alloc: Global, nets: &Nets<'_>, list: &[Net]) -> Result<Vec<Resource>, AllocError>
     ensures { IfOk result (λ resources. resources.items ≡ map (spec.net_resource nets.now) list.now) }
 {
@@ -30,7 +30,7 @@ fn resources_of(alloc: Global, nets: &Nets<'_>, list: &[Net]) -> Result<Vec<Reso
     Ok(resources)
 }
 
-/// Returns a `net` as a wire whose drivers are the nets that its mux hears.
+/// Returns `net` as a wire whose drivers are the nets that its mux hears, by their numbers in `nets`.
 fn net_resource(alloc: Global, nets: &Nets<'_>, net: &Net) -> Result<Resource, AllocError>
     ensures { IfOk result (λ resource. resource ≡ spec.net_resource nets.now net.now) }
 {

@@ -18,7 +18,7 @@ use Rattle.cg_gates.specs.Tables.{select_cell, choice, AreTerminals}
 
 -- ---- contexts and preselects
 
--- each has a net among so many words, and a resource whose select the configuration has
+-- the net of each cell has one of `size` words, and the configuration has a select of its resource in the slot
 abbrev pub AreSelectable : Config → ℕ → List SelectCell → ℕ → Type 0
 AreSelectable C slot es size = (j : ℕ) → j < length es →
     HasSelect C (select_cell es j).resource slot × ((select_cell es j).net < size)
@@ -42,7 +42,7 @@ chosen_by heard words e (suc k) = if nat_lt k e.count then slice_index words (sl
 abbrev pub chosen : Choices → List ℕ → ℕ → ℕ
 chosen t words j = chosen_by t.heard.items words (choice t.entries.items j) (slice_index words (choice t.entries.items j).select)
 
--- an entry's nets are among so many words
+-- each net of an entry has one of `size` words
 pub record IsReadable (heard : List ℕ) (size : ℕ) (e : Choice) : Type 0 where
   pub net : e.net < size
   pub select : e.select < size

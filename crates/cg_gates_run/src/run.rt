@@ -61,6 +61,7 @@ impl<'a, C: Contexts> GateRun<'a, C> {
         }
     }
 
+    /// Begins the run, whose turns and image are within their limits.
     fn start(
         alloc: Global,
         gates: &'a Gates<'a>,
@@ -124,7 +125,7 @@ impl<'a, C: Contexts> GateRun<'a, C> {
         }
     }
 
-    /// Returns the word on the net of that number in the last cycle that was run, 0 before the first.
+    /// Returns the word on net number `net`, in the order of declaration, in the last cycle that was run; 0 before the first.
     pub fn value(&self, net: u32) -> u32
         requires { net < length self.now.netlist.nets }
         ensures before_the_first { self.now.done ≡ 0 → result ≡ 0 }

@@ -42,7 +42,8 @@ fn words_alike<C: Contexts>(
     }
 }
 
-/// Checks the same of `gates`, from `image`.
+/// Checks whether a run of `turns` turns of `gates` under `config`, from `image`, has `cycles` cycles, in each of which the net of
+/// each resource has the word that the resource has in the array's.
 fn runs_alike<C: Contexts>(
     alloc: Global,
     arch: &Arch,
