@@ -1,0 +1,16 @@
+pub mod Texts
+pub mod Runs
+pub mod Steps
+pub mod Sums
+pub mod Lines
+pub mod Parts
+pub mod Sound
+pub mod Complete
+pub mod Written
+pub mod Exact
+pub mod Bodies
+pub mod Whole
+pub mod Unique
+pub mod OneText
+pub mod Uses
+pub mod Rows
