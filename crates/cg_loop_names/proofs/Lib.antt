@@ -1,0 +1,6 @@
+mod Assigned
+mod Declared
+mod Meeting
+mod Named
+mod Renamed
+mod Steps

@@ -1,0 +1,6 @@
+-- A use of the program.
+use Rattle.cg_loop_syntax.specs.Uses as uses
+use Rattle.cg_loop_names.specs.declared.uses.Use.{Use}
+
+abbrev pub use_of : Use → uses.Use
+use_of u = record { role = u.role; name = u.name.now; place = u.place }
