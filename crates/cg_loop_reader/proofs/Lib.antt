@@ -1,0 +1,13 @@
+mod Ascii
+mod Answered
+mod Atoms
+mod Beginnings
+mod Built
+mod Called
+mod Digits
+mod Entire
+mod Missed
+mod Parts
+mod Stated
+mod Strayed
+mod Taken

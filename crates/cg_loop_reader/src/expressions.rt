@@ -1,0 +1,326 @@
+//! Reading expressions.
+ghost use Rattle.std.specs.Prelude.{◌≡◌};
+
+use crate::fault::Misfit;
+use crate::reader::Reader;
+use crate::words::{
+    Beginning, added_by, beginning_of, compared_by, further_operands, name_of, op_called, same,
+};
+use cg_loop_syntax::{Atom, Compare, Expr, Name, Op, Prod, Role, Sum, Term};
+use cg_tokens::Token;
+use std::alloc::Global;
+
+impl<'a> Reader<'a> {
+    ghost use Rattle.std.specs.Prelude.{◌≡◌, ◌≤◌, ◌<◌, ◌+◌, None, Some, true, false, codes, length, bytes_eq, IfSome, IfNone, IfOk, IfErr, OnOk};
+    ghost use Rattle.cg_word.specs.Word.{arity};
+    ghost use Rattle.cg_loop_syntax.specs.Well.{is_loop_name};
+    ghost use Rattle.cg_loop_text.specs.Words as words;
+    ghost use Rattle.cg_loop_text.specs.Read.{begins_with, begins_adding, begins_comparing};
+    ghost use Rattle.cg_loop_reader.specs.Kinds as kinds;
+    ghost use Rattle.cg_loop_reader.specs.declared.words.Beginning.TheVariants as begins;
+    ghost use Rattle.cg_loop_reader.specs.Left.{left, noted, IsNext, TakesSign};
+    ghost use Rattle.cg_loop_reader.specs.Found.{FindsAtom, FindsIndex, FindsProduct, FindsTerms, FindsSum, FindsExpr, FindsOperands, MissesAtom, MissesIndex, MissesExpr, MissesArgs};
+
+    /// Takes a `+` or a `-`, if it is the next token, and gives its operation.
+    fn adding(&mut self) -> Option<Op>
+        ensures taken { IfSome result (λ op. TakesSign words.added_by op self.old self.new) }
+        ensures none { IfNone result ((self.new ≡ self.old) × (begins_adding (left self.old) ≡ false)) }
+        ensures same { self.new.bytes ≡ self.old.bytes }
+    {
+        match self.next() {
+            Some(next) => {
+                let op = added_by(next.text)?;
+                self.take(next);
+                Some(op)
+            }
+            None => None,
+        }
+    }
+
+    /// Takes a comparison, if it is the next token, and gives its operation.
+    fn comparing(&mut self) -> Option<Op>
+        ensures taken { IfSome result (λ op. TakesSign words.compared_by op self.old self.new) }
+        ensures none { IfNone result ((self.new ≡ self.old) × (begins_comparing (left self.old) ≡ false)) }
+        ensures same { self.new.bytes ≡ self.old.bytes }
+    {
+        match self.next() {
+            Some(next) => {
+                let op = compared_by(next.text)?;
+                self.take(next);
+                Some(op)
+            }
+            None => None,
+        }
+    }
+
+    /// Takes the number `token`, which is the next.
+    fn number_atom(&mut self, token: Token<'a>, value: u32, room: u32) -> Result<Atom, Misfit>
+        requires next { IsNext self.old token }
+        requires is { words.is_number token.text.now ≡ true }
+        requires value { words.number_of token.text.now ≡ value }
+        ensures ok { IfOk result (λ atom. FindsAtom room atom self.old self.new) }
+        ensures misses { IfErr result (λ e. MissesAtom e room self.old self.new) }
+        ensures same { self.new.bytes ≡ self.old.bytes }
+    {
+        self.take(token);
+        Ok(Atom::Num(value))
+    }
+
+    /// Takes the word for the turn, which is the next token `token`.
+    fn turn_atom(&mut self, token: Token<'a>, room: u32) -> Result<Atom, Misfit>
+        requires next { IsNext self.old token }
+        requires is { token.text.now ≡ codes "turn" }
+        ensures ok { IfOk result (λ atom. FindsAtom room atom self.old self.new) }
+        ensures misses { IfErr result (λ e. MissesAtom e room self.old self.new) }
+        ensures same { self.new.bytes ≡ self.old.bytes }
+    {
+        self.take(token);
+        Ok(Atom::Turn)
+    }
+
+    /// Takes the word for an input, which is the next token `token`, and the port's number.
+    fn input_atom(&mut self, token: Token<'a>, room: u32) -> Result<Atom, Misfit>
+        requires next { IsNext self.old token }
+        requires is { token.text.now ≡ codes "in" }
+        ensures ok { IfOk result (λ atom. FindsAtom room atom self.old self.new) }
+        ensures misses { IfErr result (λ e. MissesAtom e room self.old self.new) }
+        ensures same { self.new.bytes ≡ self.old.bytes }
+    {
+        self.take(token);
+        let port = self.number()?;
+        self.note_port(Role::Input(port.value), port.place)?;
+        Ok(Atom::Input(port.value))
+    }
+
+    /// Takes an atom, while `room` more brackets may be opened.
+    #[cycle(reading)]
+    pub fn atom(&mut self, alloc: Global, room: u32) -> Result<Atom, Misfit>
+        requires { room ≤ 32 }
+        ensures ok { IfOk result (λ atom. FindsAtom room atom self.old self.new) }
+        ensures misses { IfErr result (λ e. MissesAtom e room self.old self.new) }
+        ensures same { self.new.bytes ≡ self.old.bytes }
+    {
+        let Some(next) = self.next() else {
+            return Err(Misfit::Text);
+        };
+        match beginning_of(next.text) {
+            Beginning::Number(value) => self.number_atom(next, value, room),
+            Beginning::Turn => self.turn_atom(next, room),
+            Beginning::In => self.input_atom(next, room),
+            Beginning::Name => self.named(alloc, room, next),
+            Beginning::Other => self.opened(alloc, room, next),
+        }
+    }
+
+    /// Takes the name `name`, which is the next token, and its index, if there is one.
+    #[cycle(reading)]
+    fn named(&mut self, alloc: Global, room: u32, name: Token<'a>) -> Result<Atom, Misfit>
+        requires room { room ≤ 32 }
+        requires next { IsNext self.old name }
+        requires is { is_loop_name name.text.now ≡ true }
+        ensures ok { IfOk result (λ atom. FindsAtom room atom self.old self.new) }
+        ensures misses { IfErr result (λ e. MissesAtom e room self.old self.new) }
+        ensures same { self.new.bytes ≡ self.old.bytes }
+    {
+        self.take(name);
+        let own = name_of(alloc, name.text)?;
+        self.index(alloc, room, name, own)
+    }
+
+    /// Takes the index behind the name `name`, if there is one.
+    #[cycle(reading)]
+    fn index(
+        &mut self,
+        alloc: Global,
+        room: u32,
+        name: Token<'a>,
+        own: Name,
+    ) -> Result<Atom, Misfit>
+        requires room { room ≤ 32 }
+        requires is { is_loop_name name.text.now ≡ true }
+        requires own { own ≡ name.text.now }
+        ensures ok { IfOk result (λ atom. FindsIndex room name.entry atom self.old self.new) }
+        ensures misses { IfErr result (λ e. MissesIndex e room self.old self.new) }
+        ensures same { self.new.bytes ≡ self.old.bytes }
+    {
+        if self.next_is(b"[") {
+            self.item(alloc, room, name, own)
+        } else {
+            self.scalar(room, name, own)
+        }
+    }
+
+    /// Notes the scalar `name`, behind which no index stands.
+    fn scalar(&mut self, room: u32, name: Token<'a>, own: Name) -> Result<Atom, Misfit>
+        requires is { is_loop_name name.text.now ≡ true }
+        requires own { own ≡ name.text.now }
+        requires alone { begins_with (codes "[") (left self.old) ≡ false }
+        ensures ok { IfOk result (λ atom. FindsIndex room name.entry atom self.old self.new) }
+        ensures misses { IfErr result (λ e. MissesIndex e room self.old self.new) }
+        ensures same { self.new.bytes ≡ self.old.bytes }
+    {
+        self.note(Role::Scalar, name)?;
+        Ok(Atom::Scalar(own))
+    }
+
+    /// Takes the index behind the name `name` of an array.
+    #[cycle(reading)]
+    fn item(&mut self, alloc: Global, room: u32, name: Token<'a>, own: Name) -> Result<Atom, Misfit>
+        requires room { room ≤ 32 }
+        requires is { is_loop_name name.text.now ≡ true }
+        requires own { own ≡ name.text.now }
+        requires opens { begins_with (codes "[") (left self.old) ≡ true }
+        ensures ok { IfOk result (λ atom. FindsIndex room name.entry atom self.old self.new) }
+        ensures misses { IfErr result (λ e. MissesIndex e room self.old self.new) }
+        ensures same { self.new.bytes ≡ self.old.bytes }
+    {
+        if room == 0 {
+            return Err(Misfit::Text);
+        }
+        self.note(Role::Item, name)?;
+        self.exactly(b"[")?;
+        let index = self.expr(alloc, room - 1)?;
+        self.exactly(b"]")?;
+        Ok(Atom::Item(own, Box::new(alloc, index)?))
+    }
+
+    /// Takes an atom that begins with the token `next`, which is the next one, and no number, name or word.
+    #[cycle(reading)]
+    fn opened(&mut self, alloc: Global, room: u32, next: Token<'a>) -> Result<Atom, Misfit>
+        requires room { room ≤ 32 }
+        requires next { IsNext self.old next }
+        requires other { kinds.beginning_of next.text.now ≡ begins.Other }
+        ensures ok { IfOk result (λ atom. FindsAtom room atom self.old self.new) }
+        ensures misses { IfErr result (λ e. MissesAtom e room self.old self.new) }
+        ensures same { self.new.bytes ≡ self.old.bytes }
+    {
+        if room == 0 {
+            return Err(Misfit::Text);
+        }
+        if same(next.text, b"(") {
+            return self.bracket(alloc, room, next);
+        }
+        match op_called(next.text) {
+            Some(op) => self.apply(alloc, room, next, op),
+            None => Err(Misfit::Text),
+        }
+    }
+
+    /// Takes an expression in the brackets of which `token`, the next token, is the first.
+    #[cycle(reading)]
+    fn bracket(&mut self, alloc: Global, room: u32, token: Token<'a>) -> Result<Atom, Misfit>
+        requires some { 0 < room }
+        requires room { room ≤ 32 }
+        requires next { IsNext self.old token }
+        requires is { bytes_eq token.text.now (codes "(") ≡ true }
+        ensures ok { IfOk result (λ atom. FindsAtom room atom self.old self.new) }
+        ensures misses { IfErr result (λ e. MissesAtom e room self.old self.new) }
+        ensures same { self.new.bytes ≡ self.old.bytes }
+    {
+        self.take(token);
+        let inner = self.expr(alloc, room - 1)?;
+        self.exactly(b")")?;
+        Ok(Atom::Bracket(Box::new(alloc, inner)?))
+    }
+
+    /// Takes the operation `op`, which `token`, the next token, calls, and its operands.
+    #[cycle(reading)]
+    fn apply(&mut self, alloc: Global, room: u32, token: Token<'a>, op: Op) -> Result<Atom, Misfit>
+        requires some { 0 < room }
+        requires room { room ≤ 32 }
+        requires next { IsNext self.old token }
+        requires called { words.op_called token.text.now ≡ Some op }
+        ensures ok { IfOk result (λ atom. FindsAtom room atom self.old self.new) }
+        ensures misses { IfErr result (λ e. MissesAtom e room self.old self.new) }
+        ensures same { self.new.bytes ≡ self.old.bytes }
+    {
+        self.take(token);
+        self.exactly(b"(")?;
+        let mut operands = Vec::new(alloc);
+        self.operands(alloc, room - 1, further_operands(op), &mut operands)?;
+        Ok(Atom::Apply(op, operands))
+    }
+
+    /// Takes an operand, `count` more, and the bracket behind them, and adds them to `operands`.
+    #[cycle(reading)]
+    fn operands(
+        &mut self,
+        alloc: Global,
+        room: u32,
+        count: u32,
+        operands: &mut Vec<Expr>,
+    ) -> Result<(), Misfit>
+        requires room { room ≤ 31 }
+        requires count { count ≤ 2 }
+        ensures ok { OnOk result (FindsOperands room count operands.old.items operands.new.items self.old self.new) }
+        ensures misses { IfErr result (λ e. MissesArgs e room count self.old self.new) }
+        ensures same { self.new.bytes ≡ self.old.bytes }
+    {
+        let operand = self.expr(alloc, room)?;
+        operands.push(operand)?;
+        if count == 0 {
+            self.exactly(b")")?;
+        } else {
+            self.exactly(b",")?;
+            self.operands(alloc, room, count - 1, operands)?;
+        }
+        Ok(())
+    }
+
+    /// Takes a product.
+    #[cycle(reading)]
+    fn prod(&mut self, alloc: Global, room: u32) -> Result<Prod, Misfit>
+        requires { room ≤ 32 }
+        ensures ok { IfOk result (λ prod. FindsProduct room prod.atoms.items self.old self.new) }
+        ensures ends { OnOk result (begins_with (codes "*") (left self.new) ≡ false) }
+        ensures misses { IfErr result (λ e. MissesAtom e room self.old self.new) }
+        ensures same { self.new.bytes ≡ self.old.bytes }
+    {
+        let mut atoms = Vec::new(alloc);
+        atoms.push(self.atom(alloc, room)?)?;
+        while self.skip(b"*") {
+            atoms.push(self.atom(alloc, room)?)?;
+        }
+        Ok(Prod { atoms })
+    }
+
+    /// Takes a sum.
+    #[cycle(reading)]
+    fn sum(&mut self, alloc: Global, room: u32) -> Result<Sum, Misfit>
+        requires { room ≤ 32 }
+        ensures ok { IfOk result (λ sum. FindsSum room sum self.old self.new) }
+        ensures ends { OnOk result ((begins_with (codes "*") (left self.new) ≡ false) × (begins_adding (left self.new) ≡ false)) }
+        ensures misses { IfErr result (λ e. MissesAtom e room self.old self.new) }
+        ensures same { self.new.bytes ≡ self.old.bytes }
+    {
+        let first = self.prod(alloc, room)?;
+        let mut rest = Vec::new(alloc);
+        while let Some(op) = self.adding() {
+            let prod = self.prod(alloc, room)?;
+            rest.push(Term { op, prod })?;
+        }
+        Ok(Sum { first, rest })
+    }
+
+    /// Takes an expression, while `room` more brackets may be opened.
+    #[cycle(reading)]
+    pub fn expr(&mut self, alloc: Global, room: u32) -> Result<Expr, Misfit>
+        requires { room ≤ 32 }
+        ensures ok { IfOk result (λ expr. FindsExpr room expr self.old self.new) }
+        ensures misses { IfErr result (λ e. MissesExpr e room self.old self.new) }
+        ensures same { self.new.bytes ≡ self.old.bytes }
+    {
+        let first = self.sum(alloc, room)?;
+        match self.comparing() {
+            Some(op) => {
+                let second = self.sum(alloc, room)?;
+                let compare = Some(Compare { op, second });
+                Ok(Expr { first, compare })
+            }
+            None => {
+                let compare = None;
+                Ok(Expr { first, compare })
+            }
+        }
+    }
+}
