@@ -1,0 +1,4 @@
+pub mod Excess
+pub mod Costs
+pub mod Known
+pub mod Made

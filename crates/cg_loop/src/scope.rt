@@ -1,0 +1,59 @@
+//! What names and arrays are at a place of a loop.
+ghost use Rattle.std.specs.Prelude.{◌≡◌};
+ghost use Rattle.cg_loop_syntax.specs.Loop.{extent};
+ghost use Rattle.cg_loop.specs.Known.{extent_from};
+
+use crate::names::{Named, Value, value_of};
+use cg_loop_syntax::{Decl, Name};
+
+/// What is known at a place of a loop: its declarations, and what names stand for.
+#[derive(Drop)]
+pub(crate) struct Scope<'s> {
+    pub decls: &'s [Decl],
+    pub known: &'s [Named<'s>],
+}
+
+/// Where an array stands.
+#[derive(Clone, Copy, Debug, PartialEq, Eq)]
+pub(crate) struct Extent {
+    pub at: u32,
+    pub len: u32,
+}
+
+impl<'s> Scope<'s> {
+    ghost use Rattle.std.specs.Prelude.{◌≡◌};
+    ghost use Rattle.cg_loop_syntax.specs.Loop.{extent};
+    ghost use Rattle.cg_loop.specs.Known.{env_in, extent_from, operand_of};
+
+    /// Returns what the scalar `name` stands for.
+    pub fn value_of(&self, name: &Name) -> Value
+        ensures { operand_of result ≡ env_in self.now name.now }
+    {
+        value_of(self.known, name)
+    }
+
+    /// Returns where the array `name` stands.
+    pub fn extent_of(&self, name: &Name) -> Extent
+        ensures { extent_from result ≡ extent self.now.decls.now name.now }
+    {
+        extent_of(self.decls, name)
+    }
+}
+
+/// Returns where the array `name` of `decls` stands; an empty extent where there is none.
+fn extent_of(decls: &[Decl], name: &Name) -> Extent
+    ensures { extent_from result ≡ extent decls.now name.now }
+{
+    for decl in decls {
+        if let Decl::Array {
+            name: array,
+            at,
+            len,
+        } = decl
+            && name.as_str() == array.as_str()
+        {
+            return Extent { at: *at, len: *len };
+        }
+    }
+    Extent { at: 0, len: 0 }
+}
