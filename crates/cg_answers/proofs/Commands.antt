@@ -4,7 +4,7 @@ use Rattle.cg_ending.specs.declared.outcome.Status.{Status}
 use Rattle.cg_ending.specs.declared.outcome.Status.TheVariants.{Done, Impossible}
 use Rattle.cg_ending.specs.Outcome.{Name, File, Outcome}
 use Rattle.cg_command.specs.declared.plans.Command.{Command}
-use Rattle.cg_command.specs.declared.plans.Command.TheVariants.{Turns, TurnsOnImage, Flat, Run, Bound, Check, Emit, Map, Search, Trial, Verilog, Depend, Migrate}
+use Rattle.cg_command.specs.declared.plans.Command.TheVariants.{Turns, TurnsOnImage, Flat, Run, Bound, Check, Emit, Map, Search, Trial, Verilog, Loop, Depend, Migrate}
 use Rattle.cg_inputs.proofs.Sound.{owns, IsSound, IsNamed}
 use Rattle.cg_run_answers.proofs.TurnsAnswers.{sound_turns, quiet_turns, accepted_turns}
 use Rattle.cg_run_answers.proofs.OnImage.{same_on_image, sound_on_image, accepted_on_image, named_on_image}
@@ -16,6 +16,7 @@ use Rattle.cg_mapping_answers.proofs.Checked.{same_check, sound_check, accepted_
 use Rattle.cg_mapping_answers.proofs.Bitstream.{same_emit, sound_emit, accepted_emit, named_emit}
 use Rattle.cg_map_answers.proofs.Searched.{same_map, sound_map, accepted_map, forbidden_map, quiet_map, named_map}
 use Rattle.cg_search_answers.proofs.Searched.{agree_search, sound_search, accepted_search, forbidden_search, quiet_search, named_search}
+use Rattle.cg_loop_answers.proofs.Looped.{same_loop, sound_loop, accepted_loop, named_loop}
 use Rattle.cg_answers.specs.Commands.{IsAnswer, Accepts, Forbids, AgreeIn}
 use Rattle.cg_answers.proofs.Trialed.{same_trial, sound_trial, accepted_trial, quiet_trial}
 use Rattle.cg_answers.proofs.Netlisted.{same_verilog, sound_verilog, accepted_verilog, named_verilog}
@@ -36,6 +37,7 @@ agree_in (Map s) (f ∷ g ∷ []) outs a b p q = same_map s f g outs a b p q
 agree_in (Search s) (f ∷ g ∷ []) outs a b p q = agree_search s f g outs a b p q
 agree_in (Trial seed) [] [] a b p q = same_trial seed a b p q
 agree_in Verilog (f ∷ []) (out ∷ []) a b p q = same_verilog f out a b p q
+agree_in Loop (f ∷ []) (out ∷ []) a b p q = same_loop f out a b p q
 agree_in Depend (f ∷ []) (out ∷ []) a b p q = same_depend f out a b p q
 agree_in Migrate (f ∷ g ∷ []) (out ∷ []) a b p q = same_migrate f g out a b p q
 agree_in _ _ _ a b p q = absurd p
@@ -69,6 +71,7 @@ sound (Map s) (f ∷ g ∷ []) outs o p = sound_map s outs f g o p
 sound (Search s) (f ∷ g ∷ []) outs o p = sound_search s outs f g o p
 sound (Trial seed) [] [] o p = sound_trial seed o p
 sound Verilog (f ∷ []) (out ∷ []) o p = sound_verilog f out o p
+sound Loop (f ∷ []) (out ∷ []) o p = sound_loop f out o p
 sound Depend (f ∷ []) (out ∷ []) o p = sound_depend f out o p
 sound Migrate (f ∷ g ∷ []) (out ∷ []) o p = sound_migrate f g out o p
 sound _ _ _ o p = absurd p
@@ -87,6 +90,7 @@ accepted (Map s) (f ∷ g ∷ []) outs o a p = accepted_map s f g outs o a p
 accepted (Search s) (f ∷ g ∷ []) outs o a p = accepted_search s f g outs o a p
 accepted (Trial seed) [] [] o a p = accepted_trial seed o p
 accepted Verilog (f ∷ []) (out ∷ []) o a p = accepted_verilog f out a.0 o a.1 p
+accepted Loop (f ∷ []) (out ∷ []) o a p = accepted_loop f out o a p
 accepted Depend (f ∷ []) (out ∷ []) o a p = accepted_depend f out o a p
 accepted Migrate (f ∷ g ∷ []) (out ∷ []) o a p = accepted_migrate f g out o a p
 accepted _ _ _ o a p = absurd p
@@ -142,6 +146,9 @@ quiet (Trial seed) (f ∷ fs) o p = absurd p
 quiet Verilog [] o p = absurd p
 quiet Verilog (f ∷ []) o p = absurd p
 quiet Verilog (f ∷ g ∷ fs) o p = absurd p
+quiet Loop [] o p = absurd p
+quiet Loop (f ∷ []) o p = absurd p
+quiet Loop (f ∷ g ∷ fs) o p = absurd p
 quiet Depend [] o p = absurd p
 quiet Depend (f ∷ []) o p = absurd p
 quiet Depend (f ∷ g ∷ fs) o p = absurd p
@@ -164,6 +171,7 @@ named (Map s) (f ∷ g ∷ []) outs o p = named_map s outs f g o p
 named (Search s) (f ∷ g ∷ []) outs o p = named_search s outs f g o p
 named (Trial seed) [] [] o p = inr (quiet_trial seed o p)
 named Verilog (f ∷ []) (out ∷ []) o p = named_verilog f out o p
+named Loop (f ∷ []) (out ∷ []) o p = named_loop f out o p
 named Depend (f ∷ []) (out ∷ []) o p = named_depend f out o p
 named Migrate (f ∷ g ∷ []) (out ∷ []) o p = named_migrate f g out o p
 named _ _ _ o p = absurd p

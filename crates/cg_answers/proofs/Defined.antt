@@ -2,7 +2,7 @@
 use Rattle.std.proofs.Common.{◌≡◌, ◌⊎◌, inl, inr, ℕ, List, [], ◌∷◌, length, refl, arith}
 use Rattle.cg_ending.specs.Outcome.{Name, File, Outcome}
 use Rattle.cg_command.specs.declared.plans.Command.{Command}
-use Rattle.cg_command.specs.declared.plans.Command.TheVariants.{Turns, TurnsOnImage, Flat, Run, Bound, Check, Emit, Map, Search, Trial, Verilog, Depend, Migrate}
+use Rattle.cg_command.specs.declared.plans.Command.TheVariants.{Turns, TurnsOnImage, Flat, Run, Bound, Check, Emit, Map, Search, Trial, Verilog, Loop, Depend, Migrate}
 use Rattle.cg_command.specs.Words.{HasShape}
 use Rattle.cg_run_answers.specs.Turns.{turns_of}
 use Rattle.cg_run_answers.proofs.OnImage.{some_on_image}
@@ -14,6 +14,7 @@ use Rattle.cg_mapping_answers.proofs.Checked.{some_check}
 use Rattle.cg_mapping_answers.proofs.Bitstream.{some_emit}
 use Rattle.cg_map_answers.proofs.Searched.{some_map}
 use Rattle.cg_search_answers.proofs.Searched.{some_search_outcome}
+use Rattle.cg_loop_answers.proofs.Looped.{some_loop}
 use Rattle.cg_answers.specs.Commands.{IsAnswer}
 use Rattle.cg_answers.proofs.Trialed.{some_trial}
 use Rattle.cg_answers.proofs.Netlisted.{some_verilog}
@@ -86,6 +87,11 @@ some_outcome Verilog [] outputs shape = absurd (omega (arith, shape.0))
 some_outcome Verilog (f ∷ g ∷ fs) outputs shape = absurd (omega (arith, shape.0))
 some_outcome Verilog (f ∷ []) [] shape = absurd (omega (arith, shape.1))
 some_outcome Verilog (f ∷ []) (out ∷ other ∷ outs) shape = absurd (omega (arith, shape.1))
+some_outcome Loop (f ∷ []) (out ∷ []) shape = some_loop f out
+some_outcome Loop [] outputs shape = absurd (omega (arith, shape.0))
+some_outcome Loop (f ∷ g ∷ fs) outputs shape = absurd (omega (arith, shape.0))
+some_outcome Loop (f ∷ []) [] shape = absurd (omega (arith, shape.1))
+some_outcome Loop (f ∷ []) (out ∷ other ∷ outs) shape = absurd (omega (arith, shape.1))
 some_outcome Depend (f ∷ []) (out ∷ []) shape = some_depend f out
 some_outcome Depend [] outputs shape = absurd (omega (arith, shape.0))
 some_outcome Depend (f ∷ g ∷ fs) outputs shape = absurd (omega (arith, shape.0))

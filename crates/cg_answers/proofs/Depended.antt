@@ -11,6 +11,7 @@ use Rattle.cg_ending.specs.Ends.{Moment, Completed, Wrote}
 use Rattle.cg_kernel.specs.declared.fault.KernelFault.{KernelFault}
 use Rattle.cg_kernel.specs.Answer.{answer_of}
 use Rattle.cg_kernel.proofs.Spelled.{spelled_valid}
+use Rattle.cg_kernel_text.specs.Printed.{kernel_text}
 use Rattle.cg_depend.specs.Depend.{AreNeeded, with_order}
 use Rattle.cg_depend.proofs.Always.{some_list}
 use Rattle.cg_depend.proofs.Ordered.{same_left, unaliased}
@@ -18,7 +19,7 @@ use Rattle.cg_depend.proofs.Unique.{one_list}
 use Rattle.cg_inputs.proofs.Sound.{IsSound, plain, IsNamed}
 use Rattle.cg_inputs.proofs.Wholes.{whole, one_write, differ}
 use Rattle.cg_inputs.specs.Refused.{RefusesKernel}
-use Rattle.cg_answers.specs.Depend.{DependBy, DependOf, IsDependOf, IsDependable, IsDepended, depend_by_edges, depended, too_many, order_with, kernel_text}
+use Rattle.cg_answers.specs.Depend.{DependBy, DependOf, IsDependOf, IsDependable, IsDepended, depend_by_edges, depended, too_many, order_with}
 
 -- ---- status and writes
 

@@ -7,7 +7,7 @@ use Rattle.cg_check.specs.Legal.{Mapped}
 use Rattle.cg_check.specs.declared.rule.Violation.{Violation}
 use Rattle.cg_check.specs.Rules.{violation}
 use Rattle.cg_command.specs.declared.plans.Command.{Command}
-use Rattle.cg_command.specs.declared.plans.Command.TheVariants.{Turns, TurnsOnImage, Flat, Run, Bound, Check, Emit, Map, Search, Trial, Verilog, Depend, Migrate}
+use Rattle.cg_command.specs.declared.plans.Command.TheVariants.{Turns, TurnsOnImage, Flat, Run, Bound, Check, Emit, Map, Search, Trial, Verilog, Loop, Depend, Migrate}
 use Rattle.cg_mapping_answers.specs.Emit.{IsEmittedBy, IsEmission}
 use Rattle.cg_mapping_answers.proofs.Checked.{quiet_check}
 use Rattle.cg_answers.specs.Commands.{IsAnswer, judges}
@@ -48,5 +48,6 @@ judged (Map s) files outputs o j p said = absurd (not_judging j)
 judged (Search s) files outputs o j p said = absurd (not_judging j)
 judged (Trial seed) files outputs o j p said = absurd (not_judging j)
 judged Verilog files outputs o j p said = absurd (not_judging j)
+judged Loop files outputs o j p said = absurd (not_judging j)
 judged Depend files outputs o j p said = absurd (not_judging j)
 judged Migrate files outputs o j p said = absurd (not_judging j)

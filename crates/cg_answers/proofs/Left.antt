@@ -7,7 +7,7 @@ use Rattle.cg_ending.specs.Outcome.{Name, File, Outcome}
 use Rattle.cg_ending.specs.Reads.{AreRead, HoldsBytes}
 use Rattle.cg_ending.specs.Ends.{Moment, Completed}
 use Rattle.cg_command.specs.declared.plans.Command.{Command}
-use Rattle.cg_command.specs.declared.plans.Command.TheVariants.{Turns, TurnsOnImage, Flat, Run, Bound, Check, Emit, Map, Search, Trial, Verilog, Depend, Migrate}
+use Rattle.cg_command.specs.declared.plans.Command.TheVariants.{Turns, TurnsOnImage, Flat, Run, Bound, Check, Emit, Map, Search, Trial, Verilog, Loop, Depend, Migrate}
 use Rattle.cg_inputs.proofs.Wholes.{one_read, first_read, second_read, three_read}
 use Rattle.cg_run_answers.proofs.TurnsAnswers.{turned_left}
 use Rattle.cg_run_answers.proofs.OnImage.{ordered_left, unordered_left}
@@ -19,6 +19,7 @@ use Rattle.cg_mapping_answers.proofs.Checked.{legal_left, illegal_left}
 use Rattle.cg_mapping_answers.proofs.Bitstream.{emitted_left, unemitted_left}
 use Rattle.cg_map_answers.proofs.Searched.{map_left, impossible_left, spent_left}
 use Rattle.cg_search_answers.proofs.Searched.{search_left, search_impossible_left, search_spent_left}
+use Rattle.cg_loop_answers.proofs.Looped.{looped_left}
 use Rattle.cg_answers.specs.Commands.{IsAnswer, Leaves, LeavesDone, LeavesNo, LeavesImpossible, LeavesSpent}
 use Rattle.cg_inputs.proofs.Sound.{never}
 use Rattle.cg_answers.proofs.Commands.{owns_of, sound}
@@ -75,6 +76,7 @@ left_done (Search s) (f ∷ g ∷ []) outs o before after read bytes answer is d
     search_left s f.name g.name outs f g before after (first_read before.held f.name g.name f g read) (second_read before.held f.name g.name f g read) o answer is done
 left_done (Trial seed) [] [] o before after read bytes answer is done = trial_left seed o before after answer is done
 left_done Verilog (f ∷ []) (out ∷ []) o before after read bytes answer is done = netlisted_left f.name out f o before after (one_read before.held f.name f read) answer is done
+left_done Loop (f ∷ []) (out ∷ []) o before after read bytes answer is done = looped_left f.name out f o before after (one_read before.held f.name f read) is done answer
 left_done Depend (f ∷ []) (out ∷ []) o before after read bytes answer is done = depended_left f.name out f o before after (one_read before.held f.name f read) is done answer
 left_done Migrate (f ∷ g ∷ []) (out ∷ []) o before after read bytes answer is done =
     migrated_left f.name g.name out f g o before after (first_read before.held f.name g.name f g read) (second_read before.held f.name g.name f g read)
@@ -99,6 +101,7 @@ left_no (Map s) files outputs o before after read answer is done = absurd (never
 left_no (Search s) files outputs o before after read answer is done = absurd (never (owns_of (Search s)) No o (sound (Search s) files outputs o answer) refl is)
 left_no (Trial seed) files outputs o before after read answer is done = absurd (never (owns_of (Trial seed)) No o (sound (Trial seed) files outputs o answer) refl is)
 left_no Verilog files outputs o before after read answer is done = absurd (never (owns_of Verilog) No o (sound Verilog files outputs o answer) refl is)
+left_no Loop files outputs o before after read answer is done = absurd (never (owns_of Loop) No o (sound Loop files outputs o answer) refl is)
 left_no Depend files outputs o before after read answer is done = absurd (never (owns_of Depend) No o (sound Depend files outputs o answer) refl is)
 left_no Migrate files outputs o before after read answer is done = absurd (never (owns_of Migrate) No o (sound Migrate files outputs o answer) refl is)
 left_no _ _ _ o before after read answer is done = absurd answer
@@ -118,6 +121,7 @@ left_impossible Check files outputs o before after read answer is done = absurd 
 left_impossible Emit files outputs o before after read answer is done = absurd (never (owns_of Emit) Impossible o (sound Emit files outputs o answer) refl is)
 left_impossible (Trial seed) files outputs o before after read answer is done = absurd (never (owns_of (Trial seed)) Impossible o (sound (Trial seed) files outputs o answer) refl is)
 left_impossible Verilog files outputs o before after read answer is done = absurd (never (owns_of Verilog) Impossible o (sound Verilog files outputs o answer) refl is)
+left_impossible Loop files outputs o before after read answer is done = absurd (never (owns_of Loop) Impossible o (sound Loop files outputs o answer) refl is)
 left_impossible Depend files outputs o before after read answer is done = absurd (never (owns_of Depend) Impossible o (sound Depend files outputs o answer) refl is)
 left_impossible Migrate files outputs o before after read answer is done = absurd (never (owns_of Migrate) Impossible o (sound Migrate files outputs o answer) refl is)
 left_impossible _ _ _ o before after read answer is done = absurd answer
@@ -137,6 +141,7 @@ left_spent Check files outputs o before after read answer is done = absurd (neve
 left_spent Emit files outputs o before after read answer is done = absurd (never (owns_of Emit) BudgetSpent o (sound Emit files outputs o answer) refl is)
 left_spent (Trial seed) files outputs o before after read answer is done = absurd (never (owns_of (Trial seed)) BudgetSpent o (sound (Trial seed) files outputs o answer) refl is)
 left_spent Verilog files outputs o before after read answer is done = absurd (never (owns_of Verilog) BudgetSpent o (sound Verilog files outputs o answer) refl is)
+left_spent Loop files outputs o before after read answer is done = absurd (never (owns_of Loop) BudgetSpent o (sound Loop files outputs o answer) refl is)
 left_spent Depend files outputs o before after read answer is done = absurd (never (owns_of Depend) BudgetSpent o (sound Depend files outputs o answer) refl is)
 left_spent Migrate files outputs o before after read answer is done = absurd (never (owns_of Migrate) BudgetSpent o (sound Migrate files outputs o answer) refl is)
 left_spent _ _ _ o before after read answer is done = absurd answer

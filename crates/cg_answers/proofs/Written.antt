@@ -5,7 +5,7 @@ use Rattle.cg_ending.specs.Outcome.{Name, File, Outcome}
 use Rattle.cg_ending.specs.Reads.{AreRead}
 use Rattle.cg_ending.specs.Ends.{Moment}
 use Rattle.cg_command.specs.declared.plans.Command.{Command}
-use Rattle.cg_command.specs.declared.plans.Command.TheVariants.{Turns, TurnsOnImage, Flat, Run, Bound, Check, Emit, Map, Search, Trial, Verilog, Depend, Migrate}
+use Rattle.cg_command.specs.declared.plans.Command.TheVariants.{Turns, TurnsOnImage, Flat, Run, Bound, Check, Emit, Map, Search, Trial, Verilog, Loop, Depend, Migrate}
 use Rattle.cg_inputs.proofs.Wholes.{first_read, second_read, three_read}
 use Rattle.cg_task_answers.specs.Runs.{FirstRuns}
 use Rattle.cg_mapping_answers.specs.Emit.{FirstRunsRead}
@@ -44,6 +44,7 @@ free Bound (w ∷ ws) inputs before h = tt
 free Check (w ∷ ws) inputs before h = tt
 free (Trial seed) (w ∷ ws) inputs before h = tt
 free Verilog (w ∷ ws) inputs before h = tt
+free Loop (w ∷ ws) inputs before h = tt
 free Depend (w ∷ ws) inputs before h = tt
 free Migrate (w ∷ ws) inputs before h = tt
 free Emit (w ∷ ws) inputs before h = absurd (cc)
@@ -69,6 +70,7 @@ by_names Bound files outputs o before read answer = free Bound o.writes (names_i
 by_names Check files outputs o before read answer = free Check o.writes (names_in files) before refl
 by_names (Trial seed) files outputs o before read answer = free (Trial seed) o.writes (names_in files) before refl
 by_names Verilog files outputs o before read answer = free Verilog o.writes (names_in files) before refl
+by_names Loop files outputs o before read answer = free Loop o.writes (names_in files) before refl
 by_names Depend files outputs o before read answer = free Depend o.writes (names_in files) before refl
 by_names Migrate files outputs o before read answer = free Migrate o.writes (names_in files) before refl
 by_names _ _ _ o before read answer = absurd answer

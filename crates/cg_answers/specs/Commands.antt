@@ -7,7 +7,7 @@ use Rattle.cg_ending.specs.Outcome.{Name, File, Outcome}
 use Rattle.cg_ending.specs.Ends.{Moment}
 use Rattle.cg_kernel.specs.Answer.{answer_of}
 use Rattle.cg_command.specs.declared.plans.Command.{Command}
-use Rattle.cg_command.specs.declared.plans.Command.TheVariants.{Turns, TurnsOnImage, Flat, Run, Bound, Check, Emit, Map, Search, Trial, Verilog, Depend, Migrate}
+use Rattle.cg_command.specs.declared.plans.Command.TheVariants.{Turns, TurnsOnImage, Flat, Run, Bound, Check, Emit, Map, Search, Trial, Verilog, Loop, Depend, Migrate}
 use Rattle.cg_pad.specs.Bytes as images
 use Rattle.cg_model.specs.Work.{Image}
 use Rattle.cg_model.specs.Array.{Arch}
@@ -27,6 +27,7 @@ use Rattle.cg_task_answers.specs.Runs.{RunsOfPair}
 use Rattle.cg_search_answers.specs.Search.{IsSearch, IsSearchable, IsSearchRun, IsSearchSpentRun, AreAgreed}
 use Rattle.cg_answers.specs.Trial.{IsTrialOf, IsTrialRun}
 use Rattle.cg_answers.specs.Verilog.{IsVerilog, IsNetlisted}
+use Rattle.cg_loop_answers.specs.Loop.{IsLoopOf, IsTranslatable, IsLooped}
 use Rattle.cg_answers.specs.Depend.{IsDependOf, IsDependable, IsDepended}
 use Rattle.cg_answers.specs.Migrate.{IsMigrate, IsMigratable, IsMigrated}
 
@@ -44,6 +45,7 @@ IsAnswer (Map s) (arch ∷ kernel ∷ []) outs o = IsMap s arch kernel outs o
 IsAnswer (Search s) (arch ∷ kernel ∷ []) outs o = IsSearch s arch kernel outs o
 IsAnswer (Trial seed) [] [] o = IsTrialOf seed o
 IsAnswer Verilog (file ∷ []) (out ∷ []) o = IsVerilog file out o
+IsAnswer Loop (file ∷ []) (out ∷ []) o = IsLoopOf file out o
 IsAnswer Depend (file ∷ []) (out ∷ []) o = IsDependOf file out o
 IsAnswer Migrate (arch ∷ file ∷ []) (out ∷ []) o = IsMigrate arch file out o
 IsAnswer _ _ _ o = ⊥
@@ -84,6 +86,7 @@ Accepts (Map s) (arch ∷ kernel ∷ []) = IsMappable s arch kernel
 Accepts (Search s) (arch ∷ kernel ∷ []) = IsSearchable s arch kernel
 Accepts (Trial seed) [] = Unit {0}
 Accepts Verilog (file ∷ []) = GivesArch file
+Accepts Loop (file ∷ []) = IsTranslatable file
 Accepts Depend (file ∷ []) = IsDependable file
 Accepts Migrate (arch ∷ file ∷ []) = IsMigratable arch file
 Accepts _ _ = ⊥
@@ -117,6 +120,7 @@ LeavesDone (Map s) (arch ∷ kernel ∷ []) outs before after = IsMapRun s arch 
 LeavesDone (Search s) (arch ∷ kernel ∷ []) outs before after = IsSearchRun s arch kernel outs before after
 LeavesDone (Trial seed) [] [] before after = IsTrialRun seed before after
 LeavesDone Verilog (file ∷ []) (out ∷ []) before after = IsNetlisted file out before after
+LeavesDone Loop (file ∷ []) (out ∷ []) before after = IsLooped file out before after
 LeavesDone Depend (file ∷ []) (out ∷ []) before after = IsDepended file out before after
 LeavesDone Migrate (arch ∷ file ∷ []) (out ∷ []) before after = IsMigrated arch file out before after
 LeavesDone _ _ _ before after = ⊥

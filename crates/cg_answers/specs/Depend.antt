@@ -1,6 +1,5 @@
 -- `depend KERNEL OUT`.
 use Rattle.std.specs.Prelude.{◌≡◌, ℕ, ◌≤◌, ◌+◌, nat_lt, if◌then◌else◌, List, length, Result, Ok, Err, codes, decimal, [], ◌∷◌}
-use Rattle.serde_json.specs.Written.{compact_text}
 use Rattle.cg_model.specs.Limits.{most_order_edges}
 use Rattle.cg_model.specs.Kernel.{Kernel}
 use Rattle.cg_model.specs.declared.kernel.OrderEdge.{OrderEdge}
@@ -15,7 +14,7 @@ use Rattle.cg_ending.specs.Refusals.{malformed_of, writes_one}
 use Rattle.cg_kernel.specs.declared.fault.KernelFault.{KernelFault}
 use Rattle.cg_kernel.specs.Answer.{answer_of}
 use Rattle.cg_kernel.specs.Texts.{kernel_fault_text}
-use Rattle.cg_kernel_text.specs.Printed.{data_of}
+use Rattle.cg_kernel_text.specs.Printed.{kernel_text}
 use Rattle.cg_depend.specs.declared.fault.DependFault.TheVariants.{TooManyEdges}
 use Rattle.cg_depend.specs.Depend.{AreNeeded, with_order}
 use Rattle.cg_depend.specs.Texts.{depend_fault_text}
@@ -23,10 +22,6 @@ use Rattle.cg_depend.specs.Texts.{depend_fault_text}
 -- the report: `added` order edges were added, and the kernel has `all`
 abbrev pub depend_report : ℕ → ℕ → Bytes
 depend_report added all = line_then (codes "added " ∷ decimal added ∷ []) (line_of (codes "order " ∷ decimal all ∷ []))
-
--- the text of a kernel
-abbrev pub kernel_text : Kernel → Bytes
-kernel_text K = compact_text (data_of K)
 
 -- how many order edges K has with es
 abbrev pub order_with : Kernel → List OrderEdge → ℕ

@@ -39,6 +39,7 @@ fn answer_to(
         Command::Search(request) => shaped::search(alloc, request, files, outputs),
         Command::Trial { seed } => shaped::trial(alloc, seed, files, outputs),
         Command::Verilog => shaped::verilog(alloc, files, outputs),
+        Command::Loop => shaped::loop_kernel(alloc, files, outputs),
         Command::Depend => shaped::depend(alloc, files, outputs),
         Command::Migrate => shaped::migrate(alloc, files, outputs),
     }

@@ -147,6 +147,18 @@ pub(crate) fn verilog(alloc: Global, files: &[File], outputs: &[String]) -> Resu
     netlisting::verilog(alloc, &files[0], outputs[0].as_str())
 }
 
+/// Answers `loop SOURCE OUT` over `files`; `outputs` is the name of the kernel.
+pub(crate) fn loop_kernel(
+    alloc: Global,
+    files: &[File],
+    outputs: &[String],
+) -> Result<Outcome, Stop>
+    requires { HasShape (Command.Loop) (length files.now) (length outputs.now) }
+    ensures { Allows (IsAnswer (Command.Loop) (map file_of files.now) (map string_bytes outputs.now)) result }
+{
+    cg_loop_answers::loop_answer(alloc, &files[0], outputs[0].as_str())
+}
+
 /// Answers `depend KERNEL OUT` over `files`; `outputs` is the name of the new kernel.
 pub(crate) fn depend(alloc: Global, files: &[File], outputs: &[String]) -> Result<Outcome, Stop>
     requires { HasShape (Command.Depend) (length files.now) (length outputs.now) }

@@ -6,7 +6,7 @@ use Rattle.std.specs.Str.Parse.{digits_value}
 use Rattle.std.proofs.lemmas.Bool.{leb-true}
 use Rattle.cg_model.specs.Limits.{most_turns, most_contexts, most_moves}
 use Rattle.cg_command.specs.declared.plans.Command.{Command}
-use Rattle.cg_command.specs.declared.plans.Command.TheVariants.{Turns, TurnsOnImage, Flat, Run, Bound, Check, Emit, Map, Search, Trial, Verilog, Depend, Migrate}
+use Rattle.cg_command.specs.declared.plans.Command.TheVariants.{Turns, TurnsOnImage, Flat, Run, Bound, Check, Emit, Map, Search, Trial, Verilog, Loop, Depend, Migrate}
 use Rattle.cg_model.specs.declared.request.Request.{Request}
 use Rattle.cg_model.specs.Request.{IsInRange}
 use Rattle.cg_command.specs.Words.{Text, Given, Arguments, Plan, HasShape, values_said, said_once, asked_interval, named_file, request_of, written_plan, searching_plan, map_plan, search_plan, usual_moves, usual_responses, positive, seed_of, moves_of, is_number, number_up_to, turns_of, turns_plan, file_plan, array_plan, run_plan, takes, with_options, search_options, run_options, bound_plan, check_plan, emit_plan, trial_plan, migrate_plan, is_empty, without_options, command_plan, arguments_of, plan_of}
@@ -207,8 +207,9 @@ command_shaped name said =
     (either_shaped (bytes_eq name (codes "search")) (with_options search_options search_plan said) _ (with_shaped search_options search_plan said (search_shaped said))
     (either_shaped (bytes_eq name (codes "trial")) (without_options trial_plan said) _ (without_shaped trial_plan said (trial_shaped said.words))
     (either_shaped (bytes_eq name (codes "verilog")) (without_options (file_plan Verilog) said) _ (without_shaped (file_plan Verilog) said (file_shaped Verilog (refl, refl) said.words))
+    (either_shaped (bytes_eq name (codes "loop")) (without_options (file_plan Loop) said) _ (without_shaped (file_plan Loop) said (file_shaped Loop (refl, refl) said.words))
     (either_shaped (bytes_eq name (codes "depend")) (without_options (file_plan Depend) said) _ (without_shaped (file_plan Depend) said (file_shaped Depend (refl, refl) said.words))
-    (either_shaped (bytes_eq name (codes "migrate")) (without_options migrate_plan said) None (without_shaped migrate_plan said (migrate_shaped said.words)) none_shaped)))))))))))
+    (either_shaped (bytes_eq name (codes "migrate")) (without_options migrate_plan said) None (without_shaped migrate_plan said (migrate_shaped said.words)) none_shaped))))))))))))
 
 said_shaped : (name : Text) (o : Option Arguments) → AreShaped (option_and_then (command_plan name) o)
 said_shaped name None = none_shaped

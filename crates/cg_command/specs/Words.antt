@@ -6,7 +6,7 @@ use Rattle.cg_model.specs.Limits.{most_turns}
 use Rattle.cg_model.specs.Request.{IsInRange}
 pub use Rattle.cg_command.specs.Numbers.{Text, is_number, number_up_to, positive, turns_of, interval_of, seed_of, moves_of, usual_seed, usual_moves, usual_responses}
 use Rattle.cg_command.specs.declared.plans.Command.{Command}
-use Rattle.cg_command.specs.declared.plans.Command.TheVariants.{Turns, TurnsOnImage, Flat, Run, Bound, Check, Emit, Map, Search, Trial, Verilog, Depend, Migrate}
+use Rattle.cg_command.specs.declared.plans.Command.TheVariants.{Turns, TurnsOnImage, Flat, Run, Bound, Check, Emit, Map, Search, Trial, Verilog, Loop, Depend, Migrate}
 use Rattle.cg_model.specs.declared.request.Request.{Request}
 use Rattle.cg_command.specs.declared.plans.Plan.{Plan as PlanValue}
 use Rattle.cg_command.specs.declared.arguments.Arguments.{Arguments as ArgumentsValue}
@@ -151,7 +151,7 @@ turns_plan (kernel ∷ turns ∷ input ∷ output ∷ []) =
     option_map (λ n. record { command = TurnsOnImage n; inputs = kernel ∷ input ∷ []; outputs = output ∷ [] }) (turns_of turns)
 turns_plan _ = None
 
--- flat ARCH OUT, verilog ARCH OUT and depend KERNEL OUT: a command that reads one file and writes one
+-- flat ARCH OUT, verilog ARCH OUT, loop SOURCE OUT and depend KERNEL OUT: a command that reads one file and writes one
 abbrev pub file_plan : Command → List Text → Option Plan
 file_plan command (input ∷ output ∷ []) = Some (record { command = command; inputs = input ∷ []; outputs = output ∷ [] })
 file_plan command _ = None
@@ -273,9 +273,10 @@ command_plan name said =
     else (if bytes_eq name (codes "search") then with_options search_options search_plan said
     else (if bytes_eq name (codes "trial") then without_options trial_plan said
     else (if bytes_eq name (codes "verilog") then without_options (file_plan Verilog) said
+    else (if bytes_eq name (codes "loop") then without_options (file_plan Loop) said
     else (if bytes_eq name (codes "depend") then without_options (file_plan Depend) said
     else (if bytes_eq name (codes "migrate") then without_options migrate_plan said
-    else None)))))))))))
+    else None))))))))))))
 
 -- what the words ask, None where they fit no command
 unfoldable pub plan_of : List Text → Option Plan
@@ -295,5 +296,6 @@ HasShape (Map request) inputs outputs = (inputs ≡ 2) × ((outputs ≡ 1) ⊎ (
 HasShape (Search request) inputs outputs = (inputs ≡ 2) × ((outputs ≡ 1) ⊎ (outputs ≡ 2)) × IsInRange request
 HasShape (Trial seed) inputs outputs = (inputs ≡ 0) × (outputs ≡ 0)
 HasShape Verilog inputs outputs = (inputs ≡ 1) × (outputs ≡ 1)
+HasShape Loop inputs outputs = (inputs ≡ 1) × (outputs ≡ 1)
 HasShape Depend inputs outputs = (inputs ≡ 1) × (outputs ≡ 1)
 HasShape Migrate inputs outputs = (inputs ≡ 2) × (outputs ≡ 1)

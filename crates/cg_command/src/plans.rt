@@ -36,6 +36,8 @@ pub enum Command {
     Trial { seed: u64 },
     /// `verilog ARCH OUT`: the netlist of an architecture, as structural Verilog.
     Verilog,
+    /// `loop SOURCE OUT`: the kernel of a loop as one writes it.
+    Loop,
     /// `depend KERNEL OUT`: the kernel with the order edges that its accesses need.
     Depend,
     /// `migrate ARCH BITS OUT`: bits of the first format in that of today.
@@ -125,6 +127,7 @@ fn command_plan(alloc: Global, name: &str, said: &Arguments) -> Result<Option<Pl
             Command::Verilog,
             said.words.as_slice(),
         ),
+        "loop" if has_no_options(said) => file_plan(alloc, Command::Loop, said.words.as_slice()),
         "depend" if has_no_options(said) => file_plan(
             alloc,
             Command::Depend,

@@ -2,6 +2,7 @@
 use Rattle.std.specs.Prelude.{ℕ, List, map, codes, slice_index_or, if◌then◌else◌}
 use Rattle.serde_json.specs.Data.{Data, string, array, object, Members, no_members, member}
 use Rattle.serde_json.specs.View.{items_of}
+use Rattle.serde_json.specs.Written.{compact_text}
 pub use Rattle.cg_json.specs.Members.{word_data}
 use Rattle.cg_word.specs.Word as word
 use Rattle.cg_model.specs.Kernel.{Kernel, no_node}
@@ -55,3 +56,7 @@ kernel_data nodes order = object
 -- the value that a kernel is printed as, in the second format
 unfoldable pub data_of : Kernel → Data
 data_of K = kernel_data K.nodes K.order
+
+-- the text of a kernel
+abbrev pub kernel_text : Kernel → List ℕ
+kernel_text K = compact_text (data_of K)

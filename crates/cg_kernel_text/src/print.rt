@@ -2,7 +2,6 @@
 ghost use Rattle.std.specs.Prelude.{◌≡◌, Ok, IfOk, map};
 ghost use Rattle.serde_json.specs.Data.{array, no_members};
 ghost use Rattle.serde_json.specs.View.{view, items_of};
-ghost use Rattle.serde_json.specs.Written.{compact_text};
 ghost use Rattle.cg_model.specs.Kernel.{IsKernel};
 ghost use Rattle.cg_kernel.specs.Answer.{answer_of};
 ghost use Rattle.cg_word.specs.Word as word;
@@ -14,7 +13,7 @@ use std::alloc::{AllocError, Global};
 
 /// The text of the kernel, which reads back as the same kernel.
 pub fn print_kernel(alloc: Global, kernel: &Kernel) -> Result<Vec<u8>, AllocError>
-    ensures text { IfOk result (λ bytes. bytes.items ≡ compact_text (spec.data_of kernel.now)) }
+    ensures text { IfOk result (λ bytes. bytes.items ≡ spec.kernel_text kernel.now) }
     ensures reads_back { IfOk result (λ bytes. answer_of bytes.items ≡ Ok kernel.now) }
 {
     let nodes = kernel.nodes();

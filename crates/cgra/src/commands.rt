@@ -7,6 +7,7 @@ check ARCH KERNEL MAPPING     says whether a mapping is legal
 depend KERNEL OUT             writes a kernel with the order edges that its accesses need
 emit ARCH KERNEL MAPPING OUT  writes the bits of a legal mapping
 flat ARCH OUT                 writes the flat text of an architecture
+loop SOURCE OUT               writes the kernel of a loop as one writes it
 map ARCH KERNEL OUT           searches a mapping, and writes its bits (--ii N, --seed N, --moves N, --mapping FILE)
 migrate ARCH BITS OUT         turns bits of the first format into those of today
 run ARCH BITS TURNS IN OUT    runs an array, or a netlist of it, under a configuration from an image to an image (--netlist FILE)

@@ -1,0 +1,3 @@
+mod Loops
+mod Given
+pub mod Looped

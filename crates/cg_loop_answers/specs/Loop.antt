@@ -1,0 +1,85 @@
+-- `loop SOURCE OUT`.
+use Rattle.std.specs.Prelude.{◌≡◌, ◌≢◌, ℕ, ◌≤◌, length, Option, Some, None, Result, Ok, Err, codes, decimal, [], ◌∷◌}
+use Rattle.cg_model.specs.Limits.{most_nodes, most_order_edges}
+use Rattle.cg_model.specs.Kernel.{Kernel, IsKernel, size}
+use Rattle.cg_model.specs.Order.{IsUnaliased}
+use Rattle.cg_model.specs.Work.{Image}
+use Rattle.cg_files.specs.Held.{Holds, Appends}
+use Rattle.cg_ending.specs.declared.outcome.Status.TheVariants.{Done}
+use Rattle.cg_ending.specs.Outcome.{Name, Bytes, File, Outcome, line_of, line_then}
+use Rattle.cg_ending.specs.Ends.{Moment}
+use Rattle.cg_ending.specs.Refusals.{malformed_of, writes_one}
+use Rattle.cg_kernel_text.specs.Printed.{kernel_text}
+use Rattle.cg_loop_syntax.specs.declared.fault.Excess.{Excess}
+use Rattle.cg_loop_syntax.specs.declared.fault.LoopFault.{LoopFault}
+use Rattle.cg_loop_syntax.specs.declared.fault.LoopFault.TheVariants.{Memory, TooLarge}
+use Rattle.cg_loop_syntax.specs.Loop.{Body}
+use Rattle.cg_loop_laws.specs.Translate.{loop_kernel_of}
+use Rattle.cg_loop_laws.specs.Laws.{HasRoom, LeavesLoop}
+use Rattle.cg_loop_reader.specs.Answer.{Spells, IsFault}
+use Rattle.cg_loop_reader.specs.FaultText.{loop_fault_text}
+use Rattle.cg_loop.specs.Excess.{excess_of}
+use Rattle.cg_inputs.specs.Refused.{Tells}
+
+-- what the bytes give: the loop body that they spell, or a fault that they have
+abbrev pub IsReading : Bytes → Result Body LoopFault → Type 0
+IsReading bytes (Ok P) = Spells bytes P
+IsReading bytes (Err e) = IsFault e bytes
+
+-- the file gives no loop body
+abbrev pub RefusesLoop : File → Outcome → Type 0
+RefusesLoop file o = Tells (IsReading file.bytes) Memory loop_fault_text file.name o
+
+-- the report: how many nodes and order edges there are
+abbrev pub loop_report : Kernel → Bytes
+loop_report K = line_then (codes "nodes " ∷ decimal (size K) ∷ []) (line_of (codes "order " ∷ decimal (length K.order) ∷ []))
+
+-- Done: the text of K is written under the name `out`
+abbrev pub kernel_written : Kernel → Name → Outcome
+kernel_written K out = writes_one Done (loop_report K) out (kernel_text K)
+
+-- Malformed: the kernel is too large
+abbrev pub kernel_refused : Name → Excess → Outcome
+kernel_refused file x = malformed_of file (loop_fault_text (TooLarge x))
+
+-- one or the other, by what K has too many of
+abbrev pub kernel_outcome_by : Name → Name → Kernel → Option Excess → Outcome
+kernel_outcome_by file out K None = kernel_written K out
+kernel_outcome_by file out K (Some x) = kernel_refused file x
+
+abbrev pub kernel_outcome : Name → Name → Kernel → Outcome
+kernel_outcome file out K = kernel_outcome_by file out K (excess_of K)
+
+-- the outcome by what the file gives: a loop body, or a fault
+abbrev pub loop_outcome : File → Name → Result Body LoopFault → Outcome
+loop_outcome file out (Ok P) = kernel_outcome file.name out (loop_kernel_of P)
+loop_outcome file out (Err e) = malformed_of file.name (loop_fault_text e)
+
+pub record IsLoopOf (file : File) (out : Name) (o : Outcome) : Type 0 where
+  pub given : Result Body LoopFault
+  pub is_given : IsReading file.bytes given
+  pub no_memory : given ≢ Err Memory
+  pub outcome : o ≡ loop_outcome file out given
+
+-- the bytes spell a loop body whose kernel is no larger than kernels may be
+pub record IsTranslatable (file : File) : Type 0 where
+  pub body : Body
+  pub spelled : Spells file.bytes body
+  pub few : size (loop_kernel_of body) ≤ most_nodes
+  pub few_edges : length (loop_kernel_of body).order ≤ most_order_edges
+
+-- Done: a loop body was read; the text of its kernel is held under the other name, and its numbers were put. The kernel is
+-- valid, and its turns do what the loop does on each image whose memory has the words of all arrays. No run of it leaves
+-- accesses unordered that matter, whatever the image: so what holds of its mappings needs no premise on the image
+pub record IsLooped (file out : Name) (before after : Moment) : Type 0 where
+  pub bytes : Bytes
+  pub held : Holds before.held file bytes
+  pub body : Body
+  pub spelled : Spells bytes body
+  pub kernel : Kernel
+  pub is : kernel ≡ loop_kernel_of body
+  pub valid : IsKernel kernel
+  pub same : (n : ℕ) (image : Image) → HasRoom body image → LeavesLoop body n image
+  pub free : (n : ℕ) (image : Image) → IsUnaliased kernel n image
+  pub written : Holds after.held out (kernel_text kernel)
+  pub put : Appends before.taken (loop_report kernel) after.taken

@@ -1,0 +1,26 @@
+//! The loop body that a file gives. Where it gives none, the call ends by the outcome of its refusal.
+ghost use Rattle.std.specs.Prelude.{IfOk, IfErr};
+ghost use Rattle.cg_ending.specs.Allowed.{EndsBy};
+ghost use Rattle.cg_ending.specs.Outcome.{file_of};
+ghost use Rattle.cg_loop_syntax.specs.Body.{body_of};
+ghost use Rattle.cg_loop_reader.specs.Answer.{Spells};
+ghost use Rattle.cg_loop_answers.specs.Loop.{RefusesLoop};
+
+use cg_ending::{File, Stop, refusal};
+use cg_loop::{LoopBody, LoopFault, loop_fault_text, read_loop};
+use std::alloc::Global;
+
+/// Reads the loop body that `file` spells. A fault of it ends the call with status 3.
+pub(crate) fn body_in(alloc: Global, file: &File) -> Result<LoopBody, Stop>
+    ensures spelled { IfOk result (λ body. Spells (file_of file.now).bytes (body_of body)) }
+    ensures refused { IfErr result (EndsBy (RefusesLoop (file_of file.now))) }
+{
+    match read_loop(alloc, file.bytes.as_slice()) {
+        Ok(body) => Ok(body),
+        Err(LoopFault::Memory) => Err(Stop::Memory),
+        Err(fault) => {
+            let text = loop_fault_text(alloc, &fault)?;
+            Err(refusal(alloc, file, text.as_str()))
+        }
+    }
+}
