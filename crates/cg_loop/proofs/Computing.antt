@@ -1,13 +1,14 @@
 -- How the code of an expression comes from that of its operands.
-use Rattle.std.proofs.Common.{◌≡◌, ℕ, ◌+◌, List, [], ◌∷◌, ◌++◌, length, map, refl, sym, ap, ap₂, ◌∙◌, arith, append_assoc, append-nil, length-append, false, true, Option, Some, None, ◌<◌, ◌≤◌, get_or, Result, Ok, Err, IfOk}
+use Rattle.std.proofs.Common.{◌≡◌, ℕ, ◌+◌, List, [], ◌∷◌, ◌++◌, length, map, sym, ap, ap₂, ◌∙◌, arith, append_assoc, append-nil, length-append, false, true, Option, Some, None, ◌<◌, ◌≤◌, get_or, Result, Ok, Err, IfOk}
 use Rattle.std.specs.Option.{option_map}
 use Rattle.cg_loop_syntax.specs.declared.syntax.Expr.{Expr as WrittenExpr}
 use Rattle.cg_loop_syntax.specs.Grouped.{applied, expr_of}
 use Rattle.cg_word.specs.declared.op.Op.{Op}
+use Rattle.cg_word.specs.declared.op.Op.TheVariants as ops
 use Rattle.cg_model.specs.declared.kernel.Node.{Node}
-use Rattle.cg_model.specs.declared.kernel.Operand.{Operand}
-use Rattle.cg_loop_syntax.specs.Loop.{Expr, Num, Turn, In, Scalar, Item, Two, Three, Stmt, Put, extent}
-use Rattle.cg_loop_laws.specs.Translate.{Access, Env, here, plain, cost, result, code, reads, item_code, put_code, put_if_code}
+use Rattle.cg_model.specs.declared.kernel.Operand.TheVariants.{Const as Constant}
+use Rattle.cg_loop_syntax.specs.Loop.{Expr, Num, Turn, In, Scalar, Item, Two, Three, Put, extent}
+use Rattle.cg_loop_laws.specs.Translate.{here, plain, ported, cost, result, code, reads, item_code, put_code}
 use Rattle.cg_loop.specs.declared.scope.Scope.{Scope}
 use Rattle.cg_loop.specs.declared.names.Value.{Value}
 use Rattle.cg_loop.specs.Known.{env_in, operand_of}
@@ -88,6 +89,19 @@ computes_item s m0 m1 m2 a e x z f n t v =
       size = omega (arith, f.size, ap length n ∙ length-append m1.nodes _);
       value = v ∙ ap (λ p. here (p + 2)) f.size;
     }
+
+-- an expression of one node, and that of none
+pub computes_num : (s : Scope) (m0 m1 : Made) (w : ℕ) (z : Value) → operand_of z ≡ here (length m0.nodes) → m1.nodes ≡ m0.nodes ++ plain (length m0.nodes) ops.Const (Constant w ∷ []) ∷ [] → m1.accesses ≡ m0.accesses → Computes s m0 m1 (Num w) z
+computes_num s m0 m1 w z v n t = record { nodes = n; accesses = t ∙ sym (append-nil m0.accesses); size = length_one m0.nodes m1.nodes _ n; value = v }
+
+pub computes_turn : (s : Scope) (m0 m1 : Made) (z : Value) → operand_of z ≡ here (length m0.nodes) → m1.nodes ≡ m0.nodes ++ plain (length m0.nodes) ops.Iter [] ∷ [] → m1.accesses ≡ m0.accesses → Computes s m0 m1 Turn z
+computes_turn s m0 m1 z v n t = record { nodes = n; accesses = t ∙ sym (append-nil m0.accesses); size = length_one m0.nodes m1.nodes _ n; value = v }
+
+pub computes_in : (s : Scope) (m0 m1 : Made) (p : ℕ) (z : Value) → operand_of z ≡ here (length m0.nodes) → m1.nodes ≡ m0.nodes ++ ported (length m0.nodes) ops.Input p [] ∷ [] → m1.accesses ≡ m0.accesses → Computes s m0 m1 (In p) z
+computes_in s m0 m1 p z v n t = record { nodes = n; accesses = t ∙ sym (append-nil m0.accesses); size = length_one m0.nodes m1.nodes _ n; value = v }
+
+pub computes_scalar : (s : Scope) (m : Made) (x : List ℕ) (z : Value) → operand_of z ≡ env_in s x → Computes s m m (Scalar x) z
+computes_scalar s m x z v = record { nodes = sym (append-nil m.nodes); accesses = sym (append-nil m.accesses); size = omega arith; value = v }
 
 -- what an operation of two or three operands is
 pub two_applied : (op : Op) (es : List WrittenExpr) (a b : WrittenExpr) → 2 ≤ length es → length es < 3 → a ≡ get_or es 0 a → b ≡ get_or es 1 b → applied op (map expr_of es) ≡ Two op (expr_of a) (expr_of b)

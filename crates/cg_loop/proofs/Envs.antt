@@ -1,5 +1,5 @@
 -- What names stand for.
-use Rattle.std.proofs.Common.{◌≡◌, ℕ, Bool, true, false, Some, ◌+◌, ◌-◌, ◌<◌, ◌≤◌, List, [], ◌∷◌, ◌++◌, length, get_or, take, drop, map, reverse, refl, sym, ap, ap₂, ◌∙◌, arith, append_assoc, append-nil}
+use Rattle.std.proofs.Common.{◌≡◌, ℕ, Bool, true, false, Some, ◌+◌, ◌<◌, List, [], ◌∷◌, ◌++◌, length, get_or, take, map, reverse, refl, sym, ap, ◌∙◌, arith, append_assoc, append-nil}
 use Rattle.std.proofs.Math.Path.{fun_ext}
 use Rattle.std.proofs.lemmas.List.{map-append, reverse-append}
 use Rattle.std.proofs.lemmas.Slice.Eq.{bytes_eq-Decides}
@@ -8,11 +8,11 @@ use Rattle.cg_model.specs.declared.kernel.Operand.TheVariants.{Edge}
 use Rattle.std.specs.List.{flat_map}
 use Rattle.cg_loop_syntax.specs.declared.body.Stmt.{Stmt as WrittenStmt}
 use Rattle.cg_loop_syntax.specs.Grouped.{stmt_of}
-use Rattle.cg_loop_syntax.specs.Loop.{Expr, Num, Turn, In, Scalar, Item, Two, Three, Stmt, Bind, Assign, Put, Emit, Body, carry}
+use Rattle.cg_loop_syntax.specs.Loop.{Stmt, Bind, Assign, Put, Emit, Body, carry}
 use Rattle.cg_loop_syntax.specs.declared.body.Decl.{Decl}
 use Rattle.cg_loop_syntax.specs.declared.body.Decl.TheVariants.{Array, Carry}
 use Rattle.cg_loop_laws.specs.Meaning.{updated}
-use Rattle.cg_loop_laws.specs.Translate.{Env, here, stmt_cost, stmt_env, body_cost, body_env, carried, source_of, first_env}
+use Rattle.cg_loop_laws.specs.Translate.{Env, stmt_cost, stmt_env, body_cost, body_env, carried, source_of, first_env}
 use Rattle.cg_loop.specs.declared.names.Named.{Named}
 use Rattle.cg_loop.proofs.Costs.{map_step}
 use Rattle.cg_loop.specs.Known.{Known, known_of, carries, decl_known, operand_of, stmt_bindings, bindings, env_from, env_of}

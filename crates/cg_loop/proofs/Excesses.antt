@@ -1,8 +1,6 @@
 -- When a kernel is too large.
-use Rattle.std.proofs.Common.{◌≡◌, ◌<◌, ◌≤◌, Some, None, Option, length, ap, ◌∙◌}
-use Rattle.std.specs.Prelude.{if◌then◌else◌}
+use Rattle.std.proofs.Common.{◌≡◌, ◌<◌, ◌≤◌, Some, None, length}
 use Rattle.std.proofs.lemmas.Bool.{lt-ltb, le-ltb}
-use Rattle.cg_model.specs.Limits.{most_nodes, most_order_edges}
 use Rattle.cg_model.specs.Kernel.{Kernel, size}
 use Rattle.cg_loop_syntax.specs.declared.fault.Excess.{Excess}
 use Rattle.cg_loop_syntax.specs.declared.fault.Excess.TheVariants.{Nodes, Order}

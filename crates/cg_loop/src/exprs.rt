@@ -133,7 +133,7 @@ fn load_code<'b>(
 }
 
 /// An address of a word of an array.
-#[derive(Clone, Copy, Debug, PartialEq, Eq)]
+#[derive(Clone, Copy)]
 pub(crate) struct Address {
     /// Whether the index is inside the array.
     pub inside: Value,

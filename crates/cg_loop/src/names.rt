@@ -9,7 +9,7 @@ use cg_loop_syntax::{Decl, Name, Stmt};
 use std::alloc::{AllocError, Global};
 
 /// What an operand is.
-#[derive(Clone, Copy, Debug, PartialEq, Eq)]
+#[derive(Clone, Copy)]
 pub(crate) enum Value {
     /// A word.
     Const(u32),

@@ -14,7 +14,7 @@ pub(crate) struct Scope<'s> {
 }
 
 /// Where an array stands.
-#[derive(Clone, Copy, Debug, PartialEq, Eq)]
+#[derive(Clone, Copy)]
 pub(crate) struct Extent {
     pub at: u32,
     pub len: u32,

@@ -1,26 +1,25 @@
 -- What bytes spell is one thing, or one thing is wrong with them.
-use Rattle.std.proofs.Common.{◌≡◌, ℕ, true, false, Bool, List, [], ◌∷◌, ◌++◌, length, map, Option, Result, Ok, Err, Some, None, refl, sym, ap, ap₂, ◌∙◌, subst}
+use Rattle.std.proofs.Common.{◌≡◌, ℕ, true, Bool, List, [], ◌∷◌, ◌++◌, length, Option, Result, Ok, Err, Some, None, refl, sym, ap, ap₂, ◌∙◌}
 use Rattle.std.specs.Prelude.{◌≢◌, is_none, IfOk, IfErr}
-use Rattle.std.specs.List.{list_all, All, AllPass}
+use Rattle.std.specs.List.{list_all, AllPass}
 use Rattle.std.specs.Option.{option_map, option_or}
 use Rattle.cg_loop_syntax.specs.declared.fault.Excess.{Excess}
 use Rattle.std.proofs.lemmas.Bool.{and_parts}
 use Rattle.std.proofs.lemmas.List.{append_cancel_right}
 use Rattle.std.proofs.lemmas.List.Elements.{All-nil, All-cons}
-use Rattle.cg_tokens.specs.Faults.{FaultAt}
 use Rattle.cg_tokens.specs.Table.{run}
-use Rattle.cg_tokens.specs.Tokens.{Placed, tokens_of, tokens_at, place_of}
+use Rattle.cg_tokens.specs.Tokens.{tokens_of, tokens_at, place_of}
 use Rattle.cg_loop_syntax.specs.declared.fault.LoopFault.{LoopFault}
 use Rattle.cg_loop_syntax.specs.declared.fault.LoopFault.TheVariants.{Memory, Text, UnknownName, RepeatedName, CarryAssign, BadArray, BadPort, TooLarge}
 use Rattle.cg_loop_syntax.specs.declared.body.LoopBody.{LoopBody}
 use Rattle.cg_loop_syntax.specs.Loop.{Body}
 use Rattle.cg_loop_syntax.specs.Body.{body_of}
 use Rattle.cg_loop_syntax.specs.Grouped.{grouped}
-use Rattle.cg_loop_syntax.specs.Uses.{Use, fault_of, first_where, is_unknown, is_repeated, is_misassigned, is_misplaced, is_bad_port, is_ruled, body_uses}
+use Rattle.cg_loop_syntax.specs.Uses.{Use, fault_of, first_where, is_unknown, is_repeated, is_misassigned, is_misplaced, is_bad_port, is_ruled}
 use Rattle.cg_loop_syntax.specs.Well.{IsWell, is_well_stmt, is_well_decl}
 use Rattle.cg_loop_text.specs.Grammar as grammar
 use Rattle.cg_loop_text.specs.Grammar.{IsText, IsFile, text_tokens}
-use Rattle.cg_loop_text.specs.Meaning.{text_body, text_uses, forget}
+use Rattle.cg_loop_text.specs.Meaning.{text_body, text_uses}
 use Rattle.cg_loop_text.specs.Rules.{rule, start}
 use Rattle.cg_loop_text.proofs.OneText.{one_text}
 use Rattle.cg_loop_text.proofs.Uses.{uses_of, fault_places}

@@ -1,5 +1,5 @@
 -- Atoms that are read.
-use Rattle.std.proofs.Common.{◌≡◌, ℕ, zero, suc, ◌-◌, ◌<◌, ◌≤◌, Bool, true, false, ◌&&◌, List, [], ◌∷◌, ◌++◌, Some, None, refl, sym, ap, ap₂, ◌∙◌, subst, arith, length, append_assoc, append-nil}
+use Rattle.std.proofs.Common.{◌≡◌, ℕ, suc, ◌-◌, true, false, ◌&&◌, List, [], ◌∷◌, ◌++◌, Some, refl, sym, ap, ap₂, ◌∙◌, subst, arith, length, append_assoc}
 use Rattle.std.specs.Prelude.{codes, nat_lt, nat_le, eqb, map}
 use Rattle.std.specs.List.{list_all}
 use Rattle.std.specs.Char.{is_ascii_digit}
@@ -8,7 +8,7 @@ use Rattle.cg_word.specs.declared.op.Op.{Op}
 use Rattle.cg_word.specs.declared.op.Op.TheVariants as ops
 use Rattle.cg_word.specs.Word.{words, arity}
 use Rattle.cg_tokens.specs.declared.token.Token.{Token}
-use Rattle.cg_tokens.specs.Tokens.{Placed, seen}
+use Rattle.cg_tokens.specs.Tokens.{seen}
 use Rattle.cg_loop_syntax.specs.declared.uses.Role.TheVariants as roles
 use Rattle.cg_loop_syntax.specs.declared.syntax.Atom.{Atom}
 use Rattle.cg_loop_syntax.specs.declared.syntax.Atom.TheVariants as atoms
@@ -28,7 +28,7 @@ use Rattle.cg_loop_reader.specs.declared.reader.Reader.{Reader}
 use Rattle.cg_loop_reader.specs.declared.reader.Numeral.{Numeral}
 use Rattle.cg_loop_reader.specs.Left.{left, noted, Keeps, Takes, TakesNumber, Notes}
 use Rattle.cg_loop_reader.specs.Found.{FindsAtom, FindsIndex, FindsExpr, FindsOperands}
-use Rattle.cg_loop_reader.proofs.Taken.{taken, between, after, noted_after, none_noted}
+use Rattle.cg_loop_reader.proofs.Taken.{taken, between, noted_after, none_noted}
 
 some_room : (room less : ℕ) → room ≡ suc less → nat_lt 0 room ≡ true
 some_room room less z = lt-ltb 0 room (omega (arith, z))

@@ -1,5 +1,5 @@
 -- Sums and expressions that are built of their parts.
-use Rattle.std.proofs.Common.{◌≡◌, ℕ, ◌&&◌, true, Some, None, refl, ap, ◌∙◌, rules, Vec, Global}
+use Rattle.std.proofs.Common.{◌≡◌, ℕ, ◌&&◌, true, Some, None, ap, ◌∙◌, rules, Vec, Global}
 use Rattle.std.specs.List.{list_all}
 use Rattle.cg_word.specs.declared.op.Op.{Op}
 use Rattle.cg_loop_syntax.specs.Loop as loops

@@ -1,15 +1,12 @@
 -- A whole text that is read, or not.
-use Rattle.std.proofs.Common.{◌≡◌, ℕ, true, false, List, [], ◌∷◌, ◌++◌, length, map, Some, None, refl, sym, ap, ap₂, ◌∙◌, subst, append_assoc}
+use Rattle.std.proofs.Common.{◌≡◌, true, false, List, [], ◌∷◌, ◌++◌, ap, ◌∙◌}
 use Rattle.std.specs.Prelude.{codes}
 use Rattle.std.specs.List.{flat_map}
-use Rattle.cg_tokens.specs.Table.{run}
 use Rattle.cg_loop_syntax.specs.declared.body.Decl.{Decl}
-use Rattle.cg_loop_syntax.specs.declared.body.Stmt.{Stmt}
 use Rattle.cg_tokens.specs.Tokens.{tokens_at}
-use Rattle.cg_loop_text.specs.Grammar as grammar
 use Rattle.cg_loop_text.specs.Grammar.{decl_tokens, stmt_tokens}
 use Rattle.cg_loop_text.specs.Meaning.{decls_uses, stmt_uses}
-use Rattle.cg_loop_text.specs.Rules.{Exactly, Lines, rule, start}
+use Rattle.cg_loop_text.specs.Rules.{Exactly, Lines}
 use Rattle.cg_loop_text.specs.Read as read
 use Rattle.cg_loop_text.proofs.Lines as lines
 use Rattle.cg_loop_text.proofs.Rows as rows

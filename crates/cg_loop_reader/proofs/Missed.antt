@@ -1,10 +1,10 @@
 -- Where reading an expression stops.
-use Rattle.std.proofs.Common.{◌≡◌, ℕ, zero, suc, ◌-◌, ◌<◌, ◌≤◌, Bool, true, false, List, [], ◌∷◌, Some, None, refl, sym, ap, ◌∙◌, subst, arith}
-use Rattle.std.specs.Prelude.{codes, bytes_eq}
+use Rattle.std.proofs.Common.{◌≡◌, ℕ, suc, true, List, [], ◌∷◌, Some, subst}
+use Rattle.std.specs.Prelude.{codes}
 use Rattle.cg_word.specs.declared.op.Op.{Op}
 use Rattle.cg_word.specs.Word.{arity}
 use Rattle.cg_tokens.specs.declared.token.Token.{Token}
-use Rattle.cg_tokens.specs.Tokens.{Placed, seen}
+use Rattle.cg_tokens.specs.Tokens.{seen}
 use Rattle.cg_loop_syntax.specs.declared.syntax.Atom.{Atom}
 use Rattle.cg_loop_syntax.specs.declared.syntax.Expr.{Expr}
 use Rattle.cg_loop_syntax.specs.declared.syntax.Prod.{Prod}
@@ -12,7 +12,7 @@ use Rattle.cg_loop_syntax.specs.declared.syntax.Term.{Term}
 use Rattle.cg_loop_syntax.specs.declared.syntax.Sum.{Sum}
 use Rattle.cg_loop_syntax.specs.Uses as uses
 use Rattle.cg_loop_syntax.specs.Well.{is_loop_name}
-use Rattle.cg_loop_text.specs.Words.{is_number, op_called, added_by, compared_by}
+use Rattle.cg_loop_text.specs.Words.{op_called, added_by, compared_by}
 use Rattle.cg_loop_text.specs.Read as read
 use Rattle.cg_loop_text.specs.Rules.{Exactly, Digits}
 use Rattle.cg_loop_text.proofs.Steps as steps

@@ -1,5 +1,5 @@
 -- Products and sums that are read, part by part.
-use Rattle.std.proofs.Common.{◌≡◌, ℕ, zero, suc, ◌<◌, ◌≤◌, ◌+◌, Bool, true, false, ◌&&◌, List, [], ◌∷◌, ◌++◌, length, cond, Some, None, refl, sym, ap, ap₂, ◌∙◌, subst, arith, append_assoc, append-nil}
+use Rattle.std.proofs.Common.{◌≡◌, ℕ, Bool, true, false, ◌&&◌, List, [], ◌∷◌, ◌++◌, cond, Some, None, refl, sym, ap, ap₂, ◌∙◌, subst, append_assoc, append-nil}
 use Rattle.std.specs.Prelude.{codes, bytes_eq}
 use Rattle.std.specs.List.{list_all}
 use Rattle.std.proofs.lemmas.Bool.{and_parts, and_from}
@@ -12,8 +12,7 @@ use Rattle.cg_loop_syntax.specs.declared.syntax.Term.{Term}
 use Rattle.cg_loop_syntax.specs.declared.syntax.Sum.{Sum}
 use Rattle.cg_loop_syntax.specs.declared.syntax.Expr.{Expr}
 use Rattle.cg_loop_syntax.specs.Loop as loops
-use Rattle.cg_loop_syntax.specs.Grouped.{expr_of, sum_of, atom_of, factors, product, whole_prod, terms}
-use Rattle.cg_loop_syntax.specs.Uses.{Use}
+use Rattle.cg_loop_syntax.specs.Grouped.{expr_of, sum_of, atom_of, product, whole_prod, terms}
 use Rattle.cg_loop_syntax.specs.Well.{is_adding, is_comparing, is_well_expr, is_well_sum, is_well_atom, has_atom, is_well_product, is_well_term}
 use Rattle.cg_loop_syntax.proofs.Rows.{terms_push, factors_push}
 use Rattle.cg_loop_text.specs.Words.{added_by, compared_by, op_of}
@@ -23,7 +22,7 @@ use Rattle.cg_loop_text.specs.Meaning.{sum_value, factors_value, terms_value, at
 use Rattle.cg_loop_text.specs.Read as read
 use Rattle.cg_loop_text.proofs.Sums as sums
 use Rattle.cg_loop_reader.specs.declared.reader.Reader.{Reader}
-use Rattle.cg_loop_reader.specs.Left.{left, noted, Keeps, Takes, TakesSign}
+use Rattle.cg_loop_reader.specs.Left.{left, noted, Takes, TakesSign}
 use Rattle.cg_loop_reader.specs.Found.{FindsAtom, FindsProduct, FindsTerms, FindsSum, FindsExpr}
 use Rattle.cg_loop_reader.proofs.Taken.{taken, after, noted_after}
 
@@ -69,7 +68,7 @@ terms_meant : (e : loops.Expr) (ts : Terms) (sign : Placed) (p : grammar.Prod) �
 terms_meant e NoTerms sign p = refl
 terms_meant e (TermTree t q ts) sign p = terms_meant (loops.Two (op_of (added_by t.text)) e (prod_value q)) ts sign p
 
-all_push : {X : Type 0} (test : X → Bool) (xs : List X) (x : X) → list_all test xs ≡ true → test x ≡ true → list_all test (xs ++ x ∷ []) ≡ true
+pub all_push : {X : Type 0} (test : X → Bool) (xs : List X) (x : X) → list_all test xs ≡ true → test x ≡ true → list_all test (xs ++ x ∷ []) ≡ true
 all_push test [] x h i = and_from (test x) true i refl
 all_push test (y ∷ ys) x h i = let both = and_parts (test y) (list_all test ys) h in and_from (test y) (list_all test (ys ++ x ∷ [])) both.0 (all_push test ys x both.1 i)
 

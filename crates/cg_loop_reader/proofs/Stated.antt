@@ -1,5 +1,5 @@
 -- Values, statements and declarations that are read.
-use Rattle.std.proofs.Common.{◌≡◌, ℕ, zero, suc, ◌+◌, ◌<◌, ◌≤◌, Bool, true, false, ◌&&◌, List, [], ◌∷◌, ◌++◌, length, map, Some, None, refl, sym, ap, ap₂, ◌∙◌, subst, arith, append_assoc, append-nil}
+use Rattle.std.proofs.Common.{◌≡◌, ℕ, ◌+◌, ◌<◌, true, false, ◌&&◌, List, [], ◌∷◌, ◌++◌, length, map, Some, None, refl, sym, ap, ap₂, ◌∙◌, subst, arith, append_assoc, append-nil, length-append}
 use Rattle.std.specs.Prelude.{codes, nat_lt, nat_le}
 use Rattle.std.specs.List.{list_all, flat_map, AllByRecursion}
 use Rattle.std.specs.Char.{is_ascii_digit}
@@ -32,7 +32,8 @@ use Rattle.cg_loop_reader.specs.declared.reader.Numeral.{Numeral}
 use Rattle.cg_loop_reader.specs.Left.{left, noted, Keeps, Takes, TakesName, TakesNumber, Notes}
 use Rattle.cg_loop_reader.specs.Found.{FindsExpr}
 use Rattle.cg_loop_reader.specs.Lines.{FindsValue, FindsGuard, FindsGuarded, FindsStmt, FindsStmts, FindsChange, FindsDecl, FindsDecls}
-use Rattle.cg_loop_reader.proofs.Taken.{taken, after, noted_after, none_noted}
+use Rattle.cg_loop_reader.proofs.Parts.{all_push}
+use Rattle.cg_loop_reader.proofs.Taken.{taken, after, noted_after}
 
 -- ---- values
 
@@ -94,13 +95,13 @@ guarded_found v old m p q new s x g c = record {
 
 -- ---- parts
 
-name_read : (t : Token) (old new : Reader) → TakesName t old new → read.Reads (Name ∷ []) (left old) (left new)
+pub name_read : (t : Token) (old new : Reader) → TakesName t old new → read.Reads (Name ∷ []) (left old) (left new)
 name_read t old new n = steps.a_name_read (seen t) (left old) (left new) n.spelled n.is
 
-number_read : (n : Numeral) (old new : Reader) → TakesNumber n old new → read.Reads (Digits ∷ []) (left old) (left new)
+pub number_read : (n : Numeral) (old new : Reader) → TakesNumber n old new → read.Reads (Digits ∷ []) (left old) (left new)
 number_read n old new d = steps.a_number_read d.token (left old) (left new) d.spelled d.is
 
-exact_read : {s : List ℕ} (old new : Reader) → Takes s old new → read.Reads (Exactly s ∷ []) (left old) (left new)
+pub exact_read : {s : List ℕ} (old new : Reader) → Takes s old new → read.Reads (Exactly s ∷ []) (left old) (left new)
 exact_read {s} old new t = runs.exactly_read s (left old) (left new) (taken t)
 
 number_small : (t : List ℕ) → is_number t ≡ true → nat_lt (number_of t) words ≡ true
@@ -139,10 +140,6 @@ carry_found t name own start old m r1 r2 r3 r4 new h s k n a x c w o =
           (rows.reads_four Name (Exactly (codes "=")) Digits (Exactly (codes ";")) (left m) (left r1) (left r2) (left r3) (left new) (name_read name m r1 n) (exact_read r1 r2 a) (number_read start r2 r3 x)
           (runs.exactly_read (codes ";") (left r3) (left new) (record { token = c.token; is = c.is; whole = last })));
     }
-
-all_push : {X : Type 0} (test : X → Bool) (xs : List X) (x : X) → list_all test xs ≡ true → test x ≡ true → list_all test (xs ++ x ∷ []) ≡ true
-all_push test [] x h i = and_from (test x) true i refl
-all_push test (y ∷ ys) x h i = let both = and_parts (test y) (list_all test ys) h in and_from (test y) (list_all test (ys ++ x ∷ [])) both.0 (all_push test ys x both.1 i)
 
 are_push : {X : Type 0} (P : X → Type 0) (xs : List X) (x : X) → AllByRecursion P xs → P x → AllByRecursion P (xs ++ x ∷ [])
 are_push P [] x h i = (i, tt)
@@ -254,6 +251,19 @@ change_found t s old m new h e k x = record {
   well = x.well;
   ran = lines.change_line false (seen t) (left old) (left m) (left new) e h x.ran;
 }
+
+-- a statement has a token
+stmt_some : (t : grammar.Stmt) → 0 < length (stmt_tokens t)
+stmt_some (grammar.Let word name sign e end) = omega arith
+stmt_some (grammar.Assign name sign e end) = omega arith
+stmt_some (grammar.Store name opens ix closes sign e g end) = omega arith
+stmt_some (grammar.Out word port sign e g end) = omega arith
+
+fewer : (a b es : List Placed) → 0 < length es → a ≡ es ++ b → length b < length a
+fewer a b es some e = let more : length a ≡ length es + length b = ap length e ∙ length-append es b in omega arith
+
+pub stmt_shorter : (s : Stmt) (old new : Reader) → FindsStmt s old new → length (left new) < length (left old)
+stmt_shorter s old new x = fewer (left old) (left new) (stmt_tokens x.tree) (stmt_some x.tree) x.spelled
 
 pub no_stmts : (old : Reader) → FindsStmts [] old old
 no_stmts old = record { trees = []; are = tt; spelled = refl; noted = sym (append-nil (noted old)); value = refl; well = refl; ran = lines.no_lines false (left old) }

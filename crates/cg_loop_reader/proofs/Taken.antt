@@ -1,10 +1,9 @@
 -- Tokens that are taken, one after another.
-use Rattle.std.proofs.Common.{◌≡◌, ℕ, suc, ◌+◌, ◌<◌, length, arith, length-append, List, [], ◌∷◌, ◌++◌, refl, sym, ap, ◌∙◌, append_assoc, append-nil}
+use Rattle.std.proofs.Common.{◌≡◌, ℕ, suc, ◌+◌, ◌<◌, length, arith, length-append, List, [], ◌∷◌, ◌++◌, sym, ap, ◌∙◌, append_assoc, append-nil}
 use Rattle.cg_tokens.specs.Tokens.{Placed}
-use Rattle.cg_loop_syntax.specs.Uses.{Use}
 use Rattle.cg_loop_text.specs.Read as read
 use Rattle.cg_loop_reader.specs.declared.reader.Reader.{Reader}
-use Rattle.cg_loop_reader.specs.Left.{left, noted, Keeps, Takes}
+use Rattle.cg_loop_reader.specs.Left.{left, Takes}
 
 pub taken : {s : List ℕ} {old new : Reader} → Takes s old new → read.Takes s (left old) (left new)
 taken t = record { token = t.token; is = t.is; whole = t.spelled }

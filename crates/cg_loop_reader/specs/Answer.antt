@@ -3,7 +3,7 @@ use Rattle.std.specs.Prelude.{◌≡◌, ℕ, List, length, Some, None, Result, 
 use Rattle.cg_tokens.specs.Faults.{FaultAt}
 use Rattle.cg_tokens.specs.Tokens.{Placed, tokens_of, place_of}
 use Rattle.cg_loop_syntax.specs.declared.fault.LoopFault.{LoopFault}
-use Rattle.cg_loop_syntax.specs.declared.fault.LoopFault.TheVariants.{Memory, Text, UnknownName, RepeatedName, CarryAssign, BadArray, BadPort, TooLarge}
+use Rattle.cg_loop_syntax.specs.declared.fault.LoopFault.TheVariants.{Memory, Text, TooLarge}
 use Rattle.cg_loop_syntax.specs.declared.body.LoopBody.{LoopBody}
 use Rattle.cg_loop_syntax.specs.Loop.{Body}
 use Rattle.cg_loop_syntax.specs.Uses.{Use, fault_of}

@@ -1,5 +1,5 @@
 -- What reading finds: parts of a loop body, the trees of their tokens, and what these do with names and ports.
-use Rattle.std.specs.Prelude.{◌≡◌, ℕ, Bool, true, false, ◌&&◌, codes, List, [], ◌∷◌, ◌++◌, map, Option, Some, None}
+use Rattle.std.specs.Prelude.{◌≡◌, ℕ, true, ◌&&◌, codes, List, ◌∷◌, ◌++◌, map}
 use Rattle.std.specs.List.{list_all}
 use Rattle.cg_loop_syntax.specs.declared.syntax.Atom.{Atom}
 use Rattle.cg_loop_syntax.specs.declared.syntax.Prod.{Prod}

@@ -1,5 +1,5 @@
 -- What reading finds: values with what stands around them, statements and declarations.
-use Rattle.std.specs.Prelude.{◌≡◌, ℕ, Bool, true, false, ◌⊎◌, codes, List, [], ◌∷◌, ◌++◌, map, Option, Some, None}
+use Rattle.std.specs.Prelude.{◌≡◌, true, false, ◌⊎◌, codes, List, [], ◌∷◌, ◌++◌, map, Option}
 use Rattle.std.specs.List.{list_all, flat_map, AllByRecursion}
 use Rattle.cg_tokens.specs.Tokens.{Placed, seen}
 use Rattle.cg_tokens.specs.declared.token.Token.{Token}
@@ -17,7 +17,8 @@ use Rattle.cg_loop_reader.specs.declared.lines.Guarded.{Guarded}
 use Rattle.cg_loop_reader.specs.declared.reader.Reader.{Reader}
 use Rattle.cg_loop_reader.specs.declared.fault.Misfit.{Misfit}
 use Rattle.cg_loop_reader.specs.declared.fault.Misfit.TheVariants.{Memory, Text}
-use Rattle.cg_loop_reader.specs.Left.{left, noted}
+use Rattle.cg_loop_reader.specs.Left.{left, noted, Takes}
+use Rattle.cg_loop_reader.specs.Found.{FindsExpr}
 
 -- = value ;
 pub record FindsValue (e : Expr) (old new : Reader) : Type 0 where
@@ -60,6 +61,14 @@ pub record FindsGuarded (v : Guarded) (old new : Reader) : Type 0 where
   pub well : is_well_expr most_open v.value ≡ true
   pub guard_well : is_well_guard v.guard ≡ true
   pub ran : read.Reads (Exactly (codes "=") ∷ Operand GuardedCloser false most_open ∷ []) (left old) (left new)
+
+-- [ index ]
+pub record FindsPlace (e : Expr) (old new : Reader) : Type 0 where
+  pub inside : Reader
+  pub end : Reader
+  pub opens : Takes (codes "[") old inside
+  pub index : FindsExpr 31 e inside end
+  pub closes : Takes (codes "]") end new
 
 -- behind a name what a statement that begins with it goes on with
 pub record FindsChange (name : Token) (s : Stmt) (old new : Reader) : Type 0 where

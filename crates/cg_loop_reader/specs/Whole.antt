@@ -1,5 +1,5 @@
 -- What reading finds in a whole text.
-use Rattle.std.specs.Prelude.{◌≡◌, true, List, [], ◌∷◌, ◌++◌, map, Some}
+use Rattle.std.specs.Prelude.{◌≡◌, true, [], ◌++◌, map, Some}
 use Rattle.std.specs.List.{list_all}
 use Rattle.cg_tokens.specs.Table.{run}
 use Rattle.cg_tokens.specs.Tokens.{tokens_at}

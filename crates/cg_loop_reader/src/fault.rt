@@ -5,7 +5,7 @@ ghost use Rattle.cg_loop_reader.specs.declared.fault.Misfit.TheVariants.{Memory}
 use std::alloc::{AllocError, AllocFailed};
 
 /// Why a step of reading stops.
-#[derive(Debug, Drop)]
+#[derive(Drop)]
 pub(crate) enum Misfit {
     Memory,
     /// No text goes on so.

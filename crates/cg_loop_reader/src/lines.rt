@@ -8,7 +8,7 @@ use cg_loop_syntax::{Decl, Expr, Role, Stmt};
 use cg_tokens::Token;
 use std::alloc::Global;
 
-/// How many brackets may be open at any place.
+/// The greatest number of brackets that may be open at any place.
 const MOST_OPEN: u32 = 32;
 
 /// A value, and the guard behind it, if there is one.
@@ -21,14 +21,14 @@ pub(crate) struct Guarded {
 impl<'a> Reader<'a> {
     ghost use Rattle.std.specs.Prelude.{◌≡◌, ◌∷◌, [], true, false, codes, IfSome, IfNone, IfOk, IfErr, OnOk};
     ghost use Rattle.cg_loop_syntax.specs.Well.{is_loop_name, most_open};
-    ghost use Rattle.cg_loop_text.specs.Rules.{Exactly, Operand, Semicolon, Guarded as GuardedCloser, Target, Lines};
+    ghost use Rattle.cg_loop_text.specs.Rules.{Exactly, Operand, Semicolon, Square, Guarded as GuardedCloser, Target, Lines};
     ghost use Rattle.cg_loop_text.specs.Read.{begins_with};
     ghost use Rattle.cg_tokens.specs.Tokens.{tokens_at};
     ghost use Rattle.cg_loop_reader.specs.Doubled.{double};
     ghost use Rattle.cg_loop_reader.specs.Left.{left, IsNext, Misses};
-    ghost use Rattle.cg_loop_reader.specs.Lines.{FindsValue, FindsGuard, FindsGuarded, FindsStmt, FindsStmts, FindsChange, FindsDecl, FindsDecls, MissesGuard, IsDeclWord};
+    ghost use Rattle.cg_loop_reader.specs.Lines.{FindsValue, FindsGuard, FindsGuarded, FindsPlace, FindsStmt, FindsStmts, FindsChange, FindsDecl, FindsDecls, MissesGuard, IsDeclWord};
 
-    /// Takes a `=`, a value, and a `;`.
+    /// Takes a `=`, a value, and a `;`, and returns the value.
     fn value(&mut self, alloc: Global) -> Result<Expr, Misfit>
         ensures ok { IfOk result (λ value. FindsValue value self.old self.new) }
         ensures misses { IfErr result (λ e. Misses e (Exactly (codes "=") ∷ Operand Semicolon false most_open ∷ []) self.old self.new) }
@@ -40,7 +40,7 @@ impl<'a> Reader<'a> {
         Ok(value)
     }
 
-    /// Takes a guard, if there is one.
+    /// Takes a guard, if there is one, and returns it.
     fn guard(&mut self, alloc: Global) -> Result<Option<Expr>, Misfit>
         ensures ok { IfOk result (λ guard. FindsGuard guard self.old self.new) }
         ensures misses { IfErr result (λ e. MissesGuard e self.old self.new) }
@@ -54,7 +54,7 @@ impl<'a> Reader<'a> {
         }
     }
 
-    /// Takes a `=`, a value, a guard, if there is one, and a `;`.
+    /// Takes a `=`, a value, a guard, if there is one, and a `;`, and returns the value and the guard.
     fn guarded(&mut self, alloc: Global) -> Result<Guarded, Misfit>
         ensures ok { IfOk result (λ value. FindsGuarded value self.old self.new) }
         ensures misses { IfErr result (λ e. Misses e (Exactly (codes "=") ∷ Operand GuardedCloser false most_open ∷ []) self.old self.new) }
@@ -67,7 +67,7 @@ impl<'a> Reader<'a> {
         Ok(Guarded { value, guard })
     }
 
-    /// Takes the array whose declaration begins with `token`, the next token.
+    /// Takes the declaration of an array that begins with `token`, the next token.
     fn array(&mut self, alloc: Global, token: Token<'a>) -> Result<Decl, Misfit>
         requires next { IsNext self.old token }
         requires is { token.text.now ≡ codes "array" }
@@ -87,7 +87,7 @@ impl<'a> Reader<'a> {
         Ok(Decl::Array { name, at, len })
     }
 
-    /// Takes the carry whose declaration begins with `token`, the next token.
+    /// Takes the declaration of a carry that begins with `token`, the next token.
     fn carry(&mut self, alloc: Global, token: Token<'a>) -> Result<Decl, Misfit>
         requires next { IsNext self.old token }
         requires is { token.text.now ≡ codes "carry" }
@@ -105,7 +105,7 @@ impl<'a> Reader<'a> {
         Ok(Decl::Carry { name, start })
     }
 
-    /// Cuts the next token, if it begins a declaration.
+    /// Returns the next token, if it begins a declaration.
     fn decl_word(&self) -> Option<Token<'a>>
         ensures word { IfSome result (λ token. IsNext self.now token × IsDeclWord token) }
         ensures none { IfNone result ((begins_with (codes "array") (left self.now) ≡ false) × (begins_with (codes "carry") (left self.now) ≡ false)) }
@@ -197,6 +197,18 @@ impl<'a> Reader<'a> {
         Ok(Stmt::Assign { name, value })
     }
 
+    /// Takes a `[`, the index of the word that a statement stores, and a `]`, and returns the index.
+    fn place_index(&mut self, alloc: Global) -> Result<Expr, Misfit>
+        ensures ok { IfOk result (λ index. FindsPlace index self.old self.new) }
+        ensures misses { IfErr result (λ e. Misses e (Exactly (codes "[") ∷ Operand Square false 31 ∷ []) self.old self.new) }
+        ensures same { self.new.bytes ≡ self.old.bytes }
+    {
+        self.exactly(b"[")?;
+        let index = self.expr(alloc, MOST_OPEN - 1)?;
+        self.exactly(b"]")?;
+        Ok(index)
+    }
+
     /// Takes the index and the value behind the name `name` of an array that a statement begins with.
     fn store(&mut self, alloc: Global, name: Token<'a>) -> Result<Stmt, Misfit>
         requires is { is_loop_name name.text.now ≡ true }
@@ -206,11 +218,9 @@ impl<'a> Reader<'a> {
         ensures same { self.new.bytes ≡ self.old.bytes }
     {
         self.note(Role::Item, name)?;
-        self.exactly(b"[")?;
-        let index = self.expr(alloc, MOST_OPEN - 1)?;
-        self.exactly(b"]")?;
-        let Guarded { value, guard } = self.guarded(alloc)?;
+        let index = self.place_index(alloc)?;
         let name = name_of(alloc, name.text)?;
+        let Guarded { value, guard } = self.guarded(alloc)?;
         Ok(Stmt::Put {
             name,
             index,

@@ -29,7 +29,7 @@ pub fn read_loop(alloc: Global, bytes: &[u8]) -> Result<LoopBody, LoopFault>
     read(alloc, bytes)
 }
 
-/// Reads the loop body that `bytes` spell: the same, without what follows from its two clauses.
+/// Reads the loop body that `bytes` spell. The clauses of `read_loop` follow from these two.
 fn read(alloc: Global, bytes: &[u8]) -> Result<LoopBody, LoopFault>
     ensures found { IfOk result (λ body. spec.Spells bytes.now (body_of body)) }
     ensures fault { IfErr result (λ e. spec.IsFault e bytes.now) }
@@ -74,7 +74,7 @@ impl<'a> Reader<'a> {
     ghost use Rattle.std.specs.Prelude.{◌≡◌, IfOk, IfErr};
     ghost use Rattle.cg_loop_reader.specs.Whole.{FindsText, MissesText};
 
-    /// Takes a whole text.
+    /// Takes a whole text, and returns its declarations and statements.
     fn text(&mut self, alloc: Global) -> Result<Parts, Misfit>
         ensures ok { IfOk result (λ parts. FindsText parts self.old self.new) }
         ensures misses { IfErr result (λ e. MissesText e self.old self.new) }

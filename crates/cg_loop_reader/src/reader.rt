@@ -40,7 +40,7 @@ impl<'a> Reader<'a> {
     ghost use Rattle.cg_loop_reader.specs.Doubled.{double};
     ghost use Rattle.cg_loop_reader.specs.Left.{left, noted, last_token, IsNext, Takes, TakesName, TakesNumber, Notes, Misses, Keeps};
 
-    /// Begins at the first token of `bytes`.
+    /// Returns a reader that stands at the first token of `bytes`.
     pub fn new(alloc: Global, bytes: &'a [u8]) -> Self
         ensures all { left result ≡ tokens_of double bytes.now ++ last_token bytes.now ∷ [] }
         ensures bytes { result.bytes.now ≡ bytes.now }
@@ -53,14 +53,14 @@ impl<'a> Reader<'a> {
         }
     }
 
-    /// Cuts the next token.
+    /// Returns the next token; `None` at the end of the text.
     pub fn next(&self) -> Option<Token<'a>>
         ensures { MatchOption result (tokens_at double self.now.bytes.now self.now.at ≡ []) (λ token. IsNext self.now token) }
     {
         next_token(DOUBLE, self.bytes, self.at)
     }
 
-    /// Takes `token`, which is the next.
+    /// Takes `token`, the next token.
     pub fn take(&mut self, token: Token<'a>)
         requires { IsNext self.old token }
         ensures taken { left self.old ≡ seen token.entry ∷ left self.new }
@@ -69,7 +69,7 @@ impl<'a> Reader<'a> {
         self.at = past_blanks(self.bytes, token.place + token.text.len());
     }
 
-    /// The place of the next token, or the length of the text where there is none.
+    /// Returns the place of the next token, or the length of the text where there is none.
     pub fn place(&self) -> usize
         ensures { result ≡ place_of (length self.now.bytes.now) (tokens_at double self.now.bytes.now self.now.at) }
     {
@@ -109,7 +109,7 @@ impl<'a> Reader<'a> {
         }
     }
 
-    /// Takes the token `text`.
+    /// Takes the next token, which has to be `text`.
     pub fn exactly(&mut self, text: &[u8]) -> Result<(), Misfit>
         requires { 0 < length text.now }
         ensures ok { OnOk result (Takes text.now self.old self.new) }
@@ -128,7 +128,7 @@ impl<'a> Reader<'a> {
         }
     }
 
-    /// Takes a name.
+    /// Takes the next token, which has to be a name, and returns it.
     pub fn name(&mut self) -> Result<Token<'a>, Misfit>
         ensures ok { IfOk result (λ token. TakesName token self.old self.new) }
         ensures misses { IfErr result (λ e. Misses e (NameSymbol ∷ []) self.old self.new) }
@@ -146,7 +146,7 @@ impl<'a> Reader<'a> {
         }
     }
 
-    /// Takes a number.
+    /// Takes the next token, which has to be a number, and returns the number and its place.
     pub fn number(&mut self) -> Result<Numeral, Misfit>
         ensures ok { IfOk result (λ number. TakesNumber number self.old self.new) }
         ensures misses { IfErr result (λ e. Misses e (Digits ∷ []) self.old self.new) }

@@ -12,7 +12,7 @@ use cg_loop_syntax::{Name, Op};
 use std::alloc::{AllocError, Global};
 
 /// The kinds of token that an operand may begin with.
-#[derive(Clone, Copy, Debug, PartialEq, Eq, Drop)]
+#[derive(Clone, Copy, Drop)]
 pub(crate) enum Beginning {
     /// A number of this value.
     Number(u32),
@@ -23,25 +23,28 @@ pub(crate) enum Beginning {
     Other,
 }
 
-/// Tells whether two texts are equal.
+/// Tells whether the texts `left` and `right` are equal.
 pub(crate) fn same(left: &[u8], right: &[u8]) -> bool
     ensures { result ≡ bytes_eq left.now right.now }
 {
     left == right
 }
 
+/// Tells whether a name may begin with `byte`.
 fn begins_name(byte: u8) -> bool
     ensures { result ≡ names.begins_name byte }
 {
     matches!(byte, b'A'..=b'Z' | b'a'..=b'z' | b'_')
 }
 
+/// Tells whether `byte` may stand in a name.
 fn within_name(byte: u8) -> bool
     ensures { result ≡ names.within_name byte }
 {
     begins_name(byte) || byte.is_ascii_digit()
 }
 
+/// Tells whether all bytes of `text` may stand in a name.
 fn are_within_name(text: &[u8]) -> bool
     ensures { result ≡ list_all names.within_name text.now }
 {
@@ -111,7 +114,7 @@ pub(crate) fn is_name(text: &[u8]) -> bool
     is_identifier(text) && !(is_keyword(text) || op_called(text).is_some())
 }
 
-/// Returns the text of a name.
+/// Returns the name `name` as a text.
 fn text_of(name: &[u8]) -> &str
     requires { rules.is_loop_name name.now ≡ true }
     ensures { result.now ≡ name.now }
@@ -122,7 +125,7 @@ fn text_of(name: &[u8]) -> &str
     }
 }
 
-/// Returns a copy of a name.
+/// Returns a copy of the name `name`.
 pub(crate) fn name_of(alloc: Global, name: &[u8]) -> Result<Name, AllocError>
     requires { rules.is_loop_name name.now ≡ true }
     ensures { IfOk result (λ copy. copy ≡ name.now) }
@@ -130,13 +133,14 @@ pub(crate) fn name_of(alloc: Global, name: &[u8]) -> Result<Name, AllocError>
     Name::copy_of(alloc, text_of(name))
 }
 
+/// Tells whether all bytes of `text` are digits.
 fn are_digits(text: &[u8]) -> bool
     ensures { result ≡ list_all is_ascii_digit text.now }
 {
     text.iter().all(|byte| byte.is_ascii_digit())
 }
 
-/// Returns the number that the digits of `text` are, where there are one to ten of them, and it is a word.
+/// Returns the number that the digits of `text` spell, where there are one to ten of them, and it is a word.
 pub(crate) fn number_of(text: &[u8]) -> Option<u32>
     ensures { result ≡ kinds.number_in text.now }
 {
@@ -146,7 +150,7 @@ pub(crate) fn number_of(text: &[u8]) -> Option<u32>
     u32::try_from(value_of(text)).ok()
 }
 
-/// Returns the number that the digits of `text` are.
+/// Returns the number that the digits of `text` spell.
 fn value_of(text: &[u8]) -> u64
     requires digits { list_all is_ascii_digit text.now ≡ true }
     requires few { length text.now ≤ 10 }
@@ -159,7 +163,7 @@ fn value_of(text: &[u8]) -> u64
     number
 }
 
-/// Finds the operation of a sign that joins products.
+/// Returns the operation of the sign `text`, if it joins products.
 pub(crate) fn added_by(text: &[u8]) -> Option<Op>
     ensures { result ≡ spec.added_by text.now }
 {
@@ -172,7 +176,7 @@ pub(crate) fn added_by(text: &[u8]) -> Option<Op>
     }
 }
 
-/// Finds the operation of a sign that compares sums.
+/// Returns the operation of the sign `text`, if it compares sums.
 pub(crate) fn compared_by(text: &[u8]) -> Option<Op>
     ensures { result ≡ spec.compared_by text.now }
 {
@@ -185,7 +189,7 @@ pub(crate) fn compared_by(text: &[u8]) -> Option<Op>
     }
 }
 
-/// Tells what an operand that begins with the token `text` is.
+/// Returns the kind of operand that begins with the token `text`.
 pub(crate) fn beginning_of(text: &[u8]) -> Beginning
     ensures { result ≡ kinds.beginning_of text.now }
 {

@@ -53,7 +53,7 @@ pub record ReadsExpr (room : ℕ) (old new : List Placed) : Type 0 where
 pub record StopsExpr (room : ℕ) (old new : List Placed) : Type 0 where
   pub ran : (c : Closer) (stack : List Symbol) → run rule (Operand c false room ∷ stack) old ≡ Some new
 
--- an expression and so many more are read, with the bracket after them
+-- an expression and n more are read, with the bracket after them
 pub record ReadsArgs (room n : ℕ) (old new : List Placed) : Type 0 where
   pub ran : (stack : List Symbol) → run rule (Operand (Further n) false room ∷ stack) old ≡ run rule stack new
 

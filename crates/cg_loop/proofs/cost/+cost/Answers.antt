@@ -1,10 +1,11 @@
-use Rattle.std.proofs.Common.{◌≤◌, ◌-◌, ◌∙◌, length, get_or, take, drop, map, sym, ap, arith, subst}
+use Rattle.std.proofs.Common.{◌≤◌, ◌-◌, ◌∙◌, length, get_or, take, drop, map, sym, ap, ap₂, ◌+◌, arith, subst}
 use Rattle.std.proofs.lemmas.List.{take_all}
 use Rattle.std.proofs.lemmas.Result.{IfOk-weaker}
 use Rattle.cg_loop_syntax.specs.declared.syntax.Sum.{out-Sum}
 use Rattle.cg_loop_syntax.specs.Grouped.{atom_of, applied, expr_of, factors, terms, whole_prod}
 use Rattle.cg_loop_laws.specs.Translate.{cost}
 use Rattle.cg_loop_syntax.proofs.Rows.{apply_is, factors_step, first_same, product_parts, sum_is, terms_step}
+use Rattle.cg_loop.proofs.Computing.{three_applied, two_applied}
 use Rattle.cg_loop.proofs.cost.+cost.Goals as goal
 
 pub atom_cost-returns-in-Apply : goal.atom_cost-returns-in-Apply
@@ -42,3 +43,16 @@ pub sum_cost-returns : goal.sum_cost-returns
 sum_cost-returns t c =
     c.loop-term.invariant
     ∙ ap (λ z. cost z) (ap (terms (whole_prod (out-Sum c.args.sum.now).first)) (take_all c.loop-term.term-index c.deref-term-items.result.now c.loop-term-test.false ∙ c.deref-term-items.ensures.value) ∙ sym (sum_is c.args.sum.now))
+
+pub applied_cost-returns-in_ok-expr_cost-in-len2-2 : goal.applied_cost-returns-in_ok-expr_cost-in-len2-2
+applied_cost-returns-in_ok-expr_cost-in-len2-2 t c =
+    let both = ap₂ (λ u v. u + v + 1) c.in_ok-expr_cost-in-len2.ensures c.in_ok-expr_cost-in-len2-2.ensures in
+    IfOk-weaker c.pair_cost.result _ _ (λ n h op. h ∙ both ∙ sym (ap cost (two_applied op c.args.operands.now c.a-item.result c.b-item.result c.in-len2.len_at_least c.in-len2.len_below c.a-item.is c.b-item.is))) c.pair_cost.ensures
+
+pub applied_cost-returns-in_ok-expr_cost-in-len3-3 : goal.applied_cost-returns-in_ok-expr_cost-in-len3-3
+applied_cost-returns-in_ok-expr_cost-in-len3-3 t c =
+    let first = c.in_ok-plus-in-len3.ensures ∙ ap₂ (λ u v. u + v) c.in_ok-expr_cost-in-len3.ensures c.in_ok-expr_cost-in-len3-2.ensures in
+    let all = ap₂ (λ u v. u + v + 1) first c.in_ok-expr_cost-in-len3-3.ensures in
+    IfOk-weaker c.pair_cost-in-len3.result _ _
+    (λ n h op. h ∙ all ∙ sym (ap cost (three_applied op c.args.operands.now c.a-item-then-operands-lt4.result c.b-item-then-operands-lt4.result c.c-item.result c.in-len3.len_at_least c.in-len3.len_below c.a-item-then-operands-lt4.is c.b-item-then-operands-lt4.is c.c-item.is)))
+    c.pair_cost-in-len3.ensures

@@ -9,11 +9,11 @@ use Rattle.cg_loop_syntax.proofs.Rows.{apply_is, factors_step, product_parts, re
 use Rattle.cg_loop_syntax.specs.declared.syntax.Compare.{out-Compare}
 use Rattle.cg_loop_syntax.specs.declared.syntax.Expr.{out-Expr}
 use Rattle.cg_loop_syntax.specs.Grouped.{sum_of}
-use Rattle.cg_loop_syntax.specs.Loop.{Item, Two}
+use Rattle.cg_loop_syntax.specs.Loop.{Num, Turn, In, Scalar, Item, Two}
 use Rattle.cg_loop_laws.specs.Translate.{cost}
 use Rattle.cg_loop.specs.Made.{Computes}
 use Rattle.cg_loop.proofs.Costs.{prod_first, prod_room, sum_first, sum_room}
-use Rattle.cg_loop.proofs.Computing.{all_ok, computes_item, computes_three, computes_two, three_applied, two_applied}
+use Rattle.cg_loop.proofs.Computing.{all_ok, computes_in, computes_item, computes_num, computes_scalar, computes_three, computes_turn, computes_two, three_applied, two_applied}
 use Rattle.cg_loop.proofs.exprs.+exprs.Goals as goal
 
 pub atom_code-applied_code-requires : goal.atom_code-applied_code-requires
@@ -122,3 +122,37 @@ atom_code-returns-in_ok-index-in-Item t c =
     let same : atom_of c.args.atom.now ≡ Item c.in-Item.array (expr_of c.in-Item.index.value) = search (rules, the_lemmas) in
     subst (λ e. IfOk c.load_code.result (λ value. Computes c.args.scope.now c.args.code.now c.load_code.new.code e value)) (sym (same ∙ ap (λ e. Item c.in-Item.array (expr_of e)) (sym c.deref.ensures)))
     (all_ok c.load_code.result _ _ _ _ (λ value. computes_item c.args.scope.now c.args.code.now _ c.load_code.new.code c.in-Item.array _ _ value c.in_ok-index-in-Item.ensures) c.load_code.ensures.nodes c.load_code.ensures.accesses c.load_code.ensures.value)
+
+pub expr_code-returns-in-None : goal.expr_code-returns-in-None
+expr_code-returns-in-None t c =
+    let same : expr_of c.args.expr.now ≡ sum_of (out-Expr c.args.expr.now).first = search (rules, the_lemmas) in
+    subst (λ e. Computes c.args.scope.now c.args.code.now c.sum_code.new.code e c.in_ok-first.first) (sym same) c.in_ok-first.ensures
+
+pub atom_code-returns-in-Num : goal.atom_code-returns-in-Num
+atom_code-returns-in-Num t c =
+    let same : atom_of c.args.atom.now ≡ Num c.in-Num.word = search (rules, the_lemmas) in
+    subst (λ e. IfOk c.add.result (λ value. Computes c.args.scope.now c.args.code.now c.add.new.self e value)) (sym same)
+    (all_ok c.add.result _ _ _ _ (λ value. computes_num c.args.scope.now c.args.code.now c.add.new.self c.in-Num.word value) c.add.ensures.value c.add.ensures.nodes c.add.ensures.accesses)
+
+pub atom_code-returns-in-Turn : goal.atom_code-returns-in-Turn
+atom_code-returns-in-Turn t c =
+    let same : atom_of c.args.atom.now ≡ Turn = search (rules, the_lemmas) in
+    subst (λ e. IfOk c.add-in-Turn.result (λ value. Computes c.args.scope.now c.args.code.now c.add-in-Turn.new.self e value)) (sym same)
+    (all_ok c.add-in-Turn.result _ _ _ _ (λ value. computes_turn c.args.scope.now c.args.code.now c.add-in-Turn.new.self value) c.add-in-Turn.ensures.value c.add-in-Turn.ensures.nodes c.add-in-Turn.ensures.accesses)
+
+pub atom_code-returns-in-Input : goal.atom_code-returns-in-Input
+atom_code-returns-in-Input t c =
+    let same : atom_of c.args.atom.now ≡ In c.in-Input.port = search (rules, the_lemmas) in
+    subst (λ e. IfOk c.add_ported.result (λ value. Computes c.args.scope.now c.args.code.now c.add_ported.new.self e value)) (sym same)
+    (all_ok c.add_ported.result _ _ _ _ (λ value. computes_in c.args.scope.now c.args.code.now c.add_ported.new.self c.in-Input.port value) c.add_ported.ensures.value c.add_ported.ensures.nodes c.add_ported.ensures.accesses)
+
+pub atom_code-returns-in-Scalar : goal.atom_code-returns-in-Scalar
+atom_code-returns-in-Scalar t c =
+    let same : atom_of c.args.atom.now ≡ Scalar c.in-Scalar.name = search (rules, the_lemmas) in
+    subst (λ e. Computes c.args.scope.now c.args.code.now c.args.code.now e c.value_of.result) (sym same) (computes_scalar c.args.scope.now c.args.code.now c.in-Scalar.name c.value_of.result c.value_of.ensures)
+
+pub atom_code-returns-in-Bracket : goal.atom_code-returns-in-Bracket
+atom_code-returns-in-Bracket t c =
+    let same : atom_of c.args.atom.now ≡ expr_of c.in-Bracket.inner.value = search (rules, the_lemmas) in
+    subst (λ e. IfOk c.expr_code-in-Bracket.result (λ value. Computes c.args.scope.now c.args.code.now c.expr_code-in-Bracket.new.code e value)) (sym (same ∙ ap expr_of (sym c.deref-in-Bracket.ensures)))
+    c.expr_code-in-Bracket.ensures

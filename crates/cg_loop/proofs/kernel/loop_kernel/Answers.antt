@@ -1,4 +1,4 @@
-use Rattle.std.proofs.Common.{◌≡◌, ◌<◌, ◌∙◌, Some, ap, sym, arith, map}
+use Rattle.std.proofs.Common.{◌<◌, ◌∙◌, Some, ap, sym, arith, map}
 use Rattle.cg_model.specs.Kernel.{size}
 use Rattle.cg_loop_syntax.specs.declared.fault.Excess.TheVariants.{Nodes}
 use Rattle.cg_loop_syntax.specs.Body.{body_of}

@@ -1,4 +1,4 @@
-use Rattle.std.proofs.Common.{◌≡◌, ap, sym, ◌∙◌}
+use Rattle.std.proofs.Common.{ap, ◌∙◌}
 use Rattle.cg_loop_reader.proofs.Answered.{read_to, fault_found}
 use Rattle.cg_loop_reader.proofs.read.read.Goals as goal
 

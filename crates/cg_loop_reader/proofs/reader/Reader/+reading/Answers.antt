@@ -1,4 +1,4 @@
-use Rattle.std.proofs.Common.{◌≡◌, ℕ, suc, ◌+◌, ◌-◌, ◌<◌, ◌≤◌, ◌∷◌, ◌++◌, [], true, false, codes, refl, sym, ap, ◌∙◌, subst, arith, rules, length}
+use Rattle.std.proofs.Common.{◌≡◌, suc, ◌-◌, ◌∷◌, ◌++◌, [], codes, refl, sym, ap, ◌∙◌, subst, arith, rules}
 use Rattle.std.proofs.lemmas.Result.{err_from_is_err_and, IfErr-weaker, IfOk-weaker}
 use Rattle.cg_tokens.specs.Tokens.{seen}
 use Rattle.std.specs.Prelude.{nat_lt, ◌&&◌}
@@ -14,7 +14,7 @@ use Rattle.cg_loop_text.specs.Read.{begins_with, begins_adding, begins_comparing
 use Rattle.cg_loop_text.proofs.Texts.{op_name}
 use Rattle.cg_loop_text.proofs.Steps.{op_misses, room_misses}
 use Rattle.cg_loop_reader.specs.Left.{left, last_token, Takes, TakesSign}
-use Rattle.cg_loop_reader.specs.Found.{FindsAtom, FindsIndex, FindsProduct, FindsTerms, FindsSum, FindsExpr, FindsOperands}
+use Rattle.cg_loop_reader.specs.Found.{FindsAtom, FindsProduct, FindsTerms, FindsSum, FindsOperands}
 use Rattle.cg_loop_reader.proofs.Atoms.{named_found, item_found, word_further, bracket_found, apply_found, last_found, more_found}
 use Rattle.cg_loop_reader.proofs.Beginnings.{number_begins, turn_begins, in_begins, name_begins, other_begins, same_text}
 use Rattle.cg_loop_reader.proofs.Built.{plain_value, plain_well, compared_value, compared_well, sum_value, sum_well}
@@ -98,6 +98,16 @@ expr-returns-in-None-clause-ok t c =
     plain_found c.args.room _ c.in_ok-first.first c.args.self.now c.comparing.new.self (plain_value c.in_ok-first.first) (plain_well c.args.room c.in_ok-first.first)
     (subst (FindsSum c.args.room c.in_ok-first.first c.args.self.now) (sym same) c.in_ok-first.ensures.ok)
     (ap (λ r. begins_with (codes "*") (left r)) same ∙ c.in_ok-first.ensures.ends.0) (ap (λ r. begins_adding (left r)) same ∙ c.in_ok-first.ensures.ends.1) (ap (λ r. begins_comparing (left r)) same ∙ c.in-None.ensures.none.1)
+
+pub expr-returns-in_err-first-clause-misses : goal.expr-returns-in_err-first-clause-misses
+expr-returns-in_err-first-clause-misses t c =
+    let p = err_from_is_err_and c.from_residual.result c.from_residual.ensures.1 in
+    rw (p.1, p.2) (plain_missed c.in_err-first.field-0.0 c.args.room c.args.self.now _ c.in_err-first.ensures.misses)
+
+pub expr-returns-in_err-second-in-Some-clause-misses : goal.expr-returns-in_err-second-in-Some-clause-misses
+expr-returns-in_err-second-in-Some-clause-misses t c =
+    let p = err_from_is_err_and c.from_residual-in_err-second-in-Some.result c.from_residual-in_err-second-in-Some.ensures.1 in
+    rw (p.1, p.2) (compared_missed c.in_err-second-in-Some.field-0.0 c.args.room c.in_ok-first.first c.in-Some.op c.args.self.now c.sum.new.self c.comparing.new.self _ c.in_ok-first.ensures.ok c.in-Some.ensures.taken c.in_err-second-in-Some.ensures.misses)
 
 -- ---- indexes
 

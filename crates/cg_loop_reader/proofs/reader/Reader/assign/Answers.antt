@@ -1,4 +1,4 @@
-use Rattle.std.proofs.lemmas.Result.{err_from_is_err_and, IfErr-weaker, IfOk-weaker}
+use Rattle.std.proofs.lemmas.Result.{err_from_is_err_and}
 use Rattle.cg_loop_reader.proofs.Stated.{assign_found}
 use Rattle.cg_loop_reader.proofs.Strayed.{assign_missed}
 use Rattle.cg_loop_reader.proofs.reader.Reader.assign.Goals as goal

@@ -1,4 +1,4 @@
-use Rattle.std.proofs.lemmas.Result.{err_from_is_err_and, IfErr-weaker, IfOk-weaker}
+use Rattle.std.proofs.lemmas.Result.{IfErr-weaker, IfOk-weaker}
 use Rattle.cg_loop_reader.proofs.Stated.{change_found}
 use Rattle.cg_loop_reader.proofs.Strayed.{change_missed}
 use Rattle.cg_loop_reader.proofs.reader.Reader.change.Goals as goal

@@ -1,4 +1,3 @@
-use Rattle.std.proofs.Common.{sym, ◌∙◌}
 use Rattle.cg_loop_reader.proofs.Atoms.{scalar_found}
 use Rattle.cg_loop_reader.proofs.reader.Reader.scalar.Goals as goal
 

@@ -1,7 +1,10 @@
 use Rattle.std.proofs.Common.{sym, subst, ◌∙◌}
 use Rattle.cg_loop_reader.specs.Lines.{FindsStmts}
-use Rattle.cg_loop_reader.proofs.Stated.{more_stmts}
+use Rattle.cg_loop_reader.proofs.Stated.{more_stmts, stmt_shorter}
 use Rattle.cg_loop_reader.proofs.reader.Reader.stmts.Goals as goal
+
+pub loop-token-smaller : goal.loop-token-smaller
+loop-token-smaller c = stmt_shorter c.in_ok-stmt.field-0 c.loop-token.self c.stmt.new.self c.in_ok-stmt.ensures.ok
 
 pub loop-token-preserved : goal.loop-token-preserved
 loop-token-preserved c = record {

@@ -1,0 +1,23 @@
+use Rattle.std.proofs.lemmas.Result.{err_from_is_err_and}
+use Rattle.cg_loop_reader.proofs.Stated.{guarded_found}
+use Rattle.cg_loop_reader.proofs.Strayed.{guarded_value_missed, guarded_guard_missed, guarded_end_missed}
+use Rattle.cg_loop_reader.proofs.reader.Reader.guarded.Goals as goal
+
+pub returns-in_err-value-clause-misses : goal.returns-in_err-value-clause-misses
+returns-in_err-value-clause-misses c =
+    let p = err_from_is_err_and c.from_residual-in_err-value.result c.from_residual-in_err-value.ensures.1 in
+    rw (p.1, p.2) (guarded_value_missed c.in_err-value.field-0.0 c.args.self.now c.exactly.new.self _ c.in_ok-exactly.ensures.ok c.in_err-value.ensures.misses)
+
+pub returns-in_err-guard-clause-misses : goal.returns-in_err-guard-clause-misses
+returns-in_err-guard-clause-misses c =
+    let p = err_from_is_err_and c.from_residual-in_err-guard.result c.from_residual-in_err-guard.ensures.1 in
+    rw (p.1, p.2) (guarded_guard_missed c.in_err-guard.field-0.0 c.in_ok-value.value c.args.self.now c.exactly.new.self c.expr.new.self _ c.in_ok-exactly.ensures.ok c.in_ok-value.ensures.ok c.in_err-guard.ensures.misses)
+
+pub returns-in_err-exactly-2-clause-misses : goal.returns-in_err-exactly-2-clause-misses
+returns-in_err-exactly-2-clause-misses c =
+    let p = err_from_is_err_and c.from_residual-in_err-exactly-2.result c.from_residual-in_err-exactly-2.ensures.1 in
+    rw (p.1, p.2) (guarded_end_missed c.in_err-exactly-2.field-0.0 c.in_ok-value.value c.in_ok-guard.guard c.args.self.now c.exactly.new.self c.expr.new.self c.guard.new.self _ c.in_ok-exactly.ensures.ok c.in_ok-value.ensures.ok c.in_ok-guard.ensures.ok c.in_err-exactly-2.ensures.misses)
+
+pub returns-clause-ok : goal.returns-clause-ok
+returns-clause-ok c =
+    guarded_found _ c.args.self.now c.exactly.new.self c.expr.new.self c.guard.new.self c.exactly-2.new.self c.in_ok-exactly.ensures.ok c.in_ok-value.ensures.ok c.in_ok-guard.ensures.ok c.in_ok-exactly-2.ensures.ok
