@@ -47,4 +47,4 @@ usual_moves = 10000
 
 -- the number of best responses where none is given
 abbrev pub usual_responses : ℕ
-usual_responses = 12000
+usual_responses = 240000

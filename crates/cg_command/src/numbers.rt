@@ -14,7 +14,7 @@ pub(crate) const USUAL_SEED: u64 = 1;
 pub(crate) const USUAL_MOVES: u32 = 10_000;
 
 /// The number of best responses where none is given.
-pub(crate) const USUAL_RESPONSES: u32 = 12_000;
+pub(crate) const USUAL_RESPONSES: u32 = 240_000;
 
 /// Returns the interval that `word` writes, 1 to 64 cycles; None where it writes none.
 pub fn interval_of(word: &str) -> Option<u32>

@@ -1,6 +1,7 @@
 //! What is wrong with a state.
 
-use cg_respond_state::{Problem, State};
+use cg_respond_problem::Problem;
+use cg_respond_state::State;
 use std::alloc::{AllocError, Global};
 
 /// What a second node in a unit's slot counts.

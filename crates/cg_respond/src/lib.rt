@@ -3,16 +3,15 @@
 //! where it and its routes cost least. The search ends when there are no faults.
 #![tactic(auto)]
 
-mod candidates;
-mod draws;
-mod estimates;
+mod effort;
 mod faults;
 mod mapping;
 mod opening;
-mod ranks;
+mod pace;
 mod responding;
-mod settling;
 mod sweeps;
-mod windows;
+mod turning;
 
+pub use cg_respond_prices::Wiring;
+pub use effort::Effort;
 pub use responding::{Responded, respond};

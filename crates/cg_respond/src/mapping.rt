@@ -4,7 +4,8 @@ ghost use Rattle.cg_model.specs.Kernel.{size};
 ghost use Rattle.cg_model.specs.Mapping.{IsShaped, end_of, ends_of, ends_from};
 
 use cg_model::{Items, Kernel, Mapping, Operand, Place, Route, Words};
-use cg_respond_state::{Places, Routes, State, count};
+use cg_respond_problem::{Places, count};
+use cg_respond_state::{Routes, State};
 use std::alloc::{AllocError, Global};
 
 /// Returns the mapping of `state` at the interval `ii`: times from the least one on, and an empty path for an edge

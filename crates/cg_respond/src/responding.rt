@@ -3,13 +3,15 @@ ghost use Rattle.std.specs.Prelude.{◌≤◌, IfOk};
 ghost use Rattle.cg_model.specs.Limits.{most_moves};
 ghost use Rattle.cg_respond.specs.Responded.{IsResponded, IsLegalAt};
 
+use crate::effort::Effort;
 use crate::mapping::mapping;
-use crate::sweeps::{Ending, Pace, attempt};
+use crate::pace::{Ending, Pace};
+use crate::sweeps::attempt;
 use cg_check::{CheckVerdict, LegalMapping, check};
-use cg_model::Request;
-use cg_respond_state::{Problem, State};
+use cg_respond_prices::Wiring;
+use cg_respond_problem::Problem;
+use cg_respond_state::State;
 use cg_task::Task;
-use rand_pcg::Lcg64Xsh32;
 use std::alloc::{AllocError, Global};
 
 /// How a search ends.
@@ -17,47 +19,46 @@ use std::alloc::{AllocError, Global};
 pub enum Responded<'a> {
     /// At a legal mapping, after that number of best responses.
     Mapped(LegalMapping<'a>, u32),
-    /// With that number of faults left at the least, after all of them.
+    /// With that number of faults left at the least, after all of them or given up.
     Spent(u32),
 }
 
-/// Searches a mapping of `task`, with the seed of `request` and at most as many best responses as it has moves.
+/// Searches a mapping of `task`, on the array of `wiring`, with that `effort`.
 pub fn respond<'a>(
     alloc: Global,
     task: &Task<'a>,
-    request: Request,
+    wiring: &Wiring,
+    effort: Effort,
 ) -> Result<Responded<'a>, AllocError>
-    requires few { request.moves ≤ most_moves }
-    ensures { IfOk result (IsResponded task.now.arch task.now.kernel task.now.ii request.moves) }
+    requires few { effort.moves ≤ most_moves }
+    ensures { IfOk result (IsResponded task.now.arch task.now.kernel task.now.ii effort.moves) }
 {
-    let problem = Problem::new(alloc, task)?;
-    let responded = attempts(alloc, task, &problem, request)?;
+    let problem = Problem::new(alloc, task, wiring)?;
+    let responded = attempts(alloc, task, &problem, effort)?;
     Ok(responded)
 }
 
-/// Makes one attempt after another until one ends at a mapping or no moves are left.
+/// Makes one attempt after another until one ends at a mapping or the search is over.
 fn attempts<'a>(
     alloc: Global,
     task: &Task<'a>,
     problem: &Problem,
-    request: Request,
+    effort: Effort,
 ) -> Result<Responded<'a>, AllocError>
-    requires few { request.moves ≤ most_moves }
-    ensures { IfOk result (IsResponded task.now.arch task.now.kernel task.now.ii request.moves) }
+    requires few { effort.moves ≤ most_moves }
+    ensures { IfOk result (IsResponded task.now.arch task.now.kernel task.now.ii effort.moves) }
 {
-    let moves = request.moves;
     let mut state = State::new(alloc, problem)?;
-    let generator = Lcg64Xsh32::new(request.seed, u64::from(task.interval()));
-    let mut pace = Pace::new(generator, moves);
-    for number in 0..moves + 1 {
+    let mut pace = Pace::new(effort);
+    for number in 0..effort.moves + 1 {
         let ending = attempt(alloc, problem, &mut state, &mut pace, number)?;
         if ending == Ending::Clean {
             match checked(alloc, task, &state)? {
-                Some(legal) => return Ok(Responded::Mapped(legal, moves.saturating_sub(pace.left))),
+                Some(legal) => return Ok(Responded::Mapped(legal, pace.made.min(effort.moves))),
                 None => pace.least = 1,
             }
         }
-        if pace.left == 0 {
+        if ending == Ending::Over {
             break;
         }
     }

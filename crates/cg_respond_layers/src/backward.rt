@@ -1,6 +1,6 @@
 //! Least prices to where a value is read.
 use crate::buffers::{Entry, Layers, NOWHERE, UNREACHED};
-use crate::steps::{Back, bit, is_turns_apart, price_in};
+use crate::steps::{Back, bit, is_turns_apart, place_in, price_in, row_of};
 use cg_respond_prices::{Occupancy, Wiring};
 use std::alloc::AllocError;
 
@@ -8,14 +8,13 @@ use std::alloc::AllocError;
 #[derive(Clone, Copy)]
 struct Onward {
     price: u32,
-    /// The resource that it enters.
+    /// The resource that it enters, if there is a way.
     user: u32,
-    /// The layer in which it does.
-    layer: u32,
 }
 
 impl Layers {
-    /// Fills layers 0 to `last` backward from a port at a time, which is in layer 0: the least prices to it.
+    /// Fills layers 0 to `last` backward from a port at a time, which is in layer 0, with what costs less than `cap`:
+    /// the least prices to it. The price of the resource itself isn't in them.
     ///
     /// No way stands on a resource in two layers that are some intervals apart.
     pub fn backward(
@@ -25,144 +24,159 @@ impl Layers {
         port: u32,
         end: u32,
         last: u32,
+        cap: u32,
     ) -> Result<(), AllocError> {
         self.make_blank(wiring, last)?;
+        self.enter_none()?;
+        let slot = end % occupancy.interval();
         let entry = Entry {
             price: 0,
             before: NOWHERE,
-            mask: bit(port, end % occupancy.interval()),
+            mask: bit(port, slot),
         };
-        self.put(0, port, entry);
+        self.put(place_in(0, port), entry);
+        self.enter(port, price_in(occupancy.prices(slot), port));
         for layer in 0..last.saturating_add(1) {
-            self.fill_back(occupancy, wiring, end, layer);
+            if !self.fill_back(occupancy, wiring, end, layer, cap) {
+                break;
+            }
+            self.enter(port, UNREACHED);
         }
         Ok(())
     }
 
-    /// Fills a layer: wires, those that drive others after them, then registers and outs.
-    fn fill_back(&mut self, occupancy: &Occupancy, wiring: &Wiring, end: u32, layer: u32) {
+    /// Fills a layer: wires, those that drive others after them, then registers and outs. Says whether a way leaves one
+    /// of the registers.
+    fn fill_back(
+        &mut self,
+        occupancy: &Occupancy,
+        wiring: &Wiring,
+        end: u32,
+        layer: u32,
+        cap: u32,
+    ) -> bool {
         let slot = end.saturating_sub(layer) % occupancy.interval();
-        let later = end.saturating_sub(layer).saturating_add(1) % occupancy.interval();
         let step = Back {
             layer,
+            row: row_of(layer, self.width()),
+            later_row: row_of(layer.saturating_sub(1), self.width()),
             slot,
             interval: occupancy.interval(),
             prices: occupancy.prices(slot),
-            later: occupancy.prices(later),
+            worth: cap.min(UNREACHED),
         };
         self.leave_wires(wiring, step);
-        self.leave_all(wiring, step, wiring.registers());
+        let is_alive = self.leave_all(wiring, step, wiring.registers());
         self.leave_all(wiring, step, wiring.outs());
+        self.price_registers(wiring, step);
+        is_alive
     }
 
-    /// Finds the least prices from wires.
+    /// Finds the least prices from wires, and what it costs to enter them.
     fn leave_wires(&mut self, wiring: &Wiring, step: Back) {
-        for resource in wiring.flow().iter().rev() {
-            if !wiring.is_port(*resource) {
-                self.leave(wiring, step, *resource);
+        for resource in wiring.wires().iter().rev() {
+            let onward = self.leave(wiring, step, *resource);
+            let own = price_in(step.prices, *resource);
+            self.enter(*resource, onward.saturating_add(own));
+        }
+    }
+
+    /// Finds the least prices from other resources, and says whether there is one.
+    fn leave_all(&mut self, wiring: &Wiring, step: Back, resources: &[u32]) -> bool {
+        let mut is_any = false;
+        for resource in resources {
+            if self.leave(wiring, step, *resource) < UNREACHED {
+                is_any = true;
             }
         }
+        is_any
     }
 
-    /// Finds the least prices from other resources.
-    fn leave_all(&mut self, wiring: &Wiring, step: Back, resources: &[u32]) {
-        for resource in resources {
-            self.leave(wiring, step, *resource);
+    /// Notes what it costs to enter the registers, from the cycle before.
+    fn price_registers(&mut self, wiring: &Wiring, step: Back) {
+        for resource in wiring.registers() {
+            let onward = self.price_at(place_in(step.row, *resource));
+            let own = price_in(step.prices, *resource);
+            self.enter(*resource, onward.saturating_add(own));
         }
     }
 
-    /// Finds the least price from a resource.
-    #[inline]
-    fn leave(&mut self, wiring: &Wiring, step: Back, resource: u32) {
+    /// Finds the least price from a resource, and returns it; `UNREACHED` where there is none.
+    #[inline(always)]
+    fn leave(&mut self, wiring: &Wiring, step: Back, resource: u32) -> u32 {
         let mark = bit(resource, step.slot);
         let best = self.best_on(wiring, step, resource, mark);
-        if best.price < UNREACHED {
-            let entry = Entry {
-                price: best.price,
-                before: best.user,
-                mask: self.mask_at(best.layer, best.user) | mark,
-            };
-            self.put(step.layer, resource, entry);
+        if best.user == NOWHERE {
+            return UNREACHED;
         }
+        let entry = Entry {
+            price: best.price,
+            before: best.user,
+            mask: self.mask_at(entered(wiring, step, best.user)) | mark,
+        };
+        self.put(place_in(step.row, resource), entry);
+        best.price
     }
 
-    /// The best way on from a resource: the first of the least price.
+    /// Finds the best way on from a resource: the first of the least price below the worth.
     #[inline]
-    fn best_on(&self, wiring: &Wiring, step: Back, resource: u32, mark: u64) -> Onward {
+    fn best_on(&self, wiring: &Wiring, step: Back, resource: u32, mark: u128) -> Onward {
         let mut best = Onward {
-            price: UNREACHED,
+            price: step.worth,
             user: NOWHERE,
-            layer: step.layer,
         };
         for user in wiring.users(resource) {
-            let way = self.way_on(wiring, step, *user);
-            if way.price < best.price && !self.is_met_on(wiring, step, resource, mark, way) {
-                best = way;
+            let price = self.entering(*user);
+            if price < best.price && !self.is_met_on(wiring, step, resource, mark, *user) {
+                best = Onward { price, user: *user };
             }
         }
         best
     }
 
-    /// The way on through a user; of no price where there is none.
+    /// Checks whether the way on through a user stands on the resource in the same slot.
     #[inline]
-    fn way_on(&self, wiring: &Wiring, step: Back, user: u32) -> Onward {
-        if !wiring.is_register(user) {
-            return self.way_through(step.layer, step.prices, user);
-        }
-        if step.layer > 0 {
-            return self.way_through(step.layer - 1, step.later, user);
-        }
-        Onward {
-            price: UNREACHED,
-            user,
-            layer: step.layer,
-        }
-    }
-
-    /// The way on through a user in a layer.
-    #[inline]
-    fn way_through(&self, layer: u32, prices: &[u32], user: u32) -> Onward {
-        let onward = self.price_at(layer, user);
-        let price = if onward < UNREACHED {
-            onward.saturating_add(price_in(prices, user))
-        } else {
-            UNREACHED
-        };
-        Onward { price, user, layer }
-    }
-
-    /// Whether the way on stands on the resource in the same slot.
-    #[inline]
-    fn is_met_on(
-        &self,
-        wiring: &Wiring,
-        step: Back,
-        resource: u32,
-        mark: u64,
-        way: Onward,
-    ) -> bool {
+    fn is_met_on(&self, wiring: &Wiring, step: Back, resource: u32, mark: u128, user: u32) -> bool {
         step.layer >= step.interval
-            && self.mask_at(way.layer, way.user) & mark != 0
-            && self.goes_by(wiring, step, resource, way)
+            && self.mask_at(entered(wiring, step, user)) & mark == mark
+            && self.goes_by(wiring, step, resource, user)
     }
 
-    /// Whether the way on stands on the resource some intervals later.
-    fn goes_by(&self, wiring: &Wiring, step: Back, resource: u32, way: Onward) -> bool {
-        let mut place = way.user;
-        let mut layer = way.layer;
+    /// Checks whether the way on through a user stands on the resource some intervals later.
+    fn goes_by(&self, wiring: &Wiring, step: Back, resource: u32, user: u32) -> bool {
+        let mut place = user;
+        let mut layer = layer_of(wiring, step.layer, user);
         for _ in 0..self.places() {
             if place == resource && is_turns_apart(step.layer, layer, step.interval) {
                 return true;
             }
-            let next = self.before_at(layer, place);
+            let next = self.before_at(self.place(layer, place));
             if next == NOWHERE {
                 return false;
             }
-            if wiring.is_register(next) {
-                layer = layer.saturating_sub(1);
-            }
+            layer = layer_of(wiring, layer, next);
             place = next;
         }
         false
+    }
+}
+
+/// Returns where the entry of a user is that is entered: of a register in the cycle after the layer.
+#[inline]
+fn entered(wiring: &Wiring, step: Back, user: u32) -> usize {
+    if wiring.is_register(user) {
+        place_in(step.later_row, user)
+    } else {
+        place_in(step.row, user)
+    }
+}
+
+/// Returns the layer in which a resource is entered from another in `layer`.
+#[inline]
+fn layer_of(wiring: &Wiring, layer: u32, resource: u32) -> u32 {
+    if wiring.is_register(resource) {
+        layer.saturating_sub(1)
+    } else {
+        layer
     }
 }

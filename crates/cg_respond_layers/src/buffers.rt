@@ -2,30 +2,38 @@
 ghost use Rattle.std.specs.Prelude.{◌≤◌};
 
 use crate::stand::Stand;
-use crate::steps::{bit, cell};
+use crate::steps::{bit, place_in, row_of};
 use cg_respond_prices::{Occupancy, Wiring};
 use std::alloc::{AllocError, Global};
 
 /// In place of a price: there is no way. No price is greater.
 pub const UNREACHED: u32 = u32::MAX / 4;
 
+/// How many bytes the layers take for each resource in each layer.
+pub const ENTRY_BYTES: u64 = 24;
+
 /// In place of a resource: a way begins, or ends, here.
 pub(crate) const NOWHERE: u32 = u32::MAX;
 
-/// Least prices in layers of time, a layer a cycle, with the way back. The memory for the most layers so far is kept, 16
-/// bytes for each resource in each layer.
+/// Least prices in layers of time, a layer a cycle, with the way back. The memory for the most layers so far is kept,
+/// `ENTRY_BYTES` for each resource in each layer.
 #[derive(Drop)]
 pub struct Layers {
     /// The least price of each resource in each layer, layer after layer.
     prices: Vec<u32>,
     /// From where the way of that price comes, or leads to.
     before: Vec<u32>,
-    /// In which slots the way stands on which resources: a bit is set where it may.
-    masks: Vec<u64>,
+    /// In which slots the way stands on which resources: two bits are set where it may.
+    masks: Vec<u128>,
     /// The number of resources.
     width: u32,
-    /// The number of the last layer.
-    last: u32,
+    /// The number of layers.
+    count: u32,
+    /// The last layer in which a standing route is free.
+    laid: u32,
+    /// Where layers are filled backward, what it costs to enter each resource and go on from there: a wire or a port in
+    /// the layer that is filled, a register in the cycle after it.
+    entering: Vec<u32>,
 }
 
 /// What is known of a resource in a layer.
@@ -36,22 +44,24 @@ pub(crate) struct Entry {
     /// The resource from which the way comes, or to which it leads.
     pub before: u32,
     /// Where the way may stand.
-    pub mask: u64,
+    pub mask: u128,
 }
 
 impl Layers {
-    /// No layers.
+    /// Returns no layers.
     pub fn new(alloc: Global) -> Layers {
         Layers {
             prices: Vec::new(alloc),
             before: Vec::new(alloc),
             masks: Vec::new(alloc),
             width: 0,
-            last: 0,
+            count: 0,
+            laid: 0,
+            entering: Vec::new(alloc),
         }
     }
 
-    /// Layers 0 to `last`, without a price but for the out, where the value begins.
+    /// Makes layers 0 to `last`, without a price but for the out, where the value begins.
     pub fn begin(&mut self, wiring: &Wiring, out: u32, last: u32) -> Result<(), AllocError> {
         self.make_blank(wiring, last)?;
         let entry = Entry {
@@ -59,7 +69,7 @@ impl Layers {
             before: NOWHERE,
             mask: 0,
         };
-        self.put(0, out, entry);
+        self.put(place_in(0, out), entry);
         Ok(())
     }
 
@@ -74,36 +84,54 @@ impl Layers {
             entry.mask |= bit(stand.resource, stand.time % occupancy.interval());
             let layer = stand.time.wrapping_sub(start);
             if layer <= last {
-                self.put(layer, stand.resource, entry);
+                self.lay_at(layer, stand.resource, entry);
             }
             entry.before = stand.resource;
         }
     }
 
-    /// The least price of a resource in a layer; `UNREACHED` where there is no way, or outside.
+    /// Makes a resource in a layer free.
+    fn lay_at(&mut self, layer: u32, resource: u32, entry: Entry) {
+        self.laid = self.laid.max(layer);
+        self.put(self.place(layer, resource), entry);
+    }
+
+    /// Lets go of all layers; their memory is kept.
+    pub fn close(&mut self) {
+        self.count = 0;
+    }
+
+    /// Checks whether there is a layer of that number.
+    #[inline]
+    pub fn holds(&self, layer: u32) -> bool {
+        layer < self.count
+    }
+
+    /// Returns the least price of a resource in a layer; `UNREACHED` where there is no way, or outside.
     #[inline]
     pub fn price(&self, layer: u32, resource: u32) -> u32
         ensures { result ≤ UNREACHED }
     {
-        if resource < self.width && layer <= self.last {
-            self.price_at(layer, resource).min(UNREACHED)
+        if resource < self.width && self.holds(layer) {
+            self.price_at(self.place(layer, resource)).min(UNREACHED)
         } else {
             UNREACHED
         }
     }
 
-    /// The way to a port in the last layer, from its beginning on; empty where there is none.
-    pub fn path(
+    /// Returns the way to a port in a layer, from its beginning on; empty where there is none. The layers are filled
+    /// forward.
+    pub fn way_to(
         &self,
         alloc: Global,
         wiring: &Wiring,
         port: u32,
         start: u32,
-        last: u32,
+        layer: u32,
     ) -> Result<Vec<Stand>, AllocError> {
         let mut path = Vec::new(alloc);
-        if self.price(last, port) < UNREACHED {
-            self.walk_back(wiring, port, start, last, &mut path)?;
+        if self.price(layer, port) < UNREACHED {
+            self.walk_back(wiring, port, start, layer, &mut path)?;
             path.reverse();
         }
         Ok(path)
@@ -125,7 +153,7 @@ impl Layers {
                 resource,
                 time: start.saturating_add(layer),
             })?;
-            let before = self.before_at(layer, resource);
+            let before = self.before_at(self.place(layer, resource));
             if before == NOWHERE {
                 break;
             }
@@ -137,7 +165,52 @@ impl Layers {
         Ok(())
     }
 
-    /// Layers 0 to `last` without a price.
+    /// Goes on from the last stand of a path to the port, and adds the stands; nothing where there is no way. The
+    /// layers are filled backward from `end`.
+    pub fn way_on(
+        &self,
+        wiring: &Wiring,
+        end: u32,
+        path: &mut Vec<Stand>,
+    ) -> Result<(), AllocError> {
+        if let Some(stand) = path.last().copied() {
+            let layer = end.wrapping_sub(stand.time);
+            if self.price(layer, stand.resource) < UNREACHED {
+                self.walk_on(wiring, stand.resource, layer, end, path)?;
+            }
+        }
+        Ok(())
+    }
+
+    /// Adds the way from a resource in a layer, without that, on to its end.
+    fn walk_on(
+        &self,
+        wiring: &Wiring,
+        from: u32,
+        first: u32,
+        end: u32,
+        path: &mut Vec<Stand>,
+    ) -> Result<(), AllocError> {
+        let mut resource = from;
+        let mut layer = first;
+        for _ in 0..self.before.len() {
+            let next = self.before_at(self.place(layer, resource));
+            if next == NOWHERE {
+                break;
+            }
+            if wiring.is_register(next) {
+                layer = layer.saturating_sub(1);
+            }
+            resource = next;
+            path.push(Stand {
+                resource,
+                time: end.saturating_sub(layer),
+            })?;
+        }
+        Ok(())
+    }
+
+    /// Makes layers 0 to `last` without a price.
     pub(crate) fn make_blank(&mut self, wiring: &Wiring, last: u32) -> Result<(), AllocError> {
         let width = wiring.resources();
         let count = (last as usize + 1) * width;
@@ -151,27 +224,66 @@ impl Layers {
             self.masks.resize(count, 0)?;
         }
         self.width = width as u32;
-        self.last = last;
+        self.count = last.saturating_add(1);
+        self.laid = 0;
         blank(&mut self.prices, count);
         Ok(())
     }
 
-    /// The number of places.
+    /// Notes that no resource can be entered yet.
+    pub(crate) fn enter_none(&mut self) -> Result<(), AllocError> {
+        let width = self.width as usize;
+        if self.entering.len() < width {
+            self.entering.resize(width, UNREACHED)?;
+        }
+        self.entering.fill(UNREACHED);
+        Ok(())
+    }
+
+    /// Notes that it costs `price` to enter a resource and go on from there.
+    #[inline(always)]
+    pub(crate) fn enter(&mut self, resource: u32, price: u32) {
+        if let Some(entering) = self.entering.get_mut(resource as usize) {
+            *entering = price.min(UNREACHED);
+        }
+    }
+
+    /// Returns what it costs to enter a resource and go on from there.
+    #[inline(always)]
+    pub(crate) fn entering(&self, resource: u32) -> u32 {
+        match self.entering.get(resource as usize) {
+            Some(price) => *price,
+            None => UNREACHED,
+        }
+    }
+
+    /// Returns the number of places.
     #[inline]
     pub(crate) fn places(&self) -> usize {
         self.before.len()
     }
 
-    /// Where the entry of a resource in a layer is.
+    /// Returns the number of resources.
     #[inline]
-    fn place(&self, layer: u32, resource: u32) -> usize {
-        cell(layer, self.width, resource)
+    pub(crate) fn width(&self) -> u32 {
+        self.width
     }
 
-    /// Writes the entry of a resource in a layer.
+    /// Checks whether a standing route is free in a layer, or in a later one.
     #[inline]
-    pub(crate) fn put(&mut self, layer: u32, resource: u32, entry: Entry) {
-        let place = self.place(layer, resource);
+    pub(crate) fn is_laid(&self, layer: u32) -> bool {
+        layer <= self.laid
+    }
+
+    /// Returns where the entry of a resource in a layer is.
+    #[inline]
+    pub(crate) fn place(&self, layer: u32, resource: u32) -> usize {
+        place_in(row_of(layer, self.width), resource)
+    }
+
+    /// Writes the entry at a place.
+    #[inline]
+    pub(crate) fn put(&mut self, place: usize, entry: Entry) {
         if let Some(price) = self.prices.get_mut(place) {
             *price = entry.price;
         }
@@ -183,28 +295,28 @@ impl Layers {
         }
     }
 
-    /// The price of a resource in a layer.
+    /// Returns the price at a place.
     #[inline]
-    pub(crate) fn price_at(&self, layer: u32, resource: u32) -> u32 {
-        match self.prices.get(self.place(layer, resource)) {
+    pub(crate) fn price_at(&self, place: usize) -> u32 {
+        match self.prices.get(place) {
             Some(price) => *price,
             None => UNREACHED,
         }
     }
 
-    /// From where the way to a resource in a layer comes, or where that from it leads.
+    /// Returns from where the way at a place comes, or where it leads.
     #[inline]
-    pub(crate) fn before_at(&self, layer: u32, resource: u32) -> u32 {
-        match self.before.get(self.place(layer, resource)) {
+    pub(crate) fn before_at(&self, place: usize) -> u32 {
+        match self.before.get(place) {
             Some(before) => *before,
             None => NOWHERE,
         }
     }
 
-    /// Where that way may stand.
+    /// Returns where that way may stand.
     #[inline]
-    pub(crate) fn mask_at(&self, layer: u32, resource: u32) -> u64 {
-        match self.masks.get(self.place(layer, resource)) {
+    pub(crate) fn mask_at(&self, place: usize) -> u128 {
+        match self.masks.get(place) {
             Some(mask) => *mask,
             None => 0,
         }

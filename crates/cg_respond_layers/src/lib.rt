@@ -7,6 +7,6 @@ mod forward;
 mod stand;
 mod steps;
 
-pub use buffers::{Layers, UNREACHED};
+pub use buffers::{ENTRY_BYTES, Layers, UNREACHED};
 pub use cg_respond_prices::{Occupancy, Wiring};
 pub use stand::Stand;

@@ -6,8 +6,12 @@ use crate::buffers::UNREACHED;
 pub(crate) struct Ahead<'a> {
     /// The layer.
     pub layer: u32,
+    /// Where its entries begin.
+    pub row: usize,
     /// The layer from which its resources are entered.
     pub from: u32,
+    /// Where the entries of that begin.
+    pub from_row: usize,
     /// The layers after it.
     pub left: u32,
     /// The slot of its cycle.
@@ -16,9 +20,9 @@ pub(crate) struct Ahead<'a> {
     pub interval: u32,
     /// The prices in that slot.
     pub prices: &'a [u32],
-    /// The port that the ways lead to, if it is one.
-    pub target: u32,
-    /// The least numbers of registers on ways to it; empty where all ways are looked for.
+    /// A way of this price, or a greater one, is of no use.
+    pub worth: u32,
+    /// The least numbers of registers on ways to the target; empty where all ways are looked for.
     pub ways: &'a [u8],
 }
 
@@ -27,30 +31,40 @@ pub(crate) struct Ahead<'a> {
 pub(crate) struct Back<'a> {
     /// The layer, counted from the end.
     pub layer: u32,
+    /// Where its entries begin.
+    pub row: usize,
+    /// Where the entries of the cycle after it begin; where those of layer 0 do if there is none.
+    pub later_row: usize,
     /// The slot of its cycle.
     pub slot: u32,
     /// The interval, in cycles.
     pub interval: u32,
     /// The prices in that slot.
     pub prices: &'a [u32],
-    /// The prices in the slot after it.
-    pub later: &'a [u32],
+    /// A way of this price, or a greater one, is of no use.
+    pub worth: u32,
 }
 
-/// Returns where the entry of `resource` in `layer` is, where there are `width` resources.
+/// Returns where the entries of `layer` begin, where there are `width` resources.
 #[inline]
-pub(crate) fn cell(layer: u32, width: u32, resource: u32) -> usize {
-    layer as usize * width as usize + resource as usize
+pub(crate) fn row_of(layer: u32, width: u32) -> usize {
+    layer as usize * width as usize
 }
 
-/// The bit of a resource in a slot: another may have the same.
+/// Returns where the entry of `resource` is in a row.
 #[inline]
-pub(crate) fn bit(resource: u32, slot: u32) -> u64 {
-    let mixed = u64::from(resource).wrapping_mul(0x9E37) ^ u64::from(slot).wrapping_mul(0x85EB);
-    1u64 << (mixed.wrapping_mul(0x2545_F491) >> 20 & 63)
+pub(crate) fn place_in(row: usize, resource: u32) -> usize {
+    row.wrapping_add(resource as usize)
 }
 
-/// The price of a resource in a slot.
+/// Returns the two bits of a resource in a slot: others may have one of them, or both.
+#[inline]
+pub(crate) fn bit(resource: u32, slot: u32) -> u128 {
+    let mixed = (resource ^ slot << 16).wrapping_mul(0x9E37_79B1);
+    1u128 << (mixed >> 25) | 1u128 << (mixed >> 18 & 127)
+}
+
+/// Returns the price of a resource in a slot.
 #[inline]
 pub(crate) fn price_in(prices: &[u32], resource: u32) -> u32 {
     match prices.get(resource as usize) {
@@ -59,7 +73,7 @@ pub(crate) fn price_in(prices: &[u32], resource: u32) -> u32 {
     }
 }
 
-/// Whether two layers are some intervals apart, and not the same.
+/// Checks whether two layers are some intervals apart, and not the same.
 #[inline]
 pub(crate) fn is_turns_apart(layer: u32, earlier: u32, interval: u32) -> bool {
     layer != earlier && layer.wrapping_sub(earlier).checked_rem(interval) == Some(0)

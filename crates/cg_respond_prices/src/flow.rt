@@ -1,4 +1,4 @@
-//! An order in which the wires and ports of a cycle have their words.
+//! An order in which the wires of a cycle have their words, and the resources of a kind.
 ghost use Rattle.std.specs.Prelude.{◌≤◌, length};
 ghost use Rattle.cg_model.specs.Limits.{most_resources};
 
@@ -6,8 +6,8 @@ use crate::rows::Rows;
 use cg_arch::{Kind, Resource};
 use std::alloc::{AllocError, Global};
 
-/// The wires, each after those that drive it and else as early as it can be, and then the ports, ascending.
-pub(crate) fn flow_of(
+/// Returns the wires, each after those that drive it and else as early as it can be.
+pub(crate) fn wires_of(
     alloc: Global,
     resources: &[Resource],
     users: &Rows,
@@ -15,13 +15,12 @@ pub(crate) fn flow_of(
     requires { length resources.now ≤ most_resources }
 {
     let mut waits = waits_of(alloc, resources)?;
-    let mut flow = free_wires(alloc, resources, &waits)?;
-    order_wires(resources, users, &mut waits, &mut flow)?;
-    push_ports(resources, &mut flow)?;
-    Ok(flow)
+    let mut wires = free_wires(alloc, resources, &waits)?;
+    order_wires(resources, users, &mut waits, &mut wires)?;
+    Ok(wires)
 }
 
-/// Whether a resource is of a kind.
+/// Checks whether a resource is of a kind.
 #[inline]
 pub(crate) fn is_of(resources: &[Resource], number: u32, kind: Kind) -> bool {
     match resources.get(number as usize) {
@@ -30,7 +29,7 @@ pub(crate) fn is_of(resources: &[Resource], number: u32, kind: Kind) -> bool {
     }
 }
 
-/// How many wires drive each resource.
+/// Counts the wires that drive each resource.
 fn waits_of(alloc: Global, resources: &[Resource]) -> Result<Vec<u32>, AllocError> {
     let mut waits = Vec::new(alloc);
     for resource in resources {
@@ -39,7 +38,7 @@ fn waits_of(alloc: Global, resources: &[Resource]) -> Result<Vec<u32>, AllocErro
     Ok(waits)
 }
 
-/// How many of some resources are wires.
+/// Counts the wires among some resources.
 fn wires_among(resources: &[Resource], numbers: &[u32]) -> u32 {
     let mut count = 0u32;
     for number in numbers {
@@ -50,7 +49,7 @@ fn wires_among(resources: &[Resource], numbers: &[u32]) -> u32 {
     count
 }
 
-/// The wires that no wire drives, ascending.
+/// Returns the wires that no wire drives, ascending.
 fn free_wires(alloc: Global, resources: &[Resource], waits: &[u32]) -> Result<Vec<u32>, AllocError>
     requires { length resources.now ≤ most_resources }
 {
@@ -68,13 +67,13 @@ fn order_wires(
     resources: &[Resource],
     users: &Rows,
     waits: &mut [u32],
-    flow: &mut Vec<u32>,
+    wires: &mut Vec<u32>,
 ) -> Result<(), AllocError> {
     for place in 0..resources.len() {
-        let Some(wire) = flow.get(place).copied() else {
+        let Some(wire) = wires.get(place).copied() else {
             break;
         };
-        pass(resources, users.row(wire), waits, flow)?;
+        pass(resources, users.row(wire), waits, wires)?;
     }
     Ok(())
 }
@@ -84,17 +83,17 @@ fn pass(
     resources: &[Resource],
     users: &[u32],
     waits: &mut [u32],
-    flow: &mut Vec<u32>,
+    wires: &mut Vec<u32>,
 ) -> Result<(), AllocError> {
     for user in users {
         if is_of(resources, *user, Kind::Wire) && stop_waiting(waits, *user) {
-            flow.push(*user)?;
+            wires.push(*user)?;
         }
     }
     Ok(())
 }
 
-/// Whether a resource waits for nothing more, now that a wire has its word.
+/// Notes that a wire has its word for which `user` waited, and says whether that waits for nothing more.
 fn stop_waiting(waits: &mut [u32], user: u32) -> bool {
     match waits.get_mut(user as usize) {
         Some(wait) => {
@@ -106,14 +105,19 @@ fn stop_waiting(waits: &mut [u32], user: u32) -> bool {
     }
 }
 
-/// Adds the ports, ascending.
-fn push_ports(resources: &[Resource], flow: &mut Vec<u32>) -> Result<(), AllocError>
+/// Returns the resources of a kind, ascending.
+pub(crate) fn all_of(
+    alloc: Global,
+    resources: &[Resource],
+    kind: Kind,
+) -> Result<Vec<u32>, AllocError>
     requires { length resources.now ≤ most_resources }
 {
+    let mut numbers = Vec::new(alloc);
     for number in 0..resources.len() {
-        if is_of(resources, number as u32, Kind::Port) {
-            flow.push(number as u32)?;
+        if is_of(resources, number as u32, kind) {
+            numbers.push(number as u32)?;
         }
     }
-    Ok(())
+    Ok(numbers)
 }

@@ -2,6 +2,7 @@
 #![tactic(auto)]
 
 mod array;
+mod bases;
 mod flow;
 mod hops;
 mod pricing;
@@ -9,6 +10,7 @@ mod rows;
 mod spot;
 
 pub use array::Wiring;
+pub use bases::REGISTER_PRICE;
 pub use cg_arch::Arch;
 pub use hops::NO_WAY;
 pub use pricing::Occupancy;

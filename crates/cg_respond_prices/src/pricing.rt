@@ -5,20 +5,21 @@ use crate::array::Wiring;
 use crate::spot::Spot;
 use std::alloc::{AllocError, Global};
 
-/// Who stands where in which slot, and what it costs to stand there too: first 4 for a register and 1 for another
-/// resource, to which all excess so far is added, and that once and thrice more for each claim. It takes some 40 bytes
-/// for each resource and slot, and 12 for each claim.
+/// Who stands where in which slot, and what it costs to stand there too: the first price of the resource, to which 3 is
+/// added for each claim above one so far, and that once and thrice more for each claim. It takes some 40 bytes for each
+/// resource and slot, and 12 for each claim.
 #[derive(Drop)]
 pub struct Occupancy {
     spots: Vec<Spot>,
     prices: Vec<u32>,
     resources: u32,
     interval: u32,
+    excess: u32,
     ghost some: { 0 < interval },
 }
 
 impl Occupancy {
-    /// No claims, at an interval.
+    /// Returns no claims, at an interval.
     pub fn new(alloc: Global, wiring: &Wiring, ii: u32) -> Result<Occupancy, AllocError>
         requires { 0 < ii }
     {
@@ -27,6 +28,7 @@ impl Occupancy {
             prices: Vec::new(alloc),
             resources: wiring.resources() as u32,
             interval: ii,
+            excess: 0,
         };
         for _ in 0..ii {
             occupancy.push_slot(alloc, wiring)?;
@@ -34,7 +36,7 @@ impl Occupancy {
         Ok(occupancy)
     }
 
-    /// The interval, in cycles.
+    /// Returns the interval, in cycles.
     #[inline]
     pub fn interval(&self) -> u32
         ensures { 0 < result }
@@ -42,26 +44,32 @@ impl Occupancy {
         self.interval
     }
 
-    /// The value of a source stands on a resource at a time, once more. After an error all is as before.
+    /// Notes that the value of a source stands on a resource at a time, once more. After an error all is as before.
     pub fn claim(&mut self, source: u32, resource: u32, time: u32) -> Result<(), AllocError> {
         let place = self.place(resource, time);
         if let Some(spot) = self.spots.get_mut(place) {
-            spot.claim(source, time)?;
-            self.reprice(place);
+            if spot.claim(source, time)? {
+                let more = spot.excess().min(1);
+                self.excess = self.excess.saturating_add(more);
+                self.reprice(place);
+            }
         }
         Ok(())
     }
 
-    /// It stands there once less; nothing where there is no such claim.
+    /// Notes that it stands there once less; nothing where there is no such claim.
     pub fn release(&mut self, source: u32, resource: u32, time: u32) {
         let place = self.place(resource, time);
         if let Some(spot) = self.spots.get_mut(place) {
-            spot.release(source, time);
-            self.reprice(place);
+            if spot.release(source, time) {
+                let less = spot.count().min(1);
+                self.excess = self.excess.saturating_sub(less);
+                self.reprice(place);
+            }
         }
     }
 
-    /// What a claim more costs on each resource in a slot; empty past the last slot.
+    /// Returns what a claim more costs on each resource in a slot; empty past the last slot.
     #[inline]
     pub fn prices(&self, slot: u32) -> &[u32] {
         let start = slot as usize * self.resources as usize;
@@ -71,7 +79,18 @@ impl Occupancy {
         }
     }
 
-    /// Whether more than one claim stands on a resource in the slot of a time.
+    /// Returns what it costs that the value of a source stands on a resource at a time: nothing where it does already,
+    /// else the price in that slot. Past the last resource it is the greatest number.
+    #[inline]
+    pub fn due(&self, source: u32, resource: u32, time: u32) -> u32 {
+        match self.spots.get(self.place(resource, time)) {
+            Some(spot) if spot.is_claimed(source, time) => 0,
+            Some(spot) => spot.price(),
+            None => u32::MAX,
+        }
+    }
+
+    /// Checks whether more than one claim stands on a resource in the slot of a time.
     #[inline]
     pub fn is_shared(&self, resource: u32, time: u32) -> bool {
         match self.spots.get(self.place(resource, time)) {
@@ -80,16 +99,13 @@ impl Occupancy {
         }
     }
 
-    /// The claims above one, over all resources and slots.
+    /// Returns the number of claims above one, over all resources and slots.
+    #[inline]
     pub fn excess(&self) -> u32 {
-        let mut excess = 0u32;
-        for spot in &self.spots {
-            excess = excess.saturating_add(spot.excess());
-        }
-        excess
+        self.excess
     }
 
-    /// Adds the excess of each resource in each slot to its history, so that it is dearer from now on.
+    /// Makes each resource in each slot dearer from now on, by its claims above one.
     pub fn age(&mut self) {
         for place in 0..self.spots.len() {
             self.age_at(place);
@@ -101,9 +117,10 @@ impl Occupancy {
         for place in 0..self.spots.len() {
             self.clear_at(place);
         }
+        self.excess = 0;
     }
 
-    /// The number of a resource in the slot of a time; that of none past the last resource.
+    /// Returns the number of a resource in the slot of a time; that of none past the last resource.
     #[inline]
     fn place(&self, resource: u32, time: u32) -> usize {
         if resource < self.resources {
@@ -117,7 +134,7 @@ impl Occupancy {
     /// Adds a slot.
     fn push_slot(&mut self, alloc: Global, wiring: &Wiring) -> Result<(), AllocError> {
         for resource in 0..self.resources {
-            let spot = Spot::new(alloc, wiring.is_register(resource));
+            let spot = Spot::new(alloc, wiring.base(resource));
             self.prices.push(spot.price())?;
             self.spots.push(spot)?;
         }

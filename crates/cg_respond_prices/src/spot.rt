@@ -1,14 +1,11 @@
 //! A resource in a slot: who claims it, and what it costs to claim it too.
 use std::alloc::{AllocError, Global};
 
-/// What a register costs that nobody claims, and that had no excess yet.
-const REGISTER_PRICE: u32 = 4;
-
-/// What another resource costs then.
-const WIRE_PRICE: u32 = 1;
-
 /// By how many times its first price each claim makes a place dearer.
 const CLAIM_FACTOR: u32 = 3;
+
+/// By how much each claim above one makes a place dearer for good, sweep by sweep.
+const HISTORY_STEP: u32 = 3;
 
 /// A claim: the value of a source is there at a time.
 #[derive(Clone, Copy, Debug, PartialEq, Eq)]
@@ -28,53 +25,64 @@ pub(crate) struct Spot {
 }
 
 impl Spot {
-    /// Nobody claims it.
-    pub(crate) fn new(alloc: Global, is_register: bool) -> Spot {
+    /// Returns a spot of that first price, which nobody claims.
+    pub(crate) fn new(alloc: Global, base: u32) -> Spot {
         Spot {
             claims: Vec::new(alloc),
-            base: if is_register {
-                REGISTER_PRICE
-            } else {
-                WIRE_PRICE
-            },
+            base,
             history: 0,
         }
     }
 
-    /// Adds a use of a claim.
-    pub(crate) fn claim(&mut self, source: u32, time: u32) -> Result<(), AllocError> {
-        if !add_use(&mut self.claims, source, time) {
-            self.claims.push(Claim {
-                source,
-                time,
-                uses: 1,
-            })?;
+    /// Adds a use of a claim, and says whether that makes one claim more.
+    pub(crate) fn claim(&mut self, source: u32, time: u32) -> Result<bool, AllocError> {
+        if add_use(&mut self.claims, source, time) {
+            return Ok(false);
         }
-        Ok(())
+        self.claims.push(Claim {
+            source,
+            time,
+            uses: 1,
+        })?;
+        Ok(true)
     }
 
-    /// Takes a use of a claim away; nothing where there is no such claim.
-    pub(crate) fn release(&mut self, source: u32, time: u32) {
-        if let Some(place) = position(&self.claims, source, time) {
-            if drop_use(&mut self.claims, place) && place < self.claims.len() {
-                self.claims.swap_remove(place);
-            }
+    /// Takes a use of a claim away, and says whether that makes one claim less; nothing where there is no such claim.
+    pub(crate) fn release(&mut self, source: u32, time: u32) -> bool {
+        match position(&self.claims, source, time) {
+            Some(place) => self.release_at(place),
+            None => false,
         }
     }
 
-    /// The number of claims.
+    /// Takes a use of the claim at a place away, and says whether that makes one claim less.
+    fn release_at(&mut self, place: usize) -> bool {
+        let is_last = drop_use(&mut self.claims, place) && place < self.claims.len();
+        if is_last {
+            self.claims.swap_remove(place);
+        }
+        is_last
+    }
+
+    /// Checks whether the value of a source stands there at a time.
+    #[inline]
+    pub(crate) fn is_claimed(&self, source: u32, time: u32) -> bool {
+        position(&self.claims, source, time).is_some()
+    }
+
+    /// Returns the number of claims.
     #[inline]
     pub(crate) fn count(&self) -> u32 {
         self.claims.len().min(u32::MAX as usize) as u32
     }
 
-    /// The number of claims above one.
+    /// Returns the number of claims above one.
     #[inline]
     pub(crate) fn excess(&self) -> u32 {
         self.count().saturating_sub(1)
     }
 
-    /// What a claim more costs.
+    /// Returns what a claim more costs.
     #[inline]
     pub(crate) fn price(&self) -> u32 {
         let base = self.base.saturating_add(self.history);
@@ -82,9 +90,10 @@ impl Spot {
         product(base, factor)
     }
 
-    /// Adds the excess to the history.
+    /// Adds to the history for each claim above one.
     pub(crate) fn age(&mut self) {
-        self.history = self.history.saturating_add(self.excess());
+        let step = self.excess().saturating_mul(HISTORY_STEP);
+        self.history = self.history.saturating_add(step);
     }
 
     /// Takes all claims away, and the history.
@@ -94,7 +103,7 @@ impl Spot {
     }
 }
 
-/// The product of two numbers, or the greatest number.
+/// Returns the product of two numbers, or the greatest number.
 #[inline]
 fn product(a: u32, b: u32) -> u32 {
     let product = u64::from(a) * u64::from(b);
@@ -131,7 +140,7 @@ fn drop_use(claims: &mut [Claim], place: usize) -> bool {
     }
 }
 
-/// Where a claim stands.
+/// Finds where a claim stands.
 fn position(claims: &[Claim], source: u32, time: u32) -> Option<usize> {
     claims
         .iter()

@@ -1,18 +1,17 @@
-//! The state of a search for a mapping by best responses: what is to be mapped, where and when nodes stand, how values
-//! go, and what all that costs.
+//! The state of a search for a mapping by best responses: where and when nodes stand, how values go, and what all that
+//! costs.
 #![tactic(auto)]
 
-mod hosts;
-mod late;
-mod lists;
-mod places;
-mod problem;
+mod ends;
+mod joining;
+mod pool;
 mod routes;
+mod routing;
+mod standing;
 mod state;
+mod together;
 
-pub use hosts::Host;
-pub use lists::{Lists, count, number_at, raise};
-pub use places::Places;
-pub use problem::{DataEdge, Problem};
-pub use routes::{Leaving, Routes, leaving_of};
+pub use ends::{Leaving, leaving_of};
+pub use routes::Routes;
 pub use state::{State, is_before};
+pub use together::along;

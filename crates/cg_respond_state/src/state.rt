@@ -1,10 +1,9 @@
 //! The state of a search: places and routes, and what breaking the order costs.
 
-use crate::lists::{number_at, raise};
-use crate::places::Places;
-use crate::problem::Problem;
 use crate::routes::{PENALTY, PENALTY_AGE, Routes};
 use cg_model::Place;
+use cg_respond_layers::Stand;
+use cg_respond_problem::{Places, Problem, count, number_at, raise, shifted};
 use std::alloc::{AllocError, Global};
 
 /// Where nodes stand and how values go, at an interval.
@@ -15,6 +14,22 @@ pub struct State {
     /// The routes of data edges.
     pub routes: Routes,
     histories: Vec<u32>,
+}
+
+/// The routes that are taken away where nodes move.
+#[derive(Drop)]
+struct Torn {
+    /// Those that move along.
+    within: Vec<Carried>,
+    /// The edges of the others.
+    border: Vec<u32>,
+}
+
+/// A route that moves along with both ends of its edge.
+#[derive(Drop)]
+struct Carried {
+    edge: u32,
+    route: Vec<Stand>,
 }
 
 impl State {
@@ -62,6 +77,102 @@ impl State {
         self.places.put(node, place);
     }
 
+    /// Moves each node that is marked in `members` a whole interval later, or sooner. Routes between two of them move
+    /// along; the edges of one of them to others are routed anew, where that costs less than to have no route.
+    pub fn shift(
+        &mut self,
+        alloc: Global,
+        problem: &Problem,
+        members: &[bool],
+        is_later: bool,
+    ) -> Result<(), AllocError> {
+        let torn = self.tear(alloc, problem, members)?;
+        for node in 0..problem.nodes {
+            if is_marked(members, node) {
+                self.places.shift(node, is_later);
+            }
+        }
+        self.put_within(problem, torn.within, is_later)?;
+        self.connect_all(alloc, problem, torn.border.as_slice())
+    }
+
+    /// Takes the routes of all edges of `members` away.
+    fn tear(
+        &mut self,
+        alloc: Global,
+        problem: &Problem,
+        members: &[bool],
+    ) -> Result<Torn, AllocError> {
+        let mut torn = Torn {
+            within: Vec::new(alloc),
+            border: Vec::new(alloc),
+        };
+        for edge in 0..count(problem.edges.as_slice()) {
+            self.tear_edge(problem, members, edge, &mut torn)?;
+        }
+        Ok(torn)
+    }
+
+    /// Takes the route of `edge` away, if it has an end among `members`, and adds it to `torn`.
+    fn tear_edge(
+        &mut self,
+        problem: &Problem,
+        members: &[bool],
+        edge: u32,
+        torn: &mut Torn,
+    ) -> Result<(), AllocError> {
+        let ends = match problem.edge(edge) {
+            Some(facts) => (
+                is_marked(members, facts.source),
+                is_marked(members, facts.target),
+            ),
+            None => (false, false),
+        };
+        match ends {
+            (true, true) => {
+                if let Some(route) = self.routes.take(problem, edge) {
+                    torn.within.push(Carried { edge, route })?;
+                }
+            }
+            (false, false) => {}
+            _ => {
+                self.routes.rip(problem, edge);
+                torn.border.push(edge)?;
+            }
+        }
+        Ok(())
+    }
+
+    /// Puts the routes `within` back, an interval later or sooner.
+    fn put_within(
+        &mut self,
+        problem: &Problem,
+        within: Vec<Carried>,
+        is_later: bool,
+    ) -> Result<(), AllocError> {
+        for carried in within {
+            let mut route = carried.route;
+            shift_route(&mut route, problem.ii, is_later);
+            self.routes.put(problem, carried.edge, route)?;
+        }
+        Ok(())
+    }
+
+    /// Routes `edges`, which have no routes, where that costs less than to have none.
+    fn connect_all(
+        &mut self,
+        alloc: Global,
+        problem: &Problem,
+        edges: &[u32],
+    ) -> Result<(), AllocError> {
+        for edge in edges {
+            let cap = self.routes.penalty(problem, *edge);
+            self.routes
+                .connect(alloc, problem, &self.places, *edge, cap)?;
+        }
+        Ok(())
+    }
+
     /// Makes whatever is wrong dearer.
     pub fn age(&mut self, problem: &Problem) {
         self.routes.age();
@@ -93,4 +204,19 @@ impl State {
 /// `other`.
 pub fn is_before(time: u32, cycles: u32, other: u32) -> bool {
     time.saturating_add(cycles) < other.saturating_add(1)
+}
+
+/// Checks whether `node` is marked in `members`.
+fn is_marked(members: &[bool], node: u32) -> bool {
+    match members.get(node as usize) {
+        Some(mark) => *mark,
+        None => false,
+    }
+}
+
+/// Makes `route` stand `cycles` cycles later, or sooner.
+fn shift_route(route: &mut [Stand], cycles: u32, is_later: bool) {
+    for stand in route {
+        stand.time = shifted(stand.time, cycles, is_later);
+    }
 }

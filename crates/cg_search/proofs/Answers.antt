@@ -1,6 +1,6 @@
 -- The kinds of answers are as words and files have it, but for whether a mapping is found; and there always is one.
-use Rattle.std.proofs.Common.{◌≡◌, ℕ, ◌+◌, ◌-◌, ◌<◌, ◌≤◌, ◌⊎◌, List, length, Option, refl, sym, subst, arith, inl, inr, ⊎_elim}
-use Rattle.std.specs.Prelude.{All, replicate}
+use Rattle.std.proofs.Common.{◌≡◌, ℕ, ◌+◌, ◌-◌, ◌<◌, ◌≤◌, List, length, Option, refl, sym, subst, arith, inl, inr, ⊎_elim}
+use Rattle.std.specs.Prelude.{replicate}
 use Rattle.std.proofs.lemmas.Bool.{cases_lt}
 use Rattle.cg_model.specs.Kernel.{Kernel, IsKernel}
 use Rattle.cg_model.specs.Array.{Arch, IsArch}

@@ -6,15 +6,17 @@ ghost use Rattle.cg_task.specs.Intervals as spec;
 ghost use Rattle.cg_task.specs.Intervals.{IsAsked, IsFirst};
 ghost use Rattle.cg_search.specs.Search.{IsAnswer, IsTried};
 
+use crate::course::outcome;
+use crate::trying::{Call, Outcome};
 use cg_arch::Arch;
 use cg_bound::{IntervalVerdict, verdict};
 use cg_hub::{hub_enough, hub_mapping};
 use cg_model::{Kernel, Request};
-use cg_respond::{Responded, respond};
-use cg_task::{Answer, FoundBy, Task, first_tried, last_tried};
+use cg_respond::Wiring;
+use cg_task::{Answer, FoundBy, first_tried, last_tried};
 use std::alloc::{AllocError, Global};
 
-/// Searches a mapping of `kernel` on `arch`, at the interval that `request` asks for, or at each from the least one
+/// Searches a mapping of `kernel` on `arch`, at the interval that `request` asks for, or at those from the least one
 /// that nothing forbids to as many cycles as the architecture has contexts; and then over the hub.
 pub fn search_answer<'a>(
     alloc: Global,
@@ -49,19 +51,18 @@ fn searched<'a>(
     requires free { IsOpen arch.now kernel.now (spec.last_tried arch.now request.ii) }
     ensures { IfOk result (IsTried arch.now kernel.now request.ii request.moves first) }
 {
-    arch.contexts();
-    let mut left = Vec::new(alloc);
-    for ii in first..last_tried(arch, request.ii) + 1 {
-        let task = Task::new(alloc, arch, kernel, ii)?;
-        match respond(alloc, &task, request)? {
-            Responded::Mapped(mapping, count) => {
-                mapping.mapping();
-                return Ok(Answer::Mapped(mapping, FoundBy::Moves(count)));
-            }
-            Responded::Spent(faults) => left.push(u64::from(faults))?,
-        }
+    let wiring = Wiring::new(alloc, arch)?;
+    let call = Call {
+        arch,
+        kernel,
+        wiring: &wiring,
+        request,
+        first,
+    };
+    match outcome(alloc, &call)? {
+        Outcome::Found(found) => Ok(Answer::Mapped(found.mapping, FoundBy::Moves(found.moves))),
+        Outcome::Left(left) => over_hub(alloc, arch, kernel, first, request, left),
     }
-    over_hub(alloc, arch, kernel, first, request, left)
 }
 
 /// Takes the hub's mapping of the first interval where it suffices, where there is one. `left` are the faults that the

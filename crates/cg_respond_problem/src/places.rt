@@ -1,6 +1,6 @@
 //! Where and when nodes stand, and what it costs to stand there too.
 
-use crate::lists::{number_at, raise};
+use crate::lists::{count, number_at, raise};
 use crate::problem::slot;
 use cg_model::Place;
 use std::alloc::{AllocError, Global};
@@ -21,17 +21,25 @@ pub struct Places {
     places: Vec<Option<Place>>,
     counts: Vec<u32>,
     histories: Vec<u32>,
+    /// By how many the nodes are more than one in a unit's slot, over all.
+    excess: u32,
+    /// How many nodes stand nowhere.
+    missing: u32,
 }
 
 impl Places {
     /// Returns places at which none of `nodes` nodes stands on one of `units` units, at the interval `ii`.
     pub fn new(alloc: Global, nodes: usize, units: usize, ii: u32) -> Result<Places, AllocError> {
         let slots = units.saturating_mul(ii as usize);
+        let places = nowhere(alloc, nodes)?;
+        let missing = count(places.as_slice());
         Ok(Places {
             ii,
-            places: nowhere(alloc, nodes)?,
+            places,
             counts: vec![in alloc; 0u32; slots]?,
             histories: vec![in alloc; 0u32; slots]?,
+            excess: 0,
+            missing,
         })
     }
 
@@ -51,23 +59,57 @@ impl Places {
 
     /// Puts `node`, which is lifted, at `place`.
     pub fn put(&mut self, node: u32, place: Place) {
-        let entry = self.entry(place);
-        raise(&mut self.counts, entry, 1);
         if let Some(standing) = self.places.get_mut(node as usize) {
             *standing = Some(place);
+            self.missing = self.missing.saturating_sub(1);
+            self.enter(place);
+        }
+    }
+
+    /// Counts a node more in the slot in which `place` is.
+    fn enter(&mut self, place: Place) {
+        let entry = self.entry(place);
+        if let Some(count) = self.counts.get_mut(entry) {
+            if *count > 0 {
+                self.excess = self.excess.saturating_add(1);
+            }
+            *count = count.saturating_add(1);
         }
     }
 
     /// Lifts `node`.
     pub fn lift(&mut self, node: u32) {
         if let Some(place) = self.at(node) {
-            let entry = self.entry(place);
-            if let Some(count) = self.counts.get_mut(entry) {
-                *count = count.saturating_sub(1);
-            }
+            self.leave(place);
+            self.missing = self.missing.saturating_add(1);
         }
         if let Some(standing) = self.places.get_mut(node as usize) {
             *standing = None;
+        }
+    }
+
+    /// Moves `node` a whole interval later, or sooner, if it stands anywhere. Its slot stays the same.
+    pub fn shift(&mut self, node: u32, is_later: bool) {
+        if let Some(place) = self.at(node) {
+            self.lift(node);
+            self.put(
+                node,
+                Place {
+                    unit: place.unit,
+                    time: shifted(place.time, self.ii, is_later),
+                },
+            );
+        }
+    }
+
+    /// Counts a node less in the slot in which `place` is.
+    fn leave(&mut self, place: Place) {
+        let entry = self.entry(place);
+        if let Some(count) = self.counts.get_mut(entry) {
+            *count = count.saturating_sub(1);
+            if *count > 0 {
+                self.excess = self.excess.saturating_sub(1);
+            }
         }
     }
 
@@ -88,22 +130,21 @@ impl Places {
 
     /// Returns by how many the nodes are more than one in a unit's slot, over all.
     pub fn excess(&self) -> u32 {
-        let mut sum: u32 = 0;
-        for count in &self.counts {
-            sum = sum.saturating_add(count.saturating_sub(1));
-        }
-        sum
+        self.excess
     }
 
-    /// Counts the nodes that stand nowhere.
+    /// Returns how many nodes stand nowhere.
     pub fn missing(&self) -> u32 {
-        let mut sum: u32 = 0;
+        self.missing
+    }
+
+    /// Returns the time of each node, 0 where it stands nowhere.
+    pub fn times(&self, alloc: Global) -> Result<Vec<u32>, AllocError> {
+        let mut times = Vec::with_capacity(alloc, self.places.len())?;
         for place in &self.places {
-            if place.is_none() {
-                sum = sum.saturating_add(1);
-            }
+            times.push(time_of(*place))?;
         }
-        sum
+        Ok(times)
     }
 
     /// Returns the least time of a node, 0 where none stands anywhere.
@@ -142,6 +183,23 @@ fn nowhere(alloc: Global, nodes: usize) -> Result<Vec<Option<Place>>, AllocError
         places.push(None)?;
     }
     Ok(places)
+}
+
+/// Returns the time `cycles` cycles later than `time`, or sooner.
+pub fn shifted(time: u32, cycles: u32, is_later: bool) -> u32 {
+    if is_later {
+        time.saturating_add(cycles)
+    } else {
+        time.saturating_sub(cycles)
+    }
+}
+
+/// Returns the time of `place`, 0 where there is none.
+fn time_of(place: Option<Place>) -> u32 {
+    match place {
+        Some(place) => place.time,
+        None => 0,
+    }
 }
 
 /// Returns what a slot costs by its `history` and the `count` of nodes in it.

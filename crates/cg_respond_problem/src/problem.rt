@@ -5,6 +5,7 @@ use crate::hosts::{Host, hosts, offers};
 use crate::late::latest;
 use crate::lists::{Lists, count, number_at};
 use crate::places::Places;
+use crate::times::ideal;
 use cg_arch::Arch;
 use cg_edges::latency;
 use cg_model::{Kernel, Node, Operand, OrderEdge};
@@ -43,7 +44,7 @@ pub struct DataEdge {
 
 /// A kernel on an array at an interval of `ii` cycles. Nodes, edges, order edges and units go by number.
 #[derive(Drop)]
-pub struct Problem {
+pub struct Problem<'a> {
     /// The interval in cycles.
     pub ii: u32,
     /// The number of nodes.
@@ -64,21 +65,36 @@ pub struct Problem {
     pub hosts: Vec<Host>,
     /// The least latency of each node's operation.
     pub quickest: Vec<u32>,
-    /// The earliest time of each node.
-    pub early: Vec<u32>,
-    /// The latest time of each node at which none is later than the last of the earliest times.
+    /// Times at which nodes may begin if values stay short, counted from the origin.
+    pub ideal: Vec<u32>,
+    /// The latest times of nodes at which none is later than the last of the earliest times, counted from the origin.
     pub late: Vec<u32>,
     /// The array's resources.
-    pub wiring: Wiring,
+    pub wiring: &'a Wiring,
     ghost some: { 0 < ii },
 }
 
-impl Problem {
-    /// Returns the problem that `task` poses.
-    pub fn new(alloc: Global, task: &Task) -> Result<Problem, AllocError>
+impl<'a> Problem<'a> {
+    /// Returns the problem that `task` poses, on the array of `wiring`.
+    pub fn new(alloc: Global, task: &Task, wiring: &'a Wiring) -> Result<Problem<'a>, AllocError>
+        ensures { IfOk result (λ p. p.ii ≡ task.now.ii) }
+    {
+        let mut problem = Problem::at_earliest(alloc, task, wiring)?;
+        let times = ideal(alloc, &problem, &problem.ideal)?;
+        problem.ideal = times;
+        Ok(problem)
+    }
+
+    /// Returns the problem that `task` poses, with the earliest times of nodes.
+    fn at_earliest(
+        alloc: Global,
+        task: &Task,
+        wiring: &'a Wiring,
+    ) -> Result<Problem<'a>, AllocError>
         ensures { IfOk result (λ p. p.ii ≡ task.now.ii) }
     {
         task.holds();
+        let ii = task.interval();
         let arch = task.arch();
         let kernel = task.kernel();
         let edges = data_edges(alloc, kernel)?;
@@ -88,9 +104,10 @@ impl Problem {
         let order = Vec::from_slice(alloc, kernel.order())?;
         let ties = ties(alloc, nodes, &order)?;
         let quickest = quickest(alloc, arch, kernel)?;
-        let late = latest(alloc, task, &edges, &order, &quickest)?;
+        let early = from_origin(alloc, ii, task.early())?;
+        let late = latest(alloc, ii, &early, &edges, &order, &quickest)?;
         Ok(Problem {
-            ii: task.interval(),
+            ii,
             nodes,
             edges,
             ins,
@@ -100,9 +117,9 @@ impl Problem {
             offers: offers(alloc, arch, kernel)?,
             hosts: hosts(alloc, arch)?,
             quickest,
-            early: Vec::from_slice(alloc, task.early())?,
+            ideal: early,
             late,
-            wiring: Wiring::new(alloc, arch)?,
+            wiring,
         })
     }
 
@@ -123,10 +140,14 @@ impl Problem {
         long.min(wide.saturating_add(self.wiring.diameter()))
     }
 
-    /// Returns the time from which `node` may begin at the earliest, counted from the origin.
+    /// Returns the time at which `node` may begin if values stay short, counted from the origin.
     pub fn earliest(&self, node: u32) -> u32 {
-        let early = number_at(self.early.as_slice(), node as usize);
-        early.saturating_add(self.ii.saturating_mul(ORIGIN))
+        number_at(self.ideal.as_slice(), node as usize)
+    }
+
+    /// Returns the latest time of `node`, counted from the origin.
+    pub fn latest(&self, node: u32) -> u32 {
+        number_at(self.late.as_slice(), node as usize)
     }
 
     /// Returns the least latency of the operation of `node`.
@@ -157,6 +178,23 @@ impl Problem {
         let place = places.at(edge.target)?;
         Some(place.time.saturating_add(self.turns(edge.distance)))
     }
+
+    /// Returns the port at which the value of `edge` is taken. None where its target isn't placed.
+    pub fn port(&self, places: &Places, edge: DataEdge) -> Option<u32> {
+        let place = places.at(edge.target)?;
+        let host = self.host(place.unit)?;
+        Some(host.port(edge.arg))
+    }
+}
+
+/// Returns `times` counted from the origin, at the interval `ii`.
+fn from_origin(alloc: Global, ii: u32, times: &[u32]) -> Result<Vec<u32>, AllocError> {
+    let origin = ii.saturating_mul(ORIGIN);
+    let mut counted = Vec::with_capacity(alloc, times.len())?;
+    for time in times {
+        counted.push(time.saturating_add(origin))?;
+    }
+    Ok(counted)
 }
 
 /// Returns the cycles of `intervals` intervals of `ii` cycles, and `cycles` more.

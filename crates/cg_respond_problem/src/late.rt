@@ -3,22 +3,20 @@
 use crate::lists::number_at;
 use crate::problem::DataEdge;
 use cg_model::OrderEdge;
-use cg_task::Task;
 use std::alloc::{AllocError, Global};
 
-/// Returns the latest time of each node at which no node is later than the last of the earliest times, in cycles.
-/// `quickest` has the least latency of each node's operation.
+/// Returns the latest time of each node at which no node is later than the last of the earliest times `early`, at the
+/// interval `ii`. `quickest` has the least latency of each node's operation.
 pub(crate) fn latest(
     alloc: Global,
-    task: &Task,
+    ii: u32,
+    early: &[u32],
     edges: &[DataEdge],
     order: &[OrderEdge],
     quickest: &[u32],
 ) -> Result<Vec<u32>, AllocError> {
-    let ii = task.interval();
-    let early = task.early();
     let mut late = vec![in alloc; last_of(early); early.len()]?;
-    for _ in 0..early.len() {
+    for _ in 0..early.len().saturating_add(1) {
         pull_by_edges(ii, edges, quickest, &mut late);
         pull_by_order(ii, order, &mut late);
     }

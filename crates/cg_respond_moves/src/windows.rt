@@ -1,6 +1,6 @@
 //! When a node may begin, by the nodes that are placed.
 
-use cg_respond_state::{Places, Problem};
+use cg_respond_problem::{Places, Problem};
 
 /// How many cycles more than one route may take a node may begin after the first one that its sources allow, where its
 /// consumers are placed too.
@@ -43,7 +43,10 @@ fn between(problem: &Problem, node: u32, earliest: Option<u32>, latest: Option<u
             let first = problem.earliest(node);
             times(first, first.saturating_add(problem.ii).saturating_sub(1))
         }
-        (Some(first), None) => times(first, first.saturating_add(span)),
+        (Some(earliest), None) => {
+            let first = earliest.max(problem.earliest(node));
+            times(first, first.saturating_add(span))
+        }
         (None, Some(last)) => times(last.saturating_sub(span), last),
         (Some(first), Some(last)) => within(first, last, span.saturating_add(SLACK)),
     }

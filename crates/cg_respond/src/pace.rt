@@ -1,0 +1,147 @@
+//! What a search counts: its moves, and the faults that it met.
+
+use crate::effort::Effort;
+use crate::faults::faults;
+use cg_respond_moves::settle;
+use cg_respond_problem::Problem;
+use cg_respond_state::State;
+use rand_pcg::Lcg64Xsh32;
+use std::alloc::{AllocError, Global};
+
+/// How many sweeps may pass without fewer faults than before.
+const STALE_SWEEPS: u32 = 60;
+
+/// How many moves may pass so.
+const STALE_MOVES: u32 = 1500;
+
+/// How many moves a node may, where there are many nodes.
+const STALE_NODE_MOVES: u32 = 60;
+
+/// How many candidates of a node are tried with their routes.
+const TRIED: u32 = 12;
+
+/// How many are in two attempts of four.
+const FEW_TRIED: u32 = 6;
+
+/// How an attempt ends.
+#[derive(Clone, Copy, Debug, PartialEq, Eq, Drop)]
+pub(crate) enum Ending {
+    /// Without faults.
+    Clean,
+    /// With faults that don't grow fewer.
+    Stale,
+    /// With faults, as the search is over: no moves are left, or it is given up.
+    Over,
+}
+
+/// What a search keeps beside its state.
+#[derive(Drop)]
+pub(crate) struct Pace {
+    /// The generator.
+    pub(crate) generator: Lcg64Xsh32,
+    /// The moves that were made.
+    pub(crate) made: u32,
+    /// The least faults; the greatest word where none were counted yet.
+    pub(crate) least: u32,
+    effort: Effort,
+    tried: u32,
+    low: u32,
+    since: u32,
+    since_move: u32,
+}
+
+impl Pace {
+    /// Returns the pace of a search of that `effort`.
+    pub(crate) fn new(effort: Effort) -> Pace {
+        Pace {
+            generator: Lcg64Xsh32::new(effort.seed, effort.stream),
+            made: 0,
+            least: u32::MAX,
+            effort,
+            tried: TRIED,
+            low: u32::MAX,
+            since: 0,
+            since_move: 0,
+        }
+    }
+
+    /// Checks whether moves are left.
+    pub(crate) fn has_moves(&self) -> bool {
+        self.made < self.effort.moves
+    }
+
+    /// Counts a move.
+    pub(crate) fn step(&mut self) {
+        if self.made < self.effort.moves {
+            self.made += 1;
+        }
+    }
+
+    /// Begins attempt number `attempt`.
+    pub(crate) fn begin(&mut self, attempt: u32) {
+        self.tried = if attempt % 4 < 2 { TRIED } else { FEW_TRIED };
+    }
+
+    /// Begins to count the faults of an attempt.
+    pub(crate) fn open(&mut self) {
+        self.low = u32::MAX;
+        self.since = 0;
+        self.since_move = self.made;
+    }
+
+    /// Counts the faults of `state`, where none were counted yet.
+    pub(crate) fn count_once(&mut self, problem: &Problem, state: &State) {
+        if self.least == u32::MAX {
+            self.least = faults(problem, state);
+        }
+    }
+
+    /// Counts the faults of `state` before a sweep. Returns how the attempt ends, if it does.
+    pub(crate) fn count(&mut self, problem: &Problem, state: &State) -> Option<Ending> {
+        let found = faults(problem, state);
+        self.least = self.least.min(found);
+        if found < self.low {
+            self.low = found;
+            self.since = 0;
+            self.since_move = self.made;
+        } else {
+            self.since = self.since.saturating_add(1);
+        }
+        self.ending(problem.nodes, found)
+    }
+
+    /// Returns how an attempt on `nodes` nodes ends at `found` faults, if it does.
+    fn ending(&self, nodes: u32, found: u32) -> Option<Ending> {
+        if found == 0 {
+            Some(Ending::Clean)
+        } else if self.is_stale(nodes) {
+            Some(Ending::Stale)
+        } else if !self.has_moves() || self.effort.gives_up(self.made, self.least) {
+            Some(Ending::Over)
+        } else {
+            None
+        }
+    }
+
+    /// Checks whether faults didn't grow fewer for long, where there are `nodes` nodes.
+    fn is_stale(&self, nodes: u32) -> bool {
+        let moves = STALE_MOVES.max(nodes.saturating_mul(STALE_NODE_MOVES));
+        self.since > STALE_SWEEPS && self.made.saturating_sub(self.since_move) > moves
+    }
+
+    /// Makes the best response of `node`, if there are moves left.
+    pub(crate) fn respond(
+        &mut self,
+        alloc: Global,
+        problem: &Problem,
+        state: &mut State,
+        node: u32,
+    ) -> Result<(), AllocError> {
+        if self.has_moves() {
+            self.step();
+            state.lift(problem, node);
+            settle(alloc, problem, state, node, self.tried, &mut self.generator)?;
+        }
+        Ok(())
+    }
+}

@@ -1,0 +1,89 @@
+//! Whole turns: a part of the kernel goes an interval later or sooner where values then stay less long. Its nodes keep
+//! their units and slots, and the routes within it theirs; only those over its border are sought anew.
+
+use crate::pace::Pace;
+use cg_respond_problem::{Problem, longest_stays};
+use cg_respond_state::{State, along};
+use std::alloc::{AllocError, Global};
+
+/// Tries for each node to go a whole turn later and a whole turn sooner, with all nodes that must go along.
+pub(crate) fn turn_parts(
+    alloc: Global,
+    problem: &Problem,
+    state: &mut State,
+    pace: &mut Pace,
+) -> Result<(), AllocError> {
+    for node in 0..problem.nodes {
+        turn(alloc, problem, state, pace, node, true)?;
+        turn(alloc, problem, state, pace, node, false)?;
+    }
+    Ok(())
+}
+
+/// Lets `node` go a whole turn later, where `is_later` is true, or sooner, with all nodes that must go along, if that
+/// isn't the whole kernel, the longest stays of values grow less and moves are left.
+fn turn(
+    alloc: Global,
+    problem: &Problem,
+    state: &mut State,
+    pace: &mut Pace,
+    node: u32,
+    is_later: bool,
+) -> Result<(), AllocError> {
+    let part = along(alloc, problem, &state.places, node, is_later)?;
+    if are_all(&part) || !pace.has_moves() {
+        return Ok(());
+    }
+    if pays(alloc, problem, state, &part, is_later)? {
+        pace.step();
+        state.shift(alloc, problem, &part, is_later)?;
+    }
+    Ok(())
+}
+
+/// Checks whether all of `marks` are true.
+fn are_all(marks: &[bool]) -> bool {
+    for mark in marks {
+        if !*mark {
+            return false;
+        }
+    }
+    true
+}
+
+/// Checks whether the longest stays of values grow less where the nodes of `part` go a whole turn later, or sooner.
+fn pays(
+    alloc: Global,
+    problem: &Problem,
+    state: &State,
+    part: &[bool],
+    is_later: bool,
+) -> Result<bool, AllocError> {
+    let mut times = state.places.times(alloc)?;
+    let before = longest_stays(problem, &times);
+    for node in 0..times.len() {
+        if is_marked(part, node) {
+            go(&mut times, node, problem.ii, is_later);
+        }
+    }
+    Ok(longest_stays(problem, &times) < before)
+}
+
+/// Checks whether the mark of number `place` is true.
+fn is_marked(marks: &[bool], place: usize) -> bool {
+    match marks.get(place) {
+        Some(mark) => *mark,
+        None => false,
+    }
+}
+
+/// Makes the time of number `place` later, or sooner, by `cycles` cycles.
+fn go(times: &mut [u32], place: usize, cycles: u32, is_later: bool) {
+    if let Some(time) = times.get_mut(place) {
+        *time = if is_later {
+            time.saturating_add(cycles)
+        } else {
+            time.saturating_sub(cycles)
+        };
+    }
+}

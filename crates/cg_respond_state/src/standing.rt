@@ -1,0 +1,177 @@
+//! The routes that stand, and what they claim.
+
+use crate::ends::Leaving;
+use cg_respond_layers::{Layers, Stand};
+use cg_respond_prices::Occupancy;
+use cg_respond_problem::Problem;
+use std::alloc::{AllocError, Global};
+
+/// The routes of data edges by number, with their claims.
+#[derive(Drop)]
+pub(crate) struct Standing {
+    routes: Vec<Option<Vec<Stand>>>,
+    /// The claims, with what places cost.
+    pub(crate) occupancy: Occupancy,
+}
+
+/// How far layers are filled, and by what.
+#[derive(Clone, Copy, Drop)]
+pub(crate) struct Extent {
+    /// The last layer.
+    pub(crate) last: u32,
+    /// The port that is to be reached there, if it is one.
+    pub(crate) target: Option<u32>,
+    /// The price from which on a way is of no use.
+    pub(crate) cap: u32,
+}
+
+impl Standing {
+    /// Returns routes of which none is there yet.
+    pub(crate) fn new(alloc: Global, problem: &Problem) -> Result<Standing, AllocError> {
+        Ok(Standing {
+            routes: unrouted(alloc, problem.edges.len())?,
+            occupancy: Occupancy::new(alloc, problem.wiring, problem.ii)?,
+        })
+    }
+
+    /// Returns the number of the edges.
+    pub(crate) fn edges(&self) -> usize {
+        self.routes.len()
+    }
+
+    /// Returns the route of `edge`, if it has one.
+    pub(crate) fn route(&self, edge: u32) -> Option<&[Stand]> {
+        match self.routes.get(edge as usize) {
+            Some(Some(route)) => Some(route.as_slice()),
+            _ => None,
+        }
+    }
+
+    /// Takes the route of `edge` away with its claims, which are those of `source`, and returns it.
+    pub(crate) fn rip(&mut self, source: u32, edge: u32) -> Option<Vec<Stand>> {
+        let route = self.take(edge);
+        if let Some(stands) = &route {
+            for stand in stands {
+                self.occupancy.release(source, stand.resource, stand.time);
+            }
+        }
+        route
+    }
+
+    /// Takes the route of `edge` out.
+    fn take(&mut self, edge: u32) -> Option<Vec<Stand>> {
+        match self.routes.get_mut(edge as usize) {
+            Some(route) => route.take(),
+            None => None,
+        }
+    }
+
+    /// Gives `route` to `edge`, which has none, and claims its places for `source`.
+    pub(crate) fn put(
+        &mut self,
+        source: u32,
+        edge: u32,
+        route: Vec<Stand>,
+    ) -> Result<(), AllocError> {
+        for stand in &route {
+            self.occupancy.claim(source, stand.resource, stand.time)?;
+        }
+        if let Some(standing) = self.routes.get_mut(edge as usize) {
+            *standing = Some(route);
+        }
+        Ok(())
+    }
+
+    /// Returns what the claims of `route`, a way of a value of `source`, would cost now, but for the first one.
+    pub(crate) fn due(&self, source: u32, route: &[Stand]) -> u32 {
+        let mut sum: u32 = 0;
+        for stand in route.iter().skip(1) {
+            let due = self.occupancy.due(source, stand.resource, stand.time);
+            sum = sum.saturating_add(due);
+        }
+        sum
+    }
+
+    /// Fills `layers` from where a node's value is, from the time on at which it leaves the unit: `from`.
+    pub(crate) fn spread(
+        &self,
+        layers: &mut Layers,
+        problem: &Problem,
+        from: Leaving,
+        extent: Extent,
+    ) -> Result<(), AllocError> {
+        layers.begin(problem.wiring, from.out, extent.last)?;
+        for edge in problem.outs.of(from.source) {
+            if let Some(route) = self.route(*edge) {
+                layers.lay(&self.occupancy, from.start, extent.last, route);
+            }
+        }
+        layers.forward(
+            &self.occupancy,
+            problem.wiring,
+            from.start,
+            extent.last,
+            extent.target,
+            extent.cap,
+        );
+        Ok(())
+    }
+
+    /// Checks whether `edge` has no route.
+    pub(crate) fn is_missing(&self, edge: u32) -> bool {
+        self.route(edge).is_none()
+    }
+
+    /// Checks whether `edge` has no route, or one of which a place is claimed twice.
+    pub(crate) fn is_bad(&self, edge: u32) -> bool {
+        match self.route(edge) {
+            Some(route) => is_crossed(&self.occupancy, route),
+            None => true,
+        }
+    }
+
+    /// Counts the edges that have no route.
+    pub(crate) fn missing(&self) -> u32 {
+        let mut sum: u32 = 0;
+        for route in &self.routes {
+            if route.is_none() {
+                sum = sum.saturating_add(1);
+            }
+        }
+        sum
+    }
+
+    /// Takes all routes away, and forgets what places cost.
+    pub(crate) fn clear(&mut self) {
+        for edge in 0..self.routes.len() {
+            self.drop_at(edge);
+        }
+        self.occupancy.clear();
+    }
+
+    /// Drops the route of `edge`, whose claims go too.
+    fn drop_at(&mut self, edge: usize) {
+        if let Some(route) = self.routes.get_mut(edge) {
+            *route = None;
+        }
+    }
+}
+
+/// Checks whether a place of `route` is claimed twice.
+fn is_crossed(occupancy: &Occupancy, route: &[Stand]) -> bool {
+    for stand in route {
+        if occupancy.is_shared(stand.resource, stand.time) {
+            return true;
+        }
+    }
+    false
+}
+
+/// Returns no route for each of `edges` edges.
+fn unrouted(alloc: Global, edges: usize) -> Result<Vec<Option<Vec<Stand>>>, AllocError> {
+    let mut routes = Vec::new(alloc);
+    for _ in 0..edges {
+        routes.push(None)?;
+    }
+    Ok(routes)
+}

@@ -1,0 +1,68 @@
+//! The order of the searches of a call.
+ghost use Rattle.std.specs.Prelude.{◌≡◌, ◌+◌, ◌<◌, ◌≤◌, All, IfOk, Some, length};
+ghost use Rattle.cg_model.specs.Limits.{most_moves};
+ghost use Rattle.cg_task.specs.Intervals.{last_tried};
+ghost use Rattle.cg_search.specs.Course.{IsPosed, Comes};
+
+use crate::lowering::lowered;
+use crate::probing::probed;
+use crate::retrying::{Retried, tried_again};
+use crate::trying::{Call, Found, Outcome, searched_long};
+use cg_respond::Responded;
+use std::alloc::{AllocError, Global};
+
+/// Searches at the intervals of `call`: long at the one that is asked for; where none is, by probes upwards until one
+/// finds a mapping, and long downwards from there.
+pub(crate) fn outcome<'a>(alloc: Global, call: &Call<'a, '_>) -> Result<Outcome<'a>, AllocError>
+    requires posed { IsPosed call.now.arch.now call.now.kernel.now call.now.request.ii call.now.first }
+    requires few { call.now.request.moves ≤ most_moves }
+    ensures { IfOk result (Comes call.now.arch.now call.now.kernel.now call.now.request.ii call.now.request.moves call.now.first) }
+{
+    if let Some(_) = call.request.ii {
+        return asked(alloc, call);
+    }
+    match probed(alloc, call)? {
+        Outcome::Found(found) => Ok(Outcome::Found(lowered(alloc, call, found, &[])?)),
+        Outcome::Left(left) => from_nearest(alloc, call, left),
+    }
+}
+
+/// Makes a long search at the interval that is asked for, which is the first of `call`.
+fn asked<'a>(alloc: Global, call: &Call<'a, '_>) -> Result<Outcome<'a>, AllocError>
+    requires posed { IsPosed call.now.arch.now call.now.kernel.now call.now.request.ii call.now.first }
+    requires few { call.now.request.moves ≤ most_moves }
+    requires only { call.now.first ≡ last_tried call.now.arch.now call.now.request.ii }
+    ensures { IfOk result (Comes call.now.arch.now call.now.kernel.now call.now.request.ii call.now.request.moves call.now.first) }
+{
+    match searched_long(alloc, call, call.first)? {
+        Responded::Mapped(mapping, moves) => Ok(Outcome::Found(Found { mapping, moves })),
+        Responded::Spent(faults) => {
+            let mut left = Vec::new(alloc);
+            left.push(u64::from(faults))?;
+            Ok(Outcome::Left(left))
+        }
+    }
+}
+
+/// Makes long searches at the intervals of `call` that are nearest to a mapping, where the probes left these faults, and
+/// then downwards from the first at which one finds a mapping.
+fn from_nearest<'a>(
+    alloc: Global,
+    call: &Call<'a, '_>,
+    left: Vec<u64>,
+) -> Result<Outcome<'a>, AllocError>
+    requires posed { IsPosed call.now.arch.now call.now.kernel.now call.now.request.ii call.now.first }
+    requires few { call.now.request.moves ≤ most_moves }
+    requires each { All (λ n. 0 < n) left.items }
+    requires all { call.now.first + length left.items ≡ last_tried call.now.arch.now call.now.request.ii + 1 }
+    ensures { IfOk result (Comes call.now.arch.now call.now.kernel.now call.now.request.ii call.now.request.moves call.now.first) }
+{
+    let Retried { outcome, failed } = tried_again(alloc, call, left)?;
+    match outcome {
+        Outcome::Found(found) => {
+            let least = lowered(alloc, call, found, failed.as_slice())?;
+            Ok(Outcome::Found(least))
+        }
+        Outcome::Left(left) => Ok(Outcome::Left(left)),
+    }
+}

@@ -1,0 +1,53 @@
+//! How long a search at an interval goes on, and by which draws.
+ghost use Rattle.std.specs.Prelude.{◌≤◌};
+
+use cg_arch::Arch;
+use cg_model::{Kernel, Request};
+use cg_respond::Effort;
+
+/// A probe has the moves that are asked for, divided by this.
+const PROBE_SHARE: u32 = 120;
+
+/// The resources of the greatest array on which a long search has all moves.
+const RESOURCES: u64 = 270;
+
+/// The most moves of a long search for each node.
+const MOVES_A_NODE: u32 = 10_000;
+
+/// What is added to the interval for the stream of a long search.
+const LONG_STREAM: u64 = 65_536;
+
+/// Returns how long a probe at the interval `ii` goes on, by what `request` asks.
+pub(crate) fn probe(request: Request, ii: u32) -> Effort
+    ensures { result.moves ≤ request.moves }
+{
+    Effort {
+        seed: request.seed,
+        stream: u64::from(ii),
+        moves: request.moves / PROBE_SHARE,
+        full: 0,
+    }
+}
+
+/// Returns how long a long search of `kernel` on `arch` at the interval `ii` goes on, by what `request` asks.
+pub(crate) fn long(arch: &Arch, kernel: &Kernel, request: Request, ii: u32) -> Effort
+    ensures { result.moves ≤ request.moves }
+{
+    let full = full_moves(arch.resources().len(), request.moves);
+    let nodes = kernel.nodes().len() as u32;
+    Effort {
+        seed: request.seed,
+        stream: u64::from(ii) + LONG_STREAM,
+        moves: full.min(nodes.saturating_mul(MOVES_A_NODE)),
+        full: u64::from(full),
+    }
+}
+
+/// Returns the full moves of a long search on an array with that number of `resources`, where `moves` are asked for:
+/// on a great array a move takes longer, and there are fewer.
+fn full_moves(resources: usize, moves: u32) -> u32
+    ensures { result ≤ moves }
+{
+    let fewer = u64::from(moves) * RESOURCES / RESOURCES.max(resources as u64);
+    fewer.min(u64::from(moves)) as u32
+}

@@ -1,0 +1,28 @@
+//! Probes, upwards.
+ghost use Rattle.std.specs.Prelude.{◌≤◌, IfOk};
+ghost use Rattle.cg_model.specs.Limits.{most_moves};
+ghost use Rattle.cg_search.specs.Course.{IsPosed, Comes};
+
+use crate::trying::{Call, Found, Outcome, probed_at};
+use cg_respond::Responded;
+use cg_task::last_tried;
+use std::alloc::{AllocError, Global};
+
+/// Probes at the intervals of `call` from the first one upwards, until a mapping is found at one or the last is done.
+pub(crate) fn probed<'a>(alloc: Global, call: &Call<'a, '_>) -> Result<Outcome<'a>, AllocError>
+    requires posed { IsPosed call.now.arch.now call.now.kernel.now call.now.request.ii call.now.first }
+    requires few { call.now.request.moves ≤ most_moves }
+    ensures { IfOk result (Comes call.now.arch.now call.now.kernel.now call.now.request.ii call.now.request.moves call.now.first) }
+{
+    call.arch.contexts();
+    let mut left = Vec::new(alloc);
+    for ii in call.first..last_tried(call.arch, call.request.ii) + 1 {
+        match probed_at(alloc, call, ii)? {
+            Responded::Mapped(mapping, moves) => {
+                return Ok(Outcome::Found(Found { mapping, moves }));
+            }
+            Responded::Spent(faults) => left.push(u64::from(faults))?,
+        }
+    }
+    Ok(Outcome::Left(left))
+}

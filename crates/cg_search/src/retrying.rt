@@ -1,0 +1,86 @@
+//! Long searches at the intervals nearest to a mapping.
+ghost use Rattle.std.specs.Prelude.{◌≡◌, ◌+◌, ◌<◌, ◌≤◌, ◌^◌, All, IfOk, IfSome, length};
+ghost use Rattle.cg_model.specs.Limits.{most_moves};
+ghost use Rattle.cg_task.specs.Intervals.{last_tried};
+ghost use Rattle.cg_search.specs.Course.{IsPosed, Comes};
+
+use crate::trying::{Call, Found, Outcome, searched_long};
+use cg_respond::Responded;
+use std::alloc::{AllocError, Global};
+
+/// The most intervals at which long searches are made where no probe found a mapping.
+const NEAREST: u32 = 3;
+
+/// What comes of the long searches at the nearest intervals.
+#[derive(Drop)]
+pub(crate) struct Retried<'a> {
+    /// What comes of all intervals.
+    pub(crate) outcome: Outcome<'a>,
+    /// The intervals at which a long search found nothing.
+    pub(crate) failed: Vec<u32>,
+}
+
+/// Makes long searches at the intervals of `call` at which the least faults are left, one after the other, until one
+/// finds a mapping. `left` are the faults that the probes left at each.
+pub(crate) fn tried_again<'a>(
+    alloc: Global,
+    call: &Call<'a, '_>,
+    left: Vec<u64>,
+) -> Result<Retried<'a>, AllocError>
+    requires posed { IsPosed call.now.arch.now call.now.kernel.now call.now.request.ii call.now.first }
+    requires few { call.now.request.moves ≤ most_moves }
+    requires each { All (λ n. 0 < n) left.items }
+    requires all { call.now.first + length left.items ≡ last_tried call.now.arch.now call.now.request.ii + 1 }
+    ensures { IfOk result (λ r. Comes call.now.arch.now call.now.kernel.now call.now.request.ii call.now.request.moves call.now.first r.outcome) }
+{
+    call.arch.contexts();
+    let mut left = left;
+    let mut failed = Vec::new(alloc);
+    for _number in 0..NEAREST {
+        let Some(at) = nearest(call.first, left.as_slice(), failed.as_slice()) else {
+            break;
+        };
+        let ii = call.first + at as u32;
+        match searched_long(alloc, call, ii)? {
+            Responded::Mapped(mapping, moves) => {
+                let outcome = Outcome::Found(Found { mapping, moves });
+                return Ok(Retried { outcome, failed });
+            }
+            Responded::Spent(faults) => {
+                lessen(left.as_mut_slice(), at, u64::from(faults));
+                failed.push(ii)?;
+            }
+        }
+    }
+    let outcome = Outcome::Left(left);
+    Ok(Retried { outcome, failed })
+}
+
+/// Returns where in `left` the least number of faults stands, the first of several, but for the `failed` intervals;
+/// None where there is no other. The list begins with the interval `first`.
+fn nearest(first: u32, left: &[u64], failed: &[u32]) -> Option<usize>
+    requires { first + length left.now < 2 ^ 32 }
+    ensures { IfSome result (λ at. at < length left.now) }
+{
+    let mut nearest = None;
+    let mut least = u64::MAX;
+    for (at, faults) in left.iter().enumerate() {
+        if *faults < least && !failed.contains(&(first + at as u32)) {
+            nearest = Some(at);
+            least = *faults;
+        }
+    }
+    nearest
+}
+
+/// Lets the number at `at` of `left` be at most `faults`.
+fn lessen(left: &mut [u64], at: usize, faults: u64)
+    requires at { at < length left.old }
+    requires some { 0 < faults }
+    requires each { All (λ n. 0 < n) left.old }
+    ensures { All (λ n. 0 < n) left.new }
+{
+    if faults < left[at] {
+        left[at] = faults;
+    }
+}

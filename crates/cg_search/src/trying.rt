@@ -1,0 +1,103 @@
+//! A search at one interval, and what comes of several.
+ghost use Rattle.std.specs.Prelude.{◌≤◌, IfOk};
+ghost use Rattle.cg_model.specs.Limits.{most_moves};
+ghost use Rattle.cg_task.specs.Intervals.{last_tried};
+ghost use Rattle.cg_search.specs.Course.{IsPosed, IsSearched};
+
+use crate::plan::{long, probe};
+use cg_arch::Arch;
+use cg_model::{Kernel, Request};
+use cg_respond::{Effort, Responded, Wiring, respond};
+use cg_task::{LegalMapping, Task};
+use std::alloc::{AllocError, Global};
+
+/// What the searches of a call share.
+#[derive(Clone, Copy)]
+pub(crate) struct Call<'a, 'w> {
+    /// The architecture.
+    pub(crate) arch: &'a Arch,
+    /// The kernel.
+    pub(crate) kernel: &'a Kernel,
+    /// The architecture as a search reads it.
+    pub(crate) wiring: &'w Wiring,
+    /// What is asked.
+    pub(crate) request: Request,
+    /// The first interval that is tried.
+    pub(crate) first: u32,
+}
+
+/// A mapping that was found.
+#[derive(Drop)]
+pub(crate) struct Found<'a> {
+    /// The mapping.
+    pub(crate) mapping: LegalMapping<'a>,
+    /// The moves of the search that found it.
+    pub(crate) moves: u32,
+}
+
+/// What comes of the intervals that are tried.
+#[derive(Drop)]
+pub(crate) enum Outcome<'a> {
+    /// A mapping.
+    Found(Found<'a>),
+    /// None: the least faults that were left at each, from the first one on.
+    Left(Vec<u64>),
+}
+
+/// Probes at the interval `ii` of `call`.
+pub(crate) fn probed_at<'a>(
+    alloc: Global,
+    call: &Call<'a, '_>,
+    ii: u32,
+) -> Result<Responded<'a>, AllocError>
+    requires posed { IsPosed call.now.arch.now call.now.kernel.now call.now.request.ii call.now.first }
+    requires few { call.now.request.moves ≤ most_moves }
+    requires from { call.now.first ≤ ii }
+    requires to { ii ≤ last_tried call.now.arch.now call.now.request.ii }
+    ensures { IfOk result (IsSearched call.now.arch.now call.now.kernel.now call.now.request.ii call.now.request.moves call.now.first) }
+{
+    searched_at(alloc, call, ii, probe(call.request, ii))
+}
+
+/// Makes a long search at the interval `ii` of `call`.
+pub(crate) fn searched_long<'a>(
+    alloc: Global,
+    call: &Call<'a, '_>,
+    ii: u32,
+) -> Result<Responded<'a>, AllocError>
+    requires posed { IsPosed call.now.arch.now call.now.kernel.now call.now.request.ii call.now.first }
+    requires few { call.now.request.moves ≤ most_moves }
+    requires from { call.now.first ≤ ii }
+    requires to { ii ≤ last_tried call.now.arch.now call.now.request.ii }
+    ensures { IfOk result (IsSearched call.now.arch.now call.now.kernel.now call.now.request.ii call.now.request.moves call.now.first) }
+{
+    searched_at(
+        alloc,
+        call,
+        ii,
+        long(call.arch, call.kernel, call.request, ii),
+    )
+}
+
+/// Searches at the interval `ii` of `call`, as long as `effort` says.
+fn searched_at<'a>(
+    alloc: Global,
+    call: &Call<'a, '_>,
+    ii: u32,
+    effort: Effort,
+) -> Result<Responded<'a>, AllocError>
+    requires posed { IsPosed call.now.arch.now call.now.kernel.now call.now.request.ii call.now.first }
+    requires few { call.now.request.moves ≤ most_moves }
+    requires from { call.now.first ≤ ii }
+    requires to { ii ≤ last_tried call.now.arch.now call.now.request.ii }
+    requires within { effort.moves ≤ call.now.request.moves }
+    ensures { IfOk result (IsSearched call.now.arch.now call.now.kernel.now call.now.request.ii call.now.request.moves call.now.first) }
+{
+    call.arch.contexts();
+    let task = Task::new(alloc, call.arch, call.kernel, ii)?;
+    let responded = respond(alloc, &task, call.wiring, effort)?;
+    if let Responded::Mapped(mapping, _) = &responded {
+        mapping.mapping();
+    }
+    Ok(responded)
+}
