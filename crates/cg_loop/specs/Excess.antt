@@ -19,7 +19,7 @@ IsKernelFault Memory K = Unit {0}
 IsKernelFault (TooLarge x) K = excess_of K ≡ Some x
 IsKernelFault _ K = ⊥
 
--- unless memory ran out, this excess was answered
+-- the answer is this excess, or out of memory
 abbrev pub GivesExcess : {T : Type 0} → Excess → Result T LoopFault → Type 0
 GivesExcess x (Ok kernel) = ⊥
 GivesExcess x (Err Memory) = Unit {0}

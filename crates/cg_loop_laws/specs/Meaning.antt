@@ -14,7 +14,7 @@ pub record State : Type 0 where
 abbrev pub updated : {X : Type 0} → (List ℕ → X) → List ℕ → X → List ℕ → X
 updated f x v y = if bytes_eq y x then v else f y
 
--- with a word more in one stream
+-- with word w appended to the stream of port p
 abbrev pub sent_to : (ℕ → List ℕ) → ℕ → ℕ → ℕ → List ℕ
 sent_to outs p w q = if eqb q p then outs q ++ w ∷ [] else outs q
 

@@ -52,12 +52,12 @@ IsFault (Text place) bytes = FaultIn bytes place
 IsFault (TooLarge x) bytes = ⊥
 IsFault e bytes = IsUseFault e bytes
 
--- unless memory ran out, this body was read
+-- the answer is this body, or out of memory
 abbrev pub Gives : Body → Result LoopBody LoopFault → Type 0
 Gives P (Ok body) = body_of body ≡ P
 Gives P (Err e) = e ≡ Memory
 
--- unless memory ran out, this fault was answered
+-- the answer is this fault, or out of memory
 abbrev pub GivesFault : LoopFault → Result LoopBody LoopFault → Type 0
 GivesFault e (Ok body) = ⊥
 GivesFault e (Err Memory) = Unit {0}

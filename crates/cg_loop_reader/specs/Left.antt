@@ -64,7 +64,7 @@ pub record TakesNumber (number : Numeral) (old new : Reader) : Type 0 where
   pub spelled : left old ≡ token ∷ left new
   pub kept : Keeps old new
 
--- a use more is noted
+-- the use `more` is noted after the others
 pub record Notes (more : uses.Use) (old new : Reader) : Type 0 where
   pub noted : noted new ≡ noted old ++ more ∷ []
   pub left : left new ≡ left old

@@ -17,7 +17,7 @@ pub enum Excess {
 /// Why bytes are no loop body, or a loop body has no kernel. The variants after `Memory` are Q1 to Q7, in this order; `usize` is the place of a byte.
 #[derive(Debug, Drop, Error)]
 pub enum LoopFault {
-    #[error("memory ran out")]
+    #[error("out of memory")]
     Memory,
     /// The text is no loop body: the token that none goes on with, or the length where it ends early.
     #[error("no loop body goes on so")]

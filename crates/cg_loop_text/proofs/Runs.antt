@@ -85,7 +85,7 @@ stops_on a b old now new p q = record { ran = λ stack. ap (λ x. run rule x old
 pub stops_before : (a b : List Symbol) (old new : List Placed) → Stops a old new → Stops (a ++ b) old new
 stops_before a b old new p = record { ran = λ stack. ap (λ x. run rule x old) (append_assoc a b stack) ∙ p.ran (b ++ stack) }
 
--- the same of one symbol and more
+-- these three where the first list has one symbol
 pub reads_then : (s : Symbol) (b : List Symbol) (old now new : List Placed) → Reads (s ∷ []) old now → Reads b now new → Reads (s ∷ b) old new
 reads_then s b old now new p q = record { ran = λ stack. p.ran (b ++ stack) ∙ q.ran stack }
 

@@ -15,10 +15,10 @@ const SWEEPS: u32 = 9000;
 /// How many sweeps go over all nodes at first.
 const WHOLE: u32 = 2;
 
-/// In which sweeps parts of the kernel go a whole turn later or sooner, beside the first one: each so many.
+/// The number of sweeps from one shift of parts by whole turns to the next.
 const TURNING: u32 = 4;
 
-/// The greatest interval at which they do in the first one alone.
+/// The greatest interval at which parts are shifted before the first sweep alone.
 const SHORT_INTERVAL: u32 = 2;
 
 /// Makes attempt number `number`, and returns how it ends.

@@ -69,7 +69,7 @@ impl Occupancy {
         }
     }
 
-    /// Returns what a claim more costs on each resource in a slot; empty past the last slot.
+    /// Returns the price of one more claim on each resource in `slot`; empty past the last slot.
     #[inline]
     pub fn prices(&self, slot: u32) -> &[u32] {
         let start = slot as usize * self.resources as usize;

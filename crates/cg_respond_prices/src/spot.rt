@@ -34,7 +34,7 @@ impl Spot {
         }
     }
 
-    /// Adds a use of a claim, and says whether that makes one claim more.
+    /// Adds a use of a claim, and says whether the claim is new.
     pub(crate) fn claim(&mut self, source: u32, time: u32) -> Result<bool, AllocError> {
         if add_use(&mut self.claims, source, time) {
             return Ok(false);
@@ -82,7 +82,7 @@ impl Spot {
         self.count().saturating_sub(1)
     }
 
-    /// Returns what a claim more costs.
+    /// Returns the price of one more claim.
     #[inline]
     pub(crate) fn price(&self) -> u32 {
         let base = self.base.saturating_add(self.history);

@@ -66,7 +66,7 @@ impl Places {
         }
     }
 
-    /// Counts a node more in the slot in which `place` is.
+    /// Counts one more node in the slot of `place`.
     fn enter(&mut self, place: Place) {
         let entry = self.entry(place);
         if let Some(count) = self.counts.get_mut(entry) {
@@ -102,7 +102,7 @@ impl Places {
         }
     }
 
-    /// Counts a node less in the slot in which `place` is.
+    /// Counts one node less in the slot of `place`.
     fn leave(&mut self, place: Place) {
         let entry = self.entry(place);
         if let Some(count) = self.counts.get_mut(entry) {

@@ -3,7 +3,8 @@ ghost use Rattle.std.specs.Prelude.{◌≤◌, IfOk};
 ghost use Rattle.cg_model.specs.Limits.{most_moves};
 ghost use Rattle.cg_search.specs.Course.{IsPosed, Comes};
 
-use crate::trying::{Call, Found, Outcome, probed_at};
+use crate::plan::probe;
+use crate::trying::{Call, Found, Outcome, searched_at};
 use cg_respond::Responded;
 use cg_task::last_tried;
 use std::alloc::{AllocError, Global};
@@ -17,7 +18,7 @@ pub(crate) fn probed<'a>(alloc: Global, call: &Call<'a, '_>) -> Result<Outcome<'
     call.arch.contexts();
     let mut left = Vec::new(alloc);
     for ii in call.first..last_tried(call.arch, call.request.ii) + 1 {
-        match probed_at(alloc, call, ii)? {
+        match searched_at(alloc, call, ii, probe(call.request, ii))? {
             Responded::Mapped(mapping, moves) => {
                 return Ok(Outcome::Found(Found { mapping, moves }));
             }

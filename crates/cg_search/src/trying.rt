@@ -4,7 +4,7 @@ ghost use Rattle.cg_model.specs.Limits.{most_moves};
 ghost use Rattle.cg_task.specs.Intervals.{last_tried};
 ghost use Rattle.cg_search.specs.Course.{IsPosed, IsSearched};
 
-use crate::plan::{long, probe};
+use crate::plan::long;
 use cg_arch::Arch;
 use cg_model::{Kernel, Request};
 use cg_respond::{Effort, Responded, Wiring, respond};
@@ -44,21 +44,6 @@ pub(crate) enum Outcome<'a> {
     Left(Vec<u64>),
 }
 
-/// Probes at the interval `ii` of `call`.
-pub(crate) fn probed_at<'a>(
-    alloc: Global,
-    call: &Call<'a, '_>,
-    ii: u32,
-) -> Result<Responded<'a>, AllocError>
-    requires posed { IsPosed call.now.arch.now call.now.kernel.now call.now.request.ii call.now.first }
-    requires few { call.now.request.moves ≤ most_moves }
-    requires from { call.now.first ≤ ii }
-    requires to { ii ≤ last_tried call.now.arch.now call.now.request.ii }
-    ensures { IfOk result (IsSearched call.now.arch.now call.now.kernel.now call.now.request.ii call.now.request.moves call.now.first) }
-{
-    searched_at(alloc, call, ii, probe(call.request, ii))
-}
-
 /// Makes a long search at the interval `ii` of `call`.
 pub(crate) fn searched_long<'a>(
     alloc: Global,
@@ -80,7 +65,7 @@ pub(crate) fn searched_long<'a>(
 }
 
 /// Searches at the interval `ii` of `call`, as long as `effort` says.
-fn searched_at<'a>(
+pub(crate) fn searched_at<'a>(
     alloc: Global,
     call: &Call<'a, '_>,
     ii: u32,
