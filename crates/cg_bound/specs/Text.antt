@@ -36,13 +36,20 @@ sums_text latency distance = codes " latency " ++ (decimal latency ++ (codes " d
 abbrev pub counts_text : ℕ → ℕ → List ℕ
 counts_text nodes units = codes " nodes " ++ (decimal nodes ++ (codes " units " ++ decimal units))
 
--- a closed chain with the sums of its latencies and distances
-abbrev pub cycle_text : Arch → Kernel → List EdgeId → List ℕ
-cycle_text A K ids = codes "cycle" ++ (edge_words K ids ++ sums_text (latencies (edge_of A K) ids) (distances (edge_of A K) ids))
+-- the edges of a chain with the sums of its latencies and distances
+abbrev pub chain_text : Arch → Kernel → List EdgeId → List ℕ
+chain_text A K ids = edge_words K ids ++ sums_text (latencies (edge_of A K) ids) (distances (edge_of A K) ids)
 
 -- a set of operations in the order of their codes, with the numbers of its nodes and units
+abbrev pub set_text : Arch → Kernel → List Op → List ℕ
+set_text A K set = op_words set ++ counts_text (nodes_in K.nodes set) (units_for A.units set)
+
+-- a closed chain, and a class of operations
+abbrev pub cycle_text : Arch → Kernel → List EdgeId → List ℕ
+cycle_text A K ids = codes "cycle" ++ chain_text A K ids
+
 abbrev pub class_text : Arch → Kernel → List Op → List ℕ
-class_text A K set = codes "class" ++ (op_words set ++ counts_text (nodes_in K.nodes set) (units_for A.units set))
+class_text A K set = codes "class" ++ set_text A K set
 
 abbrev pub cause_text : Arch → Kernel → Certificate → List ℕ
 cause_text A K (Cycle ids) = cycle_text A K ids.items

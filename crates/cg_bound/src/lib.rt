@@ -12,4 +12,4 @@ mod unoffered;
 pub use cg_edges::{Arch, EdgeId, Kernel};
 pub use interval::{Certificate, IntervalVerdict, LeastInterval, bound, verdict};
 pub use laws::{always_bounded, certifies, excludes, one_least};
-pub use text::certificate_text;
+pub use text::{certificate_text, push_chain, push_set};

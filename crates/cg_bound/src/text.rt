@@ -41,7 +41,7 @@ fn interval_text(alloc: Global, at: Option<u32>) -> Result<String, AllocError>
     }
 }
 
-/// Adds a closed chain, with its sums.
+/// Adds a closed chain.
 fn push_cycle(
     alloc: Global,
     text: &mut Vec<u8>,
@@ -51,8 +51,22 @@ fn push_cycle(
 ) -> Result<(), AllocError>
     ensures { OnOk result (text.new.items ≡ text.old.items ++ spec.cycle_text arch.now kernel.now ids.now) }
 {
-    let (latency, distance) = sums(arch, kernel, ids);
     text.extend_from_slice(b"cycle")?;
+    push_chain(alloc, text, arch, kernel, ids)
+}
+
+/// Adds the edges `ids` of a chain to `text`, each after a blank, with the sums of their latencies and distances, as
+/// ` x.0 a.0 latency 3 distance 1`.
+pub fn push_chain(
+    alloc: Global,
+    text: &mut Vec<u8>,
+    arch: &Arch,
+    kernel: &Kernel,
+    ids: &[EdgeId],
+) -> Result<(), AllocError>
+    ensures { OnOk result (text.new.items ≡ text.old.items ++ spec.chain_text arch.now kernel.now ids.now) }
+{
+    let (latency, distance) = sums(arch, kernel, ids);
     push_edges(alloc, text, kernel, ids)?;
     let word = format!(in alloc; " latency {latency} distance {distance}")?;
     text.extend_from_slice(word.as_bytes())?;
@@ -98,7 +112,7 @@ fn node_name(kernel: &Kernel, number: u32) -> &str
     }
 }
 
-/// Adds a set of operations, with the numbers of its nodes and units.
+/// Adds a class of operations.
 fn push_class(
     alloc: Global,
     text: &mut Vec<u8>,
@@ -108,9 +122,23 @@ fn push_class(
 ) -> Result<(), AllocError>
     ensures { OnOk result (text.new.items ≡ text.old.items ++ spec.class_text arch.now kernel.now set) }
 {
+    text.extend_from_slice(b"class")?;
+    push_set(alloc, text, arch, kernel, set)
+}
+
+/// Adds the operations of `set` to `text` in the order of their codes, each after a blank, with the numbers of its nodes
+/// and units, as ` load store nodes 6 units 4`.
+pub fn push_set(
+    alloc: Global,
+    text: &mut Vec<u8>,
+    arch: &Arch,
+    kernel: &Kernel,
+    set: OpSet,
+) -> Result<(), AllocError>
+    ensures { OnOk result (text.new.items ≡ text.old.items ++ spec.set_text arch.now kernel.now set) }
+{
     let nodes = count_nodes(kernel.nodes(), set);
     let units = count_units(arch.units(), set);
-    text.extend_from_slice(b"class")?;
     push_ops(text, set)?;
     let word = format!(in alloc; " nodes {nodes} units {units}")?;
     text.extend_from_slice(word.as_bytes())?;

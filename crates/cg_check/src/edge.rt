@@ -5,15 +5,17 @@ ghost use Rattle.cg_check.specs.Edges.{data_edge};
 
 use cg_model::{Kernel, Operand, Route};
 
-/// The source of a data edge, and how many turns ago it had the value.
+/// The data edge that an operand is.
 #[derive(Clone, Copy)]
-pub(crate) struct DataEdge {
+pub struct DataEdge {
+    /// The number of the node whose value it takes.
     pub source: u32,
+    /// How many turns ago the node had the value.
     pub distance: u32,
 }
 
-/// The data edge that is the operand at which a route ends; None where that is none.
-pub(crate) fn edge_into(kernel: &Kernel, route: &Route) -> Option<DataEdge>
+/// Returns the data edge that is the operand at which `route` ends; None where that is none.
+pub fn edge_into(kernel: &Kernel, route: &Route) -> Option<DataEdge>
     ensures { result ≡ data_edge (slice_get (node kernel.now route.now.node).operands route.now.arg) }
 {
     let nodes = kernel.nodes();

@@ -54,8 +54,8 @@ pub(crate) fn port(arch: &Arch, number: u32, arg: u32) -> Option<u32>
     ports.get(arg as usize).copied()
 }
 
-/// When the value of a node leaves its unit, counted from its turn's start.
-pub(crate) fn leaves(arch: &Arch, mapping: &Mapping, node: u32) -> u64
+/// Returns the cycle in which the value of `node` leaves its unit, counted from its turn's start.
+pub fn leaves(arch: &Arch, mapping: &Mapping, node: u32) -> u64
     ensures value { result ≡ leaves_of arch.now mapping.now node }
     ensures soon { result ≤ 4294967299 }
 {
@@ -63,8 +63,8 @@ pub(crate) fn leaves(arch: &Arch, mapping: &Mapping, node: u32) -> u64
     u64::from(at.time) + u64::from(latency(arch, at.unit))
 }
 
-/// The delay of a link into a resource.
-pub(crate) fn delay(arch: &Arch, resource: u32) -> u64
+/// Returns the cycles that a link into `resource` takes.
+pub fn delay(arch: &Arch, resource: u32) -> u64
     ensures value { result ≡ delay_of arch.now resource }
     ensures small { result ≤ 1 }
 {
