@@ -1,0 +1,4 @@
+pub mod Below
+mod Noted
+pub mod Shown
+mod Counted

@@ -1,0 +1,7 @@
+use Rattle.std.proofs.Common.{◌≡◌, ◌++◌}
+use Rattle.cg_marks.specs.Below.{lists_below}
+use Rattle.cg_show.specs.Marked.{link_in}
+use Rattle.cg_show.proofs.marked.push_links.Given as goal
+
+abbrev pub invariant-loop-resource : goal.invariant-loop-resource
+invariant-loop-resource l = l.text.items ≡ l.fn.text.items ++ lists_below (link_in l.scene.marks.now l.slot) l.resource

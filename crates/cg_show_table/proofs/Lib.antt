@@ -1,0 +1,7 @@
+pub mod Halving
+pub mod Words
+pub mod Ascii
+pub mod Widths
+pub mod Rows
+pub mod Sizes
+pub mod Lines

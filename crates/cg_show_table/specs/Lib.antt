@@ -1,0 +1,5 @@
+pub mod Margin
+pub mod Columns
+pub mod Table
+pub mod Sizes
+pub mod Search
