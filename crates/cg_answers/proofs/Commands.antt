@@ -4,7 +4,7 @@ use Rattle.cg_ending.specs.declared.outcome.Status.{Status}
 use Rattle.cg_ending.specs.declared.outcome.Status.TheVariants.{Done, Impossible}
 use Rattle.cg_ending.specs.Outcome.{Name, File, Outcome}
 use Rattle.cg_command.specs.declared.plans.Command.{Command}
-use Rattle.cg_command.specs.declared.plans.Command.TheVariants.{Turns, TurnsOnImage, Flat, Run, Bound, Check, Emit, Map, Search, Trial, Verilog, Loop, Depend, Migrate}
+use Rattle.cg_command.specs.declared.plans.Command.TheVariants.{Turns, TurnsOnImage, Flat, Run, Bound, Check, Emit, Map, Search, Show, Trial, Verilog, Loop, Depend, Migrate}
 use Rattle.cg_inputs.proofs.Sound.{owns, IsSound, IsNamed}
 use Rattle.cg_run_answers.proofs.TurnsAnswers.{sound_turns, quiet_turns, accepted_turns}
 use Rattle.cg_run_answers.proofs.OnImage.{same_on_image, sound_on_image, accepted_on_image, named_on_image}
@@ -16,6 +16,7 @@ use Rattle.cg_mapping_answers.proofs.Checked.{same_check, sound_check, accepted_
 use Rattle.cg_mapping_answers.proofs.Bitstream.{same_emit, sound_emit, accepted_emit, named_emit}
 use Rattle.cg_map_answers.proofs.Searched.{same_map, sound_map, accepted_map, forbidden_map, quiet_map, named_map}
 use Rattle.cg_search_answers.proofs.Searched.{agree_search, sound_search, accepted_search, forbidden_search, quiet_search, named_search}
+use Rattle.cg_show_answers.proofs.Shown.{same_show, sound_show, accepted_show, quiet_show, named_show}
 use Rattle.cg_loop_answers.proofs.Looped.{same_loop, sound_loop, accepted_loop, named_loop}
 use Rattle.cg_answers.specs.Commands.{IsAnswer, Accepts, Forbids, AgreeIn}
 use Rattle.cg_answers.proofs.Trialed.{same_trial, sound_trial, accepted_trial, quiet_trial}
@@ -35,6 +36,7 @@ agree_in Check (f ∷ g ∷ h ∷ []) [] a b p q = same_check f g h a b p q
 agree_in Emit (f ∷ g ∷ h ∷ []) (out ∷ []) a b p q = same_emit f g h out a b p q
 agree_in (Map s) (f ∷ g ∷ []) outs a b p q = same_map s f g outs a b p q
 agree_in (Search s) (f ∷ g ∷ []) outs a b p q = agree_search s f g outs a b p q
+agree_in Show (f ∷ g ∷ h ∷ []) outs a b p q = same_show f g h outs a b p q
 agree_in (Trial seed) [] [] a b p q = same_trial seed a b p q
 agree_in Verilog (f ∷ []) (out ∷ []) a b p q = same_verilog f out a b p q
 agree_in Loop (f ∷ []) (out ∷ []) a b p q = same_loop f out a b p q
@@ -47,6 +49,7 @@ abbrev says_no : Command → Bool
 says_no (TurnsOnImage n) = true
 says_no Check = true
 says_no Emit = true
+says_no Show = true
 says_no _ = false
 
 abbrev searches : Command → Bool
@@ -69,6 +72,7 @@ sound Check (f ∷ g ∷ h ∷ []) [] o p = sound_check f g h o p
 sound Emit (f ∷ g ∷ h ∷ []) (out ∷ []) o p = sound_emit f g h out o p
 sound (Map s) (f ∷ g ∷ []) outs o p = sound_map s outs f g o p
 sound (Search s) (f ∷ g ∷ []) outs o p = sound_search s outs f g o p
+sound Show (f ∷ g ∷ h ∷ []) outs o p = sound_show f g h outs o p
 sound (Trial seed) [] [] o p = sound_trial seed o p
 sound Verilog (f ∷ []) (out ∷ []) o p = sound_verilog f out o p
 sound Loop (f ∷ []) (out ∷ []) o p = sound_loop f out o p
@@ -88,6 +92,7 @@ accepted Check (f ∷ g ∷ h ∷ []) [] o a p = accepted_check f g h o a p
 accepted Emit (f ∷ g ∷ h ∷ []) (out ∷ []) o a p = accepted_emit f g h out o a p
 accepted (Map s) (f ∷ g ∷ []) outs o a p = accepted_map s f g outs o a p
 accepted (Search s) (f ∷ g ∷ []) outs o a p = accepted_search s f g outs o a p
+accepted Show (f ∷ g ∷ h ∷ []) outs o a p = accepted_show f g h outs o a p
 accepted (Trial seed) [] [] o a p = accepted_trial seed o p
 accepted Verilog (f ∷ []) (out ∷ []) o a p = accepted_verilog f out a.0 o a.1 p
 accepted Loop (f ∷ []) (out ∷ []) o a p = accepted_loop f out o a p
@@ -136,6 +141,11 @@ quiet (Search s) (f ∷ g ∷ []) o p = quiet_search s f g o p
 quiet (Search s) [] o p = absurd p
 quiet (Search s) (f ∷ []) o p = absurd p
 quiet (Search s) (f ∷ g ∷ h ∷ fs) o p = absurd p
+quiet Show (f ∷ g ∷ h ∷ []) o p = quiet_show f g h o p
+quiet Show [] o p = absurd p
+quiet Show (f ∷ []) o p = absurd p
+quiet Show (f ∷ g ∷ []) o p = absurd p
+quiet Show (f ∷ g ∷ h ∷ k ∷ fs) o p = absurd p
 quiet Emit [] o p = absurd p
 quiet Emit (f ∷ []) o p = absurd p
 quiet Emit (f ∷ g ∷ []) o p = absurd p
@@ -169,6 +179,7 @@ named Check (f ∷ g ∷ h ∷ []) [] o p = inr (quiet_check f g h o p)
 named Emit (f ∷ g ∷ h ∷ []) (out ∷ []) o p = named_emit f g h out o p
 named (Map s) (f ∷ g ∷ []) outs o p = named_map s outs f g o p
 named (Search s) (f ∷ g ∷ []) outs o p = named_search s outs f g o p
+named Show (f ∷ g ∷ h ∷ []) outs o p = named_show f g h outs o p
 named (Trial seed) [] [] o p = inr (quiet_trial seed o p)
 named Verilog (f ∷ []) (out ∷ []) o p = named_verilog f out o p
 named Loop (f ∷ []) (out ∷ []) o p = named_loop f out o p

@@ -2,7 +2,7 @@
 use Rattle.std.proofs.Common.{◌≡◌, ◌⊎◌, inl, inr, ℕ, List, [], ◌∷◌, length, refl, arith}
 use Rattle.cg_ending.specs.Outcome.{Name, File, Outcome}
 use Rattle.cg_command.specs.declared.plans.Command.{Command}
-use Rattle.cg_command.specs.declared.plans.Command.TheVariants.{Turns, TurnsOnImage, Flat, Run, Bound, Check, Emit, Map, Search, Trial, Verilog, Loop, Depend, Migrate}
+use Rattle.cg_command.specs.declared.plans.Command.TheVariants.{Turns, TurnsOnImage, Flat, Run, Bound, Check, Emit, Map, Search, Show, Trial, Verilog, Loop, Depend, Migrate}
 use Rattle.cg_command.specs.Words.{HasShape}
 use Rattle.cg_run_answers.specs.Turns.{turns_of}
 use Rattle.cg_run_answers.proofs.OnImage.{some_on_image}
@@ -14,6 +14,7 @@ use Rattle.cg_mapping_answers.proofs.Checked.{some_check}
 use Rattle.cg_mapping_answers.proofs.Bitstream.{some_emit}
 use Rattle.cg_map_answers.proofs.Searched.{some_map}
 use Rattle.cg_search_answers.proofs.Searched.{some_search_outcome}
+use Rattle.cg_show_answers.proofs.Shown.{some_show}
 use Rattle.cg_loop_answers.proofs.Looped.{some_loop}
 use Rattle.cg_answers.specs.Commands.{IsAnswer}
 use Rattle.cg_answers.proofs.Trialed.{some_trial}
@@ -79,6 +80,11 @@ some_outcome (Search s) (f ∷ g ∷ []) outputs shape = some_search_outcome s f
 some_outcome (Search s) [] outputs shape = absurd (omega (arith, shape.0))
 some_outcome (Search s) (f ∷ []) outputs shape = absurd (omega (arith, shape.0))
 some_outcome (Search s) (f ∷ g ∷ h ∷ fs) outputs shape = absurd (omega (arith, shape.0))
+some_outcome Show (f ∷ g ∷ h ∷ []) outputs shape = some_show f g h outputs
+some_outcome Show [] outputs shape = absurd (omega (arith, shape.0))
+some_outcome Show (f ∷ []) outputs shape = absurd (omega (arith, shape.0))
+some_outcome Show (f ∷ g ∷ []) outputs shape = absurd (omega (arith, shape.0))
+some_outcome Show (f ∷ g ∷ h ∷ k ∷ fs) outputs shape = absurd (omega (arith, shape.0))
 some_outcome (Trial seed) [] [] shape = some_trial seed
 some_outcome (Trial seed) (f ∷ fs) outputs shape = absurd (omega (arith, shape.0))
 some_outcome (Trial seed) [] (out ∷ outs) shape = absurd (omega (arith, shape.1))

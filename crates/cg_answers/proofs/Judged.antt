@@ -7,9 +7,10 @@ use Rattle.cg_check.specs.Legal.{Mapped}
 use Rattle.cg_check.specs.declared.rule.Violation.{Violation}
 use Rattle.cg_check.specs.Rules.{violation}
 use Rattle.cg_command.specs.declared.plans.Command.{Command}
-use Rattle.cg_command.specs.declared.plans.Command.TheVariants.{Turns, TurnsOnImage, Flat, Run, Bound, Check, Emit, Map, Search, Trial, Verilog, Loop, Depend, Migrate}
+use Rattle.cg_command.specs.declared.plans.Command.TheVariants.{Turns, TurnsOnImage, Flat, Run, Bound, Check, Emit, Map, Search, Show, Trial, Verilog, Loop, Depend, Migrate}
 use Rattle.cg_mapping_answers.specs.Emit.{IsEmittedBy, IsEmission}
 use Rattle.cg_mapping_answers.proofs.Checked.{quiet_check}
+use Rattle.cg_show_answers.proofs.Shown.{unwritten_show}
 use Rattle.cg_answers.specs.Commands.{IsAnswer, judges}
 use Rattle.cg_inputs.proofs.Refusals.{AreRefused}
 use Rattle.cg_inputs.proofs.Mapped.{refused_given}
@@ -39,6 +40,11 @@ judged Emit [] outputs o j p said = absurd p
 judged Emit (f ∷ []) outputs o j p said = absurd p
 judged Emit (f ∷ g ∷ []) outputs o j p said = absurd p
 judged Emit (f ∷ g ∷ h ∷ k ∷ fs) outputs o j p said = absurd p
+judged Show (f ∷ g ∷ h ∷ []) outs o j p said = unwritten_show f g h outs o p said
+judged Show [] outputs o j p said = absurd p
+judged Show (f ∷ []) outputs o j p said = absurd p
+judged Show (f ∷ g ∷ []) outputs o j p said = absurd p
+judged Show (f ∷ g ∷ h ∷ k ∷ fs) outputs o j p said = absurd p
 judged (Turns n) files outputs o j p said = absurd (not_judging j)
 judged (TurnsOnImage n) files outputs o j p said = absurd (not_judging j)
 judged Flat files outputs o j p said = absurd (not_judging j)

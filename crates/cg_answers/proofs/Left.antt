@@ -7,7 +7,7 @@ use Rattle.cg_ending.specs.Outcome.{Name, File, Outcome}
 use Rattle.cg_ending.specs.Reads.{AreRead, HoldsBytes}
 use Rattle.cg_ending.specs.Ends.{Moment, Completed}
 use Rattle.cg_command.specs.declared.plans.Command.{Command}
-use Rattle.cg_command.specs.declared.plans.Command.TheVariants.{Turns, TurnsOnImage, Flat, Run, Bound, Check, Emit, Map, Search, Trial, Verilog, Loop, Depend, Migrate}
+use Rattle.cg_command.specs.declared.plans.Command.TheVariants.{Turns, TurnsOnImage, Flat, Run, Bound, Check, Emit, Map, Search, Show, Trial, Verilog, Loop, Depend, Migrate}
 use Rattle.cg_inputs.proofs.Wholes.{one_read, first_read, second_read, three_read}
 use Rattle.cg_run_answers.proofs.TurnsAnswers.{turned_left}
 use Rattle.cg_run_answers.proofs.OnImage.{ordered_left, unordered_left}
@@ -19,6 +19,7 @@ use Rattle.cg_mapping_answers.proofs.Checked.{legal_left, illegal_left}
 use Rattle.cg_mapping_answers.proofs.Bitstream.{emitted_left, unemitted_left}
 use Rattle.cg_map_answers.proofs.Searched.{map_left, impossible_left, spent_left}
 use Rattle.cg_search_answers.proofs.Searched.{search_left, search_impossible_left, search_spent_left}
+use Rattle.cg_show_answers.proofs.Shown.{shown_left, unshown_left}
 use Rattle.cg_loop_answers.proofs.Looped.{looped_left}
 use Rattle.cg_answers.specs.Commands.{IsAnswer, Leaves, LeavesDone, LeavesNo, LeavesImpossible, LeavesSpent}
 use Rattle.cg_inputs.proofs.Sound.{never}
@@ -74,6 +75,9 @@ left_done (Map s) (f ∷ g ∷ []) outs o before after read bytes answer is done
     map_left s f.name g.name outs f g before after (first_read before.held f.name g.name f g read) (second_read before.held f.name g.name f g read) o answer is done
 left_done (Search s) (f ∷ g ∷ []) outs o before after read bytes answer is done =
     search_left s f.name g.name outs f g before after (first_read before.held f.name g.name f g read) (second_read before.held f.name g.name f g read) o answer is done
+left_done Show (f ∷ g ∷ h ∷ []) outs o before after read bytes answer is done =
+    let r = three_read before.held f.name g.name h.name f g h read in
+    shown_left f.name g.name h.name outs f g h before after r.0 r.1 r.2 o answer is done
 left_done (Trial seed) [] [] o before after read bytes answer is done = trial_left seed o before after answer is done
 left_done Verilog (f ∷ []) (out ∷ []) o before after read bytes answer is done = netlisted_left f.name out f o before after (one_read before.held f.name f read) answer is done
 left_done Loop (f ∷ []) (out ∷ []) o before after read bytes answer is done = looped_left f.name out f o before after (one_read before.held f.name f read) is done answer
@@ -93,6 +97,9 @@ left_no Check (f ∷ g ∷ h ∷ []) [] o before after read answer is done =
 left_no Emit (f ∷ g ∷ h ∷ []) (out ∷ []) o before after read answer is done =
     let r = three_read before.held f.name g.name h.name f g h read in
     unemitted_left f.name g.name h.name out f g h before after r.0 r.1 r.2 o answer is done
+left_no Show (f ∷ g ∷ h ∷ []) outs o before after read answer is done =
+    let r = three_read before.held f.name g.name h.name f g h read in
+    unshown_left f.name g.name h.name outs f g h before after r.0 r.1 r.2 o answer is done
 left_no (Turns n) files outputs o before after read answer is done = absurd (never (owns_of (Turns n)) No o (sound (Turns n) files outputs o answer) refl is)
 left_no Flat files outputs o before after read answer is done = absurd (never (owns_of Flat) No o (sound Flat files outputs o answer) refl is)
 left_no (Run n) files outputs o before after read answer is done = absurd (never (owns_of (Run n)) No o (sound (Run n) files outputs o answer) refl is)
@@ -119,6 +126,7 @@ left_impossible (Run n) files outputs o before after read answer is done = absur
 left_impossible Bound files outputs o before after read answer is done = absurd (never (owns_of Bound) Impossible o (sound Bound files outputs o answer) refl is)
 left_impossible Check files outputs o before after read answer is done = absurd (never (owns_of Check) Impossible o (sound Check files outputs o answer) refl is)
 left_impossible Emit files outputs o before after read answer is done = absurd (never (owns_of Emit) Impossible o (sound Emit files outputs o answer) refl is)
+left_impossible Show files outputs o before after read answer is done = absurd (never (owns_of Show) Impossible o (sound Show files outputs o answer) refl is)
 left_impossible (Trial seed) files outputs o before after read answer is done = absurd (never (owns_of (Trial seed)) Impossible o (sound (Trial seed) files outputs o answer) refl is)
 left_impossible Verilog files outputs o before after read answer is done = absurd (never (owns_of Verilog) Impossible o (sound Verilog files outputs o answer) refl is)
 left_impossible Loop files outputs o before after read answer is done = absurd (never (owns_of Loop) Impossible o (sound Loop files outputs o answer) refl is)
@@ -139,6 +147,7 @@ left_spent (Run n) files outputs o before after read answer is done = absurd (ne
 left_spent Bound files outputs o before after read answer is done = absurd (never (owns_of Bound) BudgetSpent o (sound Bound files outputs o answer) refl is)
 left_spent Check files outputs o before after read answer is done = absurd (never (owns_of Check) BudgetSpent o (sound Check files outputs o answer) refl is)
 left_spent Emit files outputs o before after read answer is done = absurd (never (owns_of Emit) BudgetSpent o (sound Emit files outputs o answer) refl is)
+left_spent Show files outputs o before after read answer is done = absurd (never (owns_of Show) BudgetSpent o (sound Show files outputs o answer) refl is)
 left_spent (Trial seed) files outputs o before after read answer is done = absurd (never (owns_of (Trial seed)) BudgetSpent o (sound (Trial seed) files outputs o answer) refl is)
 left_spent Verilog files outputs o before after read answer is done = absurd (never (owns_of Verilog) BudgetSpent o (sound Verilog files outputs o answer) refl is)
 left_spent Loop files outputs o before after read answer is done = absurd (never (owns_of Loop) BudgetSpent o (sound Loop files outputs o answer) refl is)

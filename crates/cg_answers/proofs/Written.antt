@@ -5,7 +5,7 @@ use Rattle.cg_ending.specs.Outcome.{Name, File, Outcome}
 use Rattle.cg_ending.specs.Reads.{AreRead}
 use Rattle.cg_ending.specs.Ends.{Moment}
 use Rattle.cg_command.specs.declared.plans.Command.{Command}
-use Rattle.cg_command.specs.declared.plans.Command.TheVariants.{Turns, TurnsOnImage, Flat, Run, Bound, Check, Emit, Map, Search, Trial, Verilog, Loop, Depend, Migrate}
+use Rattle.cg_command.specs.declared.plans.Command.TheVariants.{Turns, TurnsOnImage, Flat, Run, Bound, Check, Emit, Map, Search, Show, Trial, Verilog, Loop, Depend, Migrate}
 use Rattle.cg_inputs.proofs.Wholes.{first_read, second_read, three_read}
 use Rattle.cg_task_answers.specs.Runs.{FirstRuns}
 use Rattle.cg_mapping_answers.specs.Emit.{FirstRunsRead}
@@ -42,6 +42,7 @@ free Flat (w ∷ ws) inputs before h = tt
 free (Run n) (w ∷ ws) inputs before h = tt
 free Bound (w ∷ ws) inputs before h = tt
 free Check (w ∷ ws) inputs before h = tt
+free Show (w ∷ ws) inputs before h = tt
 free (Trial seed) (w ∷ ws) inputs before h = tt
 free Verilog (w ∷ ws) inputs before h = tt
 free Loop (w ∷ ws) inputs before h = tt
@@ -68,6 +69,7 @@ by_names Flat files outputs o before read answer = free Flat o.writes (names_in 
 by_names (Run n) files outputs o before read answer = free (Run n) o.writes (names_in files) before refl
 by_names Bound files outputs o before read answer = free Bound o.writes (names_in files) before refl
 by_names Check files outputs o before read answer = free Check o.writes (names_in files) before refl
+by_names Show files outputs o before read answer = free Show o.writes (names_in files) before refl
 by_names (Trial seed) files outputs o before read answer = free (Trial seed) o.writes (names_in files) before refl
 by_names Verilog files outputs o before read answer = free Verilog o.writes (names_in files) before refl
 by_names Loop files outputs o before read answer = free Loop o.writes (names_in files) before refl

@@ -7,7 +7,7 @@ use Rattle.cg_ending.specs.Outcome.{Name, File, Outcome}
 use Rattle.cg_ending.specs.Ends.{Moment}
 use Rattle.cg_kernel.specs.Answer.{answer_of}
 use Rattle.cg_command.specs.declared.plans.Command.{Command}
-use Rattle.cg_command.specs.declared.plans.Command.TheVariants.{Turns, TurnsOnImage, Flat, Run, Bound, Check, Emit, Map, Search, Trial, Verilog, Loop, Depend, Migrate}
+use Rattle.cg_command.specs.declared.plans.Command.TheVariants.{Turns, TurnsOnImage, Flat, Run, Bound, Check, Emit, Map, Search, Show, Trial, Verilog, Loop, Depend, Migrate}
 use Rattle.cg_pad.specs.Bytes as images
 use Rattle.cg_model.specs.Work.{Image}
 use Rattle.cg_model.specs.Array.{Arch}
@@ -25,6 +25,7 @@ use Rattle.cg_map_answers.specs.Map.{IsMap, IsMappable, IsMapRun, IsSpentRun}
 use Rattle.cg_task_answers.specs.Searches.{IsForbiddenInput, IsImpossibleRun}
 use Rattle.cg_task_answers.specs.Runs.{RunsOfPair}
 use Rattle.cg_search_answers.specs.Search.{IsSearch, IsSearchable, IsSearchRun, IsSearchSpentRun, AreAgreed}
+use Rattle.cg_show_answers.specs.Show.{IsShow, IsShownRun}
 use Rattle.cg_answers.specs.Trial.{IsTrialOf, IsTrialRun}
 use Rattle.cg_answers.specs.Verilog.{IsVerilog, IsNetlisted}
 use Rattle.cg_loop_answers.specs.Loop.{IsLoopOf, IsTranslatable, IsLooped}
@@ -43,6 +44,7 @@ IsAnswer Check (arch ∷ kernel ∷ mapping ∷ []) [] o = IsCheck arch kernel m
 IsAnswer Emit (arch ∷ kernel ∷ mapping ∷ []) (out ∷ []) o = IsEmit arch kernel mapping out o
 IsAnswer (Map s) (arch ∷ kernel ∷ []) outs o = IsMap s arch kernel outs o
 IsAnswer (Search s) (arch ∷ kernel ∷ []) outs o = IsSearch s arch kernel outs o
+IsAnswer Show (arch ∷ kernel ∷ mapping ∷ []) outs o = IsShow arch kernel mapping outs o
 IsAnswer (Trial seed) [] [] o = IsTrialOf seed o
 IsAnswer Verilog (file ∷ []) (out ∷ []) o = IsVerilog file out o
 IsAnswer Loop (file ∷ []) (out ∷ []) o = IsLoopOf file out o
@@ -84,6 +86,7 @@ Accepts Check (arch ∷ kernel ∷ mapping ∷ []) = IsLegalInput arch kernel ma
 Accepts Emit (arch ∷ kernel ∷ mapping ∷ []) = IsLegalInput arch kernel mapping
 Accepts (Map s) (arch ∷ kernel ∷ []) = IsMappable s arch kernel
 Accepts (Search s) (arch ∷ kernel ∷ []) = IsSearchable s arch kernel
+Accepts Show (arch ∷ kernel ∷ mapping ∷ []) = IsLegalInput arch kernel mapping
 Accepts (Trial seed) [] = Unit {0}
 Accepts Verilog (file ∷ []) = GivesArch file
 Accepts Loop (file ∷ []) = IsTranslatable file
@@ -118,6 +121,7 @@ LeavesDone Check (arch ∷ kernel ∷ mapping ∷ []) [] before after = IsLegalC
 LeavesDone Emit (arch ∷ kernel ∷ mapping ∷ []) (out ∷ []) before after = IsEmittedRun arch kernel mapping out before after
 LeavesDone (Map s) (arch ∷ kernel ∷ []) outs before after = IsMapRun s arch kernel outs before after
 LeavesDone (Search s) (arch ∷ kernel ∷ []) outs before after = IsSearchRun s arch kernel outs before after
+LeavesDone Show (arch ∷ kernel ∷ mapping ∷ []) outs before after = IsShownRun arch kernel mapping outs before after
 LeavesDone (Trial seed) [] [] before after = IsTrialRun seed before after
 LeavesDone Verilog (file ∷ []) (out ∷ []) before after = IsNetlisted file out before after
 LeavesDone Loop (file ∷ []) (out ∷ []) before after = IsLooped file out before after
@@ -129,6 +133,7 @@ LeavesDone _ _ _ before after = ⊥
 abbrev pub judges : Command → Bool
 judges Check = true
 judges Emit = true
+judges Show = true
 judges _ = false
 
 -- what it leaves where it ends with No
@@ -136,6 +141,7 @@ abbrev pub LeavesNo : Command → List Name → List Name → Moment → Moment 
 LeavesNo (TurnsOnImage n) (file ∷ input ∷ []) (out ∷ []) before after = IsUnorderedRun n file input out before after
 LeavesNo Check (arch ∷ kernel ∷ mapping ∷ []) [] before after = IsIllegalCheck arch kernel mapping before after
 LeavesNo Emit (arch ∷ kernel ∷ mapping ∷ []) (out ∷ []) before after = IsIllegalCheck arch kernel mapping before after
+LeavesNo Show (arch ∷ kernel ∷ mapping ∷ []) outs before after = IsIllegalCheck arch kernel mapping before after
 LeavesNo _ _ _ before after = ⊥
 
 -- what it leaves where it ends with Impossible

@@ -37,6 +37,7 @@ fn answer_to(
         Command::Emit => shaped::emit(alloc, files, outputs),
         Command::Map(request) => shaped::map(alloc, request, files, outputs),
         Command::Search(request) => shaped::search(alloc, request, files, outputs),
+        Command::Show => shaped::show(alloc, files, outputs),
         Command::Trial { seed } => shaped::trial(alloc, seed, files, outputs),
         Command::Verilog => shaped::verilog(alloc, files, outputs),
         Command::Loop => shaped::loop_kernel(alloc, files, outputs),

@@ -125,6 +125,14 @@ pub(crate) fn search(
     cg_search_answers::search(alloc, request, &files[0], &files[1], outputs)
 }
 
+/// Answers `show ARCH KERNEL MAPPING [OUT]` over `files`; `outputs` is the name of the picture, where it is given.
+pub(crate) fn show(alloc: Global, files: &[File], outputs: &[String]) -> Result<Outcome, Stop>
+    requires { HasShape (Command.Show) (length files.now) (length outputs.now) }
+    ensures { Allows (IsAnswer (Command.Show) (map file_of files.now) (map string_bytes outputs.now)) result }
+{
+    cg_show_answers::show(alloc, &files[0], &files[1], &files[2], outputs)
+}
+
 /// Answers `trial SEED`, which reads and writes no file.
 pub(crate) fn trial(
     alloc: Global,

@@ -6,10 +6,10 @@ use Rattle.std.specs.Str.Parse.{digits_value}
 use Rattle.std.proofs.lemmas.Bool.{leb-true}
 use Rattle.cg_model.specs.Limits.{most_turns, most_contexts, most_moves}
 use Rattle.cg_command.specs.declared.plans.Command.{Command}
-use Rattle.cg_command.specs.declared.plans.Command.TheVariants.{Turns, TurnsOnImage, Flat, Run, Bound, Check, Emit, Map, Search, Trial, Verilog, Loop, Depend, Migrate}
+use Rattle.cg_command.specs.declared.plans.Command.TheVariants.{Turns, TurnsOnImage, Flat, Run, Bound, Check, Emit, Map, Search, Show, Trial, Verilog, Loop, Depend, Migrate}
 use Rattle.cg_model.specs.declared.request.Request.{Request}
 use Rattle.cg_model.specs.Request.{IsInRange}
-use Rattle.cg_command.specs.Words.{Text, Given, Arguments, Plan, HasShape, values_said, said_once, asked_interval, named_file, request_of, written_plan, searching_plan, map_plan, search_plan, usual_moves, usual_responses, positive, seed_of, moves_of, is_number, number_up_to, turns_of, turns_plan, file_plan, array_plan, run_plan, takes, with_options, search_options, run_options, bound_plan, check_plan, emit_plan, trial_plan, migrate_plan, is_empty, without_options, command_plan, arguments_of, plan_of}
+use Rattle.cg_command.specs.Words.{Text, Given, Arguments, Plan, HasShape, values_said, said_once, asked_interval, named_file, request_of, written_plan, searching_plan, map_plan, search_plan, usual_moves, usual_responses, positive, seed_of, moves_of, is_number, number_up_to, turns_of, turns_plan, file_plan, array_plan, run_plan, takes, with_options, search_options, run_options, bound_plan, check_plan, emit_plan, show_plan, trial_plan, migrate_plan, is_empty, without_options, command_plan, arguments_of, plan_of}
 
 -- the plan has the shape of its command
 abbrev pub IsShaped : Plan → Type 0
@@ -77,6 +77,14 @@ emit_shaped (a ∷ b ∷ []) = none_shaped
 emit_shaped (a ∷ b ∷ c ∷ []) = none_shaped
 emit_shaped (arch ∷ kernel ∷ mapping ∷ out ∷ []) = one_shaped (record { command = Emit; inputs = arch ∷ kernel ∷ mapping ∷ []; outputs = out ∷ [] }) (refl, refl)
 emit_shaped (a ∷ b ∷ c ∷ d ∷ e ∷ more) = none_shaped
+
+show_shaped : (words : List Text) → AreShaped (show_plan words)
+show_shaped [] = none_shaped
+show_shaped (a ∷ []) = none_shaped
+show_shaped (a ∷ b ∷ []) = none_shaped
+show_shaped (arch ∷ kernel ∷ mapping ∷ []) = one_shaped (record { command = Show; inputs = arch ∷ kernel ∷ mapping ∷ []; outputs = [] }) (refl, inl refl)
+show_shaped (arch ∷ kernel ∷ mapping ∷ out ∷ []) = one_shaped (record { command = Show; inputs = arch ∷ kernel ∷ mapping ∷ []; outputs = out ∷ [] }) (refl, inr refl)
+show_shaped (a ∷ b ∷ c ∷ d ∷ e ∷ more) = none_shaped
 
 trial_shaped : (words : List Text) → AreShaped (trial_plan words)
 trial_shaped [] = none_shaped
@@ -205,11 +213,12 @@ command_shaped name said =
     (either_shaped (bytes_eq name (codes "emit")) (without_options emit_plan said) _ (without_shaped emit_plan said (emit_shaped said.words))
     (either_shaped (bytes_eq name (codes "map")) (with_options search_options map_plan said) _ (with_shaped search_options map_plan said (map_shaped said))
     (either_shaped (bytes_eq name (codes "search")) (with_options search_options search_plan said) _ (with_shaped search_options search_plan said (search_shaped said))
+    (either_shaped (bytes_eq name (codes "show")) (without_options show_plan said) _ (without_shaped show_plan said (show_shaped said.words))
     (either_shaped (bytes_eq name (codes "trial")) (without_options trial_plan said) _ (without_shaped trial_plan said (trial_shaped said.words))
     (either_shaped (bytes_eq name (codes "verilog")) (without_options (file_plan Verilog) said) _ (without_shaped (file_plan Verilog) said (file_shaped Verilog (refl, refl) said.words))
     (either_shaped (bytes_eq name (codes "loop")) (without_options (file_plan Loop) said) _ (without_shaped (file_plan Loop) said (file_shaped Loop (refl, refl) said.words))
     (either_shaped (bytes_eq name (codes "depend")) (without_options (file_plan Depend) said) _ (without_shaped (file_plan Depend) said (file_shaped Depend (refl, refl) said.words))
-    (either_shaped (bytes_eq name (codes "migrate")) (without_options migrate_plan said) None (without_shaped migrate_plan said (migrate_shaped said.words)) none_shaped))))))))))))
+    (either_shaped (bytes_eq name (codes "migrate")) (without_options migrate_plan said) None (without_shaped migrate_plan said (migrate_shaped said.words)) none_shaped)))))))))))))
 
 said_shaped : (name : Text) (o : Option Arguments) → AreShaped (option_and_then (command_plan name) o)
 said_shaped name None = none_shaped

@@ -6,7 +6,7 @@ use Rattle.cg_model.specs.Limits.{most_turns}
 use Rattle.cg_model.specs.Request.{IsInRange}
 pub use Rattle.cg_command.specs.Numbers.{Text, is_number, number_up_to, positive, turns_of, interval_of, seed_of, moves_of, usual_seed, usual_moves, usual_responses}
 use Rattle.cg_command.specs.declared.plans.Command.{Command}
-use Rattle.cg_command.specs.declared.plans.Command.TheVariants.{Turns, TurnsOnImage, Flat, Run, Bound, Check, Emit, Map, Search, Trial, Verilog, Loop, Depend, Migrate}
+use Rattle.cg_command.specs.declared.plans.Command.TheVariants.{Turns, TurnsOnImage, Flat, Run, Bound, Check, Emit, Map, Search, Show, Trial, Verilog, Loop, Depend, Migrate}
 use Rattle.cg_model.specs.declared.request.Request.{Request}
 use Rattle.cg_command.specs.declared.plans.Plan.{Plan as PlanValue}
 use Rattle.cg_command.specs.declared.arguments.Arguments.{Arguments as ArgumentsValue}
@@ -171,6 +171,12 @@ abbrev pub emit_plan : List Text → Option Plan
 emit_plan (arch ∷ kernel ∷ mapping ∷ out ∷ []) = Some (record { command = Emit; inputs = arch ∷ kernel ∷ mapping ∷ []; outputs = out ∷ [] })
 emit_plan _ = None
 
+-- show ARCH KERNEL MAPPING [OUT]
+abbrev pub show_plan : List Text → Option Plan
+show_plan (arch ∷ kernel ∷ mapping ∷ []) = Some (record { command = Show; inputs = arch ∷ kernel ∷ mapping ∷ []; outputs = [] })
+show_plan (arch ∷ kernel ∷ mapping ∷ out ∷ []) = Some (record { command = Show; inputs = arch ∷ kernel ∷ mapping ∷ []; outputs = out ∷ [] })
+show_plan _ = None
+
 -- trial SEED
 abbrev pub trial_plan : List Text → Option Plan
 trial_plan (seed ∷ []) = option_map (λ n. record { command = Trial n; inputs = []; outputs = [] }) (seed_of seed)
@@ -271,12 +277,13 @@ command_plan name said =
     else (if bytes_eq name (codes "emit") then without_options emit_plan said
     else (if bytes_eq name (codes "map") then with_options search_options map_plan said
     else (if bytes_eq name (codes "search") then with_options search_options search_plan said
+    else (if bytes_eq name (codes "show") then without_options show_plan said
     else (if bytes_eq name (codes "trial") then without_options trial_plan said
     else (if bytes_eq name (codes "verilog") then without_options (file_plan Verilog) said
     else (if bytes_eq name (codes "loop") then without_options (file_plan Loop) said
     else (if bytes_eq name (codes "depend") then without_options (file_plan Depend) said
     else (if bytes_eq name (codes "migrate") then without_options migrate_plan said
-    else None))))))))))))
+    else None)))))))))))))
 
 -- what the words ask, None where they fit no command
 unfoldable pub plan_of : List Text → Option Plan
@@ -294,6 +301,7 @@ HasShape Check inputs outputs = (inputs ≡ 3) × (outputs ≡ 0)
 HasShape Emit inputs outputs = (inputs ≡ 3) × (outputs ≡ 1)
 HasShape (Map request) inputs outputs = (inputs ≡ 2) × ((outputs ≡ 1) ⊎ (outputs ≡ 2)) × IsInRange request
 HasShape (Search request) inputs outputs = (inputs ≡ 2) × ((outputs ≡ 1) ⊎ (outputs ≡ 2)) × IsInRange request
+HasShape Show inputs outputs = (inputs ≡ 3) × ((outputs ≡ 0) ⊎ (outputs ≡ 1))
 HasShape (Trial seed) inputs outputs = (inputs ≡ 0) × (outputs ≡ 0)
 HasShape Verilog inputs outputs = (inputs ≡ 1) × (outputs ≡ 1)
 HasShape Loop inputs outputs = (inputs ≡ 1) × (outputs ≡ 1)

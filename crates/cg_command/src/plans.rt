@@ -32,6 +32,9 @@ pub enum Command {
     Map(Request),
     /// `search ARCH KERNEL OUT [--ii N] [--seed N] [--moves N] [--mapping FILE]`: the bits of a mapping near the least interval.
     Search(Request),
+    /// `show ARCH KERNEL MAPPING [OUT]`: what a legal mapping does in each slot, as a table, and as a picture where a file is
+    /// named for it.
+    Show,
     /// `trial SEED`: a drawn kernel, mapped over the hub of an architecture made for it, run by the array and by its turns.
     Trial { seed: u64 },
     /// `verilog ARCH OUT`: the netlist of an architecture, as structural Verilog.
@@ -121,6 +124,7 @@ fn command_plan(alloc: Global, name: &str, said: &Arguments) -> Result<Option<Pl
         "search" if takes_only(said, &["ii", "seed", "moves", "mapping"]) => {
             search_plan(alloc, said)
         }
+        "show" if has_no_options(said) => show_plan(alloc, said.words.as_slice()),
         "trial" if has_no_options(said) => trial_plan(alloc, said.words.as_slice()),
         "verilog" if has_no_options(said) => file_plan(
             alloc,
@@ -288,6 +292,29 @@ fn emit_plan(alloc: Global, words: &[&str]) -> Result<Option<Plan>, AllocError>
         [arch, kernel, mapping, out] => plan_with(
             alloc,
             Command::Emit,
+            &[*arch, *kernel, *mapping],
+            &[*out],
+        ),
+        _ => Ok(None),
+    }
+}
+
+fn show_plan(alloc: Global, words: &[&str]) -> Result<Option<Plan>, AllocError>
+    ensures plan { IfOk result
+        (λ p. option_map spec.planned p ≡ spec.show_plan (map (λ word. word.now) words.now)) }
+    ensures shape { IfOk result (λ p. IfSome p
+        (λ plan. HasShape plan.command (vec_len plan.inputs) (vec_len plan.outputs))) }
+{
+    match words {
+        [arch, kernel, mapping] => plan_with(
+            alloc,
+            Command::Show,
+            &[*arch, *kernel, *mapping],
+            &[],
+        ),
+        [arch, kernel, mapping, out] => plan_with(
+            alloc,
+            Command::Show,
             &[*arch, *kernel, *mapping],
             &[*out],
         ),

@@ -45,7 +45,7 @@ fn legal(alloc: Global) -> Result<Outcome, Stop>
 }
 
 /// Returns the outcome where the mapping violates `rule` at `place`.
-pub(crate) fn illegal(
+pub fn illegal(
     alloc: Global,
     arch: &Arch,
     kernel: &Kernel,

@@ -6,5 +6,5 @@ mod checking;
 mod emitting;
 
 pub use bounding::bound;
-pub use checking::check;
+pub use checking::{check, illegal};
 pub use emitting::{emit, emit_report};

@@ -9,7 +9,7 @@ use Rattle.cg_ending.specs.Ends.{Moment, Finished}
 use Rattle.cg_ending.proofs.Reading.{Reading, all, missing, longer, reading, reads_all, stops}
 use Rattle.cg_command.specs.Words.{Plan, plan_of}
 use Rattle.cg_command.specs.declared.plans.Command.{Command}
-use Rattle.cg_command.specs.declared.plans.Command.TheVariants.{Turns, TurnsOnImage, Flat, Run, Bound, Check, Emit, Map, Search, Trial, Verilog, Loop, Depend, Migrate}
+use Rattle.cg_command.specs.declared.plans.Command.TheVariants.{Turns, TurnsOnImage, Flat, Run, Bound, Check, Emit, Map, Search, Show, Trial, Verilog, Loop, Depend, Migrate}
 use Rattle.cg_answers.specs.Commands.{IsAnswer, AgreeIn}
 use Rattle.cg_top.proofs.Planned.{is_outcome}
 use Rattle.cg_top.specs.TopCall.{IsPlanned, Ends, Agrees, IsExact}
@@ -32,6 +32,7 @@ equal Check a b e = e
 equal Emit a b e = e
 equal (Map s) a b e = e
 equal (Search s) a b e = inl e
+equal Show a b e = e
 equal (Trial seed) a b e = e
 equal Verilog a b e = e
 equal Loop a b e = e
