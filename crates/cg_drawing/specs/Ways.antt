@@ -107,11 +107,11 @@ over_left F b =
 
 abbrev pub over_top : Frame → Bends → List ℕ
 over_top F b =
-    leaving b ++ (codes "H" ++ (decimal b.gap ++ (codes "V0M" ++ (decimal b.last ++ (codes " " ++ (decimal (panel_height F) ++ coming b))))))
+    leaving b ++ (codes "H" ++ (decimal b.gap ++ (codes "V10M" ++ (decimal b.last ++ (codes " " ++ (decimal (panel_height F) ++ coming b))))))
 
 abbrev pub over_bottom : Frame → Bends → List ℕ
 over_bottom F b =
-    leaving b ++ (codes "H" ++ (decimal b.gap ++ (codes "V" ++ (decimal (panel_height F) ++ (codes "M" ++ (decimal b.last ++ (codes " 0" ++ coming b)))))))
+    leaving b ++ (codes "H" ++ (decimal b.gap ++ (codes "V" ++ (decimal (panel_height F) ++ (codes "M" ++ (decimal b.last ++ (codes " 10" ++ coming b)))))))
 
 -- of n rows or columns it is shorter round the edge from a to b
 abbrev pub is_round : ℕ → ℕ → ℕ → Bool

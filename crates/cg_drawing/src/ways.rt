@@ -259,7 +259,7 @@ fn over_top(alloc: Global, frame: Frame, bends: Bends) -> Result<String, AllocEr
     let last = bends.last;
     let height = panel_height(frame);
     let rest = coming(alloc, bends)?;
-    format!(in alloc; "{first}H{gap}V0M{last} {height}{rest}")
+    format!(in alloc; "{first}H{gap}V10M{last} {height}{rest}")
 }
 
 /// Returns the way over the lower edge of a panel.
@@ -272,7 +272,7 @@ fn over_bottom(alloc: Global, frame: Frame, bends: Bends) -> Result<String, Allo
     let height = panel_height(frame);
     let last = bends.last;
     let rest = coming(alloc, bends)?;
-    format!(in alloc; "{first}H{gap}V{height}M{last} 0{rest}")
+    format!(in alloc; "{first}H{gap}V{height}M{last} 10{rest}")
 }
 
 /// Checks whether the way between `first` and `second`, of `count` rows or columns, is shorter round the edge.
