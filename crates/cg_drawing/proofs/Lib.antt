@@ -1,5 +1,3 @@
-pub mod Grown
 pub mod Found
-pub mod Gathered
 pub mod Listed
 pub mod Way

@@ -7,11 +7,11 @@ use Rattle.std.proofs.Math.Seq.{get_or-append_seam}
 use Rattle.cg_model.specs.declared.array.Kind.TheVariants.{Wire}
 use Rattle.cg_model.specs.declared.array.Resource.{Resource}
 use Rattle.cg_model.specs.Array.{Arch, resource}
-use Rattle.cg_marks.specs.Below.{lists_below}
+use Rattle.cg_below.specs.Below.{lists_below}
 use Rattle.cg_drawing.specs.Layout.{Frame, Spot, seat, seat_by, box, beyond, corner, unit_top}
 use Rattle.cg_drawing.specs.Places.{IsNear, AreSeats, AreBoxes, nowhere, spot}
 use Rattle.cg_drawing.specs.Tiles.{unit_tile, prefixes, tile_in, tiles_in, tile_of, tile_prefix}
-use Rattle.cg_drawing.proofs.Grown.{length_of_items}
+use Rattle.cg_below.proofs.Grown.{length_of_items}
 use Rattle.cg_drawing.proofs.Found.{first_within}
 
 -- item r of what two maps give

@@ -9,7 +9,7 @@ use Rattle.cg_model.specs.declared.array.Kind.{Kind}
 use Rattle.cg_model.specs.declared.array.Kind.TheVariants.{Wire, Register, Port, Out}
 use Rattle.cg_model.specs.declared.array.Unit.{Unit}
 use Rattle.cg_model.specs.Array.{Arch, resource, unit}
-use Rattle.cg_marks.specs.Below.{count_below, greatest_below}
+use Rattle.cg_below.specs.Below.{count_below, greatest_below}
 use Rattle.cg_marks.specs.Counts.{same_kind}
 pub use Rattle.cg_drawing.specs.declared.spot.Spot.{Spot}
 pub use Rattle.cg_drawing.specs.declared.spot.Frame.{Frame}

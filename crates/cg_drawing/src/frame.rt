@@ -8,7 +8,7 @@ impl<'a> Tiled<'a> {
     ghost use Rattle.std.specs.Prelude.{◌≡◌, ◌+◌, ◌<◌, ◌≤◌, if◌then◌else◌, length};
     ghost use Rattle.cg_model.specs.Array.{resource as resource_of};
     ghost use Rattle.cg_marks.specs.Counts as counts;
-    ghost use Rattle.cg_marks.specs.Below.{greatest_below};
+    ghost use Rattle.cg_below.specs.Below.{greatest_below};
     ghost use Rattle.cg_drawing.specs.Tiles as tiles;
     ghost use Rattle.cg_drawing.specs.Layout as spec;
     ghost use Rattle.cg_drawing.specs.Places.{IsGrid};

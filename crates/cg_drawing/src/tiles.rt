@@ -1,7 +1,7 @@
 //! The tiles that names say.
 ghost use Rattle.std.specs.Prelude.{◌≡◌, ◌<◌, ◌*◌, ◌∷◌, [], ℕ, ◌≤◌, length, nat_eq, IfOk, is_some, unwrap_or, map, string_bytes};
 ghost use Rattle.std.specs.List.{list_all, starts_with};
-ghost use Rattle.cg_marks.specs.Below.{lists_below};
+ghost use Rattle.cg_below.specs.Below.{lists_below};
 ghost use Rattle.cg_model.specs.First.{first_from};
 ghost use Rattle.cg_drawing.specs.Tiles as spec;
 

@@ -5,10 +5,10 @@ use Rattle.cg_model.specs.declared.array.Kind.{Kind}
 use Rattle.cg_model.specs.Array.{resource}
 use Rattle.cg_check.specs.Legal.{Mapped}
 use Rattle.cg_marks.specs.declared.stay.Stay.{Stay}
-use Rattle.cg_marks.specs.Below.{sum_below}
+use Rattle.cg_below.specs.Below.{sum_below}
 use Rattle.cg_marks.specs.Marks.{start_at, stay_at, position_of}
 use Rattle.cg_marks.specs.Counts.{same_kind, starts_of, stays_of, busy_units, busy_slots, resources_of, taken_slots}
-use Rattle.cg_marks.proofs.Below.{sum_below-more}
+use Rattle.cg_below.proofs.Below.{sum_below-more}
 
 -- ---- at a step of a loop
 

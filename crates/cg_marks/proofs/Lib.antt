@@ -1,4 +1,3 @@
-pub mod Below
 mod Noted
 pub mod Shown
 mod Counted

@@ -4,7 +4,7 @@ use Rattle.cg_model.specs.declared.array.Kind.{Kind}
 use Rattle.cg_model.specs.declared.array.Kind.TheVariants.{Wire, Register, Port, Out}
 use Rattle.cg_model.specs.Array.{resource}
 use Rattle.cg_check.specs.Legal.{Mapped}
-use Rattle.cg_marks.specs.Below.{sum_below, count_below}
+use Rattle.cg_below.specs.Below.{sum_below, count_below}
 use Rattle.cg_marks.specs.Marks.{start_at, stay_at}
 
 -- the slots in which unit x begins a node

@@ -1,4 +1,3 @@
-pub mod Below
 pub mod Marks
 pub mod Counts
 pub mod Tables

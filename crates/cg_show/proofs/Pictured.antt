@@ -3,7 +3,7 @@ use Rattle.std.proofs.Common.{◌≡◌, ℕ, ◌+◌, ◌*◌, Bool, true, fals
 use Rattle.std.specs.Prelude.{codes}
 use Rattle.cg_model.specs.Array.{Arch}
 use Rattle.cg_check.specs.Legal.{Mapped}
-use Rattle.cg_marks.specs.Below.{lists_below}
+use Rattle.cg_below.specs.Below.{lists_below}
 use Rattle.cg_drawing.specs.Tiles.{is_tiled}
 use Rattle.cg_drawing.specs.Svg.{group_head}
 use Rattle.cg_show.specs.Panels.{grid_panel, column_panel, panel_text}

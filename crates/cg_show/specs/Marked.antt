@@ -5,7 +5,7 @@ use Rattle.cg_model.specs.declared.array.Kind.TheVariants.{Wire, Register, Port,
 use Rattle.cg_model.specs.Array.{resource}
 use Rattle.cg_model.specs.Mapping.{Position}
 use Rattle.cg_check.specs.Legal.{Mapped}
-use Rattle.cg_marks.specs.Below.{lists_below}
+use Rattle.cg_below.specs.Below.{lists_below}
 use Rattle.cg_marks.specs.Marks.{start_at, stay_at}
 use Rattle.cg_drawing.specs.declared.spot.Spot.{Spot}
 use Rattle.cg_drawing.specs.Layout.{frame_of, seat, box}

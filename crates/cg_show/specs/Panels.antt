@@ -2,7 +2,7 @@
 use Rattle.std.specs.Prelude.{ℕ, zero, suc, ◌+◌, ◌*◌, ◌-◌, ◌/◌, ◌%◌, Bool, ◌&&◌, not, eqb, nat_lt, nat_le, List, [], ◌++◌, length, if◌then◌else◌, codes, decimal}
 use Rattle.cg_model.specs.Array.{Arch}
 use Rattle.cg_check.specs.Legal.{Mapped}
-use Rattle.cg_marks.specs.Below.{lists_below}
+use Rattle.cg_below.specs.Below.{lists_below}
 use Rattle.cg_drawing.specs.Tiles.{row_of, column_of, tile_of, is_tiled}
 use Rattle.cg_drawing.specs.declared.spot.Spot.{Spot}
 use Rattle.cg_drawing.specs.declared.spot.Frame.{Frame}

@@ -2,7 +2,7 @@
 use Rattle.std.specs.Prelude.{ℕ, ◌+◌, ◌-◌, ◌*◌, ◌/◌, max, min, nat_lt, List, [], ◌++◌, length, if◌then◌else◌, codes, decimal}
 use Rattle.cg_model.specs.Array.{Arch}
 use Rattle.cg_check.specs.Legal.{Mapped, config_of}
-use Rattle.cg_marks.specs.Below.{lists_below}
+use Rattle.cg_below.specs.Below.{lists_below}
 use Rattle.cg_drawing.specs.Tiles.{is_tiled}
 use Rattle.cg_drawing.specs.Layout.{frame_of, panel_width, panel_height}
 use Rattle.cg_drawing.specs.Svg.{words_text, group_head}

@@ -1,7 +1,7 @@
 //! The marks of a picture.
 ghost use Rattle.std.specs.Prelude.{◌≡◌, ◌++◌, ◌<◌, ◌≤◌, OnOk, length, Some, option_map};
 ghost use Rattle.cg_model.specs.Array.{resource as resource_at};
-ghost use Rattle.cg_marks.specs.Below.{lists_below};
+ghost use Rattle.cg_below.specs.Below.{lists_below};
 ghost use Rattle.cg_marks.specs.Marks.{position_of, start_at, stay_at};
 ghost use Rattle.cg_show.specs.Marked as spec;
 

@@ -1,7 +1,7 @@
 //! Panels, one a slot.
 ghost use Rattle.std.specs.Prelude.{◌≡◌, ◌++◌, ◌<◌, ◌≤◌, IfOk, OnOk, length, true, false, codes};
 ghost use Rattle.std.specs.Option.{ForSome, ForNone};
-ghost use Rattle.cg_marks.specs.Below.{lists_below};
+ghost use Rattle.cg_below.specs.Below.{lists_below};
 ghost use Rattle.cg_drawing.specs.Layout as layouts;
 ghost use Rattle.cg_drawing.specs.Svg.{words_text};
 ghost use Rattle.cg_drawing.specs.Tiles.{is_tiled};

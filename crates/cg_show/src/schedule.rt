@@ -1,7 +1,7 @@
 //! One turn in time.
 ghost use Rattle.std.specs.Prelude.{◌≡◌, ◌++◌, ◌<◌, ◌≤◌, ◌^◌, suc, OnOk, length};
 ghost use Rattle.cg_check.specs.Legal.{config_of};
-ghost use Rattle.cg_marks.specs.Below.{lists_below};
+ghost use Rattle.cg_below.specs.Below.{lists_below};
 ghost use Rattle.cg_show.specs.Schedule as spec;
 
 use crate::words::{colour, latency_of, node_name, push_name, start_title, time_of, unit_name};

@@ -1,6 +1,6 @@
 //! What all panels share: empty tiles, chips and boxes, or the empty cells of a column and the names of its rows.
 ghost use Rattle.std.specs.Prelude.{◌≡◌, ◌++◌, ◌<◌, OnOk, length};
-ghost use Rattle.cg_marks.specs.Below.{lists_below};
+ghost use Rattle.cg_below.specs.Below.{lists_below};
 ghost use Rattle.cg_drawing.specs.Layout.{frame_of, seat, box};
 ghost use Rattle.cg_drawing.specs.Tiles.{tile_of};
 ghost use Rattle.cg_show.specs.Panels as spec;

@@ -4,4 +4,3 @@ pub mod Ascii
 pub mod Widths
 pub mod Rows
 pub mod Sizes
-pub mod Lines

@@ -1,7 +1,7 @@
 -- Sizes of tables, which are small.
 use Rattle.std.specs.Prelude.{◌≡◌, ℕ, ◌+◌, ◌≤◌, is_some}
 use Rattle.cg_check.specs.Legal.{Mapped}
-use Rattle.cg_marks.specs.Below.{count_below}
+use Rattle.cg_below.specs.Below.{count_below}
 use Rattle.cg_marks.specs.Marks.{start_at}
 use Rattle.cg_show_table.specs.declared.columns.Grid.{Grid}
 

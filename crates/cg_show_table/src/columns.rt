@@ -3,7 +3,7 @@ ghost use Rattle.std.specs.Prelude.{◌≡◌, ◌+◌, ◌-◌, ◌*◌, ◌/�
 ghost use Rattle.cg_model.specs.Array.{unit as unit_of};
 ghost use Rattle.cg_model.specs.Kernel.{size, node as node_of};
 ghost use Rattle.cg_model.specs.Mapping.{place as place_of};
-ghost use Rattle.cg_marks.specs.Below.{lists_below};
+ghost use Rattle.cg_below.specs.Below.{lists_below};
 ghost use Rattle.cg_show_table.specs.Columns as spec;
 ghost use Rattle.cg_show_table.specs.Sizes.{IsSmall, IsGridOf, starts_from};
 

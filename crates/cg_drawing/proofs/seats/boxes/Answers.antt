@@ -1,6 +1,6 @@
 use Rattle.std.proofs.Common.{◌≡◌, ◌∙◌, ◌∷◌, [], ◌++◌, sym, ap, length, arith}
 use Rattle.cg_drawing.specs.Layout.{box}
-use Rattle.cg_drawing.proofs.Grown.{begun, grown_alone}
+use Rattle.cg_below.proofs.Grown.{begun, grown_alone}
 use Rattle.cg_drawing.proofs.Listed.{boxes_listed}
 use Rattle.cg_drawing.proofs.seats.boxes.Goals as goal
 

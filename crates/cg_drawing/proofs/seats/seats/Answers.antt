@@ -1,7 +1,7 @@
 use Rattle.std.proofs.Common.{◌≡◌, ◌∙◌, ◌∷◌, [], ◌++◌, sym, ap, subst, length, below_more, arith}
 use Rattle.cg_drawing.specs.Layout.{seat}
 use Rattle.cg_drawing.specs.Places.{IsNear}
-use Rattle.cg_drawing.proofs.Grown.{begun, grown_alone}
+use Rattle.cg_below.proofs.Grown.{begun, grown_alone}
 use Rattle.cg_drawing.proofs.Listed.{seats_listed}
 use Rattle.cg_drawing.proofs.seats.seats.Goals as goal
 

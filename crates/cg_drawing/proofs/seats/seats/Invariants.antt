@@ -1,5 +1,5 @@
 use Rattle.std.proofs.Common.{◌≡◌, ℕ, ◌<◌, ◌∷◌, []}
-use Rattle.cg_marks.specs.Below.{lists_below}
+use Rattle.cg_below.specs.Below.{lists_below}
 use Rattle.cg_drawing.specs.Layout.{seat}
 use Rattle.cg_drawing.specs.Places.{IsNear}
 use Rattle.cg_drawing.proofs.seats.seats.Given as goal

@@ -1,9 +1,9 @@
 use Rattle.std.proofs.Common.{◌≡◌, ◌∙◌, sym, ap, ◌∷◌, [], ◌++◌, map, arith}
 use Rattle.std.specs.Prelude.{string_bytes}
 use Rattle.std.proofs.lemmas.List.{map-append}
-use Rattle.cg_marks.specs.Below.{lists_below}
+use Rattle.cg_below.specs.Below.{lists_below}
 use Rattle.cg_drawing.specs.Tiles.{prefixes, tile_prefix}
-use Rattle.cg_drawing.proofs.Grown.{begun, grown_alone}
+use Rattle.cg_below.proofs.Grown.{begun, grown_alone}
 use Rattle.cg_drawing.proofs.tiles.prefixes.Goals as goal
 
 pub loop-tile-init : goal.loop-tile-init

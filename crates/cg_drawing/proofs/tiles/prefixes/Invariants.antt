@@ -1,6 +1,6 @@
 use Rattle.std.proofs.Common.{◌≡◌, map, ◌∷◌, []}
 use Rattle.std.specs.Prelude.{string_bytes}
-use Rattle.cg_marks.specs.Below.{lists_below}
+use Rattle.cg_below.specs.Below.{lists_below}
 use Rattle.cg_drawing.specs.Tiles.{tile_prefix}
 use Rattle.cg_drawing.proofs.tiles.prefixes.Given as goal
 

@@ -4,7 +4,7 @@ use Rattle.std.specs.Prelude.{string_bytes}
 use Rattle.std.specs.List.{starts_with}
 use Rattle.cg_model.specs.First.{first_from}
 use Rattle.cg_drawing.specs.Tiles.{prefixes, tile_prefix}
-use Rattle.cg_drawing.proofs.Grown.{length_of_items}
+use Rattle.cg_below.proofs.Grown.{length_of_items}
 use Rattle.cg_drawing.proofs.Found.{first_mapped}
 use Rattle.cg_drawing.proofs.tiles.tile_in.Goals as goal
 

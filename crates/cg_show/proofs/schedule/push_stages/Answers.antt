@@ -1,7 +1,7 @@
 use Rattle.std.proofs.Common.{ℕ, ◌++◌, suc, ◌∙◌, ap}
 use Rattle.std.specs.Prelude.{codes}
 use Rattle.cg_check.specs.Legal.{config_of}
-use Rattle.cg_marks.specs.Below.{lists_below}
+use Rattle.cg_below.specs.Below.{lists_below}
 use Rattle.cg_marks.specs.Counts.{busy_units}
 use Rattle.cg_show.specs.Schedule.{stage_line, stages_text}
 use Rattle.cg_show.proofs.Steps.{joined}

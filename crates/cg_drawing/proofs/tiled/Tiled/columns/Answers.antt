@@ -1,7 +1,7 @@
 use Rattle.std.proofs.Common.{◌≡◌, ◌∙◌, ◌+◌, max, ap, length, arith}
-use Rattle.cg_marks.specs.Below.{greatest_below}
+use Rattle.cg_below.specs.Below.{greatest_below}
 use Rattle.cg_drawing.specs.Tiles.{column_of, tile_of}
-use Rattle.cg_drawing.proofs.Gathered.{none_great, greater, larger}
+use Rattle.cg_below.proofs.Gathered.{none_great, greater, larger}
 use Rattle.cg_drawing.proofs.tiled.Tiled.columns.Goals as goal
 
 pub loop-resource-init : goal.loop-resource-init

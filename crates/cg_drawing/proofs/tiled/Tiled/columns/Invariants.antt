@@ -1,5 +1,5 @@
 use Rattle.std.proofs.Common.{◌≡◌, ◌+◌, ◌≤◌}
-use Rattle.cg_marks.specs.Below.{greatest_below}
+use Rattle.cg_below.specs.Below.{greatest_below}
 use Rattle.cg_drawing.specs.Tiles.{column_of, tile_of}
 use Rattle.cg_drawing.proofs.tiled.Tiled.columns.Given as goal
 

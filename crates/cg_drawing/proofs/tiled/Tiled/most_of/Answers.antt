@@ -1,10 +1,10 @@
 use Rattle.std.proofs.Common.{◌≡◌, ◌∙◌, ◌+◌, max, ap, length, arith}
-use Rattle.cg_marks.specs.Below.{greatest_below}
+use Rattle.cg_below.specs.Below.{greatest_below}
 use Rattle.std.specs.Prelude.{if◌then◌else◌}
 use Rattle.cg_model.specs.Array.{resource}
 use Rattle.cg_marks.specs.Counts.{same_kind}
 use Rattle.cg_drawing.specs.Layout.{rank}
-use Rattle.cg_drawing.proofs.Gathered.{none_great, greater, larger}
+use Rattle.cg_below.proofs.Gathered.{none_great, greater, larger}
 use Rattle.cg_drawing.proofs.tiled.Tiled.most_of.Goals as goal
 
 pub loop-resource-init : goal.loop-resource-init

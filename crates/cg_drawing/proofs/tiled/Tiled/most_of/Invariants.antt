@@ -1,5 +1,5 @@
 use Rattle.std.proofs.Common.{◌≡◌, ◌+◌, ◌≤◌}
-use Rattle.cg_marks.specs.Below.{greatest_below}
+use Rattle.cg_below.specs.Below.{greatest_below}
 use Rattle.std.specs.Prelude.{if◌then◌else◌}
 use Rattle.cg_model.specs.Array.{resource}
 use Rattle.cg_marks.specs.Counts.{same_kind}

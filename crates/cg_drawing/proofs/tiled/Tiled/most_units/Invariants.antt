@@ -1,5 +1,5 @@
 use Rattle.std.proofs.Common.{◌≡◌, ◌+◌, ◌≤◌}
-use Rattle.cg_marks.specs.Below.{greatest_below}
+use Rattle.cg_below.specs.Below.{greatest_below}
 use Rattle.cg_drawing.specs.Layout.{unit_rank}
 use Rattle.cg_drawing.proofs.tiled.Tiled.most_units.Given as goal
 

@@ -1,7 +1,7 @@
 use Rattle.std.proofs.Common.{◌≡◌, ◌∙◌, sym, ap, arith}
-use Rattle.cg_marks.specs.Below.{count_below}
+use Rattle.cg_below.specs.Below.{count_below}
 use Rattle.cg_drawing.specs.Layout.{is_beside, rank}
-use Rattle.cg_drawing.proofs.Gathered.{none_counted, passed, failed}
+use Rattle.cg_below.proofs.Gathered.{none_counted, passed, failed}
 use Rattle.cg_drawing.proofs.tiled.Tiled.rank.Goals as goal
 use Rattle.cg_drawing.proofs.tiled.Tiled.rank.Goals.{then-is_beside, else-is_beside}
 

@@ -1,5 +1,5 @@
 use Rattle.std.proofs.Common.{◌≡◌, ◌≤◌}
-use Rattle.cg_marks.specs.Below.{count_below}
+use Rattle.cg_below.specs.Below.{count_below}
 use Rattle.cg_drawing.specs.Layout.{is_beside}
 use Rattle.cg_drawing.proofs.tiled.Tiled.rank.Given as goal
 

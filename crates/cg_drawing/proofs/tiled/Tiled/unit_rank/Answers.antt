@@ -1,9 +1,9 @@
 use Rattle.std.proofs.Common.{ℕ, ◌≡◌, ◌∙◌, sym, ap, arith, eqb}
 use Rattle.std.proofs.lemmas.Bool.{eq-eqb, ne_eqb}
-use Rattle.cg_marks.specs.Below.{count_below}
+use Rattle.cg_below.specs.Below.{count_below}
 use Rattle.cg_drawing.specs.Tiles.{unit_tile}
 use Rattle.cg_drawing.specs.Layout.{unit_rank}
-use Rattle.cg_drawing.proofs.Gathered.{none_counted, passed, failed}
+use Rattle.cg_below.proofs.Gathered.{none_counted, passed, failed}
 use Rattle.cg_drawing.proofs.tiled.Tiled.unit_rank.Goals as goal
 use Rattle.cg_drawing.proofs.tiled.Tiled.unit_rank.Goals.{then-unit_tile-tile, else-unit_tile-tile}
 

@@ -1,5 +1,5 @@
 use Rattle.std.proofs.Common.{◌≡◌, ◌≤◌, eqb}
-use Rattle.cg_marks.specs.Below.{count_below}
+use Rattle.cg_below.specs.Below.{count_below}
 use Rattle.cg_drawing.specs.Tiles.{unit_tile}
 use Rattle.cg_drawing.proofs.tiled.Tiled.unit_rank.Given as goal
 

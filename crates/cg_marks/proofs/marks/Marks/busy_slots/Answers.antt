@@ -1,8 +1,8 @@
 use Rattle.std.proofs.Common.{◌≡◌, ◌∙◌, refl, sym, ap, subst, length, arith}
 use Rattle.cg_model.specs.Array.{IsArch}
-use Rattle.cg_marks.specs.Below.{sum_below}
+use Rattle.cg_below.specs.Below.{sum_below}
 use Rattle.cg_marks.specs.Counts.{starts_of}
-use Rattle.cg_marks.proofs.Below.{sum_below-none}
+use Rattle.cg_below.proofs.Below.{sum_below-none}
 use Rattle.cg_marks.proofs.Counted.{added, all_slots}
 use Rattle.cg_marks.proofs.marks.Marks.busy_slots.Goals as goal
 

@@ -1,5 +1,5 @@
 use Rattle.std.proofs.Common.{◌≡◌, ◌≤◌, ◌*◌}
-use Rattle.cg_marks.specs.Below.{sum_below}
+use Rattle.cg_below.specs.Below.{sum_below}
 use Rattle.cg_marks.specs.Counts.{starts_of}
 use Rattle.cg_marks.proofs.marks.Marks.busy_slots.Given as goal
 

@@ -1,8 +1,8 @@
 use Rattle.std.proofs.Common.{◌≡◌, ◌∙◌, sym, ap, true, false, length, arith}
 use Rattle.std.specs.Prelude.{nat_lt}
 use Rattle.std.proofs.lemmas.Bool.{lt-ltb, le-ltb}
-use Rattle.cg_marks.specs.Below.{sum_below}
-use Rattle.cg_marks.proofs.Below.{sum_below-none}
+use Rattle.cg_below.specs.Below.{sum_below}
+use Rattle.cg_below.proofs.Below.{sum_below-none}
 use Rattle.cg_marks.proofs.Counted.{added, passed_by, busy, busy_counted, all_busy}
 use Rattle.cg_marks.proofs.marks.Marks.busy_units.Goals as goal
 use Rattle.cg_marks.proofs.marks.Marks.busy_units.Goals.{then-starts_of-gt0, else-starts_of-gt0}

@@ -1,6 +1,6 @@
 use Rattle.std.proofs.Common.{◌≡◌, ◌∙◌, sym, ap, true, false, length, arith}
-use Rattle.cg_marks.specs.Below.{sum_below}
-use Rattle.cg_marks.proofs.Below.{sum_below-none}
+use Rattle.cg_below.specs.Below.{sum_below}
+use Rattle.cg_below.proofs.Below.{sum_below-none}
 use Rattle.cg_marks.proofs.Counted.{added, passed_by, of_kind, kind_counted, all_of_kind}
 use Rattle.cg_marks.proofs.marks.Marks.resources_of.Goals as goal
 use Rattle.cg_marks.proofs.marks.Marks.resources_of.Goals.{then-is_of, else-is_of}

@@ -1,5 +1,5 @@
 use Rattle.std.proofs.Common.{◌≡◌, ◌≤◌}
-use Rattle.cg_marks.specs.Below.{sum_below}
+use Rattle.cg_below.specs.Below.{sum_below}
 use Rattle.cg_marks.proofs.Counted.{of_kind}
 use Rattle.cg_marks.proofs.marks.Marks.resources_of.Given as goal
 

@@ -1,7 +1,7 @@
 use Rattle.std.proofs.Common.{◌≡◌, ◌∙◌, sym, ap, true, false, arith}
 use Rattle.std.specs.Prelude.{is_some}
-use Rattle.cg_marks.specs.Below.{sum_below}
-use Rattle.cg_marks.proofs.Below.{sum_below-none}
+use Rattle.cg_below.specs.Below.{sum_below}
+use Rattle.cg_below.proofs.Below.{sum_below-none}
 use Rattle.cg_marks.proofs.Counted.{added, passed_by, start_in, start_counted, all_starts}
 use Rattle.cg_marks.proofs.marks.Marks.starts_of.Goals as goal
 use Rattle.cg_marks.proofs.marks.Marks.starts_of.Goals.{then-is_some, else-is_some}

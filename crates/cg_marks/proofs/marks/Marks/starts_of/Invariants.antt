@@ -1,5 +1,5 @@
 use Rattle.std.proofs.Common.{◌≡◌, ◌≤◌}
-use Rattle.cg_marks.specs.Below.{sum_below}
+use Rattle.cg_below.specs.Below.{sum_below}
 use Rattle.cg_marks.proofs.Counted.{start_in}
 use Rattle.cg_marks.proofs.marks.Marks.starts_of.Given as goal
 

@@ -1,7 +1,7 @@
 use Rattle.std.proofs.Common.{◌≡◌, ◌∙◌, sym, ap, true, false, arith}
 use Rattle.std.specs.Prelude.{is_some}
-use Rattle.cg_marks.specs.Below.{sum_below}
-use Rattle.cg_marks.proofs.Below.{sum_below-none}
+use Rattle.cg_below.specs.Below.{sum_below}
+use Rattle.cg_below.proofs.Below.{sum_below-none}
 use Rattle.cg_marks.proofs.Counted.{added, passed_by, stay_in, stay_counted, all_stays, some_there}
 use Rattle.cg_marks.proofs.marks.Marks.stays_of.Goals as goal
 use Rattle.cg_marks.proofs.marks.Marks.stays_of.Goals.{then-is_some, else-is_some}

@@ -1,7 +1,7 @@
 use Rattle.std.proofs.Common.{◌≡◌, ◌∙◌, sym, ap, subst, true, false, length, arith}
 use Rattle.cg_model.specs.Array.{IsArch}
-use Rattle.cg_marks.specs.Below.{sum_below}
-use Rattle.cg_marks.proofs.Below.{sum_below-none}
+use Rattle.cg_below.specs.Below.{sum_below}
+use Rattle.cg_below.proofs.Below.{sum_below-none}
 use Rattle.cg_marks.proofs.Counted.{added, passed_by, taken_by, taken_counted, all_taken}
 use Rattle.cg_marks.proofs.marks.Marks.taken_slots.Goals as goal
 use Rattle.cg_marks.proofs.marks.Marks.taken_slots.Goals.{then-is_of, else-is_of}

@@ -1,6 +1,6 @@
 -- One more number, as at a step of a loop.
 use Rattle.std.proofs.Common.{max, ◌≡◌, ℕ, ◌+◌, Bool, true, false, cond, List, ◌++◌, refl, ap, ◌∙◌, add-one, arith}
-use Rattle.cg_marks.specs.Below.{lists_below, sum_below, count_below, greatest_below}
+use Rattle.cg_below.specs.Below.{lists_below, sum_below, count_below, greatest_below}
 
 pub lists_below-more : {T : Type 0} (f : ℕ → List T) (n : ℕ) → lists_below f (n + 1) ≡ lists_below f n ++ f n
 unfolding lists_below

@@ -2,8 +2,8 @@
 use Rattle.std.proofs.Common.{◌≡◌, ℕ, ◌+◌, max, Bool, true, false, cond, refl, sym, ap, ◌∙◌, arith, rules}
 use Rattle.std.specs.Ordering.{ord_max, nat_cmp}
 use Rattle.std.proofs.lemmas.Grind.{common_steps}
-use Rattle.cg_marks.specs.Below.{count_below, greatest_below}
-use Rattle.cg_marks.proofs.Below.{sum_below-none, count_below-passed, count_below-failed, greatest_below-more}
+use Rattle.cg_below.specs.Below.{count_below, greatest_below}
+use Rattle.cg_below.proofs.Below.{sum_below-none, count_below-passed, count_below-failed, greatest_below-more}
 
 pub none_counted : (test : ℕ → Bool) → 0 ≡ count_below test 0
 none_counted test = sym (sum_below-none (λ k. cond (test k) 1 0))
