@@ -18,7 +18,7 @@ use Rattle.cg_inputs.specs.Refused.{RefusesArch, RefusesBits, RefusesImage, Refu
 use Rattle.cg_run_answers.specs.Flat.{IsFlat, flattened}
 use Rattle.cg_run_answers.specs.Turns.{turned, turns_by, turns_of}
 use Rattle.cg_run_answers.specs.TurnsOnImage.{IsTurnsOnImage, IsOnImage, IsOnKernel}
-use Rattle.cg_run_answers.specs.Run.{IsRun, ran, run_by_bits, run_by_image, too_large}
+use Rattle.cg_run_answers.specs.Run.{IsArrayCommand, array_by_bits, array_by_image, too_large}
 
 -- ---- flat
 
@@ -56,35 +56,36 @@ image_refused n file input out K s k =
 
 -- ---- a run of the array
 
-pub run_arch_refused : (n : ℕ) (arch file input : File) (out : Name) (s : Stop) → EndsBy (RefusesArch arch) s → EndsBy (IsRun n arch file input out) s
-run_arch_refused n arch file input out s =
-    ends_weaker (RefusesArch arch) (IsRun n arch file input out) s (λ o t. record { given = Err t.fault; is_given = t.is_fault; no_memory = λ e. t.no_memory (cc); outcome = t.outcome })
+module _ (done : Arch → Config → Image → Outcome) (arch file input : File) where
+  pub array_arch_refused : (s : Stop) → EndsBy (RefusesArch arch) s → EndsBy (IsArrayCommand done arch file input) s
+  array_arch_refused s =
+      ends_weaker (RefusesArch arch) (IsArrayCommand done arch file input) s (λ o t. record { given = Err t.fault; is_given = t.is_fault; no_memory = λ e. t.no_memory (cc); outcome = t.outcome })
 
-run_with_arch : (n : ℕ) (arch file input : File) (out : Name) (A : Arch) (o : Outcome) → AreValidBytes arch.bytes A → o ≡ run_by_bits n A file.name input out (bits.answer_of A file.bytes) → IsRun n arch file input out o
-run_with_arch n arch file input out A o v e = record { given = Ok A; is_given = v; no_memory = λ h. absurd (cc); outcome = e }
+  array_with_arch : (A : Arch) (o : Outcome) → AreValidBytes arch.bytes A → o ≡ array_by_bits done A file.name input (bits.answer_of A file.bytes) → IsArrayCommand done arch file input o
+  array_with_arch A o v e = record { given = Ok A; is_given = v; no_memory = λ h. absurd (cc); outcome = e }
 
-pub run_bits_refused : (n : ℕ) (arch file input : File) (out : Name) (A : Arch) (s : Stop) → AreValidBytes arch.bytes A → EndsBy (RefusesBits A file) s → EndsBy (IsRun n arch file input out) s
-run_bits_refused n arch file input out A s v =
-    ends_weaker (RefusesBits A file) (IsRun n arch file input out) s (λ o t. run_with_arch n arch file input out A o v (t.outcome ∙ sym (ap (run_by_bits n A file.name input out) t.is_fault)))
+  pub array_bits_refused : (A : Arch) (s : Stop) → AreValidBytes arch.bytes A → EndsBy (RefusesBits A file) s → EndsBy (IsArrayCommand done arch file input) s
+  array_bits_refused A s v =
+      ends_weaker (RefusesBits A file) (IsArrayCommand done arch file input) s (λ o t. array_with_arch A o v (t.outcome ∙ sym (ap (array_by_bits done A file.name input) t.is_fault)))
+
+  pub array_given : (A : Arch) (C : Config) (o : Outcome) → AreValidBytes arch.bytes A → bits.answer_of A file.bytes ≡ Ok C
+      → o ≡ array_by_image done A C input.name (images.answer_of input.bytes) → IsArrayCommand done arch file input o
+  array_given A C o v b e = array_with_arch A o v (e ∙ sym (ap (array_by_bits done A file.name input) b))
 
 -- ---- a run of the configured array
 
-pub run_image_refused : (n : ℕ) (A : Arch) (C : Config) (input : File) (out : Name) (s : Stop) → EndsBy (RefusesImage input) s
-    → EndsBy (λ o. o ≡ run_by_image n A C input.name out (images.answer_of input.bytes)) s
-run_image_refused n A C input out s =
-    ends_weaker (RefusesImage input) (λ o. o ≡ run_by_image n A C input.name out (images.answer_of input.bytes)) s
-    (λ o t. t.outcome ∙ sym (ap (run_by_image n A C input.name out) t.is_fault))
+module _ (done : Arch → Config → Image → Outcome) (A : Arch) (C : Config) (input : File) where
+  pub array_image_refused : (s : Stop) → EndsBy (RefusesImage input) s → EndsBy (λ o. o ≡ array_by_image done A C input.name (images.answer_of input.bytes)) s
+  array_image_refused s =
+      ends_weaker (RefusesImage input) (λ o. o ≡ array_by_image done A C input.name (images.answer_of input.bytes)) s
+      (λ o t. t.outcome ∙ sym (ap (array_by_image done A C input.name) t.is_fault))
 
-pub run_too_large : (n : ℕ) (A : Arch) (C : Config) (input : File) (out : Name) (image : Image) (o : Outcome) → images.answer_of input.bytes ≡ Ok image → A.memory < length image.memory
-    → o ≡ too_large input.name image → o ≡ run_by_image n A C input.name out (images.answer_of input.bytes)
-run_too_large n A C input out image o i more e =
-    e ∙ ap (λ b. cond b (too_large input.name image) (ran n A C image out)) (sym (lt-ltb A.memory (length image.memory) more)) ∙ sym (ap (run_by_image n A C input.name out) i)
+  pub array_too_large : (image : Image) (o : Outcome) → images.answer_of input.bytes ≡ Ok image → A.memory < length image.memory
+      → o ≡ too_large input.name image → o ≡ array_by_image done A C input.name (images.answer_of input.bytes)
+  array_too_large image o i more e =
+      e ∙ ap (λ b. cond b (too_large input.name image) (done A C image)) (sym (lt-ltb A.memory (length image.memory) more)) ∙ sym (ap (array_by_image done A C input.name) i)
 
-pub run_ran : (n : ℕ) (A : Arch) (C : Config) (input : File) (out : Name) (image : Image) (o : Outcome) → images.answer_of input.bytes ≡ Ok image → length image.memory ≤ A.memory
-    → o ≡ ran n A C image out → o ≡ run_by_image n A C input.name out (images.answer_of input.bytes)
-run_ran n A C input out image o i fits e =
-    e ∙ ap (λ b. cond b (too_large input.name image) (ran n A C image out)) (sym (le-ltb A.memory (length image.memory) fits)) ∙ sym (ap (run_by_image n A C input.name out) i)
-
-pub run_given : (n : ℕ) (arch file input : File) (out : Name) (A : Arch) (C : Config) (o : Outcome) → AreValidBytes arch.bytes A → bits.answer_of A file.bytes ≡ Ok C
-    → o ≡ run_by_image n A C input.name out (images.answer_of input.bytes) → IsRun n arch file input out o
-run_given n arch file input out A C o v b e = run_with_arch n arch file input out A o v (e ∙ sym (ap (run_by_bits n A file.name input out) b))
+  pub array_done : (image : Image) (o : Outcome) → images.answer_of input.bytes ≡ Ok image → length image.memory ≤ A.memory
+      → o ≡ done A C image → o ≡ array_by_image done A C input.name (images.answer_of input.bytes)
+  array_done image o i fits e =
+      e ∙ ap (λ b. cond b (too_large input.name image) (done A C image)) (sym (le-ltb A.memory (length image.memory) fits)) ∙ sym (ap (array_by_image done A C input.name) i)

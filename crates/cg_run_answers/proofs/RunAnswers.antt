@@ -11,6 +11,7 @@ use Rattle.cg_files.specs.Held.{Holds, Appends}
 use Rattle.cg_ending.specs.declared.outcome.Status.TheVariants.{Done, Malformed}
 use Rattle.cg_ending.specs.Outcome.{Name, File, Outcome}
 use Rattle.cg_ending.specs.Ends.{Moment, Completed, Wrote}
+use Rattle.cg_ending.specs.Refusals.{malformed_of}
 use Rattle.cg_grid.specs.declared.fault.TilesFault.{TilesFault}
 use Rattle.cg_grid.specs.declared.fault.TilesFault.TheVariants as fault
 use Rattle.cg_tiles.specs.Answer as tiles
@@ -24,10 +25,15 @@ use Rattle.cg_bits.specs.Spelling.{AreBits}
 use Rattle.cg_bits.proofs.Answered.{bits_of, config_is, none_answered}
 use Rattle.cg_pad.specs.declared.fault.ImageFault.{ImageFault}
 use Rattle.cg_pad.specs.Bytes as images
+use Rattle.cg_pad.specs.Texts.{image_fault_text}
+use Rattle.cg_bits.specs.Texts.{bits_fault_text}
+use Rattle.cg_grid.specs.Texts.{tiles_fault_text}
+use Rattle.cg_cycle.specs.declared.fault.SimFault.TheVariants.{ImageTooLarge}
+use Rattle.cg_cycle.specs.Texts.{sim_fault_text}
 use Rattle.cg_inputs.proofs.Sound.{IsSound, plain, IsNamed}
 use Rattle.cg_inputs.proofs.Arrays.{same_array, sized, valid_array}
 use Rattle.cg_inputs.proofs.Wholes.{whole, one_write, differ}
-use Rattle.cg_run_answers.specs.Run.{IsRun, IsRunnable, IsArrayRun, LeavesTurns, run_by, run_by_bits, run_by_image, ran, too_large}
+use Rattle.cg_run_answers.specs.Run.{IsArrayCommand, IsRun, IsRunnable, IsArrayRun, LeavesTurns, array_by, array_by_bits, array_by_image, ran, too_large}
 
 -- ---- the configuration
 
@@ -40,84 +46,136 @@ spelled_answer A C bytes valid e fits =
     let same : bits.config_of A bytes ≡ C = cc in
     subst (λ D. AreBits A D bytes) same (bits_of A bytes valid (sized A) fits none)
 
--- ---- status and writes
+-- ---- a command that runs an array
 
-sound_ran : (A : Arch) (n : ℕ) (C : Config) (input out : Name) (image : Image) (b : Bool) → IsSound plain (cond b (too_large input image) (ran n A C image out))
-sound_ran A n C input out image true = record { own = refl; quiet = λ h. refl }
-sound_ran A n C input out image false = record { own = refl; quiet = λ h. cc }
+module _ (done : Arch → Config → Image → Outcome) where
+  -- whatever holds of what comes of a run and of refusals holds of each outcome
+  each_image : (P : Outcome → Type 0) → ((A : Arch) (C : Config) (image : Image) → P (done A C image)) → ((name : Name) (text : List ℕ) → P (malformed_of name text))
+      → (A : Arch) (C : Config) (input : Name) (r : Result Image ImageFault) → P (array_by_image done A C input r)
+  each_image P ran refused A C input (Ok image) = by (nat_lt A.memory (length image.memory))
+    where
+      by : (b : Bool) → P (cond b (too_large input image) (done A C image))
+      by true = refused input (sim_fault_text (ImageTooLarge (length image.memory)))
+      by false = ran A C image
+  each_image P ran refused A C input (Err f) = refused input (image_fault_text f)
 
-sound_image : (n : ℕ) (A : Arch) (C : Config) (input out : Name) (r : Result Image ImageFault) → IsSound plain (run_by_image n A C input out r)
-sound_image n A C input out (Ok image) = sound_ran A n C input out image (nat_lt A.memory (length image.memory))
-sound_image n A C input out (Err f) = record { own = refl; quiet = λ h. refl }
+  each_bits : (P : Outcome → Type 0) → ((A : Arch) (C : Config) (image : Image) → P (done A C image)) → ((name : Name) (text : List ℕ) → P (malformed_of name text))
+      → (A : Arch) (file : Name) (input : File) (r : Result Config BitsFault) → P (array_by_bits done A file input r)
+  each_bits P ran refused A file input (Ok C) = each_image P ran refused A C input.name (images.answer_of input.bytes)
+  each_bits P ran refused A file input (Err f) = refused file (bits_fault_text f)
 
-sound_bits : (n : ℕ) (A : Arch) (file : Name) (input : File) (out : Name) (r : Result Config BitsFault) → IsSound plain (run_by_bits n A file input out r)
-sound_bits n A file input out (Ok C) = sound_image n A C input.name out (images.answer_of input.bytes)
-sound_bits n A file input out (Err f) = record { own = refl; quiet = λ h. refl }
+  each_by : (P : Outcome → Type 0) → ((A : Arch) (C : Config) (image : Image) → P (done A C image)) → ((name : Name) (text : List ℕ) → P (malformed_of name text))
+      → (arch file input : File) (r : Result Arch TilesFault) → P (array_by done arch file input r)
+  each_by P ran refused arch file input (Ok A) = each_bits P ran refused A file.name input (bits.answer_of A file.bytes)
+  each_by P ran refused arch file input (Err f) = refused arch.name (tiles_fault_text f)
 
-sound_by : (n : ℕ) (arch file input : File) (out : Name) (r : Result Arch TilesFault) → IsSound plain (run_by n arch file input out r)
-sound_by n arch file input out (Ok A) = sound_bits n A file.name input out (bits.answer_of A file.bytes)
-sound_by n arch file input out (Err f) = record { own = refl; quiet = λ h. refl }
+  pub sound_array : ((A : Arch) (C : Config) (image : Image) → IsSound plain (done A C image)) → (arch file input : File) (o : Outcome) → IsArrayCommand done arch file input o → IsSound plain o
+  sound_array ran arch file input o p =
+      rw p.outcome (each_by (IsSound plain) ran (λ name text. record { own = refl; quiet = λ h. refl }) arch file input p.given)
+
+  pub named_array : (outs : List Name) → ((A : Arch) (C : Config) (image : Image) → IsNamed outs (done A C image)) → (arch file input : File) (o : Outcome) → IsArrayCommand done arch file input o → IsNamed outs o
+  named_array outs ran arch file input o p =
+      subst (IsNamed outs) (sym p.outcome) (each_by (IsNamed outs) ran (λ name text. inr refl) arch file input p.given)
+
+  -- ---- what is accepted
+
+  module _ (ends : (A : Arch) (C : Config) (image : Image) → (done A C image).status ≡ Done) where
+    accepted_image : (A : Arch) (C : Config) (image : Image) (input : Name) → length image.memory ≤ A.memory → (array_by_image done A C input (Ok image)).status ≡ Done
+    accepted_image A C image input fits = ap (λ b. (cond b (too_large input image) (done A C image)).status) (le-ltb A.memory (length image.memory) fits) ∙ ends A C image
+
+    accepted_arch : (A : Arch) (arch file input : File) (a : IsRunnable arch file input) → A ≡ a.array → (array_by done arch file input (Ok A)).status ≡ Done
+    accepted_arch A arch file input a e =
+        ap (λ B. (array_by done arch file input (Ok B)).status) e
+        ∙ ap (λ r. (array_by_bits done a.array file.name input r).status) a.config_is
+        ∙ ap (λ r. (array_by_image done a.array a.config input.name r).status) a.image_is
+        ∙ accepted_image a.array a.config a.image input.name a.fits
+
+    accepted_by : (arch file input : File) (r : Result Arch TilesFault) (o : Outcome) → IsRunnable arch file input → tiles.IsAnswer arch.bytes r → r ≢ Err fault.Memory → o ≡ array_by done arch file input r → o.status ≡ Done
+    accepted_by arch file input (Ok A) o a x m e = ap (λ y. y.status) e ∙ accepted_arch A arch file input a (same_array arch.bytes A a.array x a.given)
+    accepted_by arch file input (Err f) o a x m e = absurd (not_both arch.bytes a.array f a.given (x (λ s. m (ap Err s))))
+
+    pub accepted_array : (arch file input : File) (o : Outcome) → IsRunnable arch file input → IsArrayCommand done arch file input o → o.status ≡ Done
+    accepted_array arch file input o a p = accepted_by arch file input p.given o a p.is_given p.no_memory p.outcome
+
+  -- ---- one status
+
+  -- of two architectures that a file gives there is one
+  same_by : (arch file input : File) (a b : Outcome) (r q : Result Arch TilesFault) → tiles.IsAnswer arch.bytes r → tiles.IsAnswer arch.bytes q → r ≢ Err fault.Memory → q ≢ Err fault.Memory
+      → a ≡ array_by done arch file input r → b ≡ array_by done arch file input q → a.status ≡ b.status
+  same_by arch file input a b (Ok A) (Ok B) x y m l d e = ap (λ o. o.status) (d ∙ ap (λ C. array_by done arch file input (Ok C)) (same_array arch.bytes A B x y) ∙ sym e)
+  same_by arch file input a b (Ok A) (Err f) x y m l d e = absurd (not_both arch.bytes A f x (y (λ s. l (ap Err s))))
+  same_by arch file input a b (Err f) (Ok A) x y m l d e = absurd (not_both arch.bytes A f y (x (λ s. m (ap Err s))))
+  same_by arch file input a b (Err f) (Err g) x y m l d e = ap (λ o. o.status) d ∙ sym (ap (λ o. o.status) e)
+
+  pub same_array_command : (arch file input : File) (a b : Outcome) → IsArrayCommand done arch file input a → IsArrayCommand done arch file input b → a.status ≡ b.status
+  same_array_command arch file input a b p q = same_by arch file input a b p.given q.given p.is_given q.is_given p.no_memory q.no_memory p.outcome q.outcome
+
+  pub some_array_command : (arch file input : File) → (o : Outcome) × IsArrayCommand done arch file input o
+  some_array_command arch file input =
+      let a = some_answer arch.bytes in
+      (array_by done arch file input a.0, record { given = a.0; is_given = a.2; no_memory = a.1; outcome = refl })
+
+  -- ---- what was read where it is done
+
+  pub record Ran (arch file input : File) (o : Outcome) : Type 0 where
+    pub array : Arch
+    pub given : AreValidBytes arch.bytes array
+    pub config : Config
+    pub config_is : bits.answer_of array file.bytes ≡ Ok config
+    pub image : Image
+    pub image_is : images.answer_of input.bytes ≡ Ok image
+    pub fits : length image.memory ≤ array.memory
+    pub outcome : o ≡ done array config image
+
+  module _ (f g h : File) (o : Outcome) (is_done : o.status ≡ Done) where
+    refused_not : {T : Type 0} (name : Name) (text : List ℕ) → o ≡ malformed_of name text → T
+    refused_not name text is = absurd (let z : Malformed ≡ Done = differ o Done (ap (λ x. x.status) is) is_done in cc)
+
+    ran_by_size : (A : Arch) (C : Config) (image : Image) (b : Bool) → nat_lt A.memory (length image.memory) ≡ b → AreValidBytes f.bytes A → bits.answer_of A g.bytes ≡ Ok C → images.answer_of h.bytes ≡ Ok image
+        → o ≡ cond b (too_large h.name image) (done A C image) → Ran f g h o
+    ran_by_size A C image true few given config_is image_is is = refused_not h.name (sim_fault_text (ImageTooLarge (length image.memory))) is
+    ran_by_size A C image false few given config_is image_is is = record {
+      array = A;
+      given = given;
+      config = C;
+      config_is = config_is;
+      image = image;
+      image_is = image_is;
+      fits = ltb-false A.memory (length image.memory) few;
+      outcome = is;
+    }
+
+    ran_on_image : (A : Arch) (C : Config) (r : Result Image ImageFault) → images.answer_of h.bytes ≡ r → AreValidBytes f.bytes A → bits.answer_of A g.bytes ≡ Ok C → o ≡ array_by_image done A C h.name r → Ran f g h o
+    ran_on_image A C (Ok image) image_is given config_is is = ran_by_size A C image (nat_lt A.memory (length image.memory)) refl given config_is image_is is
+    ran_on_image A C (Err e) image_is given config_is is = refused_not h.name (image_fault_text e) is
+
+    ran_on_bits : (A : Arch) (r : Result Config BitsFault) → bits.answer_of A g.bytes ≡ r → AreValidBytes f.bytes A → o ≡ array_by_bits done A g.name h r → Ran f g h o
+    ran_on_bits A (Ok C) config_is given is = ran_on_image A C (images.answer_of h.bytes) refl given config_is is
+    ran_on_bits A (Err e) config_is given is = refused_not g.name (bits_fault_text e) is
+
+    ran_on : (r : Result Arch TilesFault) → tiles.IsAnswer f.bytes r → o ≡ array_by done f g h r → Ran f g h o
+    ran_on (Ok A) given is = ran_on_bits A (bits.answer_of A g.bytes) refl given is
+    ran_on (Err e) given is = refused_not f.name (tiles_fault_text e) is
+
+    pub ran_done : IsArrayCommand done f g h o → Ran f g h o
+    ran_done p = ran_on p.given p.is_given p.outcome
+
+-- ---- `run`
 
 pub sound_run : (n : ℕ) (arch file input : File) (out : Name) (o : Outcome) → IsRun n arch file input out o → IsSound plain o
-sound_run n arch file input out o p = rw p.outcome (sound_by n arch file input out p.given)
-
--- ---- what is accepted
-
-accepted_ran : (n : ℕ) (A : Arch) (C : Config) (image : Image) (input out : Name) → length image.memory ≤ A.memory → (run_by_image n A C input out (Ok image)).status ≡ Done
-accepted_ran n A C image input out fits = ap (λ b. (cond b (too_large input image) (ran n A C image out)).status) (le-ltb A.memory (length image.memory) fits)
-
-accepted_array : (n : ℕ) (A : Arch) (arch file input : File) (out : Name) (a : IsRunnable arch file input) → A ≡ a.array → (run_by n arch file input out (Ok A)).status ≡ Done
-accepted_array n A arch file input out a e =
-    ap (λ B. (run_by n arch file input out (Ok B)).status) e
-    ∙ ap (λ r. (run_by_bits n a.array file.name input out r).status) a.config_is
-    ∙ ap (λ r. (run_by_image n a.array a.config input.name out r).status) a.image_is
-    ∙ accepted_ran n a.array a.config a.image input.name out a.fits
-
-accepted_by : (n : ℕ) (arch file input : File) (out : Name) (r : Result Arch TilesFault) (o : Outcome) → IsRunnable arch file input → tiles.IsAnswer arch.bytes r → r ≢ Err fault.Memory → o ≡ run_by n arch file input out r → o.status ≡ Done
-accepted_by n arch file input out (Ok A) o a x m e = ap (λ y. y.status) e ∙ accepted_array n A arch file input out a (same_array arch.bytes A a.array x a.given)
-accepted_by n arch file input out (Err f) o a x m e = absurd (not_both arch.bytes a.array f a.given (x (λ s. m (ap Err s))))
+sound_run n arch file input out o p = sound_array (ran n out) (λ A C image. record { own = refl; quiet = λ h. cc }) arch file input o p
 
 pub accepted_run : (n : ℕ) (arch file input : File) (out : Name) (o : Outcome) → IsRunnable arch file input → IsRun n arch file input out o → o.status ≡ Done
-accepted_run n arch file input out o a p = accepted_by n arch file input out p.given o a p.is_given p.no_memory p.outcome
-
--- ---- what is written
-
-named_ran : (A : Arch) (n : ℕ) (C : Config) (input out : Name) (image : Image) (b : Bool) → IsNamed (out ∷ []) (cond b (too_large input image) (ran n A C image out))
-named_ran A n C input out image true = inr refl
-named_ran A n C input out image false = inl refl
-
-named_image : (n : ℕ) (A : Arch) (C : Config) (input out : Name) (r : Result Image ImageFault) → IsNamed (out ∷ []) (run_by_image n A C input out r)
-named_image n A C input out (Ok image) = named_ran A n C input out image (nat_lt A.memory (length image.memory))
-named_image n A C input out (Err f) = inr refl
-
-named_bits : (n : ℕ) (A : Arch) (file : Name) (input : File) (out : Name) (r : Result Config BitsFault) → IsNamed (out ∷ []) (run_by_bits n A file input out r)
-named_bits n A file input out (Ok C) = named_image n A C input.name out (images.answer_of input.bytes)
-named_bits n A file input out (Err f) = inr refl
-
-named_by : (n : ℕ) (arch file input : File) (out : Name) (r : Result Arch TilesFault) → IsNamed (out ∷ []) (run_by n arch file input out r)
-named_by n arch file input out (Ok A) = named_bits n A file.name input out (bits.answer_of A file.bytes)
-named_by n arch file input out (Err f) = inr refl
+accepted_run n arch file input out o a p = accepted_array (ran n out) (λ A C image. refl) arch file input o a p
 
 pub named_run : (n : ℕ) (arch file input : File) (out : Name) (o : Outcome) → IsRun n arch file input out o → IsNamed (out ∷ []) o
-named_run n arch file input out o p = subst (IsNamed (out ∷ [])) (sym p.outcome) (named_by n arch file input out p.given)
-
--- ---- one status
-
--- of two architectures that a file gives there is one
-same_by : (n : ℕ) (arch file input : File) (out : Name) (a b : Outcome) (r q : Result Arch TilesFault) → tiles.IsAnswer arch.bytes r → tiles.IsAnswer arch.bytes q → r ≢ Err fault.Memory → q ≢ Err fault.Memory
-    → a ≡ run_by n arch file input out r → b ≡ run_by n arch file input out q → a.status ≡ b.status
-same_by n arch file input out a b (Ok A) (Ok B) x y m l d e = ap (λ o. o.status) (d ∙ ap (λ C. run_by n arch file input out (Ok C)) (same_array arch.bytes A B x y) ∙ sym e)
-same_by n arch file input out a b (Ok A) (Err f) x y m l d e = absurd (not_both arch.bytes A f x (y (λ s. l (ap Err s))))
-same_by n arch file input out a b (Err f) (Ok A) x y m l d e = absurd (not_both arch.bytes A f y (x (λ s. m (ap Err s))))
-same_by n arch file input out a b (Err f) (Err g) x y m l d e = ap (λ o. o.status) d ∙ sym (ap (λ o. o.status) e)
+named_run n arch file input out o p = named_array (ran n out) (out ∷ []) (λ A C image. inl refl) arch file input o p
 
 pub same_run : (n : ℕ) (arch file input : File) (out : Name) (a b : Outcome) → IsRun n arch file input out a → IsRun n arch file input out b → a.status ≡ b.status
-same_run n arch file input out a b p q = same_by n arch file input out a b p.given q.given p.is_given q.is_given p.no_memory q.no_memory p.outcome q.outcome
+same_run n arch file input out a b p q = same_array_command (ran n out) arch file input a b p q
 
 pub some_run : (n : ℕ) (arch file input : File) (out : Name) → (o : Outcome) × IsRun n arch file input out o
-some_run n arch file input out =
-    let a = some_answer arch.bytes in
-    (run_by n arch file input out a.0, record { given = a.0; is_given = a.2; no_memory = a.1; outcome = refl })
+some_run n arch file input out = some_array_command (ran n out) arch file input
 
 -- ---- what is left
 
@@ -132,48 +190,30 @@ leaves_turns A n image C bytes valid read K M good legal spelled ordered =
     let unaliased = ⊎_elim (λ u. u) (λ never. unaliased_without K n image never) ordered in
     sym (ap (λ D. machine_left A D n image) same) ∙ (leaves_the_same A K M n image valid good legal unaliased).all
 
-module _ (n : ℕ) (arch file input out : Name) (f g h : File) (o : Outcome) (before after : Moment)
-    (arch_held : Holds before.held arch f.bytes) (held : Holds before.held file g.bytes) (fits : IsBytes g.bytes) (image_held : Holds before.held input h.bytes)
-    (done : o.status ≡ Done) (c : Completed o before after Done)
-  where
-    run_by_size : (A : Arch) (C : Config) (image : Image) (b : Bool) → nat_lt A.memory (length image.memory) ≡ b → AreValidBytes f.bytes A → bits.answer_of A g.bytes ≡ Ok C → images.answer_of h.bytes ≡ Ok image
-        → o ≡ cond b (too_large h.name image) (ran n A C image out) → IsArrayRun n arch file input out before after
-    run_by_size A C image true few given config_is image_is is = absurd (let z : Malformed ≡ Done = differ o Done (ap (λ x. x.status) is) done in cc)
-    run_by_size A C image false few given config_is image_is is = record {
-      arch_bytes = f.bytes;
-      arch_held = arch_held;
-      array = A;
-      given = given;
-      bytes = g.bytes;
-      held = held;
-      config = C;
-      config_is = config_is;
-      spelled = spelled_answer A C g.bytes (valid_array f.bytes A given) config_is fits;
-      image_bytes = h.bytes;
-      image_held = image_held;
-      image = image;
-      image_is = image_is;
-      fits = ltb-false A.memory (length image.memory) few;
-      written = one_write before.held after.held out (images.image_bytes (machine_left A C n image).image) (subst (λ fs. Wrote before.held fs after.held) (ap (λ x. x.writes) is) c.held);
-      put = subst (λ report. Appends before.taken report after.taken) (ap (λ x. x.report) is) (whole o.status o.report before after done c.put);
-      turns = leaves_turns A n image C g.bytes (valid_array f.bytes A given) config_is;
-    }
-
-    run_on_image : (A : Arch) (C : Config) (r : Result Image ImageFault) → images.answer_of h.bytes ≡ r → AreValidBytes f.bytes A → bits.answer_of A g.bytes ≡ Ok C → o ≡ run_by_image n A C h.name out r → IsArrayRun n arch file input out before after
-    run_on_image A C (Ok image) image_is given config_is is = run_by_size A C image (nat_lt A.memory (length image.memory)) refl given config_is image_is is
-    run_on_image A C (Err e) image_is given config_is is = absurd (let z : Malformed ≡ Done = differ o Done (ap (λ x. x.status) is) done in cc)
-
-    run_on_bits : (A : Arch) (r : Result Config BitsFault) → bits.answer_of A g.bytes ≡ r → AreValidBytes f.bytes A → o ≡ run_by_bits n A g.name h out r → IsArrayRun n arch file input out before after
-    run_on_bits A (Ok C) config_is given is = run_on_image A C (images.answer_of h.bytes) refl given config_is is
-    run_on_bits A (Err e) config_is given is = absurd (let z : Malformed ≡ Done = differ o Done (ap (λ x. x.status) is) done in cc)
-
-run_done : (n : ℕ) (arch file input out : Name) (f g h : File) (r : Result Arch TilesFault) (o : Outcome) (before after : Moment)
-    → Holds before.held arch f.bytes → Holds before.held file g.bytes → IsBytes g.bytes → Holds before.held input h.bytes → tiles.IsAnswer f.bytes r → o ≡ run_by n f g h out r → o.status ≡ Done
-    → Completed o before after Done → IsArrayRun n arch file input out before after
-run_done n arch file input out f g h (Ok A) o before after a b fits d given is done c = run_on_bits n arch file input out f g h o before after a b fits d done c A (bits.answer_of A g.bytes) refl given is
-run_done n arch file input out f g h (Err e) o before after a b fits d given is done c = absurd (let z : Malformed ≡ Done = differ o Done (ap (λ x. x.status) is) done in cc)
-
 pub run_left : (n : ℕ) (arch file input out : Name) (f g h : File) (o : Outcome) (before after : Moment)
     → Holds before.held arch f.bytes → Holds before.held file g.bytes → IsBytes g.bytes → Holds before.held input h.bytes → IsRun n f g h out o → o.status ≡ Done
     → Completed o before after Done → IsArrayRun n arch file input out before after
-run_left n arch file input out f g h o before after a b fits d p done c = run_done n arch file input out f g h p.given o before after a b fits d p.is_given p.outcome done c
+run_left n arch file input out f g h o before after arch_held held fits image_held p done c =
+    let r = ran_done (ran n out) f g h o done p in
+    let A = r.array in
+    let C = r.config in
+    let image = r.image in
+    record {
+      arch_bytes = f.bytes;
+      arch_held = arch_held;
+      array = A;
+      given = r.given;
+      bytes = g.bytes;
+      held = held;
+      config = C;
+      config_is = r.config_is;
+      spelled = spelled_answer A C g.bytes (valid_array f.bytes A r.given) r.config_is fits;
+      image_bytes = h.bytes;
+      image_held = image_held;
+      image = image;
+      image_is = r.image_is;
+      fits = r.fits;
+      written = one_write before.held after.held out (images.image_bytes (machine_left A C n image).image) (subst (λ fs. Wrote before.held fs after.held) (ap (λ x. x.writes) r.outcome) c.held);
+      put = subst (λ report. Appends before.taken report after.taken) (ap (λ x. x.report) r.outcome) (whole o.status o.report before after done c.put);
+      turns = leaves_turns A n image C g.bytes (valid_array f.bytes A r.given) r.config_is;
+    }

@@ -1,4 +1,4 @@
--- `run ARCH BITS TURNS IN OUT`.
+-- `run ARCH BITS TURNS IN OUT`, and what each command answers that runs an array.
 use Rattle.std.specs.Prelude.{◌≡◌, ◌≢◌, ◌≤◌, ◌⊎◌, ℕ, nat_lt, if◌then◌else◌, [], ◌∷◌, length, Result, Ok, Err, codes, decimal}
 use Rattle.cg_model.specs.Work.{Image, Left}
 use Rattle.cg_model.specs.Array.{Arch}
@@ -42,36 +42,43 @@ left_outcome cycles left out = record {
   writes = record { name = out; bytes = images.image_bytes left.image } ∷ [];
 }
 
--- the array ran the configuration from the image
-abbrev pub ran : ℕ → Arch → Config → Image → Name → Outcome
-ran n A C image out = left_outcome (cycles C n) (machine_left A C n image) out
-
 -- the image has more words than the architecture's memory
 abbrev pub too_large : Name → Image → Outcome
 too_large input image = malformed_of input (sim_fault_text (ImageTooLarge (length image.memory)))
 
+-- ---- a command that runs an array: what comes of the run is `done`
+
 -- by what is read after the architecture and the configuration: an image, or a fault
-abbrev pub run_by_image : ℕ → Arch → Config → Name → Name → Result Image ImageFault → Outcome
-run_by_image n A C input out (Ok image) =
-    if nat_lt A.memory (length image.memory) then too_large input image else ran n A C image out
-run_by_image n A C input out (Err f) = malformed_of input (image_fault_text f)
+abbrev pub array_by_image : (Arch → Config → Image → Outcome) → Arch → Config → Name → Result Image ImageFault → Outcome
+array_by_image done A C input (Ok image) =
+    if nat_lt A.memory (length image.memory) then too_large input image else done A C image
+array_by_image done A C input (Err f) = malformed_of input (image_fault_text f)
 
 -- by what is read after the architecture: a configuration, or a fault
-abbrev pub run_by_bits : ℕ → Arch → Name → File → Name → Result Config BitsFault → Outcome
-run_by_bits n A file input out (Ok C) = run_by_image n A C input.name out (images.answer_of input.bytes)
-run_by_bits n A file input out (Err f) = malformed_of file (bits_fault_text f)
+abbrev pub array_by_bits : (Arch → Config → Image → Outcome) → Arch → Name → File → Result Config BitsFault → Outcome
+array_by_bits done A file input (Ok C) = array_by_image done A C input.name (images.answer_of input.bytes)
+array_by_bits done A file input (Err f) = malformed_of file (bits_fault_text f)
 
 -- by what is read first
-abbrev pub run_by : ℕ → File → File → File → Name → Result Arch TilesFault → Outcome
-run_by n arch file input out (Ok A) = run_by_bits n A file.name input out (bits.answer_of A file.bytes)
-run_by n arch file input out (Err f) = malformed_of arch.name (tiles_fault_text f)
+abbrev pub array_by : (Arch → Config → Image → Outcome) → File → File → File → Result Arch TilesFault → Outcome
+array_by done arch file input (Ok A) = array_by_bits done A file.name input (bits.answer_of A file.bytes)
+array_by done arch file input (Err f) = malformed_of arch.name (tiles_fault_text f)
 
 -- by what the first file gives: an architecture, or a fault, of which only the loop may be chosen
-pub record IsRun (n : ℕ) (arch file input : File) (out : Name) (o : Outcome) : Type 0 where
+pub record IsArrayCommand (done : Arch → Config → Image → Outcome) (arch file input : File) (o : Outcome) : Type 0 where
   pub given : Result Arch TilesFault
   pub is_given : tiles.IsAnswer arch.bytes given
   pub no_memory : given ≢ Err fault.Memory
-  pub outcome : o ≡ run_by n arch file input out given
+  pub outcome : o ≡ array_by done arch file input given
+
+-- ---- `run`
+
+-- the array ran the configuration from the image
+abbrev pub ran : ℕ → Name → Arch → Config → Image → Outcome
+ran n out A C image = left_outcome (cycles C n) (machine_left A C n image) out
+
+abbrev pub IsRun : ℕ → File → File → File → Name → Outcome → Type 0
+IsRun n arch file input out o = IsArrayCommand (ran n out) arch file input o
 
 -- the files give an architecture, a canonical configuration of it and an image that fits its memory
 pub record IsRunnable (arch file input : File) : Type 0 where

@@ -7,7 +7,7 @@ ghost use Rattle.cg_ending.specs.Outcome.{file_of};
 ghost use Rattle.cg_ending.specs.Refusals.{malformed_of};
 ghost use Rattle.cg_pad.specs.Bytes as images;
 ghost use Rattle.cg_cycle.specs.Texts.{sim_fault_text};
-ghost use Rattle.cg_run_answers.specs.Run.{IsRun, left_outcome, ran, run_by_image, run_report};
+ghost use Rattle.cg_run_answers.specs.Run.{IsRun, array_by_image, left_outcome, ran, run_report};
 
 use cg_arch::Arch;
 use cg_ending::{File, Outcome, Status, Stop, refusal};
@@ -46,7 +46,7 @@ fn run_on(
 ) -> Result<Outcome, Stop>
     requires turns { turns ≤ most_turns }
     requires canonical { IsCanonical array.now config.now }
-    ensures { Allows (λ o. o ≡ run_by_image turns array.now config.now (file_of input.now).name out.now
+    ensures { Allows (λ o. o ≡ array_by_image (ran turns out.now) array.now config.now (file_of input.now).name
         (images.answer_of (file_of input.now).bytes)) result }
 {
     let image = image_in(alloc, input)?;
@@ -77,7 +77,7 @@ pub fn too_large(alloc: Global, fault: SimFault, input: &File) -> Stop
 /// written under `out`.
 fn ran(alloc: Global, sim: Sim<'_, ConfigView<'_>>, out: &str) -> Result<Outcome, Stop>
     requires { sim.done ≡ 0 }
-    ensures { Allows (λ o. o ≡ ran sim.entry.n sim.entry.arch sim.entry.config sim.entry.image out.now) result }
+    ensures { Allows (λ o. o ≡ ran sim.entry.n out.now sim.entry.arch sim.entry.config sim.entry.image) result }
 {
     let mut sim = sim;
     let cycles = sim.left();

@@ -15,6 +15,6 @@ returns c =
     let made : Left = record { image = c.into_image-image.result; outside = c.outside-outside.result } in
     let same : made ≡ machine_left r.arch r.config r.n r.image =
     ap (λ i. record { image = i; outside = c.outside-outside.result }) image_is ∙ ap (λ z. record { image = (machine_left r.arch r.config r.n r.image).image; outside = z }) outside_is in
-    allows_weaker (λ o. o ≡ left_outcome c.left-cycles.result made c.args.out.now) (λ o. o ≡ ran r.n r.arch r.config r.image c.args.out.now) c.left_outcome.result
+    allows_weaker (λ o. o ≡ left_outcome c.left-cycles.result made c.args.out.now) (λ o. o ≡ ran r.n c.args.out.now r.arch r.config r.image) c.left_outcome.result
     (λ o e. e ∙ ap (λ k. left_outcome k made c.args.out.now) cycles_is ∙ ap (λ l. left_outcome (all_cycles r) l c.args.out.now) same)
     c.left_outcome.ensures

@@ -2,8 +2,8 @@ use Rattle.std.proofs.Common.{◌≡◌}
 use Rattle.cg_ending.specs.Outcome.{file_of}
 use Rattle.cg_ending.proofs.Allowed.{allows_weaker, stopped}
 use Rattle.cg_pad.specs.Bytes as images
-use Rattle.cg_run_answers.specs.Run.{IsRun, run_by_image}
-use Rattle.cg_run_answers.proofs.Allowed.{run_arch_refused, run_bits_refused, run_given}
+use Rattle.cg_run_answers.specs.Run.{IsRun, array_by_image, ran}
+use Rattle.cg_run_answers.proofs.Allowed.{array_arch_refused, array_bits_refused, array_given}
 use Rattle.cg_run_answers.proofs.simulating.run.Goals as goal
 
 pub returns-in_err-array : goal.returns-in_err-array
@@ -12,7 +12,7 @@ returns-in_err-array c =
     let file = file_of c.args.file.now in
     let input = file_of c.args.input.now in
     stopped (IsRun c.args.turns arch file input c.args.out.now) c.in_err-array.field-0.0 _ c.from_residual.ensures.1
-    (run_arch_refused c.args.turns arch file input c.args.out.now _ c.in_err-array.ensures.refused)
+    (array_arch_refused (ran c.args.turns c.args.out.now) arch file input _ c.in_err-array.ensures.refused)
 
 pub returns-in_err-config : goal.returns-in_err-config
 returns-in_err-config c =
@@ -20,13 +20,13 @@ returns-in_err-config c =
     let file = file_of c.args.file.now in
     let input = file_of c.args.input.now in
     stopped (IsRun c.args.turns arch file input c.args.out.now) c.in_err-config.field-0.0 _ c.from_residual-in_err-config.ensures.1
-    (run_bits_refused c.args.turns arch file input c.args.out.now c.in_ok-array.array _ c.in_ok-array.ensures.given c.in_err-config.ensures.refused)
+    (array_bits_refused (ran c.args.turns c.args.out.now) arch file input c.in_ok-array.array _ c.in_ok-array.ensures.given c.in_err-config.ensures.refused)
 
 pub returns : goal.returns
 returns c =
     let arch = file_of c.args.arch.now in
     let file = file_of c.args.file.now in
     let input = file_of c.args.input.now in
-    allows_weaker (λ o. o ≡ run_by_image c.args.turns c.in_ok-array.array c.in_ok-config.config input.name c.args.out.now (images.answer_of input.bytes)) (IsRun c.args.turns arch file input c.args.out.now) c.run_on.result
-    (λ o e. run_given c.args.turns arch file input c.args.out.now c.in_ok-array.array c.in_ok-config.config o c.in_ok-array.ensures.given c.in_ok-config.ensures.given e)
+    allows_weaker (λ o. o ≡ array_by_image (ran c.args.turns c.args.out.now) c.in_ok-array.array c.in_ok-config.config input.name (images.answer_of input.bytes)) (IsRun c.args.turns arch file input c.args.out.now) c.run_on.result
+    (λ o e. array_given (ran c.args.turns c.args.out.now) arch file input c.in_ok-array.array c.in_ok-config.config o c.in_ok-array.ensures.given c.in_ok-config.ensures.given e)
     c.run_on.ensures
