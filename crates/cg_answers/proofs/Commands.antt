@@ -4,13 +4,14 @@ use Rattle.cg_ending.specs.declared.outcome.Status.{Status}
 use Rattle.cg_ending.specs.declared.outcome.Status.TheVariants.{Done, Impossible}
 use Rattle.cg_ending.specs.Outcome.{Name, File, Outcome}
 use Rattle.cg_command.specs.declared.plans.Command.{Command}
-use Rattle.cg_command.specs.declared.plans.Command.TheVariants.{Turns, TurnsOnImage, Flat, Run, Bound, Check, Emit, Map, Search, Show, Trial, Verilog, Loop, Depend, Migrate}
+use Rattle.cg_command.specs.declared.plans.Command.TheVariants.{Turns, TurnsOnImage, Flat, Run, Bound, Check, Emit, Map, Search, Show, Trial, Verilog, Loop, Depend, Migrate, Bench}
 use Rattle.cg_inputs.proofs.Sound.{owns, IsSound, IsNamed}
 use Rattle.cg_run_answers.proofs.TurnsAnswers.{sound_turns, quiet_turns, accepted_turns}
 use Rattle.cg_run_answers.proofs.OnImage.{same_on_image, sound_on_image, accepted_on_image, named_on_image}
 use Rattle.cg_run_answers.proofs.FlatAnswers.{same_flat, sound_flat, accepted_flat, named_flat}
 use Rattle.cg_run_answers.proofs.RunAnswers.{same_run, sound_run, accepted_run, named_run}
 use Rattle.cg_gates_answers.proofs.NetlistAnswers.{same_netlist_run, sound_netlist_run, accepted_netlist_run, named_netlist_run}
+use Rattle.cg_bench_answers.proofs.Benched.{same_bench, sound_bench, accepted_bench, named_bench}
 use Rattle.cg_mapping_answers.proofs.Bounded.{same_bound, sound_bound, accepted_bound, quiet_bound}
 use Rattle.cg_mapping_answers.proofs.Checked.{same_check, sound_check, accepted_check, quiet_check}
 use Rattle.cg_mapping_answers.proofs.Bitstream.{same_emit, sound_emit, accepted_emit, named_emit}
@@ -42,6 +43,7 @@ agree_in Verilog (f ∷ []) (out ∷ []) a b p q = same_verilog f out a b p q
 agree_in Loop (f ∷ []) (out ∷ []) a b p q = same_loop f out a b p q
 agree_in Depend (f ∷ []) (out ∷ []) a b p q = same_depend f out a b p q
 agree_in Migrate (f ∷ g ∷ []) (out ∷ []) a b p q = same_migrate f g out a b p q
+agree_in (Bench n) (f ∷ g ∷ h ∷ []) (out ∷ []) a b p q = same_bench n f g h out a b p q
 agree_in _ _ _ a b p q = absurd p
 
 -- the commands that may say no, and those that search
@@ -78,6 +80,7 @@ sound Verilog (f ∷ []) (out ∷ []) o p = sound_verilog f out o p
 sound Loop (f ∷ []) (out ∷ []) o p = sound_loop f out o p
 sound Depend (f ∷ []) (out ∷ []) o p = sound_depend f out o p
 sound Migrate (f ∷ g ∷ []) (out ∷ []) o p = sound_migrate f g out o p
+sound (Bench n) (f ∷ g ∷ h ∷ []) (out ∷ []) o p = sound_bench n f g h out o p
 sound _ _ _ o p = absurd p
 
 -- what a command accepts it does
@@ -98,6 +101,7 @@ accepted Verilog (f ∷ []) (out ∷ []) o a p = accepted_verilog f out a.0 o a.
 accepted Loop (f ∷ []) (out ∷ []) o a p = accepted_loop f out o a p
 accepted Depend (f ∷ []) (out ∷ []) o a p = accepted_depend f out o a p
 accepted Migrate (f ∷ g ∷ []) (out ∷ []) o a p = accepted_migrate f g out o a p
+accepted (Bench n) (f ∷ g ∷ h ∷ []) (out ∷ []) o a p = accepted_bench n f g h out o a p
 accepted _ _ _ o a p = absurd p
 
 -- where an interval is forbidden, a command says that it is impossible, and writes nothing
@@ -166,6 +170,11 @@ quiet Migrate [] o p = absurd p
 quiet Migrate (f ∷ []) o p = absurd p
 quiet Migrate (f ∷ g ∷ []) o p = absurd p
 quiet Migrate (f ∷ g ∷ h ∷ fs) o p = absurd p
+quiet (Bench n) [] o p = absurd p
+quiet (Bench n) (f ∷ []) o p = absurd p
+quiet (Bench n) (f ∷ g ∷ []) o p = absurd p
+quiet (Bench n) (f ∷ g ∷ h ∷ []) o p = absurd p
+quiet (Bench n) (f ∷ g ∷ h ∷ k ∷ fs) o p = absurd p
 
 -- a command writes its output files, or nothing
 pub named : (c : Command) (files : List File) (outputs : List Name) (o : Outcome) → IsAnswer c files outputs o → IsNamed outputs o
@@ -185,4 +194,5 @@ named Verilog (f ∷ []) (out ∷ []) o p = named_verilog f out o p
 named Loop (f ∷ []) (out ∷ []) o p = named_loop f out o p
 named Depend (f ∷ []) (out ∷ []) o p = named_depend f out o p
 named Migrate (f ∷ g ∷ []) (out ∷ []) o p = named_migrate f g out o p
+named (Bench n) (f ∷ g ∷ h ∷ []) (out ∷ []) o p = named_bench n f g h out o p
 named _ _ _ o p = absurd p

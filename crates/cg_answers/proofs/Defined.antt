@@ -2,12 +2,13 @@
 use Rattle.std.proofs.Common.{◌≡◌, ◌⊎◌, inl, inr, ℕ, List, [], ◌∷◌, length, refl, arith}
 use Rattle.cg_ending.specs.Outcome.{Name, File, Outcome}
 use Rattle.cg_command.specs.declared.plans.Command.{Command}
-use Rattle.cg_command.specs.declared.plans.Command.TheVariants.{Turns, TurnsOnImage, Flat, Run, Bound, Check, Emit, Map, Search, Show, Trial, Verilog, Loop, Depend, Migrate}
+use Rattle.cg_command.specs.declared.plans.Command.TheVariants.{Turns, TurnsOnImage, Flat, Run, Bound, Check, Emit, Map, Search, Show, Trial, Verilog, Loop, Depend, Migrate, Bench}
 use Rattle.cg_command.specs.Words.{HasShape}
 use Rattle.cg_run_answers.specs.Turns.{turns_of}
 use Rattle.cg_run_answers.proofs.OnImage.{some_on_image}
 use Rattle.cg_run_answers.proofs.FlatAnswers.{some_flat}
 use Rattle.cg_run_answers.proofs.RunAnswers.{some_run}
+use Rattle.cg_bench_answers.proofs.Benched.{some_bench}
 use Rattle.cg_gates_answers.proofs.NetlistAnswers.{some_netlist_run}
 use Rattle.cg_mapping_answers.proofs.Bounded.{some_bounding}
 use Rattle.cg_mapping_answers.proofs.Checked.{some_check}
@@ -109,3 +110,10 @@ some_outcome Migrate (f ∷ []) outputs shape = absurd (omega (arith, shape.0))
 some_outcome Migrate (f ∷ g ∷ h ∷ fs) outputs shape = absurd (omega (arith, shape.0))
 some_outcome Migrate (f ∷ g ∷ []) [] shape = absurd (omega (arith, shape.1))
 some_outcome Migrate (f ∷ g ∷ []) (out ∷ other ∷ outs) shape = absurd (omega (arith, shape.1))
+some_outcome (Bench n) (f ∷ g ∷ h ∷ []) (out ∷ []) shape = some_bench n f g h out
+some_outcome (Bench n) [] outputs shape = absurd (omega (arith, shape.0))
+some_outcome (Bench n) (f ∷ []) outputs shape = absurd (omega (arith, shape.0))
+some_outcome (Bench n) (f ∷ g ∷ []) outputs shape = absurd (omega (arith, shape.0))
+some_outcome (Bench n) (f ∷ g ∷ h ∷ k ∷ fs) outputs shape = absurd (omega (arith, shape.0))
+some_outcome (Bench n) (f ∷ g ∷ h ∷ []) [] shape = absurd (omega (arith, shape.1))
+some_outcome (Bench n) (f ∷ g ∷ h ∷ []) (out ∷ other ∷ outs) shape = absurd (omega (arith, shape.1))

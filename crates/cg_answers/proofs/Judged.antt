@@ -7,7 +7,7 @@ use Rattle.cg_check.specs.Legal.{Mapped}
 use Rattle.cg_check.specs.declared.rule.Violation.{Violation}
 use Rattle.cg_check.specs.Rules.{violation}
 use Rattle.cg_command.specs.declared.plans.Command.{Command}
-use Rattle.cg_command.specs.declared.plans.Command.TheVariants.{Turns, TurnsOnImage, Flat, Run, Bound, Check, Emit, Map, Search, Show, Trial, Verilog, Loop, Depend, Migrate}
+use Rattle.cg_command.specs.declared.plans.Command.TheVariants.{Turns, TurnsOnImage, Flat, Run, Bound, Check, Emit, Map, Search, Show, Trial, Verilog, Loop, Depend, Migrate, Bench}
 use Rattle.cg_mapping_answers.specs.Emit.{IsEmittedBy, IsEmission}
 use Rattle.cg_mapping_answers.proofs.Checked.{quiet_check}
 use Rattle.cg_show_answers.proofs.Shown.{unwritten_show}
@@ -57,3 +57,4 @@ judged Verilog files outputs o j p said = absurd (not_judging j)
 judged Loop files outputs o j p said = absurd (not_judging j)
 judged Depend files outputs o j p said = absurd (not_judging j)
 judged Migrate files outputs o j p said = absurd (not_judging j)
+judged (Bench n) files outputs o j p said = absurd (not_judging j)

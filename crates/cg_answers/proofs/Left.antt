@@ -7,12 +7,13 @@ use Rattle.cg_ending.specs.Outcome.{Name, File, Outcome}
 use Rattle.cg_ending.specs.Reads.{AreRead, HoldsBytes}
 use Rattle.cg_ending.specs.Ends.{Moment, Completed}
 use Rattle.cg_command.specs.declared.plans.Command.{Command}
-use Rattle.cg_command.specs.declared.plans.Command.TheVariants.{Turns, TurnsOnImage, Flat, Run, Bound, Check, Emit, Map, Search, Show, Trial, Verilog, Loop, Depend, Migrate}
+use Rattle.cg_command.specs.declared.plans.Command.TheVariants.{Turns, TurnsOnImage, Flat, Run, Bound, Check, Emit, Map, Search, Show, Trial, Verilog, Loop, Depend, Migrate, Bench}
 use Rattle.cg_inputs.proofs.Wholes.{one_read, first_read, second_read, three_read}
 use Rattle.cg_run_answers.proofs.TurnsAnswers.{turned_left}
 use Rattle.cg_run_answers.proofs.OnImage.{ordered_left, unordered_left}
 use Rattle.cg_run_answers.proofs.FlatAnswers.{flattened_left}
 use Rattle.cg_run_answers.proofs.RunAnswers.{run_left}
+use Rattle.cg_bench_answers.proofs.Benched.{bench_left}
 use Rattle.cg_gates_answers.proofs.NetlistAnswers.{four_read, netlist_run_left}
 use Rattle.cg_mapping_answers.proofs.Bounded.{bound_left}
 use Rattle.cg_mapping_answers.proofs.Checked.{legal_left, illegal_left}
@@ -85,6 +86,9 @@ left_done Depend (f ∷ []) (out ∷ []) o before after read bytes answer is don
 left_done Migrate (f ∷ g ∷ []) (out ∷ []) o before after read bytes answer is done =
     migrated_left f.name g.name out f g o before after (first_read before.held f.name g.name f g read) (second_read before.held f.name g.name f g read)
     (All-head HoldsBytes g [] (All-tail HoldsBytes f (g ∷ []) bytes)) is done answer
+left_done (Bench n) (f ∷ g ∷ h ∷ []) (out ∷ []) o before after read bytes answer is done =
+    let r = three_read before.held f.name g.name h.name f g h read in
+    bench_left n f.name g.name h.name out f g h o before after r.0 r.1 (All-head HoldsBytes g (h ∷ []) (All-tail HoldsBytes f (g ∷ h ∷ []) bytes)) r.2 answer is done
 left_done _ _ _ o before after read bytes answer is done = absurd answer
 
 left_no : (command : Command) (files : List File) (outputs : List Name) (o : Outcome) (before after : Moment)
@@ -111,6 +115,7 @@ left_no Verilog files outputs o before after read answer is done = absurd (never
 left_no Loop files outputs o before after read answer is done = absurd (never (owns_of Loop) No o (sound Loop files outputs o answer) refl is)
 left_no Depend files outputs o before after read answer is done = absurd (never (owns_of Depend) No o (sound Depend files outputs o answer) refl is)
 left_no Migrate files outputs o before after read answer is done = absurd (never (owns_of Migrate) No o (sound Migrate files outputs o answer) refl is)
+left_no (Bench n) files outputs o before after read answer is done = absurd (never (owns_of (Bench n)) No o (sound (Bench n) files outputs o answer) refl is)
 left_no _ _ _ o before after read answer is done = absurd answer
 
 left_impossible : (command : Command) (files : List File) (outputs : List Name) (o : Outcome) (before after : Moment)
@@ -132,6 +137,7 @@ left_impossible Verilog files outputs o before after read answer is done = absur
 left_impossible Loop files outputs o before after read answer is done = absurd (never (owns_of Loop) Impossible o (sound Loop files outputs o answer) refl is)
 left_impossible Depend files outputs o before after read answer is done = absurd (never (owns_of Depend) Impossible o (sound Depend files outputs o answer) refl is)
 left_impossible Migrate files outputs o before after read answer is done = absurd (never (owns_of Migrate) Impossible o (sound Migrate files outputs o answer) refl is)
+left_impossible (Bench n) files outputs o before after read answer is done = absurd (never (owns_of (Bench n)) Impossible o (sound (Bench n) files outputs o answer) refl is)
 left_impossible _ _ _ o before after read answer is done = absurd answer
 
 left_spent : (command : Command) (files : List File) (outputs : List Name) (o : Outcome) (before after : Moment)
@@ -153,6 +159,7 @@ left_spent Verilog files outputs o before after read answer is done = absurd (ne
 left_spent Loop files outputs o before after read answer is done = absurd (never (owns_of Loop) BudgetSpent o (sound Loop files outputs o answer) refl is)
 left_spent Depend files outputs o before after read answer is done = absurd (never (owns_of Depend) BudgetSpent o (sound Depend files outputs o answer) refl is)
 left_spent Migrate files outputs o before after read answer is done = absurd (never (owns_of Migrate) BudgetSpent o (sound Migrate files outputs o answer) refl is)
+left_spent (Bench n) files outputs o before after read answer is done = absurd (never (owns_of (Bench n)) BudgetSpent o (sound (Bench n) files outputs o answer) refl is)
 left_spent _ _ _ o before after read answer is done = absurd answer
 
 -- of files that were read, by their own names

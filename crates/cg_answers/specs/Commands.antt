@@ -7,7 +7,7 @@ use Rattle.cg_ending.specs.Outcome.{Name, File, Outcome}
 use Rattle.cg_ending.specs.Ends.{Moment}
 use Rattle.cg_kernel.specs.Answer.{answer_of}
 use Rattle.cg_command.specs.declared.plans.Command.{Command}
-use Rattle.cg_command.specs.declared.plans.Command.TheVariants.{Turns, TurnsOnImage, Flat, Run, Bound, Check, Emit, Map, Search, Show, Trial, Verilog, Loop, Depend, Migrate}
+use Rattle.cg_command.specs.declared.plans.Command.TheVariants.{Turns, TurnsOnImage, Flat, Run, Bound, Check, Emit, Map, Search, Show, Trial, Verilog, Loop, Depend, Migrate, Bench}
 use Rattle.cg_pad.specs.Bytes as images
 use Rattle.cg_model.specs.Work.{Image}
 use Rattle.cg_model.specs.Array.{Arch}
@@ -18,6 +18,7 @@ use Rattle.cg_run_answers.specs.TurnsOnImage.{IsTurnsOnImage, IsOrderedRun, IsUn
 use Rattle.cg_run_answers.specs.Flat.{IsFlat, IsFlattened}
 use Rattle.cg_run_answers.specs.Run.{IsRun, IsRunnable, IsArrayRun}
 use Rattle.cg_gates_answers.specs.Netlist.{IsNetlistRun, IsNetlistRunnable, IsGatesRun}
+use Rattle.cg_bench_answers.specs.Bench.{IsBench, IsBenchRun}
 use Rattle.cg_mapping_answers.specs.Bound.{IsBoundOf, IsPairInput, IsBoundRun}
 use Rattle.cg_mapping_answers.specs.Check.{IsCheck, IsLegalInput, IsLegalCheck, IsIllegalCheck}
 use Rattle.cg_mapping_answers.specs.Emit.{IsEmit, RunsRead, IsEmittedRun}
@@ -50,6 +51,7 @@ IsAnswer Verilog (file ∷ []) (out ∷ []) o = IsVerilog file out o
 IsAnswer Loop (file ∷ []) (out ∷ []) o = IsLoopOf file out o
 IsAnswer Depend (file ∷ []) (out ∷ []) o = IsDependOf file out o
 IsAnswer Migrate (arch ∷ file ∷ []) (out ∷ []) o = IsMigrate arch file out o
+IsAnswer (Bench n) (arch ∷ file ∷ input ∷ []) (out ∷ []) o = IsBench n arch file input out o
 IsAnswer _ _ _ o = ⊥
 
 -- how the statuses of two outcomes that the command allows for the same files agree: they are equal; but whether `search` finds
@@ -92,6 +94,7 @@ Accepts Verilog (file ∷ []) = GivesArch file
 Accepts Loop (file ∷ []) = IsTranslatable file
 Accepts Depend (file ∷ []) = IsDependable file
 Accepts Migrate (arch ∷ file ∷ []) = IsMigratable arch file
+Accepts (Bench n) (arch ∷ file ∷ input ∷ []) = IsRunnable arch file input
 Accepts _ _ = ⊥
 
 -- the input files for which the command says that an interval is impossible
@@ -127,6 +130,7 @@ LeavesDone Verilog (file ∷ []) (out ∷ []) before after = IsNetlisted file ou
 LeavesDone Loop (file ∷ []) (out ∷ []) before after = IsLooped file out before after
 LeavesDone Depend (file ∷ []) (out ∷ []) before after = IsDepended file out before after
 LeavesDone Migrate (arch ∷ file ∷ []) (out ∷ []) before after = IsMigrated arch file out before after
+LeavesDone (Bench n) (arch ∷ file ∷ input ∷ []) (out ∷ []) before after = IsBenchRun n arch file input out before after
 LeavesDone _ _ _ before after = ⊥
 
 -- the commands that judge a mapping before they write: where they end with No, they write nothing

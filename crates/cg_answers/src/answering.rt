@@ -43,5 +43,6 @@ fn answer_to(
         Command::Loop => shaped::loop_kernel(alloc, files, outputs),
         Command::Depend => shaped::depend(alloc, files, outputs),
         Command::Migrate => shaped::migrate(alloc, files, outputs),
+        Command::Bench { turns } => shaped::bench(alloc, turns, files, outputs),
     }
 }

@@ -182,3 +182,23 @@ pub(crate) fn migrate(alloc: Global, files: &[File], outputs: &[String]) -> Resu
 {
     migrating::migrate(alloc, &files[0], &files[1], outputs[0].as_str())
 }
+
+/// Answers `bench ARCH BITS TURNS IN OUT` over `files`; `outputs` is the name of the bench.
+pub(crate) fn bench(
+    alloc: Global,
+    turns: u32,
+    files: &[File],
+    outputs: &[String],
+) -> Result<Outcome, Stop>
+    requires { HasShape (Command.Bench turns) (length files.now) (length outputs.now) }
+    ensures { Allows (IsAnswer (Command.Bench turns) (map file_of files.now) (map string_bytes outputs.now)) result }
+{
+    cg_bench_answers::bench(
+        alloc,
+        turns,
+        &files[0],
+        &files[1],
+        &files[2],
+        outputs[0].as_str(),
+    )
+}

@@ -6,10 +6,10 @@ use Rattle.std.specs.Str.Parse.{digits_value}
 use Rattle.std.proofs.lemmas.Bool.{leb-true}
 use Rattle.cg_model.specs.Limits.{most_turns, most_contexts, most_moves}
 use Rattle.cg_command.specs.declared.plans.Command.{Command}
-use Rattle.cg_command.specs.declared.plans.Command.TheVariants.{Turns, TurnsOnImage, Flat, Run, Bound, Check, Emit, Map, Search, Show, Trial, Verilog, Loop, Depend, Migrate}
+use Rattle.cg_command.specs.declared.plans.Command.TheVariants.{Turns, TurnsOnImage, Flat, Run, Bound, Check, Emit, Map, Search, Show, Trial, Verilog, Loop, Depend, Migrate, Bench}
 use Rattle.cg_model.specs.declared.request.Request.{Request}
 use Rattle.cg_model.specs.Request.{IsInRange}
-use Rattle.cg_command.specs.Words.{Text, Given, Arguments, Plan, HasShape, values_said, said_once, asked_interval, named_file, request_of, written_plan, searching_plan, map_plan, search_plan, usual_moves, usual_responses, positive, seed_of, moves_of, is_number, number_up_to, turns_of, turns_plan, file_plan, array_plan, run_plan, takes, with_options, search_options, run_options, bound_plan, check_plan, emit_plan, show_plan, trial_plan, migrate_plan, is_empty, without_options, command_plan, arguments_of, plan_of}
+use Rattle.cg_command.specs.Words.{Text, Given, Arguments, Plan, HasShape, values_said, said_once, asked_interval, named_file, request_of, written_plan, searching_plan, map_plan, search_plan, usual_moves, usual_responses, positive, seed_of, moves_of, is_number, number_up_to, turns_of, turns_plan, file_plan, array_plan, run_plan, takes, with_options, search_options, run_options, bound_plan, check_plan, emit_plan, show_plan, trial_plan, migrate_plan, bench_plan, is_empty, without_options, command_plan, arguments_of, plan_of}
 
 -- the plan has the shape of its command
 abbrev pub IsShaped : Plan → Type 0
@@ -97,6 +97,16 @@ migrate_shaped (a ∷ []) = none_shaped
 migrate_shaped (a ∷ b ∷ []) = none_shaped
 migrate_shaped (arch ∷ bits ∷ out ∷ []) = one_shaped (record { command = Migrate; inputs = arch ∷ bits ∷ []; outputs = out ∷ [] }) (refl, refl)
 migrate_shaped (a ∷ b ∷ c ∷ d ∷ more) = none_shaped
+
+bench_shaped : (words : List Text) → AreShaped (bench_plan words)
+bench_shaped [] = none_shaped
+bench_shaped (a ∷ []) = none_shaped
+bench_shaped (a ∷ b ∷ []) = none_shaped
+bench_shaped (a ∷ b ∷ c ∷ []) = none_shaped
+bench_shaped (a ∷ b ∷ c ∷ d ∷ []) = none_shaped
+bench_shaped (arch ∷ bits ∷ turns ∷ input ∷ out ∷ []) =
+    numbered_shaped (turns_of turns) (λ n. record { command = Bench n; inputs = arch ∷ bits ∷ input ∷ []; outputs = out ∷ [] }) (λ n e. (refl, refl, number_few most_turns turns n e))
+bench_shaped (a ∷ b ∷ c ∷ d ∷ e ∷ f ∷ more) = none_shaped
 
 without_shaped : (plan : List Text → Option Plan) (said : Arguments) → AreShaped (plan said.words) → AreShaped (without_options plan said)
 without_shaped plan said is = either_shaped (is_empty said.options) (plan said.words) None is none_shaped
@@ -218,7 +228,8 @@ command_shaped name said =
     (either_shaped (bytes_eq name (codes "verilog")) (without_options (file_plan Verilog) said) _ (without_shaped (file_plan Verilog) said (file_shaped Verilog (refl, refl) said.words))
     (either_shaped (bytes_eq name (codes "loop")) (without_options (file_plan Loop) said) _ (without_shaped (file_plan Loop) said (file_shaped Loop (refl, refl) said.words))
     (either_shaped (bytes_eq name (codes "depend")) (without_options (file_plan Depend) said) _ (without_shaped (file_plan Depend) said (file_shaped Depend (refl, refl) said.words))
-    (either_shaped (bytes_eq name (codes "migrate")) (without_options migrate_plan said) None (without_shaped migrate_plan said (migrate_shaped said.words)) none_shaped)))))))))))))
+    (either_shaped (bytes_eq name (codes "migrate")) (without_options migrate_plan said) _ (without_shaped migrate_plan said (migrate_shaped said.words))
+    (either_shaped (bytes_eq name (codes "bench")) (without_options bench_plan said) None (without_shaped bench_plan said (bench_shaped said.words)) none_shaped))))))))))))))
 
 said_shaped : (name : Text) (o : Option Arguments) → AreShaped (option_and_then (command_plan name) o)
 said_shaped name None = none_shaped

@@ -6,7 +6,7 @@ use Rattle.cg_model.specs.Limits.{most_turns}
 use Rattle.cg_model.specs.Request.{IsInRange}
 pub use Rattle.cg_command.specs.Numbers.{Text, is_number, number_up_to, positive, turns_of, interval_of, seed_of, moves_of, usual_seed, usual_moves, usual_responses}
 use Rattle.cg_command.specs.declared.plans.Command.{Command}
-use Rattle.cg_command.specs.declared.plans.Command.TheVariants.{Turns, TurnsOnImage, Flat, Run, Bound, Check, Emit, Map, Search, Show, Trial, Verilog, Loop, Depend, Migrate}
+use Rattle.cg_command.specs.declared.plans.Command.TheVariants.{Turns, TurnsOnImage, Flat, Run, Bound, Check, Emit, Map, Search, Show, Trial, Verilog, Loop, Depend, Migrate, Bench}
 use Rattle.cg_model.specs.declared.request.Request.{Request}
 use Rattle.cg_command.specs.declared.plans.Plan.{Plan as PlanValue}
 use Rattle.cg_command.specs.declared.arguments.Arguments.{Arguments as ArgumentsValue}
@@ -187,6 +187,12 @@ abbrev pub migrate_plan : List Text → Option Plan
 migrate_plan (arch ∷ bits ∷ out ∷ []) = Some (record { command = Migrate; inputs = arch ∷ bits ∷ []; outputs = out ∷ [] })
 migrate_plan _ = None
 
+-- bench ARCH BITS TURNS IN OUT
+abbrev pub bench_plan : List Text → Option Plan
+bench_plan (arch ∷ bits ∷ turns ∷ input ∷ out ∷ []) =
+    option_map (λ n. record { command = Bench n; inputs = arch ∷ bits ∷ input ∷ []; outputs = out ∷ [] }) (turns_of turns)
+bench_plan _ = None
+
 -- the values of an option among those given, in order
 abbrev pub values_said : Text → List Given → List Text
 values_said name [] = []
@@ -283,7 +289,8 @@ command_plan name said =
     else (if bytes_eq name (codes "loop") then without_options (file_plan Loop) said
     else (if bytes_eq name (codes "depend") then without_options (file_plan Depend) said
     else (if bytes_eq name (codes "migrate") then without_options migrate_plan said
-    else None)))))))))))))
+    else (if bytes_eq name (codes "bench") then without_options bench_plan said
+    else None))))))))))))))
 
 -- what the words ask, None where they fit no command
 unfoldable pub plan_of : List Text → Option Plan
@@ -307,3 +314,4 @@ HasShape Verilog inputs outputs = (inputs ≡ 1) × (outputs ≡ 1)
 HasShape Loop inputs outputs = (inputs ≡ 1) × (outputs ≡ 1)
 HasShape Depend inputs outputs = (inputs ≡ 1) × (outputs ≡ 1)
 HasShape Migrate inputs outputs = (inputs ≡ 2) × (outputs ≡ 1)
+HasShape (Bench turns) inputs outputs = (inputs ≡ 3) × (outputs ≡ 1) × (turns ≤ most_turns)

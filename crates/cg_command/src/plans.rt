@@ -45,6 +45,8 @@ pub enum Command {
     Depend,
     /// `migrate ARCH BITS OUT`: bits of the first format in that of today.
     Migrate,
+    /// `bench ARCH BITS TURNS IN OUT`: a test bench of the array under a configuration, for a simulator of Verilog.
+    Bench { turns: u32 },
 }
 
 /// A command with the names of its files: the inputs in the order of reading, the outputs in
@@ -138,6 +140,7 @@ fn command_plan(alloc: Global, name: &str, said: &Arguments) -> Result<Option<Pl
             said.words.as_slice(),
         ),
         "migrate" if has_no_options(said) => migrate_plan(alloc, said.words.as_slice()),
+        "bench" if has_no_options(said) => bench_plan(alloc, said.words.as_slice()),
         _ => Ok(None),
     }
 }
@@ -347,6 +350,28 @@ fn migrate_plan(alloc: Global, words: &[&str]) -> Result<Option<Plan>, AllocErro
 {
     match words {
         [arch, bits, out] => plan_with(alloc, Command::Migrate, &[*arch, *bits], &[*out]),
+        _ => Ok(None),
+    }
+}
+
+fn bench_plan(alloc: Global, words: &[&str]) -> Result<Option<Plan>, AllocError>
+    ensures plan { IfOk result
+        (λ p. option_map spec.planned p ≡ spec.bench_plan (map (λ word. word.now) words.now)) }
+    ensures shape { IfOk result (λ p. IfSome p
+        (λ plan. HasShape plan.command (vec_len plan.inputs) (vec_len plan.outputs))) }
+{
+    match words {
+        [arch, bits, turns, input, out] => {
+            let Some(turns) = turns_of(turns) else {
+                return Ok(None);
+            };
+            plan_with(
+                alloc,
+                Command::Bench { turns },
+                &[*arch, *bits, *input],
+                &[*out],
+            )
+        }
         _ => Ok(None),
     }
 }

@@ -2,7 +2,8 @@
 
 /// The commands and their words, a line for each.
 pub const COMMANDS: &str =
-    "bound ARCH KERNEL               finds the least interval that nothing forbids
+    "bench ARCH BITS TURNS IN OUT    writes a test bench of an array under a configuration, for a simulator of Verilog
+bound ARCH KERNEL               finds the least interval that nothing forbids
 check ARCH KERNEL MAPPING       says whether a mapping is legal
 depend KERNEL OUT               writes a kernel with the order edges that its accesses need
 emit ARCH KERNEL MAPPING OUT    writes the bits of a legal mapping

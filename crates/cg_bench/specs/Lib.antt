@@ -1,0 +1,5 @@
+pub mod Sizes
+pub mod Lines
+pub mod Setup
+pub mod Array
+pub mod Bench

@@ -1,0 +1,11 @@
+//! Test benches of arrays in Verilog: behavioural cells, the configuration and the image, and what is to be left.
+#![tactic(auto)]
+
+mod array;
+mod bench;
+mod frame;
+mod lines;
+mod setup;
+mod sizes;
+
+pub use bench::{RunEnd, bench_of};

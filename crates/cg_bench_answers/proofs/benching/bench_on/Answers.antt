@@ -1,0 +1,49 @@
+use Rattle.std.proofs.Common.{◌≡◌, ◌<◌, ℕ, length, ap, ◌∙◌, arith}
+use Rattle.cg_ending.specs.Outcome.{file_of}
+use Rattle.cg_ending.specs.Refusals.{malformed_of}
+use Rattle.cg_ending.proofs.Allowed.{allows_weaker, ends_weaker, stopped}
+use Rattle.cg_pad.specs.Bytes as images
+use Rattle.cg_cycle.specs.Texts.{sim_fault_text}
+use Rattle.cg_cycle.specs.declared.fault.SimFault.{SimFault}
+use Rattle.cg_cycle.specs.declared.fault.SimFault.TheVariants.{ImageTooLarge}
+use Rattle.cg_run_answers.specs.Run.{array_by_image}
+use Rattle.cg_bench_answers.specs.Bench.{benched}
+use Rattle.cg_run_answers.proofs.Allowed.{array_image_refused, array_done, array_too_large}
+use Rattle.cg_bench_answers.proofs.benching.bench_on.Goals as goal
+
+pub returns-in_err-image : goal.returns-in_err-image
+returns-in_err-image c =
+    let input = file_of c.args.input.now in
+    let A = c.args.array.now in
+    let C = c.args.config.now in
+    stopped (λ o. o ≡ array_by_image (benched c.args.turns c.args.out.now) A C input.name (images.answer_of input.bytes)) c.in_err-image.field-0.0 _ c.from_residual.ensures.1
+    (array_image_refused (benched c.args.turns c.args.out.now) A C input _ c.in_err-image.ensures.refused)
+
+pub returns-in-Ok : goal.returns-in-Ok
+returns-in-Ok c =
+    let input = file_of c.args.input.now in
+    let A = c.args.array.now in
+    let C = c.args.config.now in
+    let image = c.in_ok-image.image in
+    let fits = c.in-Ok.ensures.fits in
+    allows_weaker (λ o. o ≡ benched c.args.turns c.args.out.now A C image) (λ o. o ≡ array_by_image (benched c.args.turns c.args.out.now) A C input.name (images.answer_of input.bytes)) c.benched.result
+    (λ o e. array_done (benched c.args.turns c.args.out.now) A C input image o c.in_ok-image.ensures.given fits e)
+    c.benched.ensures
+
+pub too_large-requires : goal.too_large-requires
+too_large-requires c = c.in-Err.ensures.few
+
+pub returns : goal.returns
+returns c =
+    let input = file_of c.args.input.now in
+    let A = c.args.array.now in
+    let C = c.args.config.now in
+    let image = c.in_ok-image.image in
+    ends_weaker (λ o. (w : ℕ) × (c.in-Err.fault ≡ ImageTooLarge w) × (o ≡ malformed_of input.name (sim_fault_text c.in-Err.fault)))
+    (λ o. o ≡ array_by_image (benched c.args.turns c.args.out.now) A C input.name (images.answer_of input.bytes)) c.too_large.result
+    (λ o h.
+    let large = c.in-Err.ensures.large h.0 h.1 in
+    let more : A.memory < length image.memory = (let a = large.0 in let b = large.1 in omega arith) in
+    array_too_large (benched c.args.turns c.args.out.now) A C input image o c.in_ok-image.ensures.given more
+    (h.2 ∙ ap (λ (f : SimFault). malformed_of input.name (sim_fault_text f)) (h.1 ∙ ap ImageTooLarge large.0)))
+    c.too_large.ensures
