@@ -1,7 +1,8 @@
 //! A store and a sink in memory, and the calls made over them.
 
+use cg_aside::Aside;
 use cg_files::{MemSink, MemStore};
-use cg_top::run_line;
+use cg_top::run_line_with;
 use std::alloc::{AllocError, Global};
 
 /// A file that is held in each case.
@@ -9,6 +10,21 @@ use std::alloc::{AllocError, Global};
 struct Shared {
     name: String,
     bytes: Vec<u8>,
+}
+
+/// Keeps the notes of a call.
+#[derive(Drop)]
+struct Recorder {
+    /// The notes, each with a line feed.
+    text: Vec<u8>,
+}
+
+impl Aside for Recorder {
+    fn note(&mut self, text: &str) {
+        // A note that finds no memory is missing, which a case shows.
+        let _ = self.text.extend_from_slice(text.as_bytes());
+        let _ = self.text.push(b'\n');
+    }
 }
 
 /// What the calls of a case work on.
@@ -19,6 +35,8 @@ pub(crate) struct Bench {
     shared: Vec<Shared>,
     /// How many bytes were put before the last call.
     put_before: usize,
+    /// The notes of the last call.
+    notes: Recorder,
 }
 
 impl Bench {
@@ -29,6 +47,9 @@ impl Bench {
             sink: MemSink::new(alloc),
             shared: Vec::new(alloc),
             put_before: 0,
+            notes: Recorder {
+                text: Vec::new(alloc),
+            },
         }
     }
 
@@ -120,7 +141,20 @@ impl Bench {
     /// Calls the program with `words`, and returns its exit status.
     pub(crate) fn run(&mut self, alloc: Global, words: &[String]) -> u8 {
         self.put_before = self.sink.taken().len();
-        run_line(alloc, words, &mut self.store, &mut self.sink).number()
+        self.notes.text.clear();
+        let status = run_line_with(
+            alloc,
+            words,
+            &mut self.store,
+            &mut self.sink,
+            &mut self.notes,
+        );
+        status.number()
+    }
+
+    /// Returns the notes of the last call, each with a line feed.
+    pub(crate) fn notes(&self) -> &[u8] {
+        self.notes.text.as_slice()
     }
 
     /// Returns what the last call put.

@@ -16,6 +16,8 @@ enum Purpose {
     Report,
     /// What is held under a name after it.
     Held(String),
+    /// The notes of the last call.
+    Notes,
 }
 
 /// How much of some bytes the content lines say.
@@ -136,6 +138,7 @@ impl Transcript {
             "status" => self.judge_status(alloc, rest),
             "held" => self.expect(alloc, Purpose::Held(String::from_str(alloc, rest)?)),
             "missing" => self.judge_missing(alloc, rest),
+            "notes" => self.expect(alloc, Purpose::Notes),
             "same" => self.judge_same(alloc, rest),
             _ => self.differ(alloc, "no such line", line),
         }
@@ -179,6 +182,7 @@ impl Transcript {
             },
             Purpose::Report => self.judge_report(alloc, bytes.as_slice(), reach),
             Purpose::Held(name) => self.judge_held(alloc, name.as_str(), bytes.as_slice(), reach),
+            Purpose::Notes => self.judge_notes(alloc, bytes.as_slice(), reach),
         }
     }
 
@@ -292,6 +296,19 @@ impl Transcript {
         }
         let got = shown(alloc, self.bench.report())?;
         self.differ(alloc, "put", got.as_str())
+    }
+
+    fn judge_notes(
+        &mut self,
+        alloc: Global,
+        wanted: &[u8],
+        reach: Reach,
+    ) -> Result<(), AllocError> {
+        if is_wanted(self.bench.notes(), wanted, reach) {
+            return Ok(());
+        }
+        let got = shown(alloc, self.bench.notes())?;
+        self.differ(alloc, "notes", got.as_str())
     }
 
     fn judge_held(

@@ -12,10 +12,13 @@ ghost use Rattle.cg_top.specs.TopCall.{IsPlannedBytes, Ends, IsCall, Asks, Makes
 mod laws;
 
 use cg_answers::answer;
+use cg_aside::{Aside, Silent};
 pub use cg_command::{Command, Plan, plan_words};
 pub use cg_ending::Status;
-use cg_ending::{Outcome, Stop, finish, read_all, usage};
+use cg_ending::{File, Outcome, Stop, finish, read_all, usage};
 use cg_files::{Sink, Store};
+use cg_help::note_words;
+use cg_notes::note_report;
 pub use cg_trial::{TrialParts, trial_parts};
 pub use cg_trial_run::trial;
 pub use laws::always_defined;
@@ -41,14 +44,37 @@ pub fn run_line<S: Store, O: Sink>(
     // Where the words fit no command, the store is not called.
     ensures no_call { plan_of (map string_bytes words.now) ≡ None → store.new ≡ store.old }
 {
-    carry_out(alloc, words, store, out)
+    run_line_with(alloc, words, store, out, &mut Silent)
 }
 
-fn carry_out<S: Store, O: Sink>(
+/// Does the same, and gives `aside` notes for a person: of what is wrong with words or files. They change nothing: store, sink and
+/// status are as without them.
+pub fn run_line_with<S: Store, O: Sink, A: Aside>(
     alloc: Global,
     words: &[String],
     store: &mut S,
     out: &mut O,
+    aside: &mut A,
+) -> Status
+    ensures call { IsCall (map string_bytes words.now)
+        (moment (S.held store.old) (S.read_faults store.old) (S.write_faults store.old) (O.taken out.old) (O.faults out.old))
+        (moment (S.held store.new) (S.read_faults store.new) (S.write_faults store.new) (O.taken out.new) (O.faults out.new))
+        result }
+    // It reads and writes the files that the words give alone, each once and in order.
+    ensures calls { MakesCalls (plan_of (map string_bytes words.now))
+        (S.asked store.old) (S.asked store.new) (S.wrote store.old) (S.wrote store.new) }
+    // Where the words fit no command, the store is not called.
+    ensures no_call { plan_of (map string_bytes words.now) ≡ None → store.new ≡ store.old }
+{
+    carry_out(alloc, words, store, out, aside)
+}
+
+fn carry_out<S: Store, O: Sink, A: Aside>(
+    alloc: Global,
+    words: &[String],
+    store: &mut S,
+    out: &mut O,
+    aside: &mut A,
 ) -> Status
     ensures ends { Ends (map string_bytes words.now)
         (moment (S.held store.old) (S.read_faults store.old) (S.write_faults store.old) (O.taken out.old) (O.faults out.old))
@@ -61,14 +87,19 @@ fn carry_out<S: Store, O: Sink>(
     ensures writes { S.write_faults store.old ≤ S.write_faults store.new }
     ensures faults { O.faults out.old ≤ O.faults out.new }
 {
-    match outcome(alloc, words, store) {
+    match outcome(alloc, words, store, aside) {
         Ok(outcome) => finish(alloc, &outcome, store, out),
         Err(_) => Status::Memory,
     }
 }
 
-/// Returns the outcome that `words` define, over what `store` gives.
-fn outcome<S: Store>(alloc: Global, words: &[String], store: &mut S) -> Result<Outcome, AllocError>
+/// Returns the outcome that `words` define, over what `store` gives, and notes what is wrong with them.
+fn outcome<S: Store, A: Aside>(
+    alloc: Global,
+    words: &[String],
+    store: &mut S,
+    aside: &mut A,
+) -> Result<Outcome, AllocError>
     ensures ok { IfOk result (λ o. IsPlannedBytes (S.held store.old)
         (Rose (S.read_faults store.old) (S.read_faults store.new)) (plan_of (map string_bytes words.now)) (outcome_of o)) }
     ensures asks { Asks (plan_of (map string_bytes words.now)) (S.asked store.old) (S.asked store.new) }
@@ -80,16 +111,23 @@ fn outcome<S: Store>(alloc: Global, words: &[String], store: &mut S) -> Result<O
     ensures writes { S.write_faults store.new ≡ S.write_faults store.old }
 {
     let Some(plan) = plan_words(alloc, words)? else {
+        // Where memory runs out for the notes, the outcome is the same.
+        let _ = note_words(alloc, words, aside);
         return usage(alloc);
     };
-    match answered(alloc, &plan, store) {
+    match answered(alloc, &plan, store, aside) {
         Ok(outcome) | Err(Stop::Ended(outcome)) => Ok(outcome),
         Err(Stop::Memory) => Err(AllocError),
     }
 }
 
-/// Returns the outcome of the planned command, over what `store` gives.
-fn answered<S: Store>(alloc: Global, plan: &Plan, store: &mut S) -> Result<Outcome, Stop>
+/// Returns the outcome of the planned command, over what `store` gives, and notes what is wrong with its files.
+fn answered<S: Store, A: Aside>(
+    alloc: Global,
+    plan: &Plan,
+    store: &mut S,
+    aside: &mut A,
+) -> Result<Outcome, Stop>
     requires { HasShape plan.now.command (length plan.now.inputs.items) (length plan.now.outputs.items) }
     ensures planned { Allows (IsPlannedBytes (S.held store.old) (Rose (S.read_faults store.old) (S.read_faults store.new))
         (Some (planned plan.now))) result }
@@ -100,5 +138,24 @@ fn answered<S: Store>(alloc: Global, plan: &Plan, store: &mut S) -> Result<Outco
     ensures writes { S.write_faults store.new ≡ S.write_faults store.old }
 {
     let files = read_all(alloc, plan.inputs.as_slice(), store)?;
-    answer(alloc, plan, files.as_slice())
+    let ended = answer(alloc, plan, files.as_slice());
+    noted(alloc, ended, files.as_slice(), aside)
+}
+
+/// Returns `ended`, how a command over `files` ended, and notes what a person needs to hear of it.
+fn noted<A: Aside>(
+    alloc: Global,
+    ended: Result<Outcome, Stop>,
+    files: &[File],
+    aside: &mut A,
+) -> Result<Outcome, Stop>
+    ensures { result ≡ ended }
+{
+    if let Ok(outcome) | Err(Stop::Ended(outcome)) = &ended {
+        if !matches!(outcome.status, Status::Done) {
+            // Where memory runs out for the notes, the outcome is the same.
+            let _ = note_report(alloc, outcome.report.as_slice(), files, aside);
+        }
+    }
+    ended
 }

@@ -5,11 +5,12 @@ ghost use Rattle.std.specs.Prelude.{◌≡◌};
 ghost use Rattle.std.specs.Process.{exit_status};
 ghost use Rattle.cg_ending.specs.Status.{number_of};
 
-mod commands;
+mod notes;
 mod notices;
 
 use cg_files::{DiskStore, StdSink};
-use cg_top::{Status, run_line};
+use cg_top::{Status, run_line_with};
+use notes::Notes;
 use notices::notice;
 use std::io::ErrorKind;
 use std::process::ExitCode;
@@ -44,7 +45,14 @@ fn main(rt: HostRuntime) -> ExitCode {
     };
     let mut store = DiskStore::new(&rt);
     let mut out = StdSink::new(&rt);
-    let status = run_line(rt.alloc(), words.as_slice(), &mut store, &mut out);
+    let mut notes = Notes::new(&rt);
+    let status = run_line_with(
+        rt.alloc(),
+        words.as_slice(),
+        &mut store,
+        &mut out,
+        &mut notes,
+    );
     let said = notice(status, store.write_faults(), out.faults());
     if !said.is_empty() {
         // The call ends alike where this can't be written.

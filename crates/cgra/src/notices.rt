@@ -2,11 +2,10 @@
 ghost use Rattle.std.specs.Prelude.{◌≡◌, ◌<◌, ◌⊎◌};
 ghost use Rattle.cgra.specs.Notices.{notice_of};
 
-use crate::commands::COMMANDS;
 use cg_top::Status;
 
 /// The notice where memory ran out.
-pub const NO_MEMORY: &str = "cgra: memory was wanting\n";
+pub const NO_MEMORY: &str = "cgra: out of memory\n";
 
 /// At a write fault of the store.
 pub const NO_FILE: &str = "cgra: an output file couldn't be written\n";
@@ -21,11 +20,11 @@ pub fn notice(status: Status, write_faults: u64, put_faults: u64) -> &'static st
     ensures { result.now ≡ notice_of status write_faults }
 {
     match status {
-        Status::Usage => COMMANDS,
         Status::Memory => NO_MEMORY,
         Status::WriteFault if write_faults == 0 => NO_REPORT,
         Status::WriteFault => NO_FILE,
         Status::Done
+        | Status::Usage
         | Status::Malformed
         | Status::Impossible
         | Status::ReadFault

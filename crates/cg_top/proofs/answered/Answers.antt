@@ -10,8 +10,8 @@ use Rattle.cg_top.specs.TopCall.{IsPlannedBytes}
 use Rattle.cg_top.proofs.Planned.{not_read}
 use Rattle.cg_top.proofs.answered.Goals as goal
 
-pub answer-requires : goal.answer-requires
-answer-requires g c =
+pub answer-ended-requires : goal.answer-ended-requires
+answer-ended-requires g c =
     let many : length c.in_ok-files.files.items ≡ length c.as_slice.result.now =
     sym (length-map c.in_ok-files.files.items file_of) ∙ as_many _ _ _ c.in_ok-files.ensures.ok ∙ length-map c.as_slice.result.now string_bytes in
     let same : length c.as_slice-2.result.now ≡ length c.args.plan.now.inputs.items = ap length c.as_slice-2.ensures.value ∙ many ∙ ap length c.as_slice.ensures.value in
@@ -33,6 +33,6 @@ returns-clause-planned g c =
     let files = map file_of c.in_ok-files.files.items in
     let names : c.as_slice.result.now ≡ c.args.plan.now.inputs.items = search rules in
     let given : c.as_slice-2.result.now ≡ c.in_ok-files.files.items = search rules in
-    allows_weaker (IsAnswer plan.command files plan.outputs) (IsPlannedBytes held rose (Some plan)) c.answer.result
+    rw c.noted.ensures (allows_weaker (IsAnswer plan.command files plan.outputs) (IsPlannedBytes held rose (Some plan)) c.answer-ended.result
     (λ o a. inl (record { answers = record { files = files; read = rw names at c.in_ok-files.ensures.ok; answer = a }; bytes = c.in_ok-files.ensures.bytes }))
-    (rw given at c.answer.ensures)
+    (rw given at c.answer-ended.ensures))

@@ -9,10 +9,10 @@ depend KERNEL OUT               writes a kernel with the order edges that its ac
 emit ARCH KERNEL MAPPING OUT    writes the bits of a legal mapping
 flat ARCH OUT                   writes the flat text of an architecture
 loop SOURCE OUT                 writes the kernel of a loop as one writes it
-map ARCH KERNEL OUT             searches a mapping, and writes its bits (--ii N, --seed N, --moves N, --mapping FILE)
+search ARCH KERNEL OUT          searches a mapping near the least interval, and writes its bits (--ii N, --seed N, --moves N, --mapping FILE)
+map ARCH KERNEL OUT             searches a mapping by a simple walk, and writes its bits (options as search)
 migrate ARCH BITS OUT           turns bits of the first format into those of today
 run ARCH BITS TURNS IN OUT      runs an array, or a netlist of it, under a configuration from an image to an image (--netlist FILE)
-search ARCH KERNEL OUT          searches a mapping near the least interval, and writes its bits (options as map)
 show ARCH KERNEL MAPPING [OUT]  puts a table of a legal mapping, and writes its picture
 trial SEED                      maps a drawn kernel over a hub, and runs the array and the kernel
 turns KERNEL TURNS              runs the turns of a kernel without memory

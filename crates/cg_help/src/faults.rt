@@ -1,0 +1,121 @@
+//! What is wrong with the words of a command.
+
+use crate::numbers::Range;
+use crate::usages::{SEEDS, TURNS};
+use std::fmt;
+
+/// What is wrong with the words after a command's name.
+#[derive(Clone, Copy)]
+pub(crate) enum Fault<'a> {
+    /// The command doesn't take the option `name`; it may be that `nearest` is meant.
+    NoOption {
+        name: &'a str,
+        nearest: Option<&'static str>,
+    },
+    /// The word `word` begins with one hyphen.
+    OneHyphen {
+        word: &'a str,
+    },
+    /// The option `name` was given before.
+    Twice {
+        name: &'static str,
+    },
+    /// The option `name` has no value.
+    NoValue {
+        name: &'static str,
+    },
+    /// The value `value` of the option `name` begins with a hyphen.
+    HyphenInValue {
+        name: &'static str,
+        value: &'a str,
+    },
+    /// The value `value` of the option `name` is none of the numbers of `range`.
+    ValueOutOfRange {
+        name: &'static str,
+        range: Range,
+        value: &'a str,
+    },
+    /// A plain word is empty.
+    EmptyWord,
+    /// The plain word `word`, which stands after `--`, begins with a hyphen.
+    HyphenInFile {
+        word: &'a str,
+    },
+    /// The number `count` of the plain words is that of none of the command's forms, which are `forms`.
+    NoForm {
+        forms: &'static [&'static str],
+        count: usize,
+    },
+    /// The word `word` at `TURNS` is no number.
+    NoTurns {
+        word: &'a str,
+    },
+    /// The word `word` at `TURNS` is a number above the most turns.
+    ManyTurns {
+        word: &'a str,
+    },
+    /// The word `word` at `SEED` is no seed.
+    NoSeed {
+        word: &'a str,
+    },
+}
+
+impl fmt::Display for Fault<'_> {
+    fn fmt<W: fmt::Write>(&self, f: &mut fmt::Formatter<W>) -> fmt::Result {
+        match *self {
+            Fault::NoOption {
+                name,
+                nearest: Some(nearest),
+            } => write!(f, "no option --{name}; did you mean --{nearest}?"),
+            Fault::NoOption {
+                name,
+                nearest: None,
+            } => write!(f, "no option --{name}"),
+            Fault::OneHyphen { word } => write!(f, "no option {word}"),
+            Fault::Twice { name } => write!(f, "--{name} stands twice"),
+            Fault::NoValue { name } => write!(f, "--{name} needs a value"),
+            Fault::HyphenInValue { name, value } => write!(
+                f,
+                "the value of --{name} can't begin with -, got {value}"
+            ),
+            Fault::ValueOutOfRange { name, range, value } => write!(
+                f,
+                "--{name} is {range}, got {value}"
+            ),
+            Fault::EmptyWord => write!(f, "a word is empty"),
+            Fault::HyphenInFile { word } => write!(
+                f,
+                "a file's name can't begin with -, got {word}"
+            ),
+            Fault::NoForm { forms, count } => {
+                write_forms(f, forms)?;
+                write_count(f, count)
+            }
+            Fault::NoTurns { word } => write!(f, "TURNS is a number, got {word}"),
+            Fault::ManyTurns { word } => {
+                let most = TURNS.most;
+                write!(f, "TURNS is at most {most}, got {word}")
+            }
+            Fault::NoSeed { word } => write!(f, "SEED is {SEEDS}, got {word}"),
+        }
+    }
+}
+
+/// Writes `forms` to `f`, with `or` between them.
+fn write_forms<W: fmt::Write>(f: &mut fmt::Formatter<W>, forms: &[&str]) -> fmt::Result {
+    for (index, form) in forms.iter().enumerate() {
+        if index > 0 {
+            write!(f, " or ")?;
+        }
+        write!(f, "{form}")?;
+    }
+    Ok(())
+}
+
+/// Writes to `f` that there are `count` words.
+fn write_count<W: fmt::Write>(f: &mut fmt::Formatter<W>, count: usize) -> fmt::Result {
+    match count {
+        1 => write!(f, ", got 1 word"),
+        _ => write!(f, ", got {count} words"),
+    }
+}

@@ -1,0 +1,194 @@
+//! Reads the words of a command up to the first that is wrong.
+
+use crate::faults::Fault;
+use crate::nearest::nearest_name;
+use crate::numbers::is_number;
+use crate::usages::{Choice, SEEDS, TURNS, Usage};
+use std::alloc::{AllocError, AllocFailed, Global};
+
+/// Why the reading of words ended early.
+#[derive(Clone, Copy)]
+pub(crate) enum Stop<'a> {
+    /// The words are wrong.
+    Wrong(Fault<'a>),
+    /// Memory ran out.
+    Memory,
+}
+
+impl From<AllocError> for Stop<'_> {
+    fn from(_error: AllocError) -> Self {
+        Stop::Memory
+    }
+}
+
+impl<T: Drop> From<AllocFailed<T>> for Stop<'_> {
+    fn from(_error: AllocFailed<T>) -> Self {
+        Stop::Memory
+    }
+}
+
+/// What the next word may be.
+#[derive(Clone, Copy)]
+enum Next {
+    /// An option or a plain word.
+    Any,
+    /// The value of this option.
+    Value(&'static Choice),
+    /// A plain word alone, since `--` stood before it.
+    Plain,
+}
+
+/// A reader of the words after a command's name.
+#[derive(Drop)]
+struct Reader<'a> {
+    usage: &'static Usage,
+    next: Next,
+    /// The names of the options that were given.
+    given: Vec<&'static str>,
+    /// The plain words, in order.
+    plain: Vec<&'a str>,
+}
+
+/// Reads `words`, those after the name of the command `usage`, up to the first thing that is wrong.
+pub(crate) fn read_words<'a>(
+    alloc: Global,
+    usage: &'static Usage,
+    words: &'a [String],
+) -> Result<(), Stop<'a>> {
+    let mut reader = Reader {
+        usage,
+        next: Next::Any,
+        given: Vec::new(alloc),
+        plain: Vec::new(alloc),
+    };
+    for word in words {
+        reader.read(alloc, word.as_str())?;
+    }
+    reader.finish()
+}
+
+impl<'a> Reader<'a> {
+    /// Reads `word`.
+    fn read(&mut self, alloc: Global, word: &'a str) -> Result<(), Stop<'a>> {
+        match self.next {
+            Next::Any => match word.strip_prefix("--") {
+                Some("") => {
+                    self.next = Next::Plain;
+                    Ok(())
+                }
+                Some(option) => self.read_option(alloc, option),
+                None => self.read_plain(word),
+            },
+            Next::Value(choice) => {
+                self.next = Next::Any;
+                read_value(choice, word)
+            }
+            Next::Plain => self.read_plain(word),
+        }
+    }
+
+    /// Reads `option`, an option without its two hyphens.
+    fn read_option(&mut self, alloc: Global, option: &'a str) -> Result<(), Stop<'a>> {
+        let (name, value) = match option.split_once('=') {
+            Some((name, value)) => (name, Some(value)),
+            None => (option, None),
+        };
+        let Some(choice) = self.usage.choice(name) else {
+            let nearest = nearest_option(alloc, self.usage, name)?;
+            return Err(Stop::Wrong(Fault::NoOption { name, nearest }));
+        };
+        if self.given.contains(&choice.name) {
+            return Err(Stop::Wrong(Fault::Twice { name: choice.name }));
+        }
+        self.given.push(choice.name)?;
+        match value {
+            Some(value) => read_value(choice, value),
+            None => {
+                self.next = Next::Value(choice);
+                Ok(())
+            }
+        }
+    }
+
+    /// Reads `word`, a plain word.
+    fn read_plain(&mut self, word: &'a str) -> Result<(), Stop<'a>> {
+        if word.is_empty() {
+            return Err(Stop::Wrong(Fault::EmptyWord));
+        }
+        if word.starts_with('-') {
+            return Err(Stop::Wrong(match self.next {
+                Next::Plain => Fault::HyphenInFile { word },
+                _ => Fault::OneHyphen { word },
+            }));
+        }
+        self.plain.push(word)?;
+        Ok(())
+    }
+
+    /// Ends the words.
+    fn finish(self) -> Result<(), Stop<'a>> {
+        if let Next::Value(choice) = self.next {
+            return Err(Stop::Wrong(Fault::NoValue { name: choice.name }));
+        }
+        match fault_in(self.usage, self.plain.as_slice()) {
+            Some(fault) => Err(Stop::Wrong(fault)),
+            None => Ok(()),
+        }
+    }
+}
+
+/// Returns the option of the command `usage` that may be meant by `name`.
+fn nearest_option(
+    alloc: Global,
+    usage: &Usage,
+    name: &str,
+) -> Result<Option<&'static str>, AllocError> {
+    let names: Vec<&'static str> = usage
+        .options
+        .iter()
+        .map(|choice| choice.name)
+        .collect(alloc)?;
+    nearest_name(alloc, name, names.as_slice())
+}
+
+/// Reads `value`, the value of the option `choice`.
+fn read_value<'a>(choice: &'static Choice, value: &'a str) -> Result<(), Stop<'a>> {
+    let name = choice.name;
+    if value.is_empty() {
+        return Err(Stop::Wrong(Fault::NoValue { name }));
+    }
+    if value.starts_with('-') {
+        return Err(Stop::Wrong(Fault::HyphenInValue { name, value }));
+    }
+    match choice.range {
+        Some(range) if !range.has(value) => Err(Stop::Wrong(Fault::ValueOutOfRange {
+            name,
+            range,
+            value,
+        })),
+        _ => Ok(()),
+    }
+}
+
+/// Returns what is wrong with `words`, the plain words of the command `usage`, if something is.
+fn fault_in<'a>(usage: &Usage, words: &[&'a str]) -> Option<Fault<'a>> {
+    let forms = usage.forms;
+    let count = words.len();
+    match forms.iter().find(|form| form.split(' ').count() == count) {
+        Some(form) => form
+            .split(' ')
+            .zip(words)
+            .find_map(|(place, word)| fault_at(place, word)),
+        None => Some(Fault::NoForm { forms, count }),
+    }
+}
+
+/// Returns what is wrong with `word` at the place `place` of a form, if something is.
+fn fault_at<'a>(place: &str, word: &'a str) -> Option<Fault<'a>> {
+    match place {
+        "TURNS" if !is_number(word) => Some(Fault::NoTurns { word }),
+        "TURNS" if !TURNS.has(word) => Some(Fault::ManyTurns { word }),
+        "SEED" if !SEEDS.has(word) => Some(Fault::NoSeed { word }),
+        _ => None,
+    }
+}

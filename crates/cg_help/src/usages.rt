@@ -1,0 +1,157 @@
+//! The words that each command takes.
+
+use crate::numbers::Range;
+use cg_model::{MOST_CONTEXTS, MOST_MOVES, MOST_TURNS};
+
+/// A command with the words that it takes.
+pub(crate) struct Usage {
+    /// Its name.
+    pub(crate) name: &'static str,
+    /// The plain words of each of its forms, parted by single blanks.
+    pub(crate) forms: &'static [&'static str],
+    /// Its options.
+    pub(crate) options: &'static [Choice],
+}
+
+/// An option of a command.
+pub(crate) struct Choice {
+    /// Its name, without the two hyphens.
+    pub(crate) name: &'static str,
+    /// The numbers that its value is one of; None where the value is the name of a file.
+    pub(crate) range: Option<Range>,
+}
+
+/// The seeds of searches and trials.
+pub(crate) const SEEDS: Range = Range {
+    least: 0,
+    most: u64::MAX,
+};
+
+/// The numbers of turns.
+pub(crate) const TURNS: Range = Range {
+    least: 0,
+    most: MOST_TURNS as u64,
+};
+
+/// The options of a search.
+const SEARCHING: [Choice; 4] = [
+    Choice {
+        name: "ii",
+        range: Some(Range {
+            least: 1,
+            most: MOST_CONTEXTS as u64,
+        }),
+    },
+    Choice {
+        name: "seed",
+        range: Some(SEEDS),
+    },
+    Choice {
+        name: "moves",
+        range: Some(Range {
+            least: 0,
+            most: MOST_MOVES as u64,
+        }),
+    },
+    Choice {
+        name: "mapping",
+        range: None,
+    },
+];
+
+/// The options of a run.
+const RUNNING: [Choice; 1] = [Choice {
+    name: "netlist",
+    range: None,
+}];
+
+/// The commands in the order of their names.
+pub(crate) static USAGES: [Usage; 15] = [
+    Usage {
+        name: "bench",
+        forms: &["ARCH BITS TURNS IN OUT"],
+        options: &[],
+    },
+    Usage {
+        name: "bound",
+        forms: &["ARCH KERNEL"],
+        options: &[],
+    },
+    Usage {
+        name: "check",
+        forms: &["ARCH KERNEL MAPPING"],
+        options: &[],
+    },
+    Usage {
+        name: "depend",
+        forms: &["KERNEL OUT"],
+        options: &[],
+    },
+    Usage {
+        name: "emit",
+        forms: &["ARCH KERNEL MAPPING OUT"],
+        options: &[],
+    },
+    Usage {
+        name: "flat",
+        forms: &["ARCH OUT"],
+        options: &[],
+    },
+    Usage {
+        name: "loop",
+        forms: &["SOURCE OUT"],
+        options: &[],
+    },
+    Usage {
+        name: "map",
+        forms: &["ARCH KERNEL OUT"],
+        options: &SEARCHING,
+    },
+    Usage {
+        name: "migrate",
+        forms: &["ARCH BITS OUT"],
+        options: &[],
+    },
+    Usage {
+        name: "run",
+        forms: &["ARCH BITS TURNS IN OUT"],
+        options: &RUNNING,
+    },
+    Usage {
+        name: "search",
+        forms: &["ARCH KERNEL OUT"],
+        options: &SEARCHING,
+    },
+    Usage {
+        name: "show",
+        forms: &["ARCH KERNEL MAPPING", "ARCH KERNEL MAPPING OUT"],
+        options: &[],
+    },
+    Usage {
+        name: "trial",
+        forms: &["SEED"],
+        options: &[],
+    },
+    Usage {
+        name: "turns",
+        forms: &["KERNEL TURNS", "KERNEL TURNS IN OUT"],
+        options: &[],
+    },
+    Usage {
+        name: "verilog",
+        forms: &["ARCH OUT"],
+        options: &[],
+    },
+];
+
+/// Returns the command `name`, if there is one.
+pub(crate) fn usage_of(name: &str) -> Option<&'static Usage> {
+    USAGES.iter().find(|usage| usage.name == name)
+}
+
+impl Usage {
+    /// Returns the option `name` of this command, if it takes one.
+    pub(crate) fn choice(&self, name: &str) -> Option<&'static Choice> {
+        self.options.iter().find(|choice| choice.name == name)
+    }
+}

@@ -1,0 +1,118 @@
+//! Notes on words that fit no command.
+
+use crate::commands::COMMANDS;
+use crate::nearest::nearest_name;
+use crate::reader::{Stop, read_words};
+use crate::usages::{USAGES, Usage, usage_of};
+use cg_aside::Aside;
+use std::alloc::{AllocError, Global};
+
+/// Notes what is wrong with `words`, which fit no command, and which words would fit.
+pub fn note_words<A: Aside>(
+    alloc: Global,
+    words: &[String],
+    aside: &mut A,
+) -> Result<(), AllocError> {
+    let Some((first, rest)) = words.split_first() else {
+        note_commands(aside);
+        return Ok(());
+    };
+    match first.as_str() {
+        "--help" | "-h" | "--version" => {
+            note_commands(aside);
+            Ok(())
+        }
+        "help" => note_help(alloc, rest, aside),
+        name => match usage_of(name) {
+            Some(usage) => note_misuse(alloc, usage, rest, aside),
+            None => note_unknown(alloc, name, aside),
+        },
+    }
+}
+
+/// Notes the help that `words`, those after `help`, ask for.
+fn note_help<A: Aside>(alloc: Global, words: &[String], aside: &mut A) -> Result<(), AllocError> {
+    let Some(name) = words.first() else {
+        note_commands(aside);
+        return Ok(());
+    };
+    match usage_of(name.as_str()) {
+        Some(usage) => {
+            note_command(usage, aside);
+            Ok(())
+        }
+        None => note_unknown(alloc, name.as_str(), aside),
+    }
+}
+
+/// Notes what is wrong with `words`, those after the name of the command `usage`, and the lines of the command.
+fn note_misuse<A: Aside>(
+    alloc: Global,
+    usage: &'static Usage,
+    words: &[String],
+    aside: &mut A,
+) -> Result<(), AllocError> {
+    match read_words(alloc, usage, words) {
+        Ok(()) => {}
+        Err(Stop::Wrong(fault)) => {
+            let name = usage.name;
+            let text = format!(in alloc; "{name}: {fault}")?;
+            note_text(alloc, text.as_str(), aside)?;
+        }
+        Err(Stop::Memory) => return Err(AllocError),
+    }
+    note_command(usage, aside);
+    Ok(())
+}
+
+/// Notes that there is no command `name`, and the lines of all commands.
+fn note_unknown<A: Aside>(alloc: Global, name: &str, aside: &mut A) -> Result<(), AllocError> {
+    if name.is_empty() {
+        aside.note("no command");
+    } else {
+        let text = match nearest_command(alloc, name)? {
+            Some(nearest) => format!(in alloc; "no command {name}; did you mean {nearest}?")?,
+            None => format!(in alloc; "no command {name}")?,
+        };
+        note_text(alloc, text.as_str(), aside)?;
+    }
+    note_commands(aside);
+    Ok(())
+}
+
+/// Returns the name of the command that may be meant by `name`.
+fn nearest_command(alloc: Global, name: &str) -> Result<Option<&'static str>, AllocError> {
+    let names: Vec<&'static str> = USAGES.iter().map(|usage| usage.name).collect(alloc)?;
+    nearest_name(alloc, name, names.as_slice())
+}
+
+/// Notes the lines of all commands.
+fn note_commands<A: Aside>(aside: &mut A) {
+    for line in COMMANDS.lines() {
+        aside.note(line);
+    }
+}
+
+/// Notes the lines of the command `usage`.
+fn note_command<A: Aside>(usage: &Usage, aside: &mut A) {
+    for line in COMMANDS.lines() {
+        if line.split(' ').next() == Some(usage.name) {
+            aside.note(line);
+        }
+    }
+}
+
+/// Notes `text` as one line: a control character in it, as a line feed, is written as in a literal.
+fn note_text<A: Aside>(alloc: Global, text: &str, aside: &mut A) -> Result<(), AllocError> {
+    let mut line = String::new(alloc);
+    for character in text.chars() {
+        if character.is_control() {
+            let escaped = character.escape_default();
+            write!(line, "{escaped}")?;
+        } else {
+            line.push(character)?;
+        }
+    }
+    aside.note(line.as_str());
+    Ok(())
+}

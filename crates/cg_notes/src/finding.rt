@@ -1,0 +1,53 @@
+//! What is found in a text, and where.
+
+use std::alloc::{AllocError, Global};
+use std::fmt;
+
+/// A place in a text. Lines and columns count from 1, and a column counts bytes.
+#[derive(Clone, Copy, Drop)]
+pub(crate) struct Place {
+    pub(crate) line: usize,
+    pub(crate) column: usize,
+}
+
+impl Place {
+    /// The first byte of a text.
+    pub(crate) const START: Place = Place { line: 1, column: 1 };
+
+    /// Returns the place of the byte of `bytes` that stands after `offset` others.
+    pub(crate) fn at(bytes: &[u8], offset: usize) -> Place {
+        let before = &bytes[..offset.min(bytes.len())];
+        let lines = before.iter().filter(|byte| **byte == b'\n').count();
+        let columns = before
+            .iter()
+            .rev()
+            .take_while(|byte| **byte != b'\n')
+            .count();
+        Place {
+            line: lines.saturating_add(1),
+            column: columns.saturating_add(1),
+        }
+    }
+}
+
+impl fmt::Display for Place {
+    fn fmt<W: fmt::Write>(&self, f: &mut fmt::Formatter<W>) -> fmt::Result {
+        let Place { line, column } = *self;
+        write!(f, "{line}:{column}")
+    }
+}
+
+/// What a person needs to hear of a text, and of which place.
+#[derive(Drop)]
+pub(crate) struct Finding {
+    pub(crate) place: Place,
+    pub(crate) text: String,
+}
+
+impl Finding {
+    /// Returns the finding that says `text` of `place`.
+    pub(crate) fn new(alloc: Global, place: Place, text: &str) -> Result<Finding, AllocError> {
+        let text = String::from_str(alloc, text)?;
+        Ok(Finding { place, text })
+    }
+}

@@ -1,0 +1,155 @@
+//! Faults of whole files: their first keys.
+
+use crate::finding::{Finding, Place};
+use crate::lines::{key_line, unknown_key_line};
+use crate::values::{text_at, unknown_key};
+use cg_places::{Step, json_key_at, json_value_at};
+use std::alloc::{AllocError, Global};
+
+/// The most keys of a file that are looked at.
+const MOST_KEYS: usize = 16;
+
+/// What is known of the files of a format.
+struct Format {
+    /// How the codes of its faults begin.
+    code: &'static str,
+    /// What such a file is called.
+    noun: &'static str,
+    /// What `format` may be.
+    names: &'static [&'static str],
+    /// The keys that it must have.
+    needed: &'static [&'static str],
+    /// All keys that it may have.
+    keys: &'static [&'static str],
+}
+
+/// Kernels and mappings, which are JSON.
+const FORMATS: [Format; 2] = [
+    Format {
+        code: "K",
+        noun: "kernel",
+        names: &["cgk1", "cgk2"],
+        needed: &["format", "nodes"],
+        keys: &["format", "nodes", "order"],
+    },
+    Format {
+        code: "P",
+        noun: "mapping",
+        names: &["cgm1"],
+        needed: &["format", "ii", "places", "routes"],
+        keys: &["format", "ii", "places", "routes"],
+    },
+];
+
+/// The keys that an architecture's file must have before its tiles.
+const ARCH_NEEDED: [&str; 4] = ["format", "name", "contexts", "grid"];
+
+/// The keys that it may have there.
+const ARCH_KEYS: [&str; 8] = [
+    "format", "name", "contexts", "memory", "grid", "torus", "hub", "tiles",
+];
+
+/// Returns what is wrong with `bytes` as a whole at the fault `code`, of which `sentence` says it in general.
+pub(crate) fn find_in_file(
+    alloc: Global,
+    bytes: &[u8],
+    code: &str,
+    sentence: &str,
+) -> Result<Finding, AllocError> {
+    let found = match FORMATS.iter().find(|format| code.starts_with(format.code)) {
+        Some(format) => wrong_json(alloc, bytes, format)?,
+        None => wrong_toml(alloc, bytes)?,
+    };
+    match found {
+        Some(finding) => Ok(finding),
+        None => Finding::new(alloc, Place::START, sentence),
+    }
+}
+
+/// Returns the first thing that is wrong with the keys of `bytes`, a JSON text that should be of `format`.
+fn wrong_json(alloc: Global, bytes: &[u8], format: &Format) -> Result<Option<Finding>, AllocError> {
+    if let Some(finding) = other_format(alloc, bytes, format)? {
+        return Ok(Some(finding));
+    }
+    for number in 0..MOST_KEYS {
+        let Some(at) = json_key_at(bytes, &[], number) else {
+            return missing_in_json(alloc, bytes, format);
+        };
+        if let Some(key) = text_at(bytes, at) {
+            if !format.keys.contains(&key) {
+                let text = unknown_key(alloc, key, format.keys)?;
+                let place = Place::at(bytes, at);
+                return Ok(Some(Finding { place, text }));
+            }
+        }
+    }
+    Ok(None)
+}
+
+/// Returns that `bytes` say that they are of another format than `format`.
+fn other_format(
+    alloc: Global,
+    bytes: &[u8],
+    format: &Format,
+) -> Result<Option<Finding>, AllocError> {
+    let Some(at) = json_value_at(bytes, &[Step::Key("format")]) else {
+        return Ok(None);
+    };
+    let Some(name) = text_at(bytes, at) else {
+        return Ok(None);
+    };
+    if format.names.contains(&name) {
+        return Ok(None);
+    }
+    let noun = format.noun;
+    let text = match FORMATS.iter().find(|other| other.names.contains(&name)) {
+        Some(other) => {
+            let is = other.noun;
+            format!(in alloc; "this is a {is}, and a {noun} is asked")?
+        }
+        None => {
+            let last = format.names.last().copied().unwrap_or("");
+            format!(in alloc; "\"{name}\" is no format of a {noun}, which is \"{last}\"")?
+        }
+    };
+    let place = Place::at(bytes, at);
+    Ok(Some(Finding { place, text }))
+}
+
+/// Returns the first key that `bytes`, a JSON text, lack to be of `format`.
+fn missing_in_json(
+    alloc: Global,
+    bytes: &[u8],
+    format: &Format,
+) -> Result<Option<Finding>, AllocError> {
+    for key in format.needed {
+        if json_value_at(bytes, &[Step::Key(key)]).is_none() {
+            return Ok(Some(missing(alloc, key)?));
+        }
+    }
+    Ok(None)
+}
+
+/// Returns the first thing that is wrong with the keys before the tiles of `bytes`, an architecture file.
+fn wrong_toml(alloc: Global, bytes: &[u8]) -> Result<Option<Finding>, AllocError> {
+    if let Some((at, key)) = unknown_key_line(bytes, 0, &ARCH_KEYS) {
+        let text = unknown_key(alloc, key, &ARCH_KEYS)?;
+        let place = Place::at(bytes, at);
+        return Ok(Some(Finding { place, text }));
+    }
+    for key in &ARCH_NEEDED {
+        if key_line(bytes, key).is_none() {
+            return Ok(Some(missing(alloc, key)?));
+        }
+    }
+    Ok(None)
+}
+
+/// Returns that the key `key` is missing.
+fn missing(alloc: Global, key: &str) -> Result<Finding, AllocError> {
+    let text = format!(in alloc; "the key \"{key}\" is missing")?;
+    Ok(Finding {
+        place: Place::START,
+        text,
+    })
+}
