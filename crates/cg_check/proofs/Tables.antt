@@ -29,11 +29,11 @@ use Rattle.cg_model.proofs.Mappings.{places_apart}
 
 -- ---- to be alike is an equivalence
 
-alike_itself : (sharing : Sharing) (p : Position) → alike sharing p p ≡ true
+pub alike_itself : (sharing : Sharing) (p : Position) → alike sharing p p ≡ true
 alike_itself Value p = same_values p p (refl, refl)
 alike_itself Way p = same_ways p p refl
 
-alike_joined : (sharing : Sharing) (p q r : Position) → alike sharing p q ≡ true → alike sharing p r ≡ true → alike sharing q r ≡ true
+pub alike_joined : (sharing : Sharing) (p q r : Position) → alike sharing p q ≡ true → alike sharing p r ≡ true → alike sharing q r ≡ true
 alike_joined Value p q r h k =
     let (a, b) = values_same p q h in
     let (c, d) = values_same p r k in
@@ -43,7 +43,7 @@ alike_joined Way p q r h k = same_ways q r (sym (ways_same p q h) ∙ ways_same 
 -- ---- one cell
 
 -- the cell knows the positions that pass a test: which are there, and whether all share with the first
-abbrev IsCell : Sharing → (Position → Bool) → List Position → Cell → Type 0
+abbrev pub IsCell : Sharing → (Position → Bool) → List Position → Cell → Type 0
 IsCell sharing here ps Free = (p : Position) → Contains ps p → here p ≡ false
 IsCell sharing here ps (Held c) =
     Contains ps (position_of c) × (here (position_of c) ≡ true) × ((p : Position) → Contains ps p → here p ≡ true → alike sharing (position_of c) p ≡ true)
@@ -71,7 +71,7 @@ there sharing here ps (Held c) p on h = held_by sharing here ps c p (alike shari
 there sharing here ps Clash p on (q, r, a, b, c, d, e) = (q, r, Contains-append_left ps (p ∷ []) q a, Contains-append_left ps (p ∷ []) r b, c, d, e)
 
 -- the cell tells whether there is a clash
-told : (sharing : Sharing) (ii r s : ℕ) (ps : List Position) (c : Cell) → IsCell sharing (is_on ii r s) ps c → is_clash c ≡ clashes (alike sharing) ii ps r s
+pub told : (sharing : Sharing) (ii r s : ℕ) (ps : List Position) (c : Cell) → IsCell sharing (is_on ii r s) ps c → is_clash c ≡ clashes (alike sharing) ii ps r s
 unfolding clashes
 told sharing ii r s ps Free h =
     sym (any_none (λ p. is_on ii r s p && _) ps (λ p m. and_not (is_on ii r s p) _ (λ on. absurd (both_ways _ (h p m) on))))
@@ -82,11 +82,11 @@ told sharing ii r s ps Clash (p, q, a, b, c, d, e) =
 
 -- ---- the table
 
-record IsTable (sharing : Sharing) (ii resources : ℕ) (ps : List Position) (table : List Cell) : Type 0 where
-  long : length table ≡ resources * ii
-  cells : (r s : ℕ) → r < resources → s < ii → IsCell sharing (is_on ii r s) ps (cell table (r * ii + s))
+pub record IsTable (sharing : Sharing) (ii resources : ℕ) (ps : List Position) (table : List Cell) : Type 0 where
+  pub long : length table ≡ resources * ii
+  pub cells : (r s : ℕ) → r < resources → s < ii → IsCell sharing (is_on ii r s) ps (cell table (r * ii + s))
 
-begun : (sharing : Sharing) (ii resources : ℕ) → IsTable sharing ii resources [] (replicate (resources * ii) Free)
+pub begun : (sharing : Sharing) (ii resources : ℕ) → IsTable sharing ii resources [] (replicate (resources * ii) Free)
 begun sharing ii resources = record {
   long = length-replicate (resources * ii) Free;
   cells = λ r s lr ls.
@@ -123,7 +123,7 @@ one_more sharing ii resources ps table p some t = record {
   cells = λ r s lr ls. one_cell sharing ii resources ps table p r s some t lr ls;
 }
 
-all_claimed : (sharing : Sharing) (ii resources : ℕ) (ps qs : List Position) (table : List Cell) → 0 < ii → IsTable sharing ii resources ps table →
+pub all_claimed : (sharing : Sharing) (ii resources : ℕ) (ps qs : List Position) (table : List Cell) → 0 < ii → IsTable sharing ii resources ps table →
     IsTable sharing ii resources (ps ++ qs) (claims sharing ii table qs)
 all_claimed sharing ii resources ps [] table some t = subst (λ z. IsTable sharing ii resources z table) (sym (append-nil ps)) t
 all_claimed sharing ii resources ps (q ∷ qs) table some t =

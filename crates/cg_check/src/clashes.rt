@@ -51,8 +51,9 @@ fn clash_in(table: &[Cell], ii: usize, resources: usize) -> Option<RulePlace>
     None
 }
 
-/// The table of all claims.
-fn all_claims(
+/// Returns what is known of every resource in every slot of the interval, once the stops of all routes are there: that of
+/// resource r in slot s at index r * interval + s. Values share what `sharing` says.
+pub fn all_claims(
     alloc: Global,
     sharing: Sharing,
     arch: &Arch,

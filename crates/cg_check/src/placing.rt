@@ -21,8 +21,8 @@ pub(crate) fn wrong_interval(arch: &Arch, mapping: &Mapping) -> Option<RulePlace
     }
 }
 
-/// Whether a node stands on a unit that offers its operation, in time.
-fn stands_well(arch: &Arch, kernel: &Kernel, node: usize, place: Place) -> bool
+/// Returns whether `node`, placed at `place`, is on a unit of `arch` that offers its operation, at a time that isn't too late.
+pub fn stands_well(arch: &Arch, kernel: &Kernel, node: usize, place: Place) -> bool
     requires { node < size kernel.now }
     ensures { result ≡ stands_well_at arch.now kernel.now node place }
 {
@@ -48,8 +48,8 @@ pub(crate) fn misplaced(arch: &Arch, kernel: &Kernel, mapping: &Mapping) -> Opti
     None
 }
 
-/// Whether the target of an order edge begins after its source.
-fn is_after(mapping: &Mapping, edge: &OrderEdge) -> bool
+/// Returns whether the target of the order edge `edge` begins after its source in `mapping`.
+pub fn is_after(mapping: &Mapping, edge: &OrderEdge) -> bool
     ensures { result ≡ is_after_by mapping.now edge.now }
 {
     let source = u64::from(place(mapping, edge.from).time);

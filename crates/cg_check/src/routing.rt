@@ -43,8 +43,9 @@ fn arrives(arch: &Arch, mapping: &Mapping, source: u32, path: &[u32], end: At) -
     }
 }
 
-/// Whether a route brings the value of its edge.
-fn is_brought(arch: &Arch, kernel: &Kernel, mapping: &Mapping, route: &Route) -> bool
+/// Returns whether `route` brings the value of its edge along links, from its source's out to its port, in time. A route that
+/// ends at no data edge does.
+pub fn is_brought(arch: &Arch, kernel: &Kernel, mapping: &Mapping, route: &Route) -> bool
     ensures { result ≡ is_brought_of arch.now kernel.now mapping.now route.now }
 {
     match edge_into(kernel, route) {

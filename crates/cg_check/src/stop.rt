@@ -9,7 +9,7 @@ pub(crate) struct At {
 
 /// A value on a resource of its path.
 #[derive(Clone, Copy)]
-pub(crate) struct Stop {
+pub struct Stop {
     /// The number of the node whose value it is.
     pub source: u32,
     /// The number of the resource.
@@ -22,7 +22,7 @@ pub(crate) struct Stop {
 
 /// What the values that meet on a resource in a slot have to share.
 #[derive(Clone, Copy)]
-pub(crate) enum Sharing {
+pub enum Sharing {
     /// Source and time, so that they are one value.
     Value,
     /// The resource that they come from.
@@ -31,7 +31,7 @@ pub(crate) enum Sharing {
 
 /// What is known of a resource in a slot.
 #[derive(Clone, Copy)]
-pub(crate) enum Cell {
+pub enum Cell {
     /// No value is there.
     Free,
     /// One is there, and all others that are there share with it what they have to.
