@@ -1,0 +1,6 @@
+pub mod Steps
+pub mod Named
+pub mod Members
+pub mod Each
+pub mod Lowest
+pub mod All

@@ -1,0 +1,10 @@
+use Rattle.std.proofs.Common.{◌≡◌, map, drop}
+use Rattle.cg_model.specs.First.{first_such}
+use Rattle.cg_check.specs.Rules.{is_on}
+use Rattle.cg_check.specs.Claims.{position_of}
+use Rattle.cg_violations.proofs.meeting.first_on.Given as goal
+
+abbrev pub invariant-loop-stop : goal.invariant-loop-stop
+invariant-loop-stop l =
+    first_such (is_on l.spot.ii l.spot.resource l.spot.slot) (map position_of (drop l.stop-index l.stops))
+    ≡ first_such (is_on l.spot.ii l.spot.resource l.spot.slot) (map position_of l.stops)

@@ -1,0 +1,3 @@
+pub mod Violations
+pub mod Faults
+pub mod Cells

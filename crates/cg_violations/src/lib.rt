@@ -1,0 +1,14 @@
+//! All violations of a mapping, and their lines.
+#![tactic(auto)]
+
+mod clashing;
+mod finding;
+mod lines;
+mod meeting;
+mod placing;
+mod sharing;
+mod stops;
+
+pub use cg_check::{Arch, Kernel, Mapping, Rule, RulePlace, Violation};
+pub use finding::violations;
+pub use lines::fault_lines;
