@@ -1,0 +1,6 @@
+//! Images of memory and streams as a text that reads back.
+#![tactic(auto)]
+
+mod print;
+
+pub use print::print_text;

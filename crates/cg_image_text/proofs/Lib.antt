@@ -1,0 +1,4 @@
+pub mod Cutting
+pub mod Numerals
+pub mod Running
+pub mod Storable

@@ -1,0 +1,18 @@
+//! Images of memory and streams out of a text: words by hand, section by section.
+#![tactic(auto)]
+
+mod fault;
+mod field;
+mod number;
+mod place;
+mod reading;
+mod run;
+mod sections;
+mod texts;
+
+pub use fault::{Misread, TextFault};
+pub use place::Place;
+pub use reading::read_text;
+pub use run::Run;
+pub use sections::Section;
+pub use texts::text_fault_text;
