@@ -1,5 +1,5 @@
 -- What `map` answers, and what its bytes do.
-use Rattle.std.proofs.Common.{◌≡◌, List, [], sym, ◌∙◌, ap, subst, ⊎_elim}
+use Rattle.std.proofs.Common.{◌≡◌, List, [], codes, refl, sym, ◌∙◌, ap, subst, ⊎_elim}
 use Rattle.cg_model.specs.Array.{IsArch}
 use Rattle.cg_model.specs.Kernel.{IsKernel}
 use Rattle.cg_ending.specs.declared.outcome.Status.TheVariants.{Done, Impossible, BudgetSpent}
@@ -22,13 +22,18 @@ use Rattle.cg_inputs.specs.Sources.{Pair}
 use Rattle.cg_inputs.proofs.Sound.{IsSound, searching, IsNamed}
 use Rattle.cg_task_answers.specs.Searches.{IsForbiddenInput, IsImpossibleRun}
 use Rattle.cg_task_answers.specs.Runs.{FirstRuns}
-use Rattle.cg_task_answers.specs.Answered.{IsOutcomeOf}
+use Rattle.cg_task_answers.specs.Answered.{IsOutcomeOf, left_report}
 use Rattle.cg_task_answers.proofs.Over.{agree_over}
 use Rattle.cg_task_answers.proofs.Searched as searched
-use Rattle.cg_task_answers.proofs.Searched.{IsSearcher}
-use Rattle.cg_map_answers.specs.Map.{words, IsAnswerOf, IsMap, IsWalk, IsMappable, IsOnlyMapping, IsMapRun, AreCosts, IsSpentRun}
+use Rattle.cg_task_answers.proofs.Searched.{IsSearcher, HasReport}
+use Rattle.cg_map_answers.specs.Map.{word, IsCostReport, IsAnswerOf, IsMap, IsWalk, IsMappable, IsOnlyMapping, IsMapRun, AreCosts, IsSpentRun}
 
-pub searcher : IsSearcher IsAnswerOf IsOnlyMapping AreCosts
+reported : (p : Pair) (a : Answer) → HasReport IsCostReport p a
+reported p (answer.Impossible c) = tt
+reported p (answer.Mapped m found_by) = tt
+reported p (answer.Spent first left) = (left_report (codes "cost") first left.items, refl)
+
+pub searcher : IsSearcher IsCostReport IsAnswerOf IsOnlyMapping AreCosts
 searcher = record {
   shown = λ s p c found. found;
   free = λ s p m found_by found. found.free;
@@ -41,26 +46,26 @@ searcher = record {
   left = λ s p first left found. subst (λ z. AreAllLeft p.arch p.kernel s.ii s.seed s.moves z left.items) (sym found.tried.0) found.tried.1;
   all = λ s p first left is. is.all;
   by_hub = λ s p valid good is enough a found. by_hub p.arch p.kernel valid good s.ii s.seed s.moves is enough a found;
-  some = λ s p valid good is. some_answer p.arch p.kernel valid good s.ii s.seed s.moves is;
+  some = λ s p valid good is. (let (a, found) = some_answer p.arch p.kernel valid good s.ii s.seed s.moves is in (a, found, reported p a));
 }
 
 pub sound_map : (s : Request) (outs : List Name) (arch kernel : File) (o : Outcome) → IsMap s arch kernel outs o → IsSound searching o
-sound_map s outs arch kernel o e = searched.sound words IsAnswerOf s outs arch kernel o e
+sound_map s outs arch kernel o e = searched.sound word IsCostReport IsAnswerOf s outs arch kernel o e
 
 pub named_map : (s : Request) (outs : List Name) (arch kernel : File) (o : Outcome) → IsMap s arch kernel outs o → IsNamed outs o
-named_map s outs arch kernel o e = searched.named words IsAnswerOf s outs arch kernel o e
+named_map s outs arch kernel o e = searched.named word IsCostReport IsAnswerOf s outs arch kernel o e
 
 -- without output files nothing is written
 pub quiet_map : (s : Request) (arch kernel : File) (o : Outcome) → IsMap s arch kernel [] o → o.writes ≡ []
-quiet_map s arch kernel o e = searched.quiet words IsAnswerOf s arch kernel o e
+quiet_map s arch kernel o e = searched.quiet word IsCostReport IsAnswerOf s arch kernel o e
 
 -- ---- one status
 
 module _ (s : Request) (outs : List Name) (p : Pair) where
-  same_kind : (a b : Answer) (x y : Outcome) → AreAlike a b → IsOutcomeOf words s outs p a x → IsOutcomeOf words s outs p b y → x.status ≡ y.status
+  same_kind : (a b : Answer) (x y : Outcome) → AreAlike a b → IsOutcomeOf word IsCostReport s outs p a x → IsOutcomeOf word IsCostReport s outs p b y → x.status ≡ y.status
   same_kind (answer.Impossible c) (answer.Impossible d) x y e f g = ap (λ z. z.status) f ∙ sym (ap (λ z. z.status) g)
   same_kind (answer.Mapped m found_by) (answer.Mapped n by) x y e f g = ap (λ z. z.status) f.outcome ∙ sym (ap (λ z. z.status) g.outcome)
-  same_kind (answer.Spent first left) (answer.Spent other others) x y e f g = ap (λ z. z.status) f ∙ sym (ap (λ z. z.status) g)
+  same_kind (answer.Spent first left) (answer.Spent other others) x y e f g = ap (λ z. z.status) f.2 ∙ sym (ap (λ z. z.status) g.2)
   same_kind (answer.Impossible c) (answer.Mapped n by) x y e f g = absurd e
   same_kind (answer.Impossible c) (answer.Spent other others) x y e f g = absurd e
   same_kind (answer.Mapped m found_by) (answer.Impossible d) x y e f g = absurd e
@@ -86,7 +91,7 @@ alike_mapping m found_by (answer.Spent first left) e = absurd e
 pub accepted_map : (s : Request) (arch kernel : File) (outs : List Name) (o : Outcome) → IsMappable s arch kernel → IsMap s arch kernel outs o → o.status ≡ Done
 accepted_map s arch kernel outs o a f =
     let p = a.pair in
-    searched.accepted words IsAnswerOf IsOnlyMapping AreCosts searcher s arch kernel outs p a.given a.within
+    searched.accepted word IsCostReport IsAnswerOf IsOnlyMapping AreCosts searcher s arch kernel outs p a.given a.within
     (λ valid good is b found.
     ⊎_elim
     (λ enough. by_hub p.arch p.kernel valid good s.ii s.seed s.moves is enough b found)
@@ -96,22 +101,22 @@ accepted_map s arch kernel outs o a f =
 
 -- an interval that is forbidden is called impossible
 pub forbidden_map : (s : Request) (arch kernel : File) (outs : List Name) (o : Outcome) → IsForbiddenInput s arch kernel → IsMap s arch kernel outs o → searched.SaysImpossible o
-forbidden_map s arch kernel outs o a f = searched.forbidden words IsAnswerOf IsOnlyMapping AreCosts searcher s arch kernel outs a o f
+forbidden_map s arch kernel outs o a f = searched.forbidden word IsCostReport IsAnswerOf IsOnlyMapping AreCosts searcher s arch kernel outs a o f
 
 pub some_map : (s : Request) (arch kernel : File) (outs : List Name) → IsInRange s → (o : Outcome) × IsMap s arch kernel outs o
-some_map s arch kernel outs range = searched.some_outcome words IsAnswerOf IsOnlyMapping AreCosts searcher s arch kernel outs range
+some_map s arch kernel outs range = searched.some_outcome word IsCostReport IsAnswerOf IsOnlyMapping AreCosts searcher s arch kernel outs range
 
 -- ---- what is left
 
 module _ (s : Request) (arch kernel : Name) (outs : List Name) (f g : File) (before after : Moment) (arch_held : Holds before.held arch f.bytes) (kernel_held : Holds before.held kernel g.bytes) where
   pub map_writes_run : (o : Outcome) → IsMap s f g outs o → FirstRuns arch kernel before o.writes
-  map_writes_run o is = searched.writes_run words IsAnswerOf IsOnlyMapping AreCosts searcher s arch kernel outs f g before after arch_held kernel_held o is
+  map_writes_run o is = searched.writes_run word IsCostReport IsAnswerOf IsOnlyMapping AreCosts searcher s arch kernel outs f g before after arch_held kernel_held o is
 
   pub map_left : (o : Outcome) → IsMap s f g outs o → o.status ≡ Done → Completed o before after Done → IsMapRun s arch kernel outs before after
-  map_left o is at done = searched.found_left words IsAnswerOf IsOnlyMapping AreCosts searcher s arch kernel outs f g before after arch_held kernel_held o is at done
+  map_left o is at done = searched.found_left word IsCostReport IsAnswerOf IsOnlyMapping AreCosts searcher s arch kernel outs f g before after arch_held kernel_held o is at done
 
   pub impossible_left : (o : Outcome) → IsMap s f g outs o → o.status ≡ Impossible → Completed o before after Impossible → IsImpossibleRun s arch kernel before after
-  impossible_left o is at done = searched.impossible_left words IsAnswerOf IsOnlyMapping AreCosts searcher s arch kernel outs f g before after arch_held kernel_held o is at done
+  impossible_left o is at done = searched.impossible_left word IsCostReport IsAnswerOf IsOnlyMapping AreCosts searcher s arch kernel outs f g before after arch_held kernel_held o is at done
 
   pub spent_left : (o : Outcome) → IsMap s f g outs o → o.status ≡ BudgetSpent → Completed o before after BudgetSpent → IsSpentRun s arch kernel before after
-  spent_left o is at done = searched.spent_left words IsAnswerOf IsOnlyMapping AreCosts searcher s arch kernel outs f g before after arch_held kernel_held o is at done
+  spent_left o is at done = searched.spent_left word IsCostReport IsAnswerOf IsOnlyMapping AreCosts searcher s arch kernel outs f g before after arch_held kernel_held o is at done

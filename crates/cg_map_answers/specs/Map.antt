@@ -1,6 +1,6 @@
 -- `map ARCH KERNEL OUT [--ii N] [--seed N] [--moves N] [--mapping FILE]`.
 use Rattle.std.specs.Prelude.{◌≡◌, ◌⊎◌, ℕ, false, List, codes}
-use Rattle.cg_ending.specs.Outcome.{Name, File, Outcome}
+use Rattle.cg_ending.specs.Outcome.{Name, Bytes, File, Outcome}
 use Rattle.cg_ending.specs.Ends.{Moment}
 use Rattle.cg_check.specs.Legal.{Mapped}
 use Rattle.cg_hub.specs.Hub.{HubEnough}
@@ -12,12 +12,16 @@ use Rattle.cg_map.specs.Tried.{AreAllLeft, IsAnswer}
 use Rattle.cg_model.specs.declared.request.Request.{Request}
 use Rattle.cg_inputs.specs.Sources.{Pair, GivesPair}
 use Rattle.cg_task_answers.specs.Searches.{IsSearchOver, is_above}
-use Rattle.cg_task_answers.specs.Answered.{Words, IsAnswered}
+use Rattle.cg_task_answers.specs.Answered.{IsAnswered, left_report}
 use Rattle.cg_task_answers.specs.Runs.{IsFoundRun, IsLeftRun}
 
--- its words: it finds mappings by the walk, and leaves costs
-abbrev pub words : Words
-words = record { by = codes "walk"; left = codes "cost" }
+-- it finds mappings by the walk
+abbrev pub word : Bytes
+word = codes "walk"
+
+-- and reports the costs that are left
+abbrev pub IsCostReport : Pair → ℕ → List ℕ → Bytes → Type 0
+IsCostReport p first costs report = report ≡ left_report (codes "cost") first costs
 
 -- an answer of the search for a pair
 abbrev pub IsAnswerOf : Request → Pair → Answer → Type 0
@@ -25,7 +29,7 @@ IsAnswerOf s p a = IsAnswer p.arch p.kernel s.ii s.seed s.moves a
 
 -- the search has an answer; which certificate shows that an interval is impossible is left open
 abbrev pub IsWalk : Request → List Name → Pair → Outcome → Type 0
-IsWalk s outs p o = IsAnswered words s outs p (IsAnswerOf s p) o
+IsWalk s outs p o = IsAnswered word IsCostReport s outs p (IsAnswerOf s p) o
 
 -- by what the files give
 abbrev pub IsMap : Request → File → File → List Name → Outcome → Type 0
@@ -49,7 +53,7 @@ pub record IsOnlyMapping (s : Request) (p : Pair) (m : Mapped) (found_by : Found
 
 -- Done: that mapping
 abbrev pub IsMapRun : Request → Name → Name → List Name → Moment → Moment → Type 0
-IsMapRun s arch kernel outs before after = IsFoundRun words.by (IsOnlyMapping s) s arch kernel outs before after
+IsMapRun s arch kernel outs before after = IsFoundRun word (IsOnlyMapping s) s arch kernel outs before after
 
 -- these costs are left
 abbrev pub AreCosts : Request → Pair → ℕ → List ℕ → Type 0
@@ -57,4 +61,4 @@ AreCosts s p first costs = AreAllLeft p.arch p.kernel s.ii s.seed s.moves first 
 
 -- BudgetSpent: those costs
 abbrev pub IsSpentRun : Request → Name → Name → Moment → Moment → Type 0
-IsSpentRun s arch kernel before after = IsLeftRun words.left (AreCosts s) s arch kernel before after
+IsSpentRun s arch kernel before after = IsLeftRun IsCostReport (AreCosts s) s arch kernel before after

@@ -12,7 +12,7 @@ use cg_inputs::{arch_in, kernel_in};
 use cg_map::map_answer;
 use cg_model::{Kernel, Request};
 use cg_task::Answer;
-use cg_task_answers::{above, asks_above, found, impossible, spent};
+use cg_task_answers::{above, asks_above, found, impossible, left_report, spent};
 use std::alloc::{AllocError, Global};
 
 /// Searches a mapping of the kernel that the file `kernel` gives on the architecture that `arch` gives. Its bits are to
@@ -54,6 +54,9 @@ fn searched(
     match map_answer(alloc, arch, kernel, request)? {
         Answer::Impossible(certificate) => impossible(alloc, request, arch, kernel, &certificate),
         Answer::Mapped(mapping, found_by) => found(alloc, "walk", &mapping, found_by, outputs),
-        Answer::Spent { first, left } => spent(alloc, "cost", first, left.as_slice()),
+        Answer::Spent { first, left } => {
+            let report = left_report(alloc, "cost", first, left.as_slice())?;
+            Ok(spent(alloc, report))
+        }
     }
 }

@@ -1,8 +1,11 @@
 -- How a search ends.
-use Rattle.std.specs.Prelude.{◌≡◌, ℕ, ◌<◌, ◌≤◌, Option, Some, None}
+use Rattle.std.specs.Prelude.{◌≡◌, ℕ, ◌<◌, ◌≤◌}
 use Rattle.cg_model.specs.Kernel.{Kernel}
 use Rattle.cg_model.specs.Array.{Arch}
+use Rattle.cg_model.specs.Mapping.{Mapping, IsShaped, IsLegal}
 use Rattle.cg_check.specs.Legal as checks
+use Rattle.cg_check.specs.declared.checker.CheckVerdict.{CheckVerdict}
+use Rattle.cg_check.specs.declared.checker.CheckVerdict.TheVariants.{Legal, Illegal}
 use Rattle.cg_respond.specs.declared.responding.Responded.{Responded}
 use Rattle.cg_respond.specs.declared.responding.Responded.TheVariants.{Mapped, Spent}
 
@@ -12,12 +15,18 @@ pub record IsOf (A : Arch) (K : Kernel) (ii : ℕ) (m : checks.Mapped) : Type 0 
   pub kernel : m.kernel ≡ K
   pub interval : m.mapping.ii ≡ ii
 
--- so is it where there is one
-abbrev pub IsLegalAt : Arch → Kernel → ℕ → Option checks.Mapped → Type 0
-IsLegalAt A K ii (Some m) = IsOf A K ii m
-IsLegalAt A K ii None = Unit {0}
+-- a mapping of the kernel's shape at that interval, which isn't legal
+pub record IsMissed (A : Arch) (K : Kernel) (ii : ℕ) (M : Mapping) : Type 0 where
+  pub shape : IsShaped K M
+  pub interval : M.ii ≡ ii
+  pub illegal : IsLegal A K M → ⊥
 
--- a legal mapping after no more moves than there are, or some faults that are left
+-- the one or the other
+abbrev pub IsJudged : Arch → Kernel → ℕ → CheckVerdict → Type 0
+IsJudged A K ii (Legal m) = IsOf A K ii m
+IsJudged A K ii (Illegal rule place M) = IsMissed A K ii M
+
+-- a legal mapping after no more moves than there are; or some faults that are left, and a mapping that isn't legal
 abbrev pub IsResponded : Arch → Kernel → ℕ → ℕ → Responded → Type 0
 IsResponded A K ii moves (Mapped m k) = IsOf A K ii m × (k ≤ moves)
-IsResponded A K ii moves (Spent f) = 0 < f
+IsResponded A K ii moves (Spent f M) = (0 < f) × IsMissed A K ii M

@@ -9,6 +9,7 @@ mod mapping;
 mod opening;
 mod pace;
 mod responding;
+mod snapshot;
 mod sweeps;
 mod turning;
 

@@ -1,61 +1,49 @@
-//! The mapping that a state stands for.
+//! The mapping that a copy of a state stands for.
 ghost use Rattle.std.specs.Prelude.{◌≡◌, ◌<◌, ◌++◌, ◌∷◌, [], ◌^◌, IfOk, OnOk, length, map};
 ghost use Rattle.cg_model.specs.Kernel.{size};
 ghost use Rattle.cg_model.specs.Mapping.{IsShaped, end_of, ends_of, ends_from};
 
+use crate::snapshot::Snapshot;
 use cg_model::{Items, Kernel, Mapping, Operand, Place, Route, Words};
-use cg_respond_problem::{Places, count};
-use cg_respond_state::{Routes, State};
+use cg_respond_problem::count;
 use std::alloc::{AllocError, Global};
 
-/// Returns the mapping of `state` at the interval `ii`: times from the least one on, and an empty path for an edge
+/// Returns the mapping of `kernel` that `snapshot` stands for, at the interval `ii`: with an empty path for an edge
 /// without a route.
 pub(crate) fn mapping(
     alloc: Global,
     kernel: &Kernel,
     ii: u32,
-    state: &State,
+    snapshot: &Snapshot,
 ) -> Result<Mapping, AllocError>
     ensures ii { IfOk result (λ m. m.ii ≡ ii) }
     ensures shape { IfOk result (IsShaped kernel.now) }
 {
-    let places = places_of(alloc, kernel, &state.places)?;
-    let routes = routes_of(alloc, kernel, &state.routes)?;
+    let places = places_of(alloc, kernel, snapshot)?;
+    let routes = routes_of(alloc, kernel, snapshot)?;
     Ok(Mapping::new(ii, places, routes))
 }
 
-/// Returns where each node stands, with times from the least one on.
-fn places_of(alloc: Global, kernel: &Kernel, standing: &Places) -> Result<Vec<Place>, AllocError>
+/// Returns where each node of `kernel` stands.
+fn places_of(alloc: Global, kernel: &Kernel, snapshot: &Snapshot) -> Result<Vec<Place>, AllocError>
     ensures { IfOk result (λ v. length v.items ≡ size kernel.now) }
 {
-    let least = standing.least_time();
     let mut places = Vec::new(alloc);
     for node in 0..kernel.nodes().len() {
-        places.push(place_from(standing.at(node as u32), least))?;
+        places.push(snapshot.place(node as u32))?;
     }
     Ok(places)
 }
 
-/// Returns `place` with its time counted from `least` on; unit 0 at time 0 where there is none.
-fn place_from(place: Option<Place>, least: u32) -> Place {
-    match place {
-        Some(place) => Place {
-            unit: place.unit,
-            time: place.time.saturating_sub(least),
-        },
-        None => Place { unit: 0, time: 0 },
-    }
-}
-
 /// Returns the route of each edge operand.
-fn routes_of(alloc: Global, kernel: &Kernel, standing: &Routes) -> Result<Vec<Route>, AllocError>
+fn routes_of(alloc: Global, kernel: &Kernel, snapshot: &Snapshot) -> Result<Vec<Route>, AllocError>
     ensures { IfOk result (λ v. map end_of v.items ≡ ends_from 0 kernel.now.nodes) }
 {
     let nodes = kernel.nodes();
     let mut routes = Vec::new(alloc);
     for node in 0..nodes.len() {
         let operands = nodes[node].operands.as_slice();
-        add_routes(alloc, &mut routes, node as u32, operands, standing)?;
+        add_routes(alloc, &mut routes, node as u32, operands, snapshot)?;
     }
     Ok(routes)
 }
@@ -66,13 +54,13 @@ fn add_routes(
     routes: &mut Vec<Route>,
     node: u32,
     operands: &[Operand],
-    standing: &Routes,
+    snapshot: &Snapshot,
 ) -> Result<(), AllocError>
     requires { length operands.now < 2 ^ 32 }
     ensures { OnOk result (map end_of routes.new.items ≡ map end_of routes.old.items ++ ends_of node 0 operands.now) }
 {
     for arg in 0..operands.len() {
-        add_route(alloc, routes, node, arg as u32, &operands[arg], standing)?;
+        add_route(alloc, routes, node, arg as u32, &operands[arg], snapshot)?;
     }
     Ok(())
 }
@@ -84,7 +72,7 @@ fn add_route(
     node: u32,
     arg: u32,
     operand: &Operand,
-    standing: &Routes,
+    snapshot: &Snapshot,
 ) -> Result<(), AllocError>
     ensures { OnOk result (map end_of routes.new.items ≡ map end_of routes.old.items ++ ends_of node arg (operand.now ∷ [])) }
 {
@@ -92,7 +80,7 @@ fn add_route(
         Operand::Const(_) => Ok(()),
         Operand::Edge { .. } => {
             let edge = count(routes.as_slice());
-            let path = path_of(alloc, standing, edge)?;
+            let path = path_of(alloc, snapshot, edge)?;
             routes.push(Route { node, arg, path })?;
             Ok(())
         }
@@ -100,12 +88,8 @@ fn add_route(
 }
 
 /// Returns the resources on the route of `edge`; none where it has no route.
-fn path_of(alloc: Global, standing: &Routes, edge: u32) -> Result<Words, AllocError> {
+fn path_of(alloc: Global, snapshot: &Snapshot, edge: u32) -> Result<Words, AllocError> {
     let mut path = Vec::new(alloc);
-    if let Some(route) = standing.route(edge) {
-        for stand in route {
-            path.push(stand.resource)?;
-        }
-    }
+    path.extend_from_slice(snapshot.path(edge))?;
     Ok(Items::new(path))
 }

@@ -1,7 +1,8 @@
-//! What a search counts: its moves, and the faults that it met.
+//! What a search counts: its moves, and the faults that it met; and its best state.
 
 use crate::effort::Effort;
 use crate::faults::faults;
+use crate::snapshot::Snapshot;
 use cg_respond_moves::settle;
 use cg_respond_problem::Problem;
 use cg_respond_state::State;
@@ -43,6 +44,8 @@ pub(crate) struct Pace {
     pub(crate) made: u32,
     /// The least faults; the greatest word where none were counted yet.
     pub(crate) least: u32,
+    /// The first state with the least faults; one in which no node stands anywhere where none were counted yet.
+    pub(crate) best: Snapshot,
     effort: Effort,
     tried: u32,
     low: u32,
@@ -51,18 +54,23 @@ pub(crate) struct Pace {
 }
 
 impl Pace {
-    /// Returns the pace of a search of that `effort`.
-    pub(crate) fn new(effort: Effort) -> Pace {
-        Pace {
+    /// Returns the pace of a search on `problem` of that `effort`.
+    pub(crate) fn new(
+        alloc: Global,
+        problem: &Problem,
+        effort: Effort,
+    ) -> Result<Pace, AllocError> {
+        Ok(Pace {
             generator: Lcg64Xsh32::new(effort.seed, effort.stream),
             made: 0,
             least: u32::MAX,
+            best: Snapshot::new(alloc, problem)?,
             effort,
             tried: TRIED,
             low: u32::MAX,
             since: 0,
             since_move: 0,
-        }
+        })
     }
 
     /// Checks whether moves are left.
@@ -90,16 +98,34 @@ impl Pace {
     }
 
     /// Counts the faults of `state`, where none were counted yet.
-    pub(crate) fn count_once(&mut self, problem: &Problem, state: &State) {
+    pub(crate) fn count_once(
+        &mut self,
+        problem: &Problem,
+        state: &State,
+    ) -> Result<(), AllocError> {
         if self.least == u32::MAX {
-            self.least = faults(problem, state);
+            self.keep(state, faults(problem, state))?;
         }
+        Ok(())
+    }
+
+    /// Keeps `state`, which has that number of faults, where none before it had so few.
+    fn keep(&mut self, state: &State, faults: u32) -> Result<(), AllocError> {
+        if faults < self.least {
+            self.least = faults;
+            self.best.take(state)?;
+        }
+        Ok(())
     }
 
     /// Counts the faults of `state` before a sweep. Returns how the attempt ends, if it does.
-    pub(crate) fn count(&mut self, problem: &Problem, state: &State) -> Option<Ending> {
+    pub(crate) fn count(
+        &mut self,
+        problem: &Problem,
+        state: &State,
+    ) -> Result<Option<Ending>, AllocError> {
         let found = faults(problem, state);
-        self.least = self.least.min(found);
+        self.keep(state, found)?;
         if found < self.low {
             self.low = found;
             self.since = 0;
@@ -107,7 +133,7 @@ impl Pace {
         } else {
             self.since = self.since.saturating_add(1);
         }
-        self.ending(problem.nodes, found)
+        Ok(self.ending(problem.nodes, found))
     }
 
     /// Returns how an attempt on `nodes` nodes ends at `found` faults, if it does.

@@ -1,13 +1,15 @@
 //! The search for a mapping at an interval.
 ghost use Rattle.std.specs.Prelude.{◌≤◌, IfOk};
 ghost use Rattle.cg_model.specs.Limits.{most_moves};
-ghost use Rattle.cg_respond.specs.Responded.{IsResponded, IsLegalAt};
+ghost use Rattle.cg_respond.specs.Responded.{IsResponded, IsJudged};
 
 use crate::effort::Effort;
 use crate::mapping::mapping;
 use crate::pace::{Ending, Pace};
+use crate::snapshot::Snapshot;
 use crate::sweeps::attempt;
 use cg_check::{CheckVerdict, LegalMapping, check};
+use cg_model::Mapping;
 use cg_respond_prices::Wiring;
 use cg_respond_problem::Problem;
 use cg_respond_state::State;
@@ -19,8 +21,13 @@ use std::alloc::{AllocError, Global};
 pub enum Responded<'a> {
     /// At a legal mapping, after that number of best responses.
     Mapped(LegalMapping<'a>, u32),
-    /// With that number of faults left at the least, after all of them or given up.
-    Spent(u32),
+    /// With faults left, after all moves or given up.
+    Spent {
+        /// The least number of faults that a state had.
+        faults: u32,
+        /// The mapping of the first state with so few.
+        mapping: Mapping,
+    },
 }
 
 /// Searches a mapping of `task`, on the array of `wiring`, with that `effort`.
@@ -49,35 +56,53 @@ fn attempts<'a>(
     ensures { IfOk result (IsResponded task.now.arch task.now.kernel task.now.ii effort.moves) }
 {
     let mut state = State::new(alloc, problem)?;
-    let mut pace = Pace::new(effort);
+    let mut pace = Pace::new(alloc, problem, effort)?;
     for number in 0..effort.moves + 1 {
         let ending = attempt(alloc, problem, &mut state, &mut pace, number)?;
         if ending == Ending::Clean {
-            match checked(alloc, task, &state)? {
-                Some(legal) => return Ok(Responded::Mapped(legal, pace.made.min(effort.moves))),
-                None => pace.least = 1,
+            match checked(alloc, task, &pace.best)? {
+                CheckVerdict::Legal(legal) => {
+                    return Ok(Responded::Mapped(legal, pace.made.min(effort.moves)));
+                }
+                CheckVerdict::Illegal { .. } => pace.least = 1,
             }
         }
         if ending == Ending::Over {
             break;
         }
     }
-    Ok(Responded::Spent(pace.least.max(1)))
+    ended(alloc, task, &pace, effort)
 }
 
-/// Returns the mapping that `state` stands for, if it is legal.
+/// Returns how a search of that `effort` ends which is over, by its best state.
+fn ended<'a>(
+    alloc: Global,
+    task: &Task<'a>,
+    pace: &Pace,
+    effort: Effort,
+) -> Result<Responded<'a>, AllocError>
+    ensures { IfOk result (IsResponded task.now.arch task.now.kernel task.now.ii effort.moves) }
+{
+    match checked(alloc, task, &pace.best)? {
+        CheckVerdict::Legal(legal) => Ok(Responded::Mapped(legal, pace.made.min(effort.moves))),
+        CheckVerdict::Illegal { mapping, .. } => Ok(Responded::Spent {
+            faults: pace.least.max(1),
+            mapping,
+        }),
+    }
+}
+
+/// Checks whether the mapping that `snapshot` stands for is legal.
 fn checked<'a>(
     alloc: Global,
     task: &Task<'a>,
-    state: &State,
-) -> Result<Option<LegalMapping<'a>>, AllocError>
-    ensures { IfOk result (IsLegalAt task.now.arch task.now.kernel task.now.ii) }
+    snapshot: &Snapshot,
+) -> Result<CheckVerdict<'a>, AllocError>
+    ensures { IfOk result (IsJudged task.now.arch task.now.kernel task.now.ii) }
 {
     let arch = task.arch();
     let kernel = task.kernel();
-    let made = mapping(alloc, kernel, task.interval(), state)?;
-    match check(alloc, arch, kernel, made)? {
-        CheckVerdict::Legal(legal) => Ok(Some(legal)),
-        CheckVerdict::Illegal { .. } => Ok(None),
-    }
+    let made = mapping(alloc, kernel, task.interval(), snapshot)?;
+    let verdict = check(alloc, arch, kernel, made)?;
+    Ok(verdict)
 }

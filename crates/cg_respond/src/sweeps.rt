@@ -33,7 +33,7 @@ pub(crate) fn attempt(
     if open(alloc, problem, state, pace, number)? {
         make_sweeps(alloc, problem, state, pace)
     } else {
-        pace.count_once(problem, state);
+        pace.count_once(problem, state)?;
         Ok(Ending::Over)
     }
 }
@@ -67,7 +67,7 @@ fn make_sweeps(
 ) -> Result<Ending, AllocError> {
     pace.open();
     for sweep in 0..SWEEPS {
-        if let Some(ending) = pace.count(problem, state) {
+        if let Some(ending) = pace.count(problem, state)? {
             return Ok(ending);
         }
         make_sweep(alloc, problem, state, pace, sweep)?;

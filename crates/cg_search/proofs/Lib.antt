@@ -1,1 +1,3 @@
+pub mod Missed
 pub mod Answers
+pub mod Concluded

@@ -7,10 +7,12 @@ use Rattle.cg_task.specs.Intervals.{IsAsked, last_tried, IsFirst}
 use Rattle.cg_task.specs.declared.answering.FoundBy.TheVariants as found_by
 use Rattle.cg_respond.specs.declared.responding.Responded.{Responded}
 use Rattle.cg_respond.specs.declared.responding.Responded.TheVariants as responded
+use Rattle.cg_respond.specs.Responded.{IsMissed}
 use Rattle.cg_search.specs.declared.trying.Found.{Found as FoundMapping}
+use Rattle.cg_search.specs.declared.misses.Misses.{Misses}
 use Rattle.cg_search.specs.declared.trying.Outcome.{Outcome}
 use Rattle.cg_search.specs.declared.trying.Outcome.TheVariants.{Found, Left}
-use Rattle.cg_search.specs.Search.{IsFound}
+use Rattle.cg_search.specs.Search.{IsFound, AreMissed}
 
 -- an interval may be asked, nothing forbids the last one that is tried, and this is the first one
 pub record IsPosed (A : Arch) (K : Kernel) (asked : Option ℕ) (first : ℕ) : Type 0 where
@@ -18,17 +20,22 @@ pub record IsPosed (A : Arch) (K : Kernel) (asked : Option ℕ) (first : ℕ) : 
   pub free : IsOpen A K (last_tried A asked)
   pub is_first : IsFirst A K asked first
 
+-- some faults at each interval from the first one on, and at each a mapping that isn't legal
+pub record AreMisses (A : Arch) (K : Kernel) (first : ℕ) (left : Misses) : Type 0 where
+  pub some : All (λ n. 0 < n) left.faults.items
+  pub missed : AreMissed A K first (length left.faults.items) left.missed.items
+
 module _ (A : Arch) (K : Kernel) (asked : Option ℕ) (moves : ℕ) (first : ℕ) where
   -- a mapping is found at an interval that is tried, by no more moves than there are
   abbrev pub IsLegalFound : FoundMapping → Type 0
   IsLegalFound found = IsFound A K asked moves first found.mapping (found_by.Moves found.moves)
 
-  -- what comes of a search at one interval: such a mapping, or some faults
-  abbrev pub IsSearched : Responded → Type 0
-  IsSearched (responded.Mapped m count) = IsFound A K asked moves first m (found_by.Moves count)
-  IsSearched (responded.Spent faults) = 0 < faults
+  -- what comes of a search at one interval: such a mapping, or some faults and a mapping that isn't legal
+  abbrev pub IsSearched : ℕ → Responded → Type 0
+  IsSearched ii (responded.Mapped m count) = IsFound A K asked moves first m (found_by.Moves count)
+  IsSearched ii (responded.Spent faults M) = (0 < faults) × IsMissed A K ii M
 
-  -- what comes of searches at all of them: such a mapping, or some faults at each
+  -- what comes of searches at all of them: such a mapping, or those at each
   abbrev pub Comes : Outcome → Type 0
   Comes (Found found) = IsLegalFound found
-  Comes (Left left) = All (λ n. 0 < n) left.items × (first + length left.items ≡ last_tried A asked + 1)
+  Comes (Left left) = AreMisses A K first left × (first + length left.faults.items ≡ last_tried A asked + 1)

@@ -1,8 +1,8 @@
 -- What a search by best responses answers. How it finds a mapping is left to it: whatever it finds is legal.
-use Rattle.std.specs.Prelude.{◌≡◌, ℕ, ◌+◌, ◌<◌, ◌≤◌, List, length, All, Option}
+use Rattle.std.specs.Prelude.{◌≡◌, ℕ, ◌+◌, ◌<◌, ◌≤◌, List, [], ◌∷◌, length, All, Option}
 use Rattle.cg_model.specs.Kernel.{Kernel}
 use Rattle.cg_model.specs.Array.{Arch}
-use Rattle.cg_model.specs.Mapping.{IsLegal}
+use Rattle.cg_model.specs.Mapping.{Mapping, IsLegal}
 use Rattle.cg_check.specs.Legal.{Mapped as MappedValue}
 use Rattle.cg_hub.specs.Hub.{HubEnough, hub_map}
 use Rattle.cg_task.specs.Intervals.{last_tried}
@@ -11,6 +11,7 @@ use Rattle.cg_task.specs.declared.answering.FoundBy.{FoundBy}
 use Rattle.cg_task.specs.declared.answering.FoundBy.TheVariants.{Hub, Moves}
 use Rattle.cg_task.specs.declared.answering.Answer.{Answer}
 use Rattle.cg_task.specs.declared.answering.Answer.TheVariants.{Impossible, Mapped, Spent}
+use Rattle.cg_respond.specs.Responded.{IsMissed}
 
 module _ (A : Arch) (K : Kernel) (asked : Option ℕ) (moves : ℕ) where
   -- the hub suffices at no interval from the first one on that is less than this one
@@ -46,3 +47,20 @@ module _ (A : Arch) (K : Kernel) (asked : Option ℕ) (moves : ℕ) where
   -- why the last interval is impossible, where a recurrence or an overfull set forbids it; what comes of the intervals else
   abbrev pub IsAnswer : Answer → Type 0
   IsAnswer = answers.IsAnswer A K asked IsTried
+
+module _ (A : Arch) (K : Kernel) where
+  -- one mapping at each interval from that one on, in order: of the kernel's shape, and not legal
+  abbrev pub AreMissedFrom : ℕ → List Mapping → Type 0
+  AreMissedFrom ii [] = Unit {0}
+  AreMissedFrom ii (M ∷ missed) = IsMissed A K ii M × AreMissedFrom (ii + 1) missed
+
+  -- so many of them
+  pub record AreMissed (first count : ℕ) (missed : List Mapping) : Type 0 where
+    pub each : AreMissedFrom first missed
+    pub all : length missed ≡ count
+
+  -- one at each interval at which faults are left; none where the answer is another one
+  abbrev pub AreMissedBy : Answer → List Mapping → Type 0
+  AreMissedBy (Impossible certificate) missed = missed ≡ []
+  AreMissedBy (Mapped m found_by) missed = missed ≡ []
+  AreMissedBy (Spent first left) missed = AreMissed first (length left.items) missed

@@ -1,20 +1,33 @@
 //! The answer: why an interval is impossible, a mapping, or how many faults are left at each interval.
-ghost use Rattle.std.specs.Prelude.{◌≡◌, ◌+◌, ◌<◌, ◌≤◌, All, IfOk, length};
+ghost use Rattle.std.specs.Prelude.{◌≡◌, ◌+◌, ◌≤◌, [], IfOk, length};
 ghost use Rattle.cg_model.specs.Limits.{most_moves};
 ghost use Rattle.cg_bound.specs.Bound.{IsOpen};
 ghost use Rattle.cg_task.specs.Intervals as spec;
 ghost use Rattle.cg_task.specs.Intervals.{IsAsked, IsFirst};
-ghost use Rattle.cg_search.specs.Search.{IsAnswer, IsTried};
+ghost use Rattle.cg_search.specs.Course.{AreMisses};
+ghost use Rattle.cg_search.specs.Search.{IsAnswer, IsTried, AreMissedBy};
+ghost use Rattle.cg_task.specs.declared.answering.Answer.TheVariants as answer;
 
 use crate::course::outcome;
+use crate::misses::Misses;
 use crate::trying::{Call, Outcome};
 use cg_arch::Arch;
-use cg_bound::{IntervalVerdict, verdict};
+use cg_bound::{Certificate, IntervalVerdict, verdict};
 use cg_hub::{hub_enough, hub_mapping};
-use cg_model::{Kernel, Request};
+use cg_model::{Kernel, Mapping, Request};
 use cg_respond::Wiring;
 use cg_task::{Answer, FoundBy, first_tried, last_tried};
 use std::alloc::{AllocError, Global};
+
+/// An answer, with what was met on the way to it.
+#[derive(Drop)]
+pub struct Conclusion<'a> {
+    /// The answer.
+    pub answer: Answer<'a>,
+    /// Where that is how many faults are left at each interval, the mappings with so few: one an interval, in order. None
+    /// of them is legal. Empty for each other answer.
+    pub missed: Vec<Mapping>,
+}
 
 /// Searches a mapping of `kernel` on `arch`, at the interval that `request` asks for, or at those from the least one
 /// that nothing forbids to as many cycles as the architecture has contexts; and then over the hub.
@@ -23,17 +36,29 @@ pub fn search_answer<'a>(
     arch: &'a Arch,
     kernel: &'a Kernel,
     request: Request,
-) -> Result<Answer<'a>, AllocError>
+) -> Result<Conclusion<'a>, AllocError>
     requires within { IsAsked arch.now request.ii }
     requires few { request.moves ≤ most_moves }
-    ensures { IfOk result (IsAnswer arch.now kernel.now request.ii request.moves) }
+    ensures answer { IfOk result (λ c. IsAnswer arch.now kernel.now request.ii request.moves c.answer) }
+    ensures missed { IfOk result (λ c. AreMissedBy arch.now kernel.now c.answer c.missed.items) }
 {
     match verdict(alloc, arch, kernel, last_tried(arch, request.ii))? {
-        IntervalVerdict::Impossible(certificate) => Ok(Answer::Impossible(certificate)),
+        IntervalVerdict::Impossible(certificate) => Ok(impossible(alloc, certificate)),
         IntervalVerdict::Allowed => {
             let first = first_tried(alloc, arch, kernel, request.ii)?;
             searched(alloc, arch, kernel, first, request)
         }
+    }
+}
+
+/// Returns the conclusion that the last interval is impossible, as `certificate` shows.
+fn impossible<'a>(alloc: Global, certificate: Certificate) -> Conclusion<'a>
+    ensures answer { result.answer ≡ answer.Impossible certificate }
+    ensures missed { result.missed.items ≡ [] }
+{
+    Conclusion {
+        answer: Answer::Impossible(certificate),
+        missed: Vec::new(alloc),
     }
 }
 
@@ -44,12 +69,13 @@ fn searched<'a>(
     kernel: &'a Kernel,
     first: u32,
     request: Request,
-) -> Result<Answer<'a>, AllocError>
+) -> Result<Conclusion<'a>, AllocError>
     requires within { IsAsked arch.now request.ii }
     requires few { request.moves ≤ most_moves }
     requires first { IsFirst arch.now kernel.now request.ii first }
     requires free { IsOpen arch.now kernel.now (spec.last_tried arch.now request.ii) }
-    ensures { IfOk result (IsTried arch.now kernel.now request.ii request.moves first) }
+    ensures tried { IfOk result (λ c. IsTried arch.now kernel.now request.ii request.moves first c.answer) }
+    ensures missed { IfOk result (λ c. AreMissedBy arch.now kernel.now c.answer c.missed.items) }
 {
     let wiring = Wiring::new(alloc, arch)?;
     let call = Call {
@@ -60,35 +86,49 @@ fn searched<'a>(
         first,
     };
     match outcome(alloc, &call)? {
-        Outcome::Found(found) => Ok(Answer::Mapped(found.mapping, FoundBy::Moves(found.moves))),
+        Outcome::Found(found) => Ok(Conclusion {
+            answer: Answer::Mapped(found.mapping, FoundBy::Moves(found.moves)),
+            missed: Vec::new(alloc),
+        }),
         Outcome::Left(left) => over_hub(alloc, arch, kernel, first, request, left),
     }
 }
 
-/// Takes the hub's mapping of the first interval where it suffices, where there is one. `left` are the faults that the
-/// search left.
+/// Takes the hub's mapping of the first interval where it suffices, where there is one. `left` is what the search
+/// left.
 fn over_hub<'a>(
     alloc: Global,
     arch: &'a Arch,
     kernel: &'a Kernel,
     first: u32,
     request: Request,
-    left: Vec<u64>,
-) -> Result<Answer<'a>, AllocError>
+    left: Misses,
+) -> Result<Conclusion<'a>, AllocError>
     requires within { IsAsked arch.now request.ii }
     requires first { IsFirst arch.now kernel.now request.ii first }
     requires free { IsOpen arch.now kernel.now (spec.last_tried arch.now request.ii) }
-    requires each { All (λ n. 0 < n) left.items }
-    requires all { first + length left.items ≡ spec.last_tried arch.now request.ii + 1 }
-    ensures { IfOk result (IsTried arch.now kernel.now request.ii request.moves first) }
+    requires misses { AreMisses arch.now kernel.now first left }
+    requires all { first + length left.faults.items ≡ spec.last_tried arch.now request.ii + 1 }
+    ensures tried { IfOk result (λ c. IsTried arch.now kernel.now request.ii request.moves first c.answer) }
+    ensures missed { IfOk result (λ c. AreMissedBy arch.now kernel.now c.answer c.missed.items) }
 {
     arch.contexts();
     for ii in first..last_tried(arch, request.ii) + 1 {
         if hub_enough(arch, kernel, ii) {
             let mapping = hub_mapping(alloc, arch, kernel, ii)?;
             mapping.mapping();
-            return Ok(Answer::Mapped(mapping, FoundBy::Hub));
+            return Ok(Conclusion {
+                answer: Answer::Mapped(mapping, FoundBy::Hub),
+                missed: Vec::new(alloc),
+            });
         }
     }
-    Ok(Answer::Spent { first, left })
+    let Misses { faults, missed } = left;
+    Ok(Conclusion {
+        answer: Answer::Spent {
+            first,
+            left: faults,
+        },
+        missed,
+    })
 }

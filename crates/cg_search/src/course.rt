@@ -1,10 +1,11 @@
 //! The order of the searches of a call.
-ghost use Rattle.std.specs.Prelude.{◌≡◌, ◌+◌, ◌<◌, ◌≤◌, All, IfOk, Some, length};
+ghost use Rattle.std.specs.Prelude.{◌≡◌, ◌+◌, ◌≤◌, IfOk, length};
 ghost use Rattle.cg_model.specs.Limits.{most_moves};
 ghost use Rattle.cg_task.specs.Intervals.{last_tried};
-ghost use Rattle.cg_search.specs.Course.{IsPosed, Comes};
+ghost use Rattle.cg_search.specs.Course.{IsPosed, AreMisses, Comes};
 
 use crate::lowering::lowered;
+use crate::misses::{Misses, add, nothing};
 use crate::probing::probed;
 use crate::retrying::{Retried, tried_again};
 use crate::trying::{Call, Found, Outcome, searched_long};
@@ -36,25 +37,25 @@ fn asked<'a>(alloc: Global, call: &Call<'a, '_>) -> Result<Outcome<'a>, AllocErr
 {
     match searched_long(alloc, call, call.first)? {
         Responded::Mapped(mapping, moves) => Ok(Outcome::Found(Found { mapping, moves })),
-        Responded::Spent(faults) => {
-            let mut left = Vec::new(alloc);
-            left.push(u64::from(faults))?;
+        Responded::Spent { faults, mapping } => {
+            let mut left = nothing(alloc, call);
+            add(call, &mut left, faults, mapping)?;
             Ok(Outcome::Left(left))
         }
     }
 }
 
-/// Makes long searches at the intervals of `call` that are nearest to a mapping, where the probes left these faults, and
-/// then downwards from the first at which one finds a mapping.
+/// Makes long searches at the intervals of `call` that are nearest to a mapping, where the probes left `left`, and then
+/// downwards from the first at which one finds a mapping.
 fn from_nearest<'a>(
     alloc: Global,
     call: &Call<'a, '_>,
-    left: Vec<u64>,
+    left: Misses,
 ) -> Result<Outcome<'a>, AllocError>
     requires posed { IsPosed call.now.arch.now call.now.kernel.now call.now.request.ii call.now.first }
     requires few { call.now.request.moves ≤ most_moves }
-    requires each { All (λ n. 0 < n) left.items }
-    requires all { call.now.first + length left.items ≡ last_tried call.now.arch.now call.now.request.ii + 1 }
+    requires misses { AreMisses call.now.arch.now call.now.kernel.now call.now.first left }
+    requires all { call.now.first + length left.faults.items ≡ last_tried call.now.arch.now call.now.request.ii + 1 }
     ensures { IfOk result (Comes call.now.arch.now call.now.kernel.now call.now.request.ii call.now.request.moves call.now.first) }
 {
     let Retried { outcome, failed } = tried_again(alloc, call, left)?;

@@ -1,13 +1,14 @@
 //! What a search by best responses answers: the intervals that are tried, in which order and how long each, and what
-//! comes of them.
+//! comes of them: a mapping, or at each the best one that was met.
 #![tactic(auto)]
 
 mod answering;
 mod course;
 mod lowering;
+mod misses;
 mod plan;
 mod probing;
 mod retrying;
 mod trying;
 
-pub use answering::search_answer;
+pub use answering::{Conclusion, search_answer};

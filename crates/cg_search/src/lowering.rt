@@ -52,6 +52,6 @@ fn lower<'a>(
     }
     match searched_long(alloc, call, ii)? {
         Responded::Mapped(mapping, moves) => Ok(Some(Found { mapping, moves })),
-        Responded::Spent(_) => Ok(None),
+        Responded::Spent { .. } => Ok(None),
     }
 }

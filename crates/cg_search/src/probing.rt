@@ -3,6 +3,7 @@ ghost use Rattle.std.specs.Prelude.{◌≤◌, IfOk};
 ghost use Rattle.cg_model.specs.Limits.{most_moves};
 ghost use Rattle.cg_search.specs.Course.{IsPosed, Comes};
 
+use crate::misses::{add, nothing};
 use crate::plan::probe;
 use crate::trying::{Call, Found, Outcome, searched_at};
 use cg_respond::Responded;
@@ -16,13 +17,13 @@ pub(crate) fn probed<'a>(alloc: Global, call: &Call<'a, '_>) -> Result<Outcome<'
     ensures { IfOk result (Comes call.now.arch.now call.now.kernel.now call.now.request.ii call.now.request.moves call.now.first) }
 {
     call.arch.contexts();
-    let mut left = Vec::new(alloc);
+    let mut left = nothing(alloc, call);
     for ii in call.first..last_tried(call.arch, call.request.ii) + 1 {
         match searched_at(alloc, call, ii, probe(call.request, ii))? {
             Responded::Mapped(mapping, moves) => {
                 return Ok(Outcome::Found(Found { mapping, moves }));
             }
-            Responded::Spent(faults) => left.push(u64::from(faults))?,
+            Responded::Spent { faults, mapping } => add(call, &mut left, faults, mapping)?,
         }
     }
     Ok(Outcome::Left(left))

@@ -1,9 +1,10 @@
 //! Long searches at the intervals nearest to a mapping.
-ghost use Rattle.std.specs.Prelude.{◌≡◌, ◌+◌, ◌<◌, ◌≤◌, ◌^◌, All, IfOk, IfSome, length};
+ghost use Rattle.std.specs.Prelude.{◌≡◌, ◌+◌, ◌<◌, ◌≤◌, ◌^◌, IfOk, IfSome, length};
 ghost use Rattle.cg_model.specs.Limits.{most_moves};
 ghost use Rattle.cg_task.specs.Intervals.{last_tried};
-ghost use Rattle.cg_search.specs.Course.{IsPosed, Comes};
+ghost use Rattle.cg_search.specs.Course.{IsPosed, AreMisses, Comes};
 
+use crate::misses::{Misses, lessen};
 use crate::trying::{Call, Found, Outcome, searched_long};
 use cg_respond::Responded;
 use std::alloc::{AllocError, Global};
@@ -21,23 +22,23 @@ pub(crate) struct Retried<'a> {
 }
 
 /// Makes long searches at the intervals of `call` at which the least faults are left, one after the other, until one
-/// finds a mapping. `left` are the faults that the probes left at each.
+/// finds a mapping. `left` is what the probes left at each.
 pub(crate) fn tried_again<'a>(
     alloc: Global,
     call: &Call<'a, '_>,
-    left: Vec<u64>,
+    left: Misses,
 ) -> Result<Retried<'a>, AllocError>
     requires posed { IsPosed call.now.arch.now call.now.kernel.now call.now.request.ii call.now.first }
     requires few { call.now.request.moves ≤ most_moves }
-    requires each { All (λ n. 0 < n) left.items }
-    requires all { call.now.first + length left.items ≡ last_tried call.now.arch.now call.now.request.ii + 1 }
+    requires misses { AreMisses call.now.arch.now call.now.kernel.now call.now.first left }
+    requires all { call.now.first + length left.faults.items ≡ last_tried call.now.arch.now call.now.request.ii + 1 }
     ensures { IfOk result (λ r. Comes call.now.arch.now call.now.kernel.now call.now.request.ii call.now.request.moves call.now.first r.outcome) }
 {
     call.arch.contexts();
     let mut left = left;
     let mut failed = Vec::new(alloc);
     for _number in 0..NEAREST {
-        let Some(at) = nearest(call.first, left.as_slice(), failed.as_slice()) else {
+        let Some(at) = nearest(call.first, left.faults.as_slice(), failed.as_slice()) else {
             break;
         };
         let ii = call.first + at as u32;
@@ -46,8 +47,8 @@ pub(crate) fn tried_again<'a>(
                 let outcome = Outcome::Found(Found { mapping, moves });
                 return Ok(Retried { outcome, failed });
             }
-            Responded::Spent(faults) => {
-                lessen(left.as_mut_slice(), at, u64::from(faults));
+            Responded::Spent { faults, mapping } => {
+                lessen(call, &mut left, at, faults, mapping);
                 failed.push(ii)?;
             }
         }
@@ -71,16 +72,4 @@ fn nearest(first: u32, left: &[u64], failed: &[u32]) -> Option<usize>
         }
     }
     nearest
-}
-
-/// Lets the number at `at` of `left` be at most `faults`.
-fn lessen(left: &mut [u64], at: usize, faults: u64)
-    requires at { at < length left.old }
-    requires some { 0 < faults }
-    requires each { All (λ n. 0 < n) left.old }
-    ensures { All (λ n. 0 < n) left.new }
-{
-    if faults < left[at] {
-        left[at] = faults;
-    }
 }

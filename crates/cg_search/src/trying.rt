@@ -4,6 +4,7 @@ ghost use Rattle.cg_model.specs.Limits.{most_moves};
 ghost use Rattle.cg_task.specs.Intervals.{last_tried};
 ghost use Rattle.cg_search.specs.Course.{IsPosed, IsSearched};
 
+use crate::misses::Misses;
 use crate::plan::long;
 use cg_arch::Arch;
 use cg_model::{Kernel, Request};
@@ -40,8 +41,8 @@ pub(crate) struct Found<'a> {
 pub(crate) enum Outcome<'a> {
     /// A mapping.
     Found(Found<'a>),
-    /// None: the least faults that were left at each, from the first one on.
-    Left(Vec<u64>),
+    /// None: what is left at each, from the first one on.
+    Left(Misses),
 }
 
 /// Makes a long search at the interval `ii` of `call`.
@@ -54,7 +55,7 @@ pub(crate) fn searched_long<'a>(
     requires few { call.now.request.moves ≤ most_moves }
     requires from { call.now.first ≤ ii }
     requires to { ii ≤ last_tried call.now.arch.now call.now.request.ii }
-    ensures { IfOk result (IsSearched call.now.arch.now call.now.kernel.now call.now.request.ii call.now.request.moves call.now.first) }
+    ensures { IfOk result (IsSearched call.now.arch.now call.now.kernel.now call.now.request.ii call.now.request.moves call.now.first ii) }
 {
     searched_at(
         alloc,
@@ -76,7 +77,7 @@ pub(crate) fn searched_at<'a>(
     requires from { call.now.first ≤ ii }
     requires to { ii ≤ last_tried call.now.arch.now call.now.request.ii }
     requires within { effort.moves ≤ call.now.request.moves }
-    ensures { IfOk result (IsSearched call.now.arch.now call.now.kernel.now call.now.request.ii call.now.request.moves call.now.first) }
+    ensures { IfOk result (IsSearched call.now.arch.now call.now.kernel.now call.now.request.ii call.now.request.moves call.now.first ii) }
 {
     call.arch.contexts();
     let task = Task::new(alloc, call.arch, call.kernel, ii)?;

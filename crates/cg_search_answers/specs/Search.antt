@@ -1,24 +1,55 @@
 -- `search ARCH KERNEL OUT [--ii N] [--seed N] [--moves N] [--mapping FILE]`.
-use Rattle.std.specs.Prelude.{◌≡◌, ◌⊎◌, ℕ, false, List, codes}
+use Rattle.std.specs.Prelude.{◌≡◌, ◌⊎◌, ℕ, ◌+◌, false, List, [], ◌∷◌, ◌++◌, length, codes}
 use Rattle.cg_ending.specs.declared.outcome.Status.{Status}
 use Rattle.cg_ending.specs.declared.outcome.Status.TheVariants as status
-use Rattle.cg_ending.specs.Outcome.{Name, File, Outcome}
+use Rattle.cg_ending.specs.Outcome.{Name, Bytes, File, Outcome}
 use Rattle.cg_ending.specs.Ends.{Moment}
+use Rattle.cg_ending.specs.Refusals.{reports}
+use Rattle.cg_model.specs.Mapping.{Mapping}
 use Rattle.cg_check.specs.Legal.{Mapped}
+use Rattle.cg_violations.specs.Faults.{fault_lines}
 use Rattle.cg_hub.specs.Hub.{HubEnough}
 use Rattle.cg_task.specs.declared.answering.FoundBy.{FoundBy}
 use Rattle.cg_task.specs.declared.answering.Answer.{Answer}
 use Rattle.cg_task.specs.Intervals.{last_tried, IsFirst}
-use Rattle.cg_search.specs.Search.{IsFound, AreAllFaulty, IsAnswer}
+use Rattle.cg_search.specs.Search.{IsFound, AreAllFaulty, AreMissed, IsAnswer}
 use Rattle.cg_model.specs.declared.request.Request.{Request}
 use Rattle.cg_inputs.specs.Sources.{Pair, GivesPair}
 use Rattle.cg_task_answers.specs.Searches.{IsSearchOver, is_above}
-use Rattle.cg_task_answers.specs.Answered.{Words, IsAnswered}
+use Rattle.cg_task_answers.specs.Answered.{IsAnswered, left_line}
 use Rattle.cg_task_answers.specs.Runs.{IsFoundRun, IsLeftRun}
 
--- its words: it finds mappings by the search, and leaves faults
-abbrev pub words : Words
-words = record { by = codes "search"; left = codes "faults" }
+-- it finds mappings by the search
+abbrev pub word : Bytes
+word = codes "search"
+
+-- ---- the report of faults
+
+-- the lines of what is wrong in a mapping: as many at the most
+abbrev pub most_lines : ℕ
+most_lines = 8
+
+-- the faults that are left at an interval, and what is wrong in the mapping that was met with so few
+abbrev pub interval_report : Pair → ℕ → ℕ → Mapping → Bytes
+interval_report p ii n M = left_line (codes "faults") ii n ++ fault_lines p.arch p.kernel M most_lines
+
+-- so at each interval, from that one on
+abbrev pub faults_report : Pair → ℕ → List ℕ → List Mapping → Bytes
+faults_report p ii [] missed = []
+faults_report p ii (n ∷ faults) [] = []
+faults_report p ii (n ∷ faults) (M ∷ missed) = interval_report p ii n M ++ faults_report p (ii + 1) faults missed
+
+-- the report of these faults, by mappings that were met
+abbrev pub IsFaultsReport : Pair → ℕ → List ℕ → Bytes → Type 0
+IsFaultsReport p first faults report =
+    (missed : List Mapping) × AreMissed p.arch p.kernel first (length faults) missed × (report ≡ faults_report p first faults missed)
+
+-- ---- outcomes
+
+-- nothing was found, and these faults are reported
+abbrev pub IsFaultsOutcome : Pair → ℕ → List ℕ → Outcome → Type 0
+IsFaultsOutcome p first faults o =
+    (report : Bytes) × IsFaultsReport p first faults report × (o ≡ reports status.BudgetSpent report)
 
 -- an answer of the search for a pair
 abbrev pub IsAnswerOf : Request → Pair → Answer → Type 0
@@ -26,7 +57,7 @@ IsAnswerOf s p a = IsAnswer p.arch p.kernel s.ii s.moves a
 
 -- the search has an answer; which mapping it finds, and whether it finds one, is left open
 abbrev pub IsSearched : Request → List Name → Pair → Outcome → Type 0
-IsSearched s outs p o = IsAnswered words s outs p (IsAnswerOf s p) o
+IsSearched s outs p o = IsAnswered word IsFaultsReport s outs p (IsAnswerOf s p) o
 
 -- by what the files give
 abbrev pub IsSearch : Request → File → File → List Name → Outcome → Type 0
@@ -59,12 +90,12 @@ pub record IsFoundWithin (s : Request) (p : Pair) (m : Mapped) (found_by : Found
 
 -- Done: such a mapping
 abbrev pub IsSearchRun : Request → Name → Name → List Name → Moment → Moment → Type 0
-IsSearchRun s arch kernel outs before after = IsFoundRun words.by (IsFoundWithin s) s arch kernel outs before after
+IsSearchRun s arch kernel outs before after = IsFoundRun word (IsFoundWithin s) s arch kernel outs before after
 
 -- these faults are left
 abbrev pub AreFaults : Request → Pair → ℕ → List ℕ → Type 0
 AreFaults s p first faults = AreAllFaulty p.arch p.kernel s.ii s.moves first faults
 
--- BudgetSpent: those faults
+-- BudgetSpent: those faults, reported
 abbrev pub IsSearchSpentRun : Request → Name → Name → Moment → Moment → Type 0
-IsSearchSpentRun s arch kernel before after = IsLeftRun words.left (AreFaults s) s arch kernel before after
+IsSearchSpentRun s arch kernel before after = IsLeftRun IsFaultsReport (AreFaults s) s arch kernel before after

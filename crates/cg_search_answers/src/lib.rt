@@ -1,6 +1,7 @@
 //! What the command `search` answers: from the bytes of its input files to an outcome.
 #![tactic(auto)]
 
+mod reporting;
 mod searching;
 
 pub use searching::search;

@@ -6,13 +6,14 @@ ghost use Rattle.cg_model.specs.Request.{IsInRange};
 ghost use Rattle.cg_search_answers.specs.Search.{IsSearch, IsSearched};
 ghost use Rattle.cg_task_answers.specs.Searches.{IsWithin, is_above};
 
+use crate::reporting::faults_left;
 use cg_arch::Arch;
 use cg_ending::{File, Outcome, Stop};
 use cg_inputs::{arch_in, kernel_in};
 use cg_model::{Kernel, Request};
-use cg_search::search_answer;
+use cg_search::{Conclusion, search_answer};
 use cg_task::Answer;
-use cg_task_answers::{above, asks_above, found, impossible, spent};
+use cg_task_answers::{above, asks_above, found, impossible};
 use std::alloc::{AllocError, Global};
 
 /// Searches a mapping, by best responses, of the kernel that the file `kernel` gives on the architecture that `arch`
@@ -52,9 +53,10 @@ fn searched(
         return above(alloc, name, arch);
     }
     let _valid_arch = arch.units();
-    match search_answer(alloc, arch, kernel, request)? {
+    let Conclusion { answer, missed } = search_answer(alloc, arch, kernel, request)?;
+    match answer {
         Answer::Impossible(certificate) => impossible(alloc, request, arch, kernel, &certificate),
         Answer::Mapped(mapping, found_by) => found(alloc, "search", &mapping, found_by, outputs),
-        Answer::Spent { first, left } => spent(alloc, "faults", first, left.as_slice()),
+        Answer::Spent { first, left } => faults_left(alloc, arch, kernel, first, left, missed),
     }
 }

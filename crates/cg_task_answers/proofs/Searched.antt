@@ -25,7 +25,7 @@ use Rattle.cg_model.specs.declared.request.Request.{Request}
 use Rattle.cg_model.specs.Request.{IsInRange}
 use Rattle.cg_inputs.specs.Sources.{Pair, GivesPair}
 use Rattle.cg_task_answers.specs.Searches.{IsSearchOver, IsWritten, IsForbiddenInput, IsImpossibleRun, is_above, map_writes, impossible_report}
-use Rattle.cg_task_answers.specs.Answered.{Words, IsOutcomeOf, IsAnswered, found_report, left_report}
+use Rattle.cg_task_answers.specs.Answered.{IsOutcomeOf, IsAnswered, found_report}
 use Rattle.cg_task_answers.specs.Runs.{RunsOfPair, FirstRuns, IsFoundRun, IsLeftRun}
 use Rattle.cg_inputs.proofs.Sound.{IsSound, searching, IsNamed}
 use Rattle.cg_inputs.proofs.Wholes.{whole}
@@ -34,9 +34,15 @@ use Rattle.cg_mapping_answers.proofs.Bitstream.{runs, some_run}
 use Rattle.cg_task_answers.proofs.Left.{held_writes, hold_pair, put_of, kept_of, quiet_of, left_impossible}
 use Rattle.cg_task_answers.proofs.Over.{asked, sound_over, named_over, given_over, some_over, left_over, made_over}
 
+-- where an answer is that something is left, there is a report of it
+abbrev pub HasReport : (Pair → ℕ → List ℕ → Bytes → Type 0) → Pair → Answer → Type 0
+HasReport Report p (answer.Impossible c) = Unit {0}
+HasReport Report p (answer.Mapped m found_by) = Unit {0}
+HasReport Report p (answer.Spent first left) = (report : Bytes) × Report p first left.items report
+
 -- what is known of a search: why an interval is impossible, what holds of the mappings that it finds and of what it leaves, and
 -- that it has an answer, which is a mapping where the hub suffices
-pub record IsSearcher (Answers : Request → Pair → Answer → Type 0) (Found : Request → Pair → Mapped → FoundBy → Type 0) (Left : Request → Pair → ℕ → List ℕ → Type 0) : Type 0 where
+pub record IsSearcher (Report : Pair → ℕ → List ℕ → Bytes → Type 0) (Answers : Request → Pair → Answer → Type 0) (Found : Request → Pair → Mapped → FoundBy → Type 0) (Left : Request → Pair → ℕ → List ℕ → Type 0) : Type 0 where
   pub shown : (s : Request) (p : Pair) (c : Certificate) → Answers s p (answer.Impossible c) → Shows p.arch p.kernel (last_tried p.arch s.ii) c
   pub free : (s : Request) (p : Pair) (m : Mapped) (found_by : FoundBy) → Answers s p (answer.Mapped m found_by) → IsOpen p.arch p.kernel (last_tried p.arch s.ii)
   pub legal : (s : Request) (p : Pair) (m : Mapped) (found_by : FoundBy) → IsArch p.arch → IsKernel p.kernel → IsAsked p.arch s.ii → Answers s p (answer.Mapped m found_by)
@@ -46,7 +52,7 @@ pub record IsSearcher (Answers : Request → Pair → Answer → Type 0) (Found 
   pub left : (s : Request) (p : Pair) (first : ℕ) (left : Vec ℕ) → Answers s p (answer.Spent first left) → Left s p first left.items
   pub all : (s : Request) (p : Pair) (first : ℕ) (left : List ℕ) → Left s p first left → first + length left ≡ last_tried p.arch s.ii + 1
   pub by_hub : (s : Request) (p : Pair) → IsArch p.arch → IsKernel p.kernel → IsAsked p.arch s.ii → HubEnough p.arch p.kernel (last_tried p.arch s.ii) → (a : Answer) → Answers s p a → IsMapping a
-  pub some : (s : Request) (p : Pair) → IsArch p.arch → IsKernel p.kernel → IsAsked p.arch s.ii → (a : Answer) × Answers s p a
+  pub some : (s : Request) (p : Pair) → IsArch p.arch → IsKernel p.kernel → IsAsked p.arch s.ii → (a : Answer) × Answers s p a × HasReport Report p a
 
 -- ---- status and writes
 
@@ -63,28 +69,28 @@ named_writes (out ∷ file ∷ other ∷ outs) m bytes = inr refl
 named_as : (outs : List Name) (m : Mapped) (bytes : Bytes) (o : Outcome) → o.writes ≡ map_writes outs m bytes → IsNamed outs o
 named_as outs m bytes o e = ⊎_elim (λ n. inl (ap names_of e ∙ n)) (λ n. inr (e ∙ n)) (named_writes outs m bytes)
 
-module _ (W : Words) (Answers : Request → Pair → Answer → Type 0) where
+module _ (word : Bytes) (Report : Pair → ℕ → List ℕ → Bytes → Type 0) (Answers : Request → Pair → Answer → Type 0) where
   -- what is defined of a pair
   abbrev pub Defines : Request → List Name → Pair → Outcome → Type 0
-  Defines s outs p o = IsAnswered W s outs p (Answers s p) o
+  Defines s outs p o = IsAnswered word Report s outs p (Answers s p) o
 
   -- and of two files
   abbrev pub IsOver : Request → File → File → List Name → Outcome → Type 0
   IsOver s arch kernel outs o = IsSearchOver (Defines s outs) s arch kernel o
 
   module _ (s : Request) (outs : List Name) where
-    sound_of : (p : Pair) (a : Answer) (o : Outcome) → IsOutcomeOf W s outs p a o → IsSound searching o
+    sound_of : (p : Pair) (a : Answer) (o : Outcome) → IsOutcomeOf word Report s outs p a o → IsSound searching o
     sound_of p (answer.Impossible c) o e = subst (IsSound searching) (sym e) (record { own = refl; quiet = λ h. refl })
     sound_of p (answer.Mapped m found_by) o w = subst (IsSound searching) (sym w.outcome) (record { own = refl; quiet = λ h. cc })
-    sound_of p (answer.Spent first left) o e = subst (IsSound searching) (sym e) (record { own = refl; quiet = λ h. refl })
+    sound_of p (answer.Spent first left) o e = subst (IsSound searching) (sym e.2) (record { own = refl; quiet = λ h. refl })
 
     pub sound : (arch kernel : File) (o : Outcome) → IsOver s arch kernel outs o → IsSound searching o
     sound arch kernel o e = sound_over (Defines s outs) s arch kernel (λ p o f. sound_of p f.answer o f.outcome) o e
 
-    named_of : (p : Pair) (a : Answer) (o : Outcome) → IsOutcomeOf W s outs p a o → IsNamed outs o
+    named_of : (p : Pair) (a : Answer) (o : Outcome) → IsOutcomeOf word Report s outs p a o → IsNamed outs o
     named_of p (answer.Impossible c) o e = inr (ap (λ x. x.writes) e)
     named_of p (answer.Mapped m found_by) o w = named_as outs m w.bytes o (ap (λ x. x.writes) w.outcome)
-    named_of p (answer.Spent first left) o e = inr (ap (λ x. x.writes) e)
+    named_of p (answer.Spent first left) o e = inr (ap (λ x. x.writes) e.2)
 
     pub named : (arch kernel : File) (o : Outcome) → IsOver s arch kernel outs o → IsNamed outs o
     named arch kernel o e = named_over (Defines s outs) s arch kernel outs (λ p o f. named_of p f.answer o f.outcome) o e
@@ -98,12 +104,12 @@ module _ (W : Words) (Answers : Request → Pair → Answer → Type 0) where
       none (f ∷ fs) n = absurd (cc)
 
   -- the status of an answer that is a mapping
-  pub mapped_done : (s : Request) (outs : List Name) (p : Pair) (a : Answer) (o : Outcome) → IsMapping a → IsOutcomeOf W s outs p a o → o.status ≡ Done
+  pub mapped_done : (s : Request) (outs : List Name) (p : Pair) (a : Answer) (o : Outcome) → IsMapping a → IsOutcomeOf word Report s outs p a o → o.status ≡ Done
   mapped_done s outs p (answer.Mapped n by) o e f = ap (λ z. z.status) f.outcome
   mapped_done s outs p (answer.Impossible c) o e f = absurd e
   mapped_done s outs p (answer.Spent first left) o e f = absurd e
 
-  module _ (Found : Request → Pair → Mapped → FoundBy → Type 0) (Left : Request → Pair → ℕ → List ℕ → Type 0) (is_searcher : IsSearcher Answers Found Left) where
+  module _ (Found : Request → Pair → Mapped → FoundBy → Type 0) (Left : Request → Pair → ℕ → List ℕ → Type 0) (is_searcher : IsSearcher Report Answers Found Left) where
     -- little is left
     pub spent_few : (s : Request) (p : Pair) (first : ℕ) (left : Vec ℕ) → IsArch p.arch → IsInRange s → is_above s.ii p.arch ≡ false → Answers s p (answer.Spent first left) → first + length left.items < 2 ^ 32
     spent_few s p first left arch range within found =
@@ -114,22 +120,22 @@ module _ (W : Words) (Answers : Request → Pair → Answer → Type 0) where
 
     -- ---- what there is
 
-    some_of : (s : Request) (outs : List Name) (p : Pair) → IsArch p.arch → IsKernel p.kernel → IsAsked p.arch s.ii → (a : Answer) → Answers s p a → (o : Outcome) × IsOutcomeOf W s outs p a o
-    some_of s outs p valid good is (answer.Impossible c) found = (reports Impossible (impossible_report p s c), refl)
-    some_of s outs p valid good is (answer.Spent first left) found = (reports BudgetSpent (left_report W.left first left.items), refl)
-    some_of s outs p valid good is (answer.Mapped m found_by) found =
+    some_of : (s : Request) (outs : List Name) (p : Pair) → IsArch p.arch → IsKernel p.kernel → IsAsked p.arch s.ii → (a : Answer) → Answers s p a → HasReport Report p a → (o : Outcome) × IsOutcomeOf word Report s outs p a o
+    some_of s outs p valid good is (answer.Impossible c) found has = (reports Impossible (impossible_report p s c), refl)
+    some_of s outs p valid good is (answer.Spent first left) found has = (reports BudgetSpent has.0, (has.0, has.1, refl))
+    some_of s outs p valid good is (answer.Mapped m found_by) found has =
         let (one, two, ok) = is_searcher.legal s p m found_by valid good is found in
         let fine : IsKernel m.kernel = subst IsKernel (sym two) good in
         let here : IsLegal m.arch m.kernel m.mapping = rw (one, two) ok in
         let (bytes, spelled) = some_run m fine here.shape here in
-        (record { status = Done; report = found_report W.by m found_by; writes = map_writes outs m bytes }, record { bytes = bytes; spelled = spelled; outcome = refl })
+        (record { status = Done; report = found_report word m found_by; writes = map_writes outs m bytes }, record { bytes = bytes; spelled = spelled; outcome = refl })
 
     pub some_outcome : (s : Request) (arch kernel : File) (outs : List Name) → IsInRange s → (o : Outcome) × IsOver s arch kernel outs o
     some_outcome s arch kernel outs range =
         some_over (Defines s outs) s arch kernel
         (λ p valid good is.
-        let (a, found) = is_searcher.some s p valid good is in
-        let (o, f) = some_of s outs p valid good is a found in
+        let (a, found, has) = is_searcher.some s p valid good is in
+        let (o, f) = some_of s outs p valid good is a found has in
         (o, record { answer = a; is_answer = found; outcome = f }))
         range
 
@@ -142,7 +148,7 @@ module _ (W : Words) (Answers : Request → Pair → Answer → Type 0) where
 
     -- ---- what is impossible
 
-    forbidden_by : (s : Request) (outs : List Name) (p : Pair) → IsForbidden p.arch p.kernel (last_tried p.arch s.ii) → (a : Answer) (o : Outcome) → Answers s p a → IsOutcomeOf W s outs p a o → SaysImpossible o
+    forbidden_by : (s : Request) (outs : List Name) (p : Pair) → IsForbidden p.arch p.kernel (last_tried p.arch s.ii) → (a : Answer) (o : Outcome) → Answers s p a → IsOutcomeOf word Report s outs p a o → SaysImpossible o
     forbidden_by s outs p forbidden (answer.Impossible c) o found e = (ap (λ x. x.status) e, ap (λ x. x.writes) e)
     forbidden_by s outs p forbidden (answer.Mapped m found_by) o found e = absurd (not_both p.arch p.kernel (last_tried p.arch s.ii) (is_searcher.free s p m found_by found) forbidden)
     forbidden_by s outs p forbidden (answer.Spent first left) o found e = absurd (not_both p.arch p.kernel (last_tried p.arch s.ii) (is_searcher.open_left s p first left found).0 forbidden)
@@ -162,15 +168,15 @@ module _ (W : Words) (Answers : Request → Pair → Answer → Type 0) where
         good : IsKernel p.kernel
         good = (valid_pair f.bytes g.bytes p given).1
 
-        impossible_of : (a : Answer) (o : Outcome) → Answers s p a → IsOutcomeOf W s outs p a o → o.status ≡ Impossible → Completed o before after Impossible → IsImpossibleRun s arch kernel before after
+        impossible_of : (a : Answer) (o : Outcome) → Answers s p a → IsOutcomeOf word Report s outs p a o → o.status ≡ Impossible → Completed o before after Impossible → IsImpossibleRun s arch kernel before after
         impossible_of (answer.Impossible c) o found e status done = left_impossible s arch kernel f g before after arch_held kernel_held p given c o (is_searcher.shown s p c found) e done
         impossible_of (answer.Mapped m found_by) o found e status done = absurd (let z : Done ≡ Impossible = sym (ap (λ x. x.status) e.outcome) ∙ status in cc)
-        impossible_of (answer.Spent first left) o found e status done = absurd (let z : BudgetSpent ≡ Impossible = sym (ap (λ x. x.status) e) ∙ status in cc)
+        impossible_of (answer.Spent first left) o found e status done = absurd (let z : BudgetSpent ≡ Impossible = sym (ap (λ x. x.status) e.2) ∙ status in cc)
 
-        spent_of : (a : Answer) (o : Outcome) → Answers s p a → IsOutcomeOf W s outs p a o → o.status ≡ BudgetSpent → Completed o before after BudgetSpent → IsLeftRun W.left (Left s) s arch kernel before after
+        spent_of : (a : Answer) (o : Outcome) → Answers s p a → IsOutcomeOf word Report s outs p a o → o.status ≡ BudgetSpent → Completed o before after BudgetSpent → IsLeftRun Report (Left s) s arch kernel before after
         spent_of (answer.Spent first left) o found e status done =
             let (free, is_first) = is_searcher.open_left s p first left found in
-            let report = reports BudgetSpent (left_report W.left first left.items) in
+            let reported = reports BudgetSpent e.0 in
             record {
               pair = p;
               read = hold_pair s arch kernel f g before after arch_held kernel_held p given;
@@ -180,9 +186,11 @@ module _ (W : Words) (Answers : Request → Pair → Answer → Type 0) where
               left = left.items;
               is_left = is_searcher.left s p first left found;
               no_hub = λ enough. is_searcher.by_hub s p valid good is enough (answer.Spent first left) found;
-              put = put_of s arch kernel f g before after arch_held kernel_held o report BudgetSpent e done;
-              kept = kept_of s arch kernel f g before after arch_held kernel_held o report BudgetSpent e done;
-              no_write = quiet_of s arch kernel f g before after arch_held kernel_held o report BudgetSpent e refl done;
+              report = e.0;
+              is_report = e.1;
+              put = put_of s arch kernel f g before after arch_held kernel_held o reported BudgetSpent e.2 done;
+              kept = kept_of s arch kernel f g before after arch_held kernel_held o reported BudgetSpent e.2 done;
+              no_write = quiet_of s arch kernel f g before after arch_held kernel_held o reported BudgetSpent e.2 refl done;
             }
         spent_of (answer.Mapped m found_by) o found e status done = absurd (let z : Done ≡ BudgetSpent = sym (ap (λ x. x.status) e.outcome) ∙ status in cc)
         spent_of (answer.Impossible c) o found e status done = absurd (let z : Impossible ≡ BudgetSpent = sym (ap (λ x. x.status) e) ∙ status in cc)
@@ -193,12 +201,12 @@ module _ (W : Words) (Answers : Request → Pair → Answer → Type 0) where
         same : (n : Mapped) → n.arch ≡ p.arch → n.kernel ≡ p.kernel → n ≡ Here n.mapping
         same n a k = subst (λ A. n ≡ record { arch = A; kernel = p.kernel; mapping = n.mapping }) a (subst (λ K. n ≡ record { arch = n.arch; kernel = K; mapping = n.mapping }) k refl)
 
-        run : {m : Mapped} (found_by : FoundBy) (o : Outcome) (found : Answers s p (answer.Mapped m found_by)) (e : IsWritten outs m (found_report W.by m found_by) o) → o.status ≡ Done → Completed o before after Done
-            → (M : Mapping) → m ≡ Here M → IsLegal p.arch p.kernel M → IsFoundRun W.by (Found s) s arch kernel outs before after
+        run : {m : Mapped} (found_by : FoundBy) (o : Outcome) (found : Answers s p (answer.Mapped m found_by)) (e : IsWritten outs m (found_report word m found_by) o) → o.status ≡ Done → Completed o before after Done
+            → (M : Mapping) → m ≡ Here M → IsLegal p.arch p.kernel M → IsFoundRun word (Found s) s arch kernel outs before after
         run {m} found_by o found e status done M m_is ok =
             let answered : Answers s p (answer.Mapped (Here M) found_by) = subst (λ n. Answers s p (answer.Mapped n found_by)) m_is found in
             let spelled : AreBits p.arch (config_of (Here M)) e.bytes = subst (λ n. AreBits n.arch (config_of n) e.bytes) m_is e.spelled in
-            let outcome : o ≡ record { status = Done; report = found_report W.by (Here M) found_by; writes = map_writes outs (Here M) e.bytes } = subst (λ n. o ≡ record { status = Done; report = found_report W.by n found_by; writes = map_writes outs n e.bytes }) m_is e.outcome in
+            let outcome : o ≡ record { status = Done; report = found_report word (Here M) found_by; writes = map_writes outs (Here M) e.bytes } = subst (λ n. o ≡ record { status = Done; report = found_report word n found_by; writes = map_writes outs n e.bytes }) m_is e.outcome in
             record {
               pair = p;
               read = hold_pair s arch kernel f g before after arch_held kernel_held p given;
@@ -212,9 +220,9 @@ module _ (W : Words) (Answers : Request → Pair → Answer → Type 0) where
               put = subst (λ report. Appends before.taken report after.taken) (ap (λ x. x.report) outcome) (whole o.status o.report before after status done.put);
             }
 
-        mapped_of : (a : Answer) (o : Outcome) → Answers s p a → IsOutcomeOf W s outs p a o → o.status ≡ Done → Completed o before after Done → IsFoundRun W.by (Found s) s arch kernel outs before after
+        mapped_of : (a : Answer) (o : Outcome) → Answers s p a → IsOutcomeOf word Report s outs p a o → o.status ≡ Done → Completed o before after Done → IsFoundRun word (Found s) s arch kernel outs before after
         mapped_of (answer.Impossible c) o found e status done = absurd (let z : Impossible ≡ Done = sym (ap (λ x. x.status) e) ∙ status in cc)
-        mapped_of (answer.Spent first left) o found e status done = absurd (let z : BudgetSpent ≡ Done = sym (ap (λ x. x.status) e) ∙ status in cc)
+        mapped_of (answer.Spent first left) o found e status done = absurd (let z : BudgetSpent ≡ Done = sym (ap (λ x. x.status) e.2) ∙ status in cc)
         mapped_of (answer.Mapped m found_by) o found e status done =
             let (one, two, ok) = is_searcher.legal s p m found_by valid good is found in
             run found_by o found e status done m.mapping (same m one two) ok
@@ -225,9 +233,9 @@ module _ (W : Words) (Answers : Request → Pair → Answer → Type 0) where
         made_as ws (out ∷ file ∷ []) n bytes e r = subst (FirstRuns arch kernel before) (sym e) r
         made_as ws (out ∷ file ∷ other ∷ outs) n bytes e r = subst (FirstRuns arch kernel before) (sym e) tt
 
-        made_of : (a : Answer) (o : Outcome) → Answers s p a → IsOutcomeOf W s outs p a o → FirstRuns arch kernel before o.writes
+        made_of : (a : Answer) (o : Outcome) → Answers s p a → IsOutcomeOf word Report s outs p a o → FirstRuns arch kernel before o.writes
         made_of (answer.Impossible c) o found e = subst (FirstRuns arch kernel before) (sym (ap (λ x. x.writes) e)) tt
-        made_of (answer.Spent first left) o found e = subst (FirstRuns arch kernel before) (sym (ap (λ x. x.writes) e)) tt
+        made_of (answer.Spent first left) o found e = subst (FirstRuns arch kernel before) (sym (ap (λ x. x.writes) e.2)) tt
         made_of (answer.Mapped m found_by) o found e =
             let (one, two, ok) = is_searcher.legal s p m found_by valid good is found in
             let m_is = same m one two in
@@ -240,11 +248,11 @@ module _ (W : Words) (Answers : Request → Pair → Answer → Type 0) where
       pub writes_run : (o : Outcome) → IsOver s f g outs o → FirstRuns arch kernel before o.writes
       writes_run o is = made_over (Defines s outs) s f g (FirstRuns arch kernel before) tt (λ p given is o d. made_of p given is d.answer o d.is_answer d.outcome) o is
 
-      pub found_left : (o : Outcome) → IsOver s f g outs o → o.status ≡ Done → Completed o before after Done → IsFoundRun W.by (Found s) s arch kernel outs before after
+      pub found_left : (o : Outcome) → IsOver s f g outs o → o.status ≡ Done → Completed o before after Done → IsFoundRun word (Found s) s arch kernel outs before after
       found_left o is at done = left_over (Defines s outs) s f g Done before after (λ e. cc) (λ p given is o d. mapped_of p given is d.answer o d.is_answer d.outcome) o is at done
 
       pub impossible_left : (o : Outcome) → IsOver s f g outs o → o.status ≡ Impossible → Completed o before after Impossible → IsImpossibleRun s arch kernel before after
       impossible_left o is at done = left_over (Defines s outs) s f g Impossible before after (λ e. cc) (λ p given is o d. impossible_of p given is d.answer o d.is_answer d.outcome) o is at done
 
-      pub spent_left : (o : Outcome) → IsOver s f g outs o → o.status ≡ BudgetSpent → Completed o before after BudgetSpent → IsLeftRun W.left (Left s) s arch kernel before after
+      pub spent_left : (o : Outcome) → IsOver s f g outs o → o.status ≡ BudgetSpent → Completed o before after BudgetSpent → IsLeftRun Report (Left s) s arch kernel before after
       spent_left o is at done = left_over (Defines s outs) s f g BudgetSpent before after (λ e. cc) (λ p given is o d. spent_of p given is d.answer o d.is_answer d.outcome) o is at done

@@ -13,11 +13,6 @@ use Rattle.cg_inputs.specs.Sources.{Pair}
 use Rattle.cg_mapping_answers.specs.Emit.{emit_report}
 use Rattle.cg_task_answers.specs.Searches.{IsWritten, impossible_report}
 
--- a command's own words: for how it finds mappings, and for what it leaves where it finds none
-pub record Words : Type 0 where
-  pub by : Bytes
-  pub left : Bytes
-
 -- ---- reports
 
 -- how a mapping was found
@@ -40,12 +35,14 @@ left_report word ii (n ∷ left) = left_line word ii n ++ left_report word (ii +
 
 -- ---- outcomes
 
-module _ (W : Words) (s : Request) (outs : List Name) (p : Pair) where
+-- by a command's own word for how it finds mappings, and its own report of what is left of a pair from an interval on
+module _ (word : Bytes) (Report : Pair → ℕ → List ℕ → Bytes → Type 0) (s : Request) (outs : List Name) (p : Pair) where
   -- by the answer of the search
   abbrev pub IsOutcomeOf : Answer → Outcome → Type 0
   IsOutcomeOf (Impossible c) o = o ≡ reports status.Impossible (impossible_report p s c)
-  IsOutcomeOf (Mapped m found_by) o = IsWritten outs m (found_report W.by m found_by) o
-  IsOutcomeOf (Spent first left) o = o ≡ reports status.BudgetSpent (left_report W.left first left.items)
+  IsOutcomeOf (Mapped m found_by) o = IsWritten outs m (found_report word m found_by) o
+  IsOutcomeOf (Spent first left) o =
+      (report : Bytes) × Report p first left.items report × (o ≡ reports status.BudgetSpent report)
 
   -- the search has one of these answers
   pub record IsAnswered (Answers : Answer → Type 0) (o : Outcome) : Type 0 where

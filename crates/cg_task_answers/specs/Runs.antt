@@ -14,7 +14,7 @@ use Rattle.cg_model.specs.declared.request.Request.{Request}
 use Rattle.cg_inputs.specs.Sources.{Pair, HoldPair}
 use Rattle.cg_mapping_answers.specs.Emit.{RunsMapping}
 use Rattle.cg_task_answers.specs.Searches.{HoldsMapped}
-use Rattle.cg_task_answers.specs.Answered.{found_report, left_report}
+use Rattle.cg_task_answers.specs.Answered.{found_report}
 
 -- the mapping with the architecture and the kernel of the files
 abbrev pub mapped_on : Pair → Mapping → Mapped
@@ -49,8 +49,8 @@ pub record IsFoundRun (by : Bytes) (Found : Pair → Mapped → FoundBy → Type
   pub put : Appends before.taken (found_report by (mapped_on pair mapping) found_by) after.taken
 
 -- BudgetSpent: nothing forbids the last interval, and at none that was tried a mapping was found: `Left` holds of what is left at
--- each. That was put, in part where the put failed. No write was made
-pub record IsLeftRun (word : Bytes) (Left : Pair → ℕ → List ℕ → Type 0) (s : Request) (arch kernel : Name) (before after : Moment) : Type 0 where
+-- each, and `Report` of what was put, in part where the put failed. No write was made
+pub record IsLeftRun (Report : Pair → ℕ → List ℕ → Bytes → Type 0) (Left : Pair → ℕ → List ℕ → Type 0) (s : Request) (arch kernel : Name) (before after : Moment) : Type 0 where
   pub pair : Pair
   pub read : HoldPair arch kernel before pair
   pub free : IsOpen pair.arch pair.kernel (last_tried pair.arch s.ii)
@@ -60,6 +60,8 @@ pub record IsLeftRun (word : Bytes) (Left : Pair → ℕ → List ℕ → Type 0
   pub is_left : Left pair first left
   -- the hub doesn't suffice there
   pub no_hub : HubEnough pair.arch pair.kernel (last_tried pair.arch s.ii) → ⊥
-  pub put : IsPut status.BudgetSpent (left_report word first left) before after
+  pub report : Bytes
+  pub is_report : Report pair first left report
+  pub put : IsPut status.BudgetSpent report before after
   pub kept : Wrote before.held [] after.held
   pub no_write : after.write_faults ≡ before.write_faults

@@ -9,4 +9,4 @@ mod writing;
 
 pub use finding::found;
 pub use refusing::{above, asks_above, impossible};
-pub use spending::spent;
+pub use spending::{add_left, left_report, spent};

@@ -3,37 +3,48 @@ ghost use Rattle.std.specs.Prelude.{◌≡◌, ◌+◌, ◌<◌, ◌^◌, ◌++�
 ghost use Rattle.cg_ending.specs.Outcome.{outcome_of};
 ghost use Rattle.cg_ending.specs.Refusals.{reports};
 ghost use Rattle.cg_ending.specs.declared.outcome.Status.TheVariants as status;
-ghost use Rattle.cg_task_answers.specs.Answered.{left_line, left_report};
+ghost use Rattle.cg_task_answers.specs.Answered as spec;
 
 use cg_ending::{Outcome, Status};
 use std::alloc::{AllocError, Global};
 
-/// Returns the outcome of a search that found no mapping at the intervals from `first` on: what is left at each, after
-/// `word`.
-pub fn spent(alloc: Global, word: &str, first: u32, left: &[u64]) -> Result<Outcome, AllocError>
-    requires { first + length left.now < 2 ^ 32 }
-    ensures { IfOk result (λ o. outcome_of o ≡ reports status.BudgetSpent (left_report word.now first left.now)) }
+/// Returns the outcome of a search that found no mapping, with `report`.
+pub fn spent(alloc: Global, report: Vec<u8>) -> Outcome
+    ensures { outcome_of result ≡ reports status.BudgetSpent report.items }
 {
-    let mut report = Vec::new(alloc);
-    for i in 0..left.len() {
-        add_line(alloc, &mut report, word, first + i as u32, left[i])?;
-    }
-    Ok(Outcome {
+    Outcome {
         status: Status::BudgetSpent,
         report,
         writes: Vec::new(alloc),
-    })
+    }
 }
 
-/// Adds the line of the interval `ii` to `report`.
-fn add_line(
+/// Returns the report of what is `left` at the intervals from `first` on: a line each, with `word` before the number.
+pub fn left_report(
+    alloc: Global,
+    word: &str,
+    first: u32,
+    left: &[u64],
+) -> Result<Vec<u8>, AllocError>
+    requires { first + length left.now < 2 ^ 32 }
+    ensures { IfOk result (λ report. report.items ≡ spec.left_report word.now first left.now) }
+{
+    let mut report = Vec::new(alloc);
+    for i in 0..left.len() {
+        add_left(alloc, &mut report, word, first + i as u32, left[i])?;
+    }
+    Ok(report)
+}
+
+/// Adds the line of what is `left` at the interval `ii` to `report`, with `word` before the number.
+pub fn add_left(
     alloc: Global,
     report: &mut Vec<u8>,
     word: &str,
     ii: u32,
     left: u64,
 ) -> Result<(), AllocError>
-    ensures { OnOk result (report.new.items ≡ report.old.items ++ left_line word.now ii left) }
+    ensures { OnOk result (report.new.items ≡ report.old.items ++ spec.left_line word.now ii left) }
 {
     let line = format!(in alloc; "ii {ii} {word} {left}\n")?;
     report.extend_from_slice(line.as_bytes())

@@ -7,8 +7,8 @@ use Rattle.cg_task.specs.declared.answering.FoundBy.TheVariants.{Hub}
 use Rattle.cg_search.specs.Search.{HasNoHub, IsFound}
 use Rattle.cg_search.proofs.answering.over_hub.Goals as goal
 
-pub returns-then-hub_enough : goal.returns-then-hub_enough
-returns-then-hub_enough c =
+pub returns-then-hub_enough-clause-tried : goal.returns-then-hub_enough-clause-tried
+returns-then-hub_enough-clause-tried c =
     let A = c.args.arch.now in
     let K = c.args.kernel.now in
     let asked = c.args.request.ii in
@@ -29,11 +29,11 @@ returns-then-hub_enough c =
       by = (subst (HubEnough A K) same enough, subst (HasNoHub A K asked moves first) same c.loop-ii.invariant, subst (λ z. hub_map A K ii ≡ hub_map A K z) same refl);
     })
 
-pub returns : goal.returns
-returns c = (
+pub returns-clause-tried : goal.returns-clause-tried
+returns-clause-tried c = (
   refl,
   record {
-    each = c.requires.each;
+    each = c.requires.misses.some;
     all = c.requires.all;
     no_hub = λ j from less enough. c.loop-ii.invariant j from (omega (arith, less, c.loop-ii-test.false, c.last_tried-ii-end.ensures)) enough;
   },

@@ -1,5 +1,6 @@
-use Rattle.std.proofs.Common.{◌≡◌, ◌+◌, ◌<◌, All, length}
+use Rattle.std.proofs.Common.{◌≡◌, ◌+◌, length}
+use Rattle.cg_search.specs.Course.{AreMisses}
 use Rattle.cg_search.proofs.probing.probed.Given as goal
 
 abbrev pub invariant-loop-ii : goal.invariant-loop-ii
-invariant-loop-ii l = All (λ n. 0 < n) l.left.items × (l.call.first + length l.left.items ≡ l.ii)
+invariant-loop-ii l = AreMisses l.call.arch.now l.call.kernel.now l.call.first l.left × (l.call.first + length l.left.faults.items ≡ l.ii)

@@ -1,0 +1,55 @@
+-- Mappings that were missed, one more and one replaced.
+use Rattle.std.proofs.Common.{ℕ, zero, suc, ◌+◌, ◌<◌, ◌≡◌, List, [], ◌∷◌, ◌++◌, length, length-append, get_or, All, ap, sym, ◌∙◌, arith, subst}
+use Rattle.std.proofs.lemmas.List.{length-set}
+use Rattle.std.proofs.lemmas.List.Elements.{All-push, All-set}
+use Rattle.std.proofs.Math.ListN.{set}
+use Rattle.cg_model.specs.Kernel.{Kernel}
+use Rattle.cg_model.specs.Array.{Arch}
+use Rattle.cg_model.specs.Mapping.{Mapping}
+use Rattle.cg_respond.specs.Responded.{IsMissed}
+use Rattle.cg_search.specs.Search.{AreMissedFrom}
+use Rattle.cg_search.specs.Course.{AreMisses}
+use Rattle.cg_search.specs.declared.misses.Misses.{Misses}
+
+module _ (A : Arch) (K : Kernel) where
+  at : {M : Mapping} (ii jj : ℕ) → ii ≡ jj → IsMissed A K ii M → IsMissed A K jj M
+  at {M} ii jj e is = subst (λ z. IsMissed A K z M) e is
+
+  pub one_more : (ii : ℕ) (missed : List Mapping) (M : Mapping) → AreMissedFrom A K ii missed → IsMissed A K (ii + length missed) M → AreMissedFrom A K ii (missed ++ (M ∷ []))
+  one_more ii [] M are is = (at (ii + 0) ii (omega arith) is, tt)
+  one_more ii (N ∷ missed) M are is = (are.0, one_more (ii + 1) missed M are.1 (at (ii + suc (length missed)) (ii + 1 + length missed) (omega arith) is))
+
+  pub replaced : (ii : ℕ) (missed : List Mapping) (k : ℕ) (M : Mapping) → AreMissedFrom A K ii missed → IsMissed A K (ii + k) M → AreMissedFrom A K ii (set missed k M)
+  replaced ii [] k M are is = tt
+  replaced ii (N ∷ missed) zero M are is = (at (ii + 0) ii (omega arith) is, are.1)
+  replaced ii (N ∷ missed) (suc k) M are is = (are.0, replaced (ii + 1) missed k M are.1 (at (ii + suc k) (ii + 1 + k) (omega arith) is))
+
+-- the one at an interval
+pub missed_at : (A : Arch) (K : Kernel) (ii : ℕ) (missed : List Mapping) (k : ℕ) (d : Mapping) → AreMissedFrom A K ii missed → k < length missed → IsMissed A K (ii + k) (get_or missed k d)
+missed_at A K ii [] k d are few = absurd (omega (arith, few))
+missed_at A K ii (M ∷ missed) zero d are few = at A K ii (ii + 0) (omega arith) are.0
+missed_at A K ii (M ∷ missed) (suc k) d are few = at A K (ii + 1 + k) (ii + suc k) (omega arith) (missed_at A K (ii + 1) missed k d are.1 (omega (arith, few)))
+
+-- what is left at one more interval
+pub left_more : (A : Arch) (K : Kernel) (first : ℕ) (left next : Misses) (n : ℕ) (M : Mapping) → next.faults.items ≡ left.faults.items ++ (n ∷ []) → next.missed.items ≡ left.missed.items ++ (M ∷ [])
+    → AreMisses A K first left → 0 < n → IsMissed A K (first + length left.faults.items) M → AreMisses A K first next
+left_more A K first left next n M e f are some is =
+    let here : IsMissed A K (first + length left.missed.items) M = subst (λ k. IsMissed A K (first + k) M) (sym are.missed.all) is in
+    record {
+      some = subst (All (λ k. 0 < k)) (sym e) (All-push (λ k. 0 < k) left.faults.items n are.some some);
+      missed = record {
+        each = subst (AreMissedFrom A K first) (sym f) (one_more A K first left.missed.items M are.missed.each here);
+        all = ap length f ∙ length-append left.missed.items (M ∷ []) ∙ ap (λ k. k + 1) are.missed.all ∙ sym (ap length e ∙ length-append left.faults.items (n ∷ []));
+      };
+    }
+
+-- less is left at an interval
+pub left_less : (A : Arch) (K : Kernel) (first : ℕ) (left next : Misses) (k n : ℕ) (M : Mapping) → next.faults.items ≡ set left.faults.items k n → next.missed.items ≡ set left.missed.items k M
+    → AreMisses A K first left → 0 < n → IsMissed A K (first + k) M → AreMisses A K first next
+left_less A K first left next k n M e f are some is = record {
+  some = subst (All (λ j. 0 < j)) (sym e) (All-set (λ j. 0 < j) left.faults.items k n some are.some);
+  missed = record {
+    each = subst (AreMissedFrom A K first) (sym f) (replaced A K first left.missed.items k M are.missed.each is);
+    all = ap length f ∙ length-set left.missed.items k M ∙ are.missed.all ∙ sym (ap length e ∙ length-set left.faults.items k n);
+  };
+}

@@ -1,0 +1,81 @@
+//! The report of a search that found nothing: the faults that are left at each interval, and what is wrong in the mapping
+//! that was met with so few.
+ghost use Rattle.std.specs.Prelude.{◌≡◌, ◌+◌, ◌<◌, ◌^◌, ◌++◌, length, IfOk, OnOk};
+ghost use Rattle.cg_ending.specs.Outcome.{outcome_of};
+ghost use Rattle.cg_model.specs.Mapping.{IsShaped};
+ghost use Rattle.cg_search.specs.Search.{AreMissed};
+ghost use Rattle.cg_search_answers.specs.Search as spec;
+
+use cg_arch::Arch;
+use cg_ending::Outcome;
+use cg_model::{Kernel, Mapping};
+use cg_task_answers::{add_left, spent};
+use cg_violations::{fault_lines, violations};
+use std::alloc::{AllocError, Global};
+
+/// How many lines of what is wrong are reported of a mapping at the most.
+const MOST_LINES: usize = 8;
+
+/// Returns the outcome of a search that found nothing: at the intervals from `first` on these `faults` are left, and the
+/// mappings `missed`, one an interval, were met with so few.
+pub(crate) fn faults_left(
+    alloc: Global,
+    arch: &Arch,
+    kernel: &Kernel,
+    first: u32,
+    faults: Vec<u64>,
+    missed: Vec<Mapping>,
+) -> Result<Outcome, AllocError>
+    requires few { first + length faults.items < 2 ^ 32 }
+    requires missed { AreMissed arch.now kernel.now first (length faults.items) missed.items }
+    ensures { IfOk result (λ o. spec.IsFaultsOutcome (record { arch = arch.now; kernel = kernel.now })
+        first faults.items (outcome_of o)) }
+{
+    let left = faults.as_slice();
+    let met = missed.as_slice();
+    let report = faults_report(alloc, arch, kernel, first, left, met)?;
+    Ok(spent(alloc, report))
+}
+
+/// Returns the report of the `faults` that are left at the intervals from `first` on, and of what is wrong in the
+/// mappings `missed`, one an interval.
+fn faults_report(
+    alloc: Global,
+    arch: &Arch,
+    kernel: &Kernel,
+    first: u32,
+    faults: &[u64],
+    missed: &[Mapping],
+) -> Result<Vec<u8>, AllocError>
+    requires few { first + length faults.now < 2 ^ 32 }
+    requires missed { AreMissed arch.now kernel.now first (length faults.now) missed.now }
+    ensures { IfOk result (λ report. report.items
+        ≡ spec.faults_report (record { arch = arch.now; kernel = kernel.now }) first faults.now missed.now) }
+{
+    let mut report = Vec::new(alloc);
+    for i in 0..faults.len() {
+        let ii = first + i as u32;
+        add_interval(alloc, &mut report, arch, kernel, ii, faults[i], &missed[i])?;
+    }
+    Ok(report)
+}
+
+/// Adds to `report` the number of `faults` that are left at the interval `ii`, and what is wrong in `mapping`.
+fn add_interval(
+    alloc: Global,
+    report: &mut Vec<u8>,
+    arch: &Arch,
+    kernel: &Kernel,
+    ii: u32,
+    faults: u64,
+    mapping: &Mapping,
+) -> Result<(), AllocError>
+    requires shape { IsShaped kernel.now mapping.now }
+    ensures { OnOk result (report.new.items ≡ report.old.items
+        ++ spec.interval_report (record { arch = arch.now; kernel = kernel.now }) ii faults mapping.now) }
+{
+    add_left(alloc, report, "faults", ii, faults)?;
+    let found = violations(alloc, arch, kernel, mapping)?;
+    let lines = fault_lines(alloc, arch, kernel, mapping, found.as_slice(), MOST_LINES)?;
+    report.extend_from_slice(lines.as_slice())
+}
