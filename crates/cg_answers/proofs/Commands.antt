@@ -4,7 +4,7 @@ use Rattle.cg_ending.specs.declared.outcome.Status.{Status}
 use Rattle.cg_ending.specs.declared.outcome.Status.TheVariants.{Done, Impossible}
 use Rattle.cg_ending.specs.Outcome.{Name, File, Outcome}
 use Rattle.cg_command.specs.declared.plans.Command.{Command}
-use Rattle.cg_command.specs.declared.plans.Command.TheVariants.{Turns, TurnsOnImage, Flat, Run, Bound, Check, Emit, Map, Search, Show, Trial, Verilog, Loop, Depend, Migrate, Bench}
+use Rattle.cg_command.specs.declared.plans.Command.TheVariants.{Turns, TurnsOnImage, Flat, Run, Bound, Check, Emit, Map, Search, Show, Trial, Verilog, Loop, Depend, Migrate, Bench, Image, Words, Violations}
 use Rattle.cg_inputs.proofs.Sound.{owns, IsSound, IsNamed}
 use Rattle.cg_run_answers.proofs.TurnsAnswers.{sound_turns, quiet_turns, accepted_turns}
 use Rattle.cg_run_answers.proofs.OnImage.{same_on_image, sound_on_image, accepted_on_image, named_on_image}
@@ -12,6 +12,9 @@ use Rattle.cg_run_answers.proofs.FlatAnswers.{same_flat, sound_flat, accepted_fl
 use Rattle.cg_run_answers.proofs.RunAnswers.{same_run, sound_run, accepted_run, named_run}
 use Rattle.cg_gates_answers.proofs.NetlistAnswers.{same_netlist_run, sound_netlist_run, accepted_netlist_run, named_netlist_run}
 use Rattle.cg_bench_answers.proofs.Benched.{same_bench, sound_bench, accepted_bench, named_bench}
+use Rattle.cg_image_answers.proofs.Imaged.{same_image, sound_image, accepted_image, named_image}
+use Rattle.cg_image_answers.proofs.Worded.{same_words, sound_words, accepted_words, quiet_words}
+use Rattle.cg_violations_answers.proofs.Listed.{same_violations, sound_violations, accepted_violations, quiet_violations}
 use Rattle.cg_mapping_answers.proofs.Bounded.{same_bound, sound_bound, accepted_bound, quiet_bound}
 use Rattle.cg_mapping_answers.proofs.Checked.{same_check, sound_check, accepted_check, quiet_check}
 use Rattle.cg_mapping_answers.proofs.Bitstream.{same_emit, sound_emit, accepted_emit, named_emit}
@@ -44,6 +47,9 @@ agree_in Loop (f ∷ []) (out ∷ []) a b p q = same_loop f out a b p q
 agree_in Depend (f ∷ []) (out ∷ []) a b p q = same_depend f out a b p q
 agree_in Migrate (f ∷ g ∷ []) (out ∷ []) a b p q = same_migrate f g out a b p q
 agree_in (Bench n) (f ∷ g ∷ h ∷ []) (out ∷ []) a b p q = same_bench n f g h out a b p q
+agree_in Image (f ∷ []) (out ∷ []) a b p q = same_image f out a b p q
+agree_in Words (f ∷ []) [] a b p q = same_words f a b p q
+agree_in Violations (f ∷ g ∷ h ∷ []) [] a b p q = same_violations f g h a b p q
 agree_in _ _ _ a b p q = absurd p
 
 -- the commands that may say no, and those that search
@@ -52,6 +58,7 @@ says_no (TurnsOnImage n) = true
 says_no Check = true
 says_no Emit = true
 says_no Show = true
+says_no Violations = true
 says_no _ = false
 
 abbrev searches : Command → Bool
@@ -81,6 +88,9 @@ sound Loop (f ∷ []) (out ∷ []) o p = sound_loop f out o p
 sound Depend (f ∷ []) (out ∷ []) o p = sound_depend f out o p
 sound Migrate (f ∷ g ∷ []) (out ∷ []) o p = sound_migrate f g out o p
 sound (Bench n) (f ∷ g ∷ h ∷ []) (out ∷ []) o p = sound_bench n f g h out o p
+sound Image (f ∷ []) (out ∷ []) o p = sound_image f out o p
+sound Words (f ∷ []) [] o p = sound_words f o p
+sound Violations (f ∷ g ∷ h ∷ []) [] o p = sound_violations f g h o p
 sound _ _ _ o p = absurd p
 
 -- what a command accepts it does
@@ -102,6 +112,9 @@ accepted Loop (f ∷ []) (out ∷ []) o a p = accepted_loop f out o a p
 accepted Depend (f ∷ []) (out ∷ []) o a p = accepted_depend f out o a p
 accepted Migrate (f ∷ g ∷ []) (out ∷ []) o a p = accepted_migrate f g out o a p
 accepted (Bench n) (f ∷ g ∷ h ∷ []) (out ∷ []) o a p = accepted_bench n f g h out o a p
+accepted Image (f ∷ []) (out ∷ []) o a p = accepted_image f out o a p
+accepted Words (f ∷ []) [] o a p = accepted_words f o a p
+accepted Violations (f ∷ g ∷ h ∷ []) [] o a p = accepted_violations f g h o a p
 accepted _ _ _ o a p = absurd p
 
 -- where an interval is forbidden, a command says that it is impossible, and writes nothing
@@ -175,6 +188,17 @@ quiet (Bench n) (f ∷ []) o p = absurd p
 quiet (Bench n) (f ∷ g ∷ []) o p = absurd p
 quiet (Bench n) (f ∷ g ∷ h ∷ []) o p = absurd p
 quiet (Bench n) (f ∷ g ∷ h ∷ k ∷ fs) o p = absurd p
+quiet Image [] o p = absurd p
+quiet Image (f ∷ []) o p = absurd p
+quiet Image (f ∷ g ∷ fs) o p = absurd p
+quiet Words (f ∷ []) o p = quiet_words f o p
+quiet Words [] o p = absurd p
+quiet Words (f ∷ g ∷ fs) o p = absurd p
+quiet Violations (f ∷ g ∷ h ∷ []) o p = quiet_violations f g h o p
+quiet Violations [] o p = absurd p
+quiet Violations (f ∷ []) o p = absurd p
+quiet Violations (f ∷ g ∷ []) o p = absurd p
+quiet Violations (f ∷ g ∷ h ∷ k ∷ fs) o p = absurd p
 
 -- a command writes its output files, or nothing
 pub named : (c : Command) (files : List File) (outputs : List Name) (o : Outcome) → IsAnswer c files outputs o → IsNamed outputs o
@@ -195,4 +219,7 @@ named Loop (f ∷ []) (out ∷ []) o p = named_loop f out o p
 named Depend (f ∷ []) (out ∷ []) o p = named_depend f out o p
 named Migrate (f ∷ g ∷ []) (out ∷ []) o p = named_migrate f g out o p
 named (Bench n) (f ∷ g ∷ h ∷ []) (out ∷ []) o p = named_bench n f g h out o p
+named Image (f ∷ []) (out ∷ []) o p = named_image f out o p
+named Words (f ∷ []) [] o p = inr (quiet_words f o p)
+named Violations (f ∷ g ∷ h ∷ []) [] o p = inr (quiet_violations f g h o p)
 named _ _ _ o p = absurd p

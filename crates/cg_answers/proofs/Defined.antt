@@ -2,13 +2,16 @@
 use Rattle.std.proofs.Common.{◌≡◌, ◌⊎◌, inl, inr, ℕ, List, [], ◌∷◌, length, refl, arith}
 use Rattle.cg_ending.specs.Outcome.{Name, File, Outcome}
 use Rattle.cg_command.specs.declared.plans.Command.{Command}
-use Rattle.cg_command.specs.declared.plans.Command.TheVariants.{Turns, TurnsOnImage, Flat, Run, Bound, Check, Emit, Map, Search, Show, Trial, Verilog, Loop, Depend, Migrate, Bench}
+use Rattle.cg_command.specs.declared.plans.Command.TheVariants.{Turns, TurnsOnImage, Flat, Run, Bound, Check, Emit, Map, Search, Show, Trial, Verilog, Loop, Depend, Migrate, Bench, Image, Words, Violations}
 use Rattle.cg_command.specs.Words.{HasShape}
 use Rattle.cg_run_answers.specs.Turns.{turns_of}
 use Rattle.cg_run_answers.proofs.OnImage.{some_on_image}
 use Rattle.cg_run_answers.proofs.FlatAnswers.{some_flat}
 use Rattle.cg_run_answers.proofs.RunAnswers.{some_run}
 use Rattle.cg_bench_answers.proofs.Benched.{some_bench}
+use Rattle.cg_image_answers.specs.Image.{image_of}
+use Rattle.cg_image_answers.specs.Words.{words_of}
+use Rattle.cg_violations_answers.proofs.Listed.{some_violations}
 use Rattle.cg_gates_answers.proofs.NetlistAnswers.{some_netlist_run}
 use Rattle.cg_mapping_answers.proofs.Bounded.{some_bounding}
 use Rattle.cg_mapping_answers.proofs.Checked.{some_check}
@@ -117,3 +120,18 @@ some_outcome (Bench n) (f ∷ g ∷ []) outputs shape = absurd (omega (arith, sh
 some_outcome (Bench n) (f ∷ g ∷ h ∷ k ∷ fs) outputs shape = absurd (omega (arith, shape.0))
 some_outcome (Bench n) (f ∷ g ∷ h ∷ []) [] shape = absurd (omega (arith, shape.1))
 some_outcome (Bench n) (f ∷ g ∷ h ∷ []) (out ∷ other ∷ outs) shape = absurd (omega (arith, shape.1))
+some_outcome Image (f ∷ []) (out ∷ []) shape = (image_of f out, refl)
+some_outcome Image [] outputs shape = absurd (omega (arith, shape.0))
+some_outcome Image (f ∷ g ∷ fs) outputs shape = absurd (omega (arith, shape.0))
+some_outcome Image (f ∷ []) [] shape = absurd (omega (arith, shape.1))
+some_outcome Image (f ∷ []) (out ∷ other ∷ outs) shape = absurd (omega (arith, shape.1))
+some_outcome Words (f ∷ []) [] shape = (words_of f, refl)
+some_outcome Words [] outputs shape = absurd (omega (arith, shape.0))
+some_outcome Words (f ∷ g ∷ fs) outputs shape = absurd (omega (arith, shape.0))
+some_outcome Words (f ∷ []) (out ∷ outs) shape = absurd (omega (arith, shape.1))
+some_outcome Violations (f ∷ g ∷ h ∷ []) [] shape = some_violations f g h
+some_outcome Violations [] outputs shape = absurd (omega (arith, shape.0))
+some_outcome Violations (f ∷ []) outputs shape = absurd (omega (arith, shape.0))
+some_outcome Violations (f ∷ g ∷ []) outputs shape = absurd (omega (arith, shape.0))
+some_outcome Violations (f ∷ g ∷ h ∷ k ∷ fs) outputs shape = absurd (omega (arith, shape.0))
+some_outcome Violations (f ∷ g ∷ h ∷ []) (out ∷ outs) shape = absurd (omega (arith, shape.1))

@@ -7,10 +7,11 @@ use Rattle.cg_check.specs.Legal.{Mapped}
 use Rattle.cg_check.specs.declared.rule.Violation.{Violation}
 use Rattle.cg_check.specs.Rules.{violation}
 use Rattle.cg_command.specs.declared.plans.Command.{Command}
-use Rattle.cg_command.specs.declared.plans.Command.TheVariants.{Turns, TurnsOnImage, Flat, Run, Bound, Check, Emit, Map, Search, Show, Trial, Verilog, Loop, Depend, Migrate, Bench}
+use Rattle.cg_command.specs.declared.plans.Command.TheVariants.{Turns, TurnsOnImage, Flat, Run, Bound, Check, Emit, Map, Search, Show, Trial, Verilog, Loop, Depend, Migrate, Bench, Image, Words, Violations}
 use Rattle.cg_mapping_answers.specs.Emit.{IsEmittedBy, IsEmission}
 use Rattle.cg_mapping_answers.proofs.Checked.{quiet_check}
 use Rattle.cg_show_answers.proofs.Shown.{unwritten_show}
+use Rattle.cg_violations_answers.proofs.Listed.{quiet_violations}
 use Rattle.cg_answers.specs.Commands.{IsAnswer, judges}
 use Rattle.cg_inputs.proofs.Refusals.{AreRefused}
 use Rattle.cg_inputs.proofs.Mapped.{refused_given}
@@ -45,6 +46,12 @@ judged Show [] outputs o j p said = absurd p
 judged Show (f ∷ []) outputs o j p said = absurd p
 judged Show (f ∷ g ∷ []) outputs o j p said = absurd p
 judged Show (f ∷ g ∷ h ∷ k ∷ fs) outputs o j p said = absurd p
+judged Violations (f ∷ g ∷ h ∷ []) [] o j p said = quiet_violations f g h o p
+judged Violations (f ∷ g ∷ h ∷ []) (out ∷ outs) o j p said = absurd p
+judged Violations [] outputs o j p said = absurd p
+judged Violations (f ∷ []) outputs o j p said = absurd p
+judged Violations (f ∷ g ∷ []) outputs o j p said = absurd p
+judged Violations (f ∷ g ∷ h ∷ k ∷ fs) outputs o j p said = absurd p
 judged (Turns n) files outputs o j p said = absurd (not_judging j)
 judged (TurnsOnImage n) files outputs o j p said = absurd (not_judging j)
 judged Flat files outputs o j p said = absurd (not_judging j)
@@ -58,3 +65,5 @@ judged Loop files outputs o j p said = absurd (not_judging j)
 judged Depend files outputs o j p said = absurd (not_judging j)
 judged Migrate files outputs o j p said = absurd (not_judging j)
 judged (Bench n) files outputs o j p said = absurd (not_judging j)
+judged Image files outputs o j p said = absurd (not_judging j)
+judged Words files outputs o j p said = absurd (not_judging j)

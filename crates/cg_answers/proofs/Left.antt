@@ -7,13 +7,16 @@ use Rattle.cg_ending.specs.Outcome.{Name, File, Outcome}
 use Rattle.cg_ending.specs.Reads.{AreRead, HoldsBytes}
 use Rattle.cg_ending.specs.Ends.{Moment, Completed}
 use Rattle.cg_command.specs.declared.plans.Command.{Command}
-use Rattle.cg_command.specs.declared.plans.Command.TheVariants.{Turns, TurnsOnImage, Flat, Run, Bound, Check, Emit, Map, Search, Show, Trial, Verilog, Loop, Depend, Migrate, Bench}
+use Rattle.cg_command.specs.declared.plans.Command.TheVariants.{Turns, TurnsOnImage, Flat, Run, Bound, Check, Emit, Map, Search, Show, Trial, Verilog, Loop, Depend, Migrate, Bench, Image, Words, Violations}
 use Rattle.cg_inputs.proofs.Wholes.{one_read, first_read, second_read, three_read}
 use Rattle.cg_run_answers.proofs.TurnsAnswers.{turned_left}
 use Rattle.cg_run_answers.proofs.OnImage.{ordered_left, unordered_left}
 use Rattle.cg_run_answers.proofs.FlatAnswers.{flattened_left}
 use Rattle.cg_run_answers.proofs.RunAnswers.{run_left}
 use Rattle.cg_bench_answers.proofs.Benched.{bench_left}
+use Rattle.cg_image_answers.proofs.Imaged.{imaged_left}
+use Rattle.cg_image_answers.proofs.Worded.{worded_left}
+use Rattle.cg_violations_answers.proofs.Listed.{unviolated_left, violated_left}
 use Rattle.cg_gates_answers.proofs.NetlistAnswers.{four_read, netlist_run_left}
 use Rattle.cg_mapping_answers.proofs.Bounded.{bound_left}
 use Rattle.cg_mapping_answers.proofs.Checked.{legal_left, illegal_left}
@@ -89,6 +92,12 @@ left_done Migrate (f ∷ g ∷ []) (out ∷ []) o before after read bytes answer
 left_done (Bench n) (f ∷ g ∷ h ∷ []) (out ∷ []) o before after read bytes answer is done =
     let r = three_read before.held f.name g.name h.name f g h read in
     bench_left n f.name g.name h.name out f g h o before after r.0 r.1 (All-head HoldsBytes g (h ∷ []) (All-tail HoldsBytes f (g ∷ h ∷ []) bytes)) r.2 answer is done
+left_done Image (f ∷ []) (out ∷ []) o before after read bytes answer is done = imaged_left f.name out f o before after (one_read before.held f.name f read) answer is done
+left_done Words (f ∷ []) [] o before after read bytes answer is done =
+    worded_left f.name f o before after (one_read before.held f.name f read) (All-head HoldsBytes f [] bytes) answer is done
+left_done Violations (f ∷ g ∷ h ∷ []) [] o before after read bytes answer is done =
+    let r = three_read before.held f.name g.name h.name f g h read in
+    unviolated_left f.name g.name h.name f g h before after r.0 r.1 r.2 o answer is done
 left_done _ _ _ o before after read bytes answer is done = absurd answer
 
 left_no : (command : Command) (files : List File) (outputs : List Name) (o : Outcome) (before after : Moment)
@@ -116,6 +125,11 @@ left_no Loop files outputs o before after read answer is done = absurd (never (o
 left_no Depend files outputs o before after read answer is done = absurd (never (owns_of Depend) No o (sound Depend files outputs o answer) refl is)
 left_no Migrate files outputs o before after read answer is done = absurd (never (owns_of Migrate) No o (sound Migrate files outputs o answer) refl is)
 left_no (Bench n) files outputs o before after read answer is done = absurd (never (owns_of (Bench n)) No o (sound (Bench n) files outputs o answer) refl is)
+left_no Image files outputs o before after read answer is done = absurd (never (owns_of Image) No o (sound Image files outputs o answer) refl is)
+left_no Words files outputs o before after read answer is done = absurd (never (owns_of Words) No o (sound Words files outputs o answer) refl is)
+left_no Violations (f ∷ g ∷ h ∷ []) [] o before after read answer is done =
+    let r = three_read before.held f.name g.name h.name f g h read in
+    violated_left f.name g.name h.name f g h before after r.0 r.1 r.2 o answer is done
 left_no _ _ _ o before after read answer is done = absurd answer
 
 left_impossible : (command : Command) (files : List File) (outputs : List Name) (o : Outcome) (before after : Moment)
@@ -138,6 +152,9 @@ left_impossible Loop files outputs o before after read answer is done = absurd (
 left_impossible Depend files outputs o before after read answer is done = absurd (never (owns_of Depend) Impossible o (sound Depend files outputs o answer) refl is)
 left_impossible Migrate files outputs o before after read answer is done = absurd (never (owns_of Migrate) Impossible o (sound Migrate files outputs o answer) refl is)
 left_impossible (Bench n) files outputs o before after read answer is done = absurd (never (owns_of (Bench n)) Impossible o (sound (Bench n) files outputs o answer) refl is)
+left_impossible Image files outputs o before after read answer is done = absurd (never (owns_of Image) Impossible o (sound Image files outputs o answer) refl is)
+left_impossible Words files outputs o before after read answer is done = absurd (never (owns_of Words) Impossible o (sound Words files outputs o answer) refl is)
+left_impossible Violations files outputs o before after read answer is done = absurd (never (owns_of Violations) Impossible o (sound Violations files outputs o answer) refl is)
 left_impossible _ _ _ o before after read answer is done = absurd answer
 
 left_spent : (command : Command) (files : List File) (outputs : List Name) (o : Outcome) (before after : Moment)
@@ -160,6 +177,9 @@ left_spent Loop files outputs o before after read answer is done = absurd (never
 left_spent Depend files outputs o before after read answer is done = absurd (never (owns_of Depend) BudgetSpent o (sound Depend files outputs o answer) refl is)
 left_spent Migrate files outputs o before after read answer is done = absurd (never (owns_of Migrate) BudgetSpent o (sound Migrate files outputs o answer) refl is)
 left_spent (Bench n) files outputs o before after read answer is done = absurd (never (owns_of (Bench n)) BudgetSpent o (sound (Bench n) files outputs o answer) refl is)
+left_spent Image files outputs o before after read answer is done = absurd (never (owns_of Image) BudgetSpent o (sound Image files outputs o answer) refl is)
+left_spent Words files outputs o before after read answer is done = absurd (never (owns_of Words) BudgetSpent o (sound Words files outputs o answer) refl is)
+left_spent Violations files outputs o before after read answer is done = absurd (never (owns_of Violations) BudgetSpent o (sound Violations files outputs o answer) refl is)
 left_spent _ _ _ o before after read answer is done = absurd answer
 
 -- of files that were read, by their own names

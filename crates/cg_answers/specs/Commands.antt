@@ -7,9 +7,9 @@ use Rattle.cg_ending.specs.Outcome.{Name, File, Outcome}
 use Rattle.cg_ending.specs.Ends.{Moment}
 use Rattle.cg_kernel.specs.Answer.{answer_of}
 use Rattle.cg_command.specs.declared.plans.Command.{Command}
-use Rattle.cg_command.specs.declared.plans.Command.TheVariants.{Turns, TurnsOnImage, Flat, Run, Bound, Check, Emit, Map, Search, Show, Trial, Verilog, Loop, Depend, Migrate, Bench}
+use Rattle.cg_command.specs.declared.plans.Command.TheVariants.{Turns, TurnsOnImage, Flat, Run, Bound, Check, Emit, Map, Search, Show, Trial, Verilog, Loop, Depend, Migrate, Bench, Image, Words, Violations}
 use Rattle.cg_pad.specs.Bytes as images
-use Rattle.cg_model.specs.Work.{Image}
+use Rattle.cg_model.specs.Work as works
 use Rattle.cg_model.specs.Array.{Arch}
 use Rattle.cg_tiles.specs.Answer.{AreValidBytes}
 use Rattle.cg_model.specs.Order.{IsUnaliased}
@@ -19,9 +19,12 @@ use Rattle.cg_run_answers.specs.Flat.{IsFlat, IsFlattened}
 use Rattle.cg_run_answers.specs.Run.{IsRun, IsRunnable, IsArrayRun}
 use Rattle.cg_gates_answers.specs.Netlist.{IsNetlistRun, IsNetlistRunnable, IsGatesRun}
 use Rattle.cg_bench_answers.specs.Bench.{IsBench, IsBenchRun}
+use Rattle.cg_image_answers.specs.Image.{image_of, IsImageText, IsImaged}
+use Rattle.cg_image_answers.specs.Words.{words_of, IsImageFile, IsWorded}
 use Rattle.cg_mapping_answers.specs.Bound.{IsBoundOf, IsPairInput, IsBoundRun}
 use Rattle.cg_mapping_answers.specs.Check.{IsCheck, IsLegalInput, IsLegalCheck, IsIllegalCheck}
 use Rattle.cg_mapping_answers.specs.Emit.{IsEmit, RunsRead, IsEmittedRun}
+use Rattle.cg_violations_answers.specs.Violations.{IsViolations, IsViolatedRun}
 use Rattle.cg_map_answers.specs.Map.{IsMap, IsMappable, IsMapRun, IsSpentRun}
 use Rattle.cg_task_answers.specs.Searches.{IsForbiddenInput, IsImpossibleRun}
 use Rattle.cg_task_answers.specs.Runs.{RunsOfPair}
@@ -52,6 +55,9 @@ IsAnswer Loop (file ∷ []) (out ∷ []) o = IsLoopOf file out o
 IsAnswer Depend (file ∷ []) (out ∷ []) o = IsDependOf file out o
 IsAnswer Migrate (arch ∷ file ∷ []) (out ∷ []) o = IsMigrate arch file out o
 IsAnswer (Bench n) (arch ∷ file ∷ input ∷ []) (out ∷ []) o = IsBench n arch file input out o
+IsAnswer Image (file ∷ []) (out ∷ []) o = o ≡ image_of file out
+IsAnswer Words (file ∷ []) [] o = o ≡ words_of file
+IsAnswer Violations (arch ∷ kernel ∷ mapping ∷ []) [] o = IsViolations arch kernel mapping o
 IsAnswer _ _ _ o = ⊥
 
 -- how the statuses of two outcomes that the command allows for the same files agree: they are equal; but whether `search` finds
@@ -67,7 +73,7 @@ SpellsKernel file = (K : Kernel) × (answer_of file.bytes ≡ Ok K)
 -- kernel and image are spelled, and of the n turns all accesses that matter are ordered
 pub record IsUnaliasedRun (n : ℕ) (file input : File) : Type 0 where
   pub kernel : Kernel
-  pub image : Image
+  pub image : works.Image
   pub kernel_is : answer_of file.bytes ≡ Ok kernel
   pub image_is : images.answer_of input.bytes ≡ Ok image
   pub unaliased : IsUnaliased kernel n image
@@ -95,6 +101,9 @@ Accepts Loop (file ∷ []) = IsTranslatable file
 Accepts Depend (file ∷ []) = IsDependable file
 Accepts Migrate (arch ∷ file ∷ []) = IsMigratable arch file
 Accepts (Bench n) (arch ∷ file ∷ input ∷ []) = IsRunnable arch file input
+Accepts Image (file ∷ []) = IsImageText file
+Accepts Words (file ∷ []) = IsImageFile file
+Accepts Violations (arch ∷ kernel ∷ mapping ∷ []) = IsLegalInput arch kernel mapping
 Accepts _ _ = ⊥
 
 -- the input files for which the command says that an interval is impossible
@@ -131,6 +140,9 @@ LeavesDone Loop (file ∷ []) (out ∷ []) before after = IsLooped file out befo
 LeavesDone Depend (file ∷ []) (out ∷ []) before after = IsDepended file out before after
 LeavesDone Migrate (arch ∷ file ∷ []) (out ∷ []) before after = IsMigrated arch file out before after
 LeavesDone (Bench n) (arch ∷ file ∷ input ∷ []) (out ∷ []) before after = IsBenchRun n arch file input out before after
+LeavesDone Image (file ∷ []) (out ∷ []) before after = IsImaged file out before after
+LeavesDone Words (file ∷ []) [] before after = IsWorded file before after
+LeavesDone Violations (arch ∷ kernel ∷ mapping ∷ []) [] before after = IsLegalCheck arch kernel mapping before after
 LeavesDone _ _ _ before after = ⊥
 
 -- the commands that judge a mapping before they write: where they end with No, they write nothing
@@ -138,6 +150,7 @@ abbrev pub judges : Command → Bool
 judges Check = true
 judges Emit = true
 judges Show = true
+judges Violations = true
 judges _ = false
 
 -- what it leaves where it ends with No
@@ -146,6 +159,7 @@ LeavesNo (TurnsOnImage n) (file ∷ input ∷ []) (out ∷ []) before after = Is
 LeavesNo Check (arch ∷ kernel ∷ mapping ∷ []) [] before after = IsIllegalCheck arch kernel mapping before after
 LeavesNo Emit (arch ∷ kernel ∷ mapping ∷ []) (out ∷ []) before after = IsIllegalCheck arch kernel mapping before after
 LeavesNo Show (arch ∷ kernel ∷ mapping ∷ []) outs before after = IsIllegalCheck arch kernel mapping before after
+LeavesNo Violations (arch ∷ kernel ∷ mapping ∷ []) [] before after = IsViolatedRun arch kernel mapping before after
 LeavesNo _ _ _ before after = ⊥
 
 -- what it leaves where it ends with Impossible

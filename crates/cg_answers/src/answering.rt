@@ -44,5 +44,8 @@ fn answer_to(
         Command::Depend => shaped::depend(alloc, files, outputs),
         Command::Migrate => shaped::migrate(alloc, files, outputs),
         Command::Bench { turns } => shaped::bench(alloc, turns, files, outputs),
+        Command::Image => shaped::image(alloc, files, outputs),
+        Command::Words => shaped::words(alloc, files, outputs),
+        Command::Violations => shaped::violations(alloc, files, outputs),
     }
 }

@@ -202,3 +202,27 @@ pub(crate) fn bench(
         outputs[0].as_str(),
     )
 }
+
+/// Answers `image TEXT OUT` over `files`; `outputs` is the name of the image.
+pub(crate) fn image(alloc: Global, files: &[File], outputs: &[String]) -> Result<Outcome, Stop>
+    requires { HasShape (Command.Image) (length files.now) (length outputs.now) }
+    ensures { Allows (IsAnswer (Command.Image) (map file_of files.now) (map string_bytes outputs.now)) result }
+{
+    cg_image_answers::image(alloc, &files[0], outputs[0].as_str())
+}
+
+/// Answers `words IMAGE` over `files`.
+pub(crate) fn words(alloc: Global, files: &[File], outputs: &[String]) -> Result<Outcome, Stop>
+    requires { HasShape (Command.Words) (length files.now) (length outputs.now) }
+    ensures { Allows (IsAnswer (Command.Words) (map file_of files.now) (map string_bytes outputs.now)) result }
+{
+    cg_image_answers::words(alloc, &files[0])
+}
+
+/// Answers `violations ARCH KERNEL MAPPING` over `files`.
+pub(crate) fn violations(alloc: Global, files: &[File], outputs: &[String]) -> Result<Outcome, Stop>
+    requires { HasShape (Command.Violations) (length files.now) (length outputs.now) }
+    ensures { Allows (IsAnswer (Command.Violations) (map file_of files.now) (map string_bytes outputs.now)) result }
+{
+    cg_violations_answers::violations(alloc, &files[0], &files[1], &files[2])
+}

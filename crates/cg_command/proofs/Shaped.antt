@@ -6,10 +6,10 @@ use Rattle.std.specs.Str.Parse.{digits_value}
 use Rattle.std.proofs.lemmas.Bool.{leb-true}
 use Rattle.cg_model.specs.Limits.{most_turns, most_contexts, most_moves}
 use Rattle.cg_command.specs.declared.plans.Command.{Command}
-use Rattle.cg_command.specs.declared.plans.Command.TheVariants.{Turns, TurnsOnImage, Flat, Run, Bound, Check, Emit, Map, Search, Show, Trial, Verilog, Loop, Depend, Migrate, Bench}
+use Rattle.cg_command.specs.declared.plans.Command.TheVariants.{Turns, TurnsOnImage, Flat, Run, Bound, Check, Emit, Map, Search, Show, Trial, Verilog, Loop, Depend, Migrate, Bench, Image, Words, Violations}
 use Rattle.cg_model.specs.declared.request.Request.{Request}
 use Rattle.cg_model.specs.Request.{IsInRange}
-use Rattle.cg_command.specs.Words.{Text, Given, Arguments, Plan, HasShape, values_said, said_once, asked_interval, named_file, request_of, written_plan, searching_plan, map_plan, search_plan, usual_moves, usual_responses, positive, seed_of, moves_of, is_number, number_up_to, turns_of, turns_plan, file_plan, array_plan, run_plan, takes, with_options, search_options, run_options, bound_plan, check_plan, emit_plan, show_plan, trial_plan, migrate_plan, bench_plan, is_empty, without_options, command_plan, arguments_of, plan_of}
+use Rattle.cg_command.specs.Words.{Text, Given, Arguments, Plan, HasShape, values_said, said_once, asked_interval, named_file, request_of, written_plan, searching_plan, map_plan, search_plan, usual_moves, usual_responses, positive, seed_of, moves_of, is_number, number_up_to, turns_of, turns_plan, file_plan, array_plan, run_plan, takes, with_options, search_options, run_options, bound_plan, mapping_plan, words_plan, emit_plan, show_plan, trial_plan, migrate_plan, bench_plan, is_empty, without_options, command_plan, further_plan, arguments_of, plan_of}
 
 -- the plan has the shape of its command
 abbrev pub IsShaped : Plan → Type 0
@@ -63,12 +63,17 @@ bound_shaped (a ∷ []) = none_shaped
 bound_shaped (arch ∷ kernel ∷ []) = one_shaped (record { command = Bound; inputs = arch ∷ kernel ∷ []; outputs = [] }) (refl, refl)
 bound_shaped (a ∷ b ∷ c ∷ more) = none_shaped
 
-check_shaped : (words : List Text) → AreShaped (check_plan words)
-check_shaped [] = none_shaped
-check_shaped (a ∷ []) = none_shaped
-check_shaped (a ∷ b ∷ []) = none_shaped
-check_shaped (arch ∷ kernel ∷ mapping ∷ []) = one_shaped (record { command = Check; inputs = arch ∷ kernel ∷ mapping ∷ []; outputs = [] }) (refl, refl)
-check_shaped (a ∷ b ∷ c ∷ d ∷ more) = none_shaped
+mapping_shaped : (command : Command) → HasShape command 3 0 → (words : List Text) → AreShaped (mapping_plan command words)
+mapping_shaped command shape [] = none_shaped
+mapping_shaped command shape (a ∷ []) = none_shaped
+mapping_shaped command shape (a ∷ b ∷ []) = none_shaped
+mapping_shaped command shape (arch ∷ kernel ∷ mapping ∷ []) = one_shaped (record { command = command; inputs = arch ∷ kernel ∷ mapping ∷ []; outputs = [] }) shape
+mapping_shaped command shape (a ∷ b ∷ c ∷ d ∷ more) = none_shaped
+
+words_shaped : (words : List Text) → AreShaped (words_plan words)
+words_shaped [] = none_shaped
+words_shaped (image ∷ []) = one_shaped (record { command = Words; inputs = image ∷ []; outputs = [] }) (refl, refl)
+words_shaped (a ∷ b ∷ more) = none_shaped
 
 emit_shaped : (words : List Text) → AreShaped (emit_plan words)
 emit_shaped [] = none_shaped
@@ -213,23 +218,30 @@ search_shaped said = ranged_shaped (λ request. searching_plan (Search request) 
 
 -- ---- all commands
 
+further_shaped : (name : Text) (said : Arguments) → AreShaped (further_plan name said)
+further_shaped name said =
+    either_shaped (bytes_eq name (codes "trial")) (without_options trial_plan said) _ (without_shaped trial_plan said (trial_shaped said.words))
+    (either_shaped (bytes_eq name (codes "verilog")) (without_options (file_plan Verilog) said) _ (without_shaped (file_plan Verilog) said (file_shaped Verilog (refl, refl) said.words))
+    (either_shaped (bytes_eq name (codes "loop")) (without_options (file_plan Loop) said) _ (without_shaped (file_plan Loop) said (file_shaped Loop (refl, refl) said.words))
+    (either_shaped (bytes_eq name (codes "depend")) (without_options (file_plan Depend) said) _ (without_shaped (file_plan Depend) said (file_shaped Depend (refl, refl) said.words))
+    (either_shaped (bytes_eq name (codes "migrate")) (without_options migrate_plan said) _ (without_shaped migrate_plan said (migrate_shaped said.words))
+    (either_shaped (bytes_eq name (codes "bench")) (without_options bench_plan said) _ (without_shaped bench_plan said (bench_shaped said.words))
+    (either_shaped (bytes_eq name (codes "image")) (without_options (file_plan Image) said) _ (without_shaped (file_plan Image) said (file_shaped Image (refl, refl) said.words))
+    (either_shaped (bytes_eq name (codes "words")) (without_options words_plan said) None (without_shaped words_plan said (words_shaped said.words)) none_shaped)))))))
+
 command_shaped : (name : Text) (said : Arguments) → AreShaped (command_plan name said)
 command_shaped name said =
     either_shaped (bytes_eq name (codes "turns")) (without_options turns_plan said) _ (without_shaped turns_plan said (turns_shaped said.words))
     (either_shaped (bytes_eq name (codes "flat")) (without_options (file_plan Flat) said) _ (without_shaped (file_plan Flat) said (file_shaped Flat (refl, refl) said.words))
     (either_shaped (bytes_eq name (codes "run")) (with_options run_options run_plan said) _ (with_shaped run_options run_plan said (run_shaped said))
     (either_shaped (bytes_eq name (codes "bound")) (without_options bound_plan said) _ (without_shaped bound_plan said (bound_shaped said.words))
-    (either_shaped (bytes_eq name (codes "check")) (without_options check_plan said) _ (without_shaped check_plan said (check_shaped said.words))
+    (either_shaped (bytes_eq name (codes "check")) (without_options (mapping_plan Check) said) _ (without_shaped (mapping_plan Check) said (mapping_shaped Check (refl, refl) said.words))
+    (either_shaped (bytes_eq name (codes "violations")) (without_options (mapping_plan Violations) said) _ (without_shaped (mapping_plan Violations) said (mapping_shaped Violations (refl, refl) said.words))
     (either_shaped (bytes_eq name (codes "emit")) (without_options emit_plan said) _ (without_shaped emit_plan said (emit_shaped said.words))
     (either_shaped (bytes_eq name (codes "map")) (with_options search_options map_plan said) _ (with_shaped search_options map_plan said (map_shaped said))
     (either_shaped (bytes_eq name (codes "search")) (with_options search_options search_plan said) _ (with_shaped search_options search_plan said (search_shaped said))
     (either_shaped (bytes_eq name (codes "show")) (without_options show_plan said) _ (without_shaped show_plan said (show_shaped said.words))
-    (either_shaped (bytes_eq name (codes "trial")) (without_options trial_plan said) _ (without_shaped trial_plan said (trial_shaped said.words))
-    (either_shaped (bytes_eq name (codes "verilog")) (without_options (file_plan Verilog) said) _ (without_shaped (file_plan Verilog) said (file_shaped Verilog (refl, refl) said.words))
-    (either_shaped (bytes_eq name (codes "loop")) (without_options (file_plan Loop) said) _ (without_shaped (file_plan Loop) said (file_shaped Loop (refl, refl) said.words))
-    (either_shaped (bytes_eq name (codes "depend")) (without_options (file_plan Depend) said) _ (without_shaped (file_plan Depend) said (file_shaped Depend (refl, refl) said.words))
-    (either_shaped (bytes_eq name (codes "migrate")) (without_options migrate_plan said) _ (without_shaped migrate_plan said (migrate_shaped said.words))
-    (either_shaped (bytes_eq name (codes "bench")) (without_options bench_plan said) None (without_shaped bench_plan said (bench_shaped said.words)) none_shaped))))))))))))))
+    (further_shaped name said))))))))))
 
 said_shaped : (name : Text) (o : Option Arguments) → AreShaped (option_and_then (command_plan name) o)
 said_shaped name None = none_shaped

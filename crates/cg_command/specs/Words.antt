@@ -6,7 +6,7 @@ use Rattle.cg_model.specs.Limits.{most_turns}
 use Rattle.cg_model.specs.Request.{IsInRange}
 pub use Rattle.cg_command.specs.Numbers.{Text, is_number, number_up_to, positive, turns_of, interval_of, seed_of, moves_of, usual_seed, usual_moves, usual_responses}
 use Rattle.cg_command.specs.declared.plans.Command.{Command}
-use Rattle.cg_command.specs.declared.plans.Command.TheVariants.{Turns, TurnsOnImage, Flat, Run, Bound, Check, Emit, Map, Search, Show, Trial, Verilog, Loop, Depend, Migrate, Bench}
+use Rattle.cg_command.specs.declared.plans.Command.TheVariants.{Turns, TurnsOnImage, Flat, Run, Bound, Check, Emit, Map, Search, Show, Trial, Verilog, Loop, Depend, Migrate, Bench, Image, Words, Violations}
 use Rattle.cg_model.specs.declared.request.Request.{Request}
 use Rattle.cg_command.specs.declared.plans.Plan.{Plan as PlanValue}
 use Rattle.cg_command.specs.declared.arguments.Arguments.{Arguments as ArgumentsValue}
@@ -151,7 +151,7 @@ turns_plan (kernel ∷ turns ∷ input ∷ output ∷ []) =
     option_map (λ n. record { command = TurnsOnImage n; inputs = kernel ∷ input ∷ []; outputs = output ∷ [] }) (turns_of turns)
 turns_plan _ = None
 
--- flat ARCH OUT, verilog ARCH OUT, loop SOURCE OUT and depend KERNEL OUT: a command that reads one file and writes one
+-- flat ARCH OUT, verilog ARCH OUT, loop SOURCE OUT, depend KERNEL OUT and image TEXT OUT: a command that reads one file and writes one
 abbrev pub file_plan : Command → List Text → Option Plan
 file_plan command (input ∷ output ∷ []) = Some (record { command = command; inputs = input ∷ []; outputs = output ∷ [] })
 file_plan command _ = None
@@ -161,10 +161,10 @@ abbrev pub bound_plan : List Text → Option Plan
 bound_plan (arch ∷ kernel ∷ []) = Some (record { command = Bound; inputs = arch ∷ kernel ∷ []; outputs = [] })
 bound_plan _ = None
 
--- check ARCH KERNEL MAPPING
-abbrev pub check_plan : List Text → Option Plan
-check_plan (arch ∷ kernel ∷ mapping ∷ []) = Some (record { command = Check; inputs = arch ∷ kernel ∷ mapping ∷ []; outputs = [] })
-check_plan _ = None
+-- check ARCH KERNEL MAPPING and violations ARCH KERNEL MAPPING
+abbrev pub mapping_plan : Command → List Text → Option Plan
+mapping_plan command (arch ∷ kernel ∷ mapping ∷ []) = Some (record { command = command; inputs = arch ∷ kernel ∷ mapping ∷ []; outputs = [] })
+mapping_plan command _ = None
 
 -- emit ARCH KERNEL MAPPING OUT
 abbrev pub emit_plan : List Text → Option Plan
@@ -186,6 +186,11 @@ trial_plan _ = None
 abbrev pub migrate_plan : List Text → Option Plan
 migrate_plan (arch ∷ bits ∷ out ∷ []) = Some (record { command = Migrate; inputs = arch ∷ bits ∷ []; outputs = out ∷ [] })
 migrate_plan _ = None
+
+-- words IMAGE
+abbrev pub words_plan : List Text → Option Plan
+words_plan (image ∷ []) = Some (record { command = Words; inputs = image ∷ []; outputs = [] })
+words_plan _ = None
 
 -- bench ARCH BITS TURNS IN OUT
 abbrev pub bench_plan : List Text → Option Plan
@@ -272,6 +277,19 @@ is_empty (g ∷ gs) = false
 abbrev pub without_options : (List Text → Option Plan) → Arguments → Option Plan
 without_options plan said = if is_empty said.options then plan said.words else None
 
+-- the plan of the command of this name, of those that neither judge nor map
+abbrev pub further_plan : Text → Arguments → Option Plan
+further_plan name said =
+    if bytes_eq name (codes "trial") then without_options trial_plan said
+    else (if bytes_eq name (codes "verilog") then without_options (file_plan Verilog) said
+    else (if bytes_eq name (codes "loop") then without_options (file_plan Loop) said
+    else (if bytes_eq name (codes "depend") then without_options (file_plan Depend) said
+    else (if bytes_eq name (codes "migrate") then without_options migrate_plan said
+    else (if bytes_eq name (codes "bench") then without_options bench_plan said
+    else (if bytes_eq name (codes "image") then without_options (file_plan Image) said
+    else (if bytes_eq name (codes "words") then without_options words_plan said
+    else None)))))))
+
 -- the plan of the command of this name
 abbrev pub command_plan : Text → Arguments → Option Plan
 command_plan name said =
@@ -279,18 +297,13 @@ command_plan name said =
     else (if bytes_eq name (codes "flat") then without_options (file_plan Flat) said
     else (if bytes_eq name (codes "run") then with_options run_options run_plan said
     else (if bytes_eq name (codes "bound") then without_options bound_plan said
-    else (if bytes_eq name (codes "check") then without_options check_plan said
+    else (if bytes_eq name (codes "check") then without_options (mapping_plan Check) said
+    else (if bytes_eq name (codes "violations") then without_options (mapping_plan Violations) said
     else (if bytes_eq name (codes "emit") then without_options emit_plan said
     else (if bytes_eq name (codes "map") then with_options search_options map_plan said
     else (if bytes_eq name (codes "search") then with_options search_options search_plan said
     else (if bytes_eq name (codes "show") then without_options show_plan said
-    else (if bytes_eq name (codes "trial") then without_options trial_plan said
-    else (if bytes_eq name (codes "verilog") then without_options (file_plan Verilog) said
-    else (if bytes_eq name (codes "loop") then without_options (file_plan Loop) said
-    else (if bytes_eq name (codes "depend") then without_options (file_plan Depend) said
-    else (if bytes_eq name (codes "migrate") then without_options migrate_plan said
-    else (if bytes_eq name (codes "bench") then without_options bench_plan said
-    else None))))))))))))))
+    else further_plan name said)))))))))
 
 -- what the words ask, None where they fit no command
 unfoldable pub plan_of : List Text → Option Plan
@@ -315,3 +328,6 @@ HasShape Loop inputs outputs = (inputs ≡ 1) × (outputs ≡ 1)
 HasShape Depend inputs outputs = (inputs ≡ 1) × (outputs ≡ 1)
 HasShape Migrate inputs outputs = (inputs ≡ 2) × (outputs ≡ 1)
 HasShape (Bench turns) inputs outputs = (inputs ≡ 3) × (outputs ≡ 1) × (turns ≤ most_turns)
+HasShape Image inputs outputs = (inputs ≡ 1) × (outputs ≡ 1)
+HasShape Words inputs outputs = (inputs ≡ 1) × (outputs ≡ 0)
+HasShape Violations inputs outputs = (inputs ≡ 3) × (outputs ≡ 0)

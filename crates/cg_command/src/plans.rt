@@ -47,6 +47,12 @@ pub enum Command {
     Migrate,
     /// `bench ARCH BITS TURNS IN OUT`: a test bench of the array under a configuration, for a simulator of Verilog.
     Bench { turns: u32 },
+    /// `image TEXT OUT`: the image that a text spells.
+    Image,
+    /// `words IMAGE`: an image as a text.
+    Words,
+    /// `violations ARCH KERNEL MAPPING`: all places at which the mapping violates the rules of legal mappings.
+    Violations,
 }
 
 /// A command with the names of its files: the inputs in the order of reading, the outputs in
@@ -120,13 +126,34 @@ fn command_plan(alloc: Global, name: &str, said: &Arguments) -> Result<Option<Pl
         "flat" if has_no_options(said) => file_plan(alloc, Command::Flat, said.words.as_slice()),
         "run" if takes_only(said, &["netlist"]) => run_plan(alloc, said),
         "bound" if has_no_options(said) => bound_plan(alloc, said.words.as_slice()),
-        "check" if has_no_options(said) => check_plan(alloc, said.words.as_slice()),
+        "check" if has_no_options(said) => mapping_plan(
+            alloc,
+            Command::Check,
+            said.words.as_slice(),
+        ),
+        "violations" if has_no_options(said) => mapping_plan(
+            alloc,
+            Command::Violations,
+            said.words.as_slice(),
+        ),
         "emit" if has_no_options(said) => emit_plan(alloc, said.words.as_slice()),
         "map" if takes_only(said, &["ii", "seed", "moves", "mapping"]) => map_plan(alloc, said),
         "search" if takes_only(said, &["ii", "seed", "moves", "mapping"]) => {
             search_plan(alloc, said)
         }
         "show" if has_no_options(said) => show_plan(alloc, said.words.as_slice()),
+        _ => further_plan(alloc, name, said),
+    }
+}
+
+/// Returns the plan of the command `name` with the arguments `said`, of those commands that neither judge nor map.
+fn further_plan(alloc: Global, name: &str, said: &Arguments) -> Result<Option<Plan>, AllocError>
+    ensures plan { IfOk result
+        (λ p. option_map spec.planned p ≡ spec.further_plan name.now (spec.heard said.now)) }
+    ensures shape { IfOk result (λ p. IfSome p
+        (λ plan. HasShape plan.command (vec_len plan.inputs) (vec_len plan.outputs))) }
+{
+    match name {
         "trial" if has_no_options(said) => trial_plan(alloc, said.words.as_slice()),
         "verilog" if has_no_options(said) => file_plan(
             alloc,
@@ -141,6 +168,8 @@ fn command_plan(alloc: Global, name: &str, said: &Arguments) -> Result<Option<Pl
         ),
         "migrate" if has_no_options(said) => migrate_plan(alloc, said.words.as_slice()),
         "bench" if has_no_options(said) => bench_plan(alloc, said.words.as_slice()),
+        "image" if has_no_options(said) => file_plan(alloc, Command::Image, said.words.as_slice()),
+        "words" if has_no_options(said) => words_plan(alloc, said.words.as_slice()),
         _ => Ok(None),
     }
 }
@@ -268,19 +297,17 @@ fn bound_plan(alloc: Global, words: &[&str]) -> Result<Option<Plan>, AllocError>
     }
 }
 
-fn check_plan(alloc: Global, words: &[&str]) -> Result<Option<Plan>, AllocError>
+/// Returns the plan of `command`, which reads an architecture, a kernel and a mapping and writes nothing, with the files that
+/// `words` name.
+fn mapping_plan(alloc: Global, command: Command, words: &[&str]) -> Result<Option<Plan>, AllocError>
+    requires { HasShape command 3 0 }
     ensures plan { IfOk result
-        (λ p. option_map spec.planned p ≡ spec.check_plan (map (λ word. word.now) words.now)) }
+        (λ p. option_map spec.planned p ≡ spec.mapping_plan command (map (λ word. word.now) words.now)) }
     ensures shape { IfOk result (λ p. IfSome p
         (λ plan. HasShape plan.command (vec_len plan.inputs) (vec_len plan.outputs))) }
 {
     match words {
-        [arch, kernel, mapping] => plan_with(
-            alloc,
-            Command::Check,
-            &[*arch, *kernel, *mapping],
-            &[],
-        ),
+        [arch, kernel, mapping] => plan_with(alloc, command, &[*arch, *kernel, *mapping], &[]),
         _ => Ok(None),
     }
 }
@@ -350,6 +377,18 @@ fn migrate_plan(alloc: Global, words: &[&str]) -> Result<Option<Plan>, AllocErro
 {
     match words {
         [arch, bits, out] => plan_with(alloc, Command::Migrate, &[*arch, *bits], &[*out]),
+        _ => Ok(None),
+    }
+}
+
+fn words_plan(alloc: Global, words: &[&str]) -> Result<Option<Plan>, AllocError>
+    ensures plan { IfOk result
+        (λ p. option_map spec.planned p ≡ spec.words_plan (map (λ word. word.now) words.now)) }
+    ensures shape { IfOk result (λ p. IfSome p
+        (λ plan. HasShape plan.command (vec_len plan.inputs) (vec_len plan.outputs))) }
+{
+    match words {
+        [image] => plan_with(alloc, Command::Words, &[*image], &[]),
         _ => Ok(None),
     }
 }

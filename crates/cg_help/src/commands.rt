@@ -8,6 +8,7 @@ check ARCH KERNEL MAPPING       says whether a mapping is legal
 depend KERNEL OUT               writes a kernel with the order edges that its accesses need
 emit ARCH KERNEL MAPPING OUT    writes the bits of a legal mapping
 flat ARCH OUT                   writes the flat text of an architecture
+image TEXT OUT                  writes the image that a text of words spells
 loop SOURCE OUT                 writes the kernel of a loop as one writes it
 search ARCH KERNEL OUT          searches a mapping near the least interval, and writes its bits (--ii N, --seed N, --moves N, --mapping FILE)
 map ARCH KERNEL OUT             searches a mapping by a simple walk, and writes its bits (options as search)
@@ -18,4 +19,6 @@ trial SEED                      maps a drawn kernel over a hub, and runs the arr
 turns KERNEL TURNS              runs the turns of a kernel without memory
 turns KERNEL TURNS IN OUT       runs the turns of a kernel from an image to an image
 verilog ARCH OUT                writes the netlist of an array as structural Verilog
+violations ARCH KERNEL MAPPING  puts all places at which a mapping isn't legal
+words IMAGE                     puts an image as a text
 ";

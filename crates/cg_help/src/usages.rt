@@ -66,7 +66,7 @@ const RUNNING: [Choice; 1] = [Choice {
 }];
 
 /// The commands in the order of their names.
-pub(crate) static USAGES: [Usage; 15] = [
+pub(crate) static USAGES: [Usage; 18] = [
     Usage {
         name: "bench",
         forms: &["ARCH BITS TURNS IN OUT"],
@@ -95,6 +95,11 @@ pub(crate) static USAGES: [Usage; 15] = [
     Usage {
         name: "flat",
         forms: &["ARCH OUT"],
+        options: &[],
+    },
+    Usage {
+        name: "image",
+        forms: &["TEXT OUT"],
         options: &[],
     },
     Usage {
@@ -140,6 +145,16 @@ pub(crate) static USAGES: [Usage; 15] = [
     Usage {
         name: "verilog",
         forms: &["ARCH OUT"],
+        options: &[],
+    },
+    Usage {
+        name: "violations",
+        forms: &["ARCH KERNEL MAPPING"],
+        options: &[],
+    },
+    Usage {
+        name: "words",
+        forms: &["IMAGE"],
         options: &[],
     },
 ];

@@ -1,0 +1,49 @@
+-- `violations ARCH KERNEL MAPPING`.
+use Rattle.std.specs.Prelude.{◌≡◌, ℕ, List, [], ◌∷◌, Result, Ok, Err}
+use Rattle.cg_model.specs.Mapping.{IsLegal}
+use Rattle.cg_ending.specs.declared.outcome.Status.TheVariants.{Done, No}
+use Rattle.cg_ending.specs.Outcome.{Name, Bytes, File, Outcome}
+use Rattle.cg_ending.specs.Ends.{Moment, IsPut, Wrote}
+use Rattle.cg_ending.specs.Refusals.{reports}
+use Rattle.cg_check.specs.Legal.{Mapped}
+use Rattle.cg_check.specs.declared.rule.Violation.{Violation}
+use Rattle.cg_inputs.specs.Sources.{AreMapped, HoldMapped}
+use Rattle.cg_mapping_answers.specs.Check.{legal_report}
+use Rattle.cg_violations.specs.Violations.{violations_of, AreAll}
+use Rattle.cg_violations.specs.Faults.{fault_lines}
+
+-- the most violations that are reported
+abbrev pub most_reported : ℕ
+most_reported = 1000
+
+-- a line for each violation
+abbrev pub violations_report : Mapped → Bytes
+violations_report m = fault_lines m.arch m.kernel m.mapping most_reported
+
+-- by the violations
+abbrev pub listed_by : Mapped → List Violation → Outcome
+listed_by m [] = reports Done legal_report
+listed_by m (v ∷ vs) = reports No (violations_report m)
+
+-- by what the files give
+abbrev pub listed : Result Mapped Outcome → Outcome
+listed (Ok m) = listed_by m (violations_of m.arch m.kernel m.mapping)
+listed (Err refused) = refused
+
+pub record IsViolations (arch kernel mapping : File) (o : Outcome) : Type 0 where
+  pub mapped : Result Mapped Outcome
+  pub given : AreMapped arch kernel mapping mapped
+  pub outcome : o ≡ listed mapped
+
+-- No: the mapping that was read isn't legal. Its violations were put, of more than 1,000 the first 1,000, and in part where the
+-- put failed. No write was made
+pub record IsViolatedRun (arch kernel mapping : Name) (before after : Moment) : Type 0 where
+  pub mapped : Mapped
+  pub read : HoldMapped arch kernel mapping before mapped
+  pub illegal : IsLegal mapped.arch mapped.kernel mapped.mapping → ⊥
+  pub violations : List Violation
+  pub are : violations ≡ violations_of mapped.arch mapped.kernel mapped.mapping
+  pub all : AreAll mapped.arch mapped.kernel mapped.mapping violations
+  pub put : IsPut No (violations_report mapped) before after
+  pub kept : Wrote before.held [] after.held
+  pub no_write : after.write_faults ≡ before.write_faults

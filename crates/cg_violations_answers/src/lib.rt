@@ -1,0 +1,6 @@
+//! What `violations` answers: all places at which a mapping violates the rules of legal mappings.
+#![tactic(auto)]
+
+mod listing;
+
+pub use listing::violations;

@@ -1,0 +1,73 @@
+//! `violations ARCH KERNEL MAPPING`.
+ghost use Rattle.std.specs.Prelude.{◌≡◌};
+ghost use Rattle.cg_model.specs.Mapping.{IsShaped};
+ghost use Rattle.cg_ending.specs.Allowed.{Allows};
+ghost use Rattle.cg_ending.specs.Outcome.{file_of};
+ghost use Rattle.cg_ending.specs.Refusals.{reports};
+ghost use Rattle.cg_ending.specs.declared.outcome.Status.TheVariants.{Done, No};
+ghost use Rattle.cg_mapping_answers.specs.Check.{legal_report};
+ghost use Rattle.cg_violations.specs.Violations.{violations_of};
+ghost use Rattle.cg_violations_answers.specs.Violations.{IsViolations, listed_by, violations_report};
+
+use cg_check::{Arch, Kernel, Mapping, Violation};
+use cg_ending::{File, Outcome, Status, Stop};
+use cg_inputs::{arch_in, kernel_in, mapping_in};
+use cg_violations::{fault_lines, violations as all_violations};
+use std::alloc::Global;
+
+/// The most violations that are reported.
+const MOST_REPORTED: usize = 1000;
+
+/// Returns the outcome of `violations`: all places at which the mapping that the file `mapping` gives violates a rule of legal
+/// mappings, for the kernel of `kernel` on the architecture of `arch`.
+pub fn violations(
+    alloc: Global,
+    arch: &File,
+    kernel: &File,
+    mapping: &File,
+) -> Result<Outcome, Stop>
+    ensures { Allows (IsViolations (file_of arch.now) (file_of kernel.now) (file_of mapping.now)) result }
+{
+    let array = arch_in(alloc, arch)?;
+    let graph = kernel_in(alloc, kernel)?;
+    let placed = mapping_in(alloc, &array, &graph, mapping)?;
+    listed(alloc, &array, &graph, &placed)
+}
+
+/// Returns the outcome for `mapping`, of `kernel` on `array`.
+fn listed(alloc: Global, array: &Arch, kernel: &Kernel, mapping: &Mapping) -> Result<Outcome, Stop>
+    requires { IsShaped kernel.now mapping.now }
+    ensures { Allows (λ o. o ≡ listed_by (record { arch = array.now; kernel = kernel.now; mapping = mapping.now })
+        (violations_of array.now kernel.now mapping.now)) result }
+{
+    let found = all_violations(alloc, array, kernel, mapping)?;
+    match found.as_slice() {
+        [] => legal(alloc),
+        [_, ..] => illegal(alloc, array, kernel, mapping, found.as_slice()),
+    }
+}
+
+/// Returns the outcome where the mapping is legal.
+fn legal(alloc: Global) -> Result<Outcome, Stop>
+    ensures { Allows (λ o. o ≡ reports Done legal_report) result }
+{
+    let report = Vec::from_slice(alloc, b"legal\n")?;
+    Ok(Outcome::new(alloc, Status::Done, report))
+}
+
+/// Returns the outcome where these are all the violations of `mapping`, of `kernel` on `array`.
+fn illegal(
+    alloc: Global,
+    array: &Arch,
+    kernel: &Kernel,
+    mapping: &Mapping,
+    found: &[Violation],
+) -> Result<Outcome, Stop>
+    requires shape { IsShaped kernel.now mapping.now }
+    requires all { found.now ≡ violations_of array.now kernel.now mapping.now }
+    ensures { Allows (λ o. o
+        ≡ reports No (violations_report (record { arch = array.now; kernel = kernel.now; mapping = mapping.now }))) result }
+{
+    let report = fault_lines(alloc, array, kernel, mapping, found, MOST_REPORTED)?;
+    Ok(Outcome::new(alloc, Status::No, report))
+}
