@@ -20,7 +20,7 @@ use std::alloc::Global;
 /// A wrong shape of the file, outside of its nodes and order edges.
 const WRONG_FILE: Misfit<KernelPlace> = Misfit::WrongShape(KernelPlace::File);
 
-/// What the value writes, or the first place of a wrong shape.
+/// Returns what `value` writes of a kernel, or the first place of a wrong shape.
 pub fn written_of(alloc: Global, value: &Value) -> Result<WrittenKernel, Misfit<KernelPlace>>
     ensures value { IsReadAt (spec.written_of (view value.now)) result }
     ensures words { IfOk result HasAllWords }

@@ -14,7 +14,7 @@ use cg_model::{
 use cg_names::{Numbers, is_before, number_in};
 use cg_word::Op;
 
-/// The operation of a node, where the format knows one of that name.
+/// Returns the operation of `node`, where the format of `written` knows one of that name.
 pub fn op_of(written: &WrittenKernel, node: &WrittenNode) -> Option<Op>
     ensures { result ≡ spec.op_of written.now node.now }
 {
@@ -262,7 +262,7 @@ fn applies_to_some_arg(
         .any(|arg| applies_to_arg(rule, numbers, written, number, arg))
 }
 
-/// Whether the fault applies to a node.
+/// Returns whether the fault `rule` applies to `node`, which has the number `number` in `written`.
 pub fn applies_to_node(
     rule: Rule,
     numbers: &Numbers,
@@ -297,7 +297,7 @@ pub fn applies_to_node(
     }
 }
 
-/// Whether it applies to an order edge.
+/// Returns whether the fault `rule` applies to the order edge `edge` of `written`.
 pub fn applies_to_edge(
     rule: Rule,
     numbers: &Numbers,
@@ -316,7 +316,7 @@ pub fn applies_to_edge(
     }
 }
 
-/// Whether it applies to the file.
+/// Returns whether the fault `rule` applies to `written` as a whole.
 pub fn applies_to_file(rule: Rule, written: &WrittenKernel) -> bool
     ensures { result ≡ spec.applies_to_file rule written.now }
 {

@@ -22,6 +22,7 @@ pub enum WrittenArg {
     },
 }
 
+/// A node as its file writes it.
 #[derive(Drop)]
 pub struct WrittenNode {
     pub name: Name,
@@ -41,6 +42,7 @@ impl Named for WrittenNode {
     }
 }
 
+/// An order edge as its file writes it.
 #[derive(Drop)]
 pub struct WrittenEdge {
     pub from: Name,
@@ -49,6 +51,7 @@ pub struct WrittenEdge {
     pub other_keys: bool,
 }
 
+/// A kernel as its file writes it.
 #[derive(Drop)]
 pub struct WrittenKernel {
     pub format: Format,

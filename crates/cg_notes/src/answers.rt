@@ -4,6 +4,9 @@ use crate::sentences::sentence_of_rule;
 use cg_aside::Aside;
 use std::alloc::{AllocError, Global};
 
+/// The rules of legal mappings.
+const RULES: [&str; 7] = ["L1", "L2", "L3", "L4", "L5", "L6", "L7"];
+
 /// Notes to `aside` what `report`, of a command that did its work or said no, means: which rule a mapping violates, or that
 /// two accesses are left open.
 pub(crate) fn note_answer<A: Aside>(
@@ -11,11 +14,12 @@ pub(crate) fn note_answer<A: Aside>(
     report: &str,
     aside: &mut A,
 ) -> Result<(), AllocError> {
-    let Some(line) = report.lines().last() else {
+    let Some(line) = telling_line(report) else {
         return Ok(());
     };
     match line.split_once(' ') {
         Some(("illegal", rest)) => note_violation(alloc, rest, aside),
+        Some(("fault", _)) => note_rules(alloc, report, aside),
         Some(("unordered", rest)) => note_unordered(alloc, rest, aside),
         Some(("impossible", rest)) => note_impossible(alloc, rest, aside),
         Some(("ii", rest)) if rest.contains(" cost ") || rest.contains(" faults ") => {
@@ -26,6 +30,32 @@ pub(crate) fn note_answer<A: Aside>(
         }
         _ => Ok(()),
     }
+}
+
+/// Returns the line of `report` that says why: the first of those of intervals or violations, the last of others.
+fn telling_line(report: &str) -> Option<&str> {
+    let first = report.lines().next()?;
+    if first.starts_with("ii ") || first.starts_with("fault ") {
+        Some(first)
+    } else {
+        report.lines().last()
+    }
+}
+
+/// Notes what each rule says that `report` has a violation of.
+fn note_rules<A: Aside>(alloc: Global, report: &str, aside: &mut A) -> Result<(), AllocError> {
+    for rule in &RULES {
+        let front = format!(in alloc; "fault {rule} ")?;
+        let count = report
+            .lines()
+            .filter(|line| line.starts_with(front.as_str()))
+            .count();
+        if let (Some(sentence), 1..) = (sentence_of_rule(rule), count) {
+            let note = format!(in alloc; "{rule}, {count} times: {sentence}")?;
+            aside.note(note.as_str());
+        }
+    }
+    Ok(())
 }
 
 /// Notes the violation that `rest` says, `RULE PLACE`.

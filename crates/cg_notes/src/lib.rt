@@ -2,12 +2,13 @@
 #![tactic(auto)]
 
 mod answers;
+mod elements;
 mod finding;
-mod lines;
 mod refused;
 mod sentences;
+mod slips;
 mod syntax;
-mod tiles;
+mod texts;
 mod token;
 mod values;
 mod wholes;

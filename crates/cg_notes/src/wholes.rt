@@ -1,13 +1,16 @@
 //! Faults of whole files: their first keys.
 
 use crate::finding::{Finding, Place};
-use crate::lines::{key_line, unknown_key_line};
-use crate::values::{text_at, unknown_key};
+use cg_notes_arch::{key_line, unknown_key_line};
 use cg_places::{Step, json_key_at, json_value_at};
+use cg_slips::unknown_key;
 use std::alloc::{AllocError, Global};
 
 /// The most keys of a file that are looked at.
 const MOST_KEYS: usize = 16;
+
+/// The most bytes of a name that are shown.
+const MOST_SHOWN: usize = 40;
 
 /// What is known of the files of a format.
 struct Format {
@@ -152,4 +155,17 @@ fn missing(alloc: Global, key: &str) -> Result<Finding, AllocError> {
         place: Place::START,
         text,
     })
+}
+
+/// Returns the text between the quotes that begin at byte `at`, where it is a short one without escapes.
+fn text_at(bytes: &[u8], at: usize) -> Option<&str> {
+    let inside = bytes.get(at..)?.strip_prefix(b"\"")?;
+    let length = inside
+        .iter()
+        .take(MOST_SHOWN)
+        .position(|byte| matches!(*byte, b'"' | b'\\' | b'\n'))?;
+    if inside.get(length) != Some(&b'"') {
+        return None;
+    }
+    std::str::from_utf8(inside.get(..length)?).ok()
 }

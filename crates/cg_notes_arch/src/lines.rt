@@ -1,7 +1,7 @@
 //! Lines of TOML that set a key.
 
 /// Returns the byte at which the first line of `bytes` begins that sets the bare key `key`.
-pub(crate) fn key_line(bytes: &[u8], key: &str) -> Option<usize> {
+pub fn key_line(bytes: &[u8], key: &str) -> Option<usize> {
     let mut at = 0usize;
     for line in bytes.split(|byte| *byte == b'\n') {
         let begins = at;
@@ -15,7 +15,7 @@ pub(crate) fn key_line(bytes: &[u8], key: &str) -> Option<usize> {
 
 /// Returns the first bare key that isn't one of `keys`, and its place, in the lines of `bytes` from byte `first` on, up to
 /// one that begins with a bracket. The line at `first` may be the header of a table itself.
-pub(crate) fn unknown_key_line<'a>(
+pub fn unknown_key_line<'a>(
     bytes: &'a [u8],
     first: usize,
     keys: &[&str],
@@ -31,6 +31,24 @@ pub(crate) fn unknown_key_line<'a>(
             if !keys.contains(&key) {
                 return Some((begins.saturating_add(blanks), key));
             }
+        }
+    }
+    None
+}
+
+/// Returns the byte at which the line of `bytes` sets the bare key `key` that is the first to do so from byte `first` on, up to
+/// one that begins with a bracket. The line at `first` may be the header of a table itself.
+pub fn key_line_in(bytes: &[u8], first: usize, key: &str) -> Option<usize> {
+    let mut at = first;
+    for line in bytes.get(first..)?.split(|byte| *byte == b'\n') {
+        let begins = at;
+        at = at.saturating_add(line.len()).saturating_add(1);
+        if begins > first && begins_with_bracket(line) {
+            return None;
+        }
+        match key_of(line) {
+            Some((blanks, said)) if said == key => return Some(begins.saturating_add(blanks)),
+            _ => {}
         }
     }
     None

@@ -1,15 +1,11 @@
 //! Faults of architectures, by the part of a tile, an element or a key.
 
 use crate::finding::{Finding, Place};
-use crate::lines::{key_line, unknown_key_line};
-use crate::values::unknown_key;
+use cg_notes_arch::key_line;
 use cg_places::tile_part_at;
 use cg_toml::toml_table;
 use std::alloc::{AllocError, Global};
 use toml::Value;
-
-/// The keys of a part.
-const PART_KEYS: [&str; 7] = ["wire", "reg", "unit", "from", "ops", "latency", "ports"];
 
 /// The most bytes of an architecture that is parsed again for a note.
 const MOST_PARSED: usize = 1_000_000;
@@ -31,11 +27,8 @@ pub(crate) fn find_tile_part(
     let Some(at) = tile_part_at(bytes, tile, part) else {
         return Ok(None);
     };
-    let (place, said) = match unknown_key_line(bytes, at, &PART_KEYS) {
-        Some((at, key)) => (Place::at(bytes, at), unknown_key(alloc, key, &PART_KEYS)?),
-        None => (Place::at(bytes, at), String::from_str(alloc, sentence)?),
-    };
-    let text = format!(in alloc; "tile {tile} part {part}: {said}")?;
+    let text = format!(in alloc; "tile {tile} part {part}: {sentence}")?;
+    let place = Place::at(bytes, at);
     Ok(Some(Finding { place, text }))
 }
 

@@ -1,0 +1,117 @@
+//! What is wrong with a part: its keys and their values.
+
+use crate::lines::key_line_in;
+use crate::ops::{note_latency, note_ops};
+use crate::references::{note_from, note_ports};
+use crate::slips::{Here, TomlSlips};
+use cg_model::{LONGEST_NAME, is_name};
+use cg_slips::unknown_key;
+use std::alloc::{AllocError, Global};
+use toml::Value;
+
+/// The keys that say what a part is.
+const HEADS: [&str; 3] = ["wire", "reg", "unit"];
+
+/// The keys of a wire or a register.
+const NET_KEYS: [&str; 3] = ["wire", "reg", "from"];
+
+/// The keys of a unit.
+const UNIT_KEYS: [&str; 4] = ["unit", "ops", "latency", "ports"];
+
+/// The keys of a part of any kind.
+const ALL_KEYS: [&str; 7] = ["wire", "reg", "unit", "from", "ops", "latency", "ports"];
+
+/// Returns the byte at which `key` stands in the part `here`, or that at which the part begins.
+pub(crate) fn place_of(here: Here<'_>, key: &str) -> usize {
+    key_line_in(here.bytes, here.at, key).unwrap_or(here.at)
+}
+
+/// Adds to `slips` what is wrong with `value`, the part `here`.
+pub(crate) fn note_part(
+    alloc: Global,
+    slips: &mut TomlSlips,
+    here: Here<'_>,
+    value: &Value,
+) -> Result<(), AllocError> {
+    let heads = HEADS
+        .iter()
+        .filter(|head| value.get(**head).is_some())
+        .count();
+    if heads != 1 {
+        note_keys(alloc, slips, here, value, &ALL_KEYS)?;
+        let text = "a part has one of the keys wire, reg and unit";
+        return slips.add(alloc, "M2", here, here.at, text);
+    }
+    if value.get("unit").is_some() {
+        note_name(alloc, slips, here, value, "unit")?;
+        note_keys(alloc, slips, here, value, &UNIT_KEYS)?;
+        note_ops(alloc, slips, here, value)?;
+        note_latency(alloc, slips, here, value)?;
+        note_ports(alloc, slips, here, value)
+    } else {
+        note_name(alloc, slips, here, value, "wire")?;
+        note_name(alloc, slips, here, value, "reg")?;
+        note_keys(alloc, slips, here, value, &NET_KEYS)?;
+        note_from(alloc, slips, here, value)
+    }
+}
+
+/// Adds to `slips` each key of `value` that isn't one of `keys`.
+fn note_keys(
+    alloc: Global,
+    slips: &mut TomlSlips,
+    here: Here<'_>,
+    value: &Value,
+    keys: &[&'static str],
+) -> Result<(), AllocError> {
+    let Some(members) = value.as_table() else {
+        return Ok(());
+    };
+    for (key, _) in members.iter() {
+        let key = key.as_str();
+        if !(&*keys).contains(&key) {
+            let text = unknown_key(alloc, key, keys)?;
+            slips.add(alloc, "M3", here, place_of(here, key), text.as_str())?;
+        }
+    }
+    Ok(())
+}
+
+/// Adds to `slips` what is wrong with the name that `value` has at `key`, if it has that key.
+fn note_name(
+    alloc: Global,
+    slips: &mut TomlSlips,
+    here: Here<'_>,
+    value: &Value,
+    key: &str,
+) -> Result<(), AllocError> {
+    let Some(found) = value.get(key) else {
+        return Ok(());
+    };
+    let at = place_of(here, key);
+    match found.as_str() {
+        None => {
+            let text = format!(in alloc; "\"{key}\" has to be a text")?;
+            slips.add(alloc, "M2", here, at, text.as_str())
+        }
+        Some(name) if !is_name(name, LONGEST_NAME) => slips.add(
+            alloc,
+            "A2",
+            here,
+            at,
+            "a name is a letter or _ and then letters, digits or _",
+        ),
+        Some(_) => Ok(()),
+    }
+}
+
+/// Adds to `slips` that the part `here` has no key `key`.
+pub(crate) fn note_missing(
+    alloc: Global,
+    slips: &mut TomlSlips,
+    here: Here<'_>,
+    key: &str,
+) -> Result<(), AllocError> {
+    let text = format!(in alloc; "the key \"{key}\" is missing")?;
+    slips.add(alloc, "M2", here, here.at, text.as_str())
+}

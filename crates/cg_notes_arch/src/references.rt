@@ -1,0 +1,121 @@
+//! What is wrong with references to drivers.
+
+use crate::parts::{note_missing, place_of};
+use crate::slips::{Here, TomlSlips};
+use cg_slips::shown;
+use std::alloc::{AllocError, Global};
+use toml::Value;
+
+/// The most ports of a unit.
+const MOST_PORTS: usize = 3;
+
+/// Adds to `slips` what is wrong with the drivers of `value`, the wire or register `here`.
+pub(crate) fn note_from(
+    alloc: Global,
+    slips: &mut TomlSlips,
+    here: Here<'_>,
+    value: &Value,
+) -> Result<(), AllocError> {
+    match value.get("from") {
+        Some(found) => {
+            let at = place_of(here, "from");
+            note_references(alloc, slips, here, at, "from", found)
+        }
+        None => note_missing(alloc, slips, here, "from"),
+    }
+}
+
+/// Adds to `slips` what is wrong with the ports of `value`, the unit `here`.
+pub(crate) fn note_ports(
+    alloc: Global,
+    slips: &mut TomlSlips,
+    here: Here<'_>,
+    value: &Value,
+) -> Result<(), AllocError> {
+    let Some(found) = value.get("ports") else {
+        return note_missing(alloc, slips, here, "ports");
+    };
+    let at = place_of(here, "ports");
+    let Some(ports) = found.as_array() else {
+        let text = "\"ports\" has to be a list of lists of references";
+        return slips.add(alloc, "M2", here, at, text);
+    };
+    let count = ports.len();
+    if count > MOST_PORTS {
+        let text = format!(in alloc; "a unit has at most three ports, this one has {count}")?;
+        slips.add(alloc, "A7", here, at, text.as_str())?;
+    }
+    for port in ports.iter() {
+        note_references(alloc, slips, here, at, "ports", port)?;
+    }
+    Ok(())
+}
+
+/// Adds to `slips` what is wrong with `value`, a list of references of `key`, which stands at byte `at`.
+fn note_references(
+    alloc: Global,
+    slips: &mut TomlSlips,
+    here: Here<'_>,
+    at: usize,
+    key: &str,
+    value: &Value,
+) -> Result<(), AllocError> {
+    let Some(references) = value.as_array() else {
+        let text = match key {
+            "from" => "\"from\" has to be a list of references",
+            _ => "\"ports\" has to be a list of lists of references",
+        };
+        return slips.add(alloc, "M2", here, at, text);
+    };
+    for reference in references.iter() {
+        match reference.as_str() {
+            None => slips.add(alloc, "M2", here, at, "a reference has to be a text")?,
+            Some(text) => note_reference(alloc, slips, here, at, text)?,
+        }
+    }
+    Ok(())
+}
+
+/// Adds to `slips` where `text` is no reference.
+fn note_reference(
+    alloc: Global,
+    slips: &mut TomlSlips,
+    here: Here<'_>,
+    at: usize,
+    text: &str,
+) -> Result<(), AllocError> {
+    if is_reference(text) {
+        return Ok(());
+    }
+    let why = match text.split_once('.') {
+        Some(_) => "a neighbour is N, E, S or W, as in \"N.x\"",
+        None => "it is a name, a neighbour's as \"N.x\", or a flat one as \"/r0c0_x\"",
+    };
+    let text = shown(alloc, text)?;
+    let text = text.as_str();
+    let text = format!(in alloc; "\"{text}\" is no reference: {why}")?;
+    slips.add(alloc, "M2", here, at, text.as_str())
+}
+
+/// Checks whether `text` has one of the forms of references.
+fn is_reference(text: &str) -> bool {
+    let name = match text.split_once('.') {
+        Some(("N" | "E" | "S" | "W", name)) => name,
+        Some(_) => return false,
+        None => text.strip_prefix('/').unwrap_or(text),
+    };
+    is_word(name)
+}
+
+/// Checks whether `name` is a letter or `_`, and then letters, digits or `_`.
+fn is_word(name: &str) -> bool {
+    match name.as_bytes() {
+        [] => false,
+        [first, ..] => {
+            !first.is_ascii_digit()
+                && name
+                    .bytes()
+                    .all(|byte| byte.is_ascii_alphanumeric() || byte == b'_')
+        }
+    }
+}

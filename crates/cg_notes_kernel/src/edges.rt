@@ -1,0 +1,72 @@
+//! Which rules order edges break.
+
+use cg_kernel::{WrittenEdge, WrittenKernel};
+use cg_model::MOST_ORDER_DISTANCE;
+use cg_names::{Numbers, number_in};
+use cg_slips::{Slips, Spot, no_name, shown};
+use std::alloc::{AllocError, Global};
+
+/// Adds to `slips` which rules the order edges of `written` break.
+pub(crate) fn note_edges(
+    alloc: Global,
+    slips: &mut Slips,
+    numbers: &Numbers,
+    written: &WrittenKernel,
+) -> Result<(), AllocError> {
+    for (number, edge) in written.order.as_slice().iter().enumerate() {
+        note_end(alloc, slips, numbers, number, "from", edge.from.as_str())?;
+        note_end(alloc, slips, numbers, number, "to", edge.to.as_str())?;
+        note_order(alloc, slips, numbers, number, edge)?;
+    }
+    Ok(())
+}
+
+/// Adds to `slips` where `name`, the end at `key` of order edge `number`, is no node.
+fn note_end(
+    alloc: Global,
+    slips: &mut Slips,
+    numbers: &Numbers,
+    number: usize,
+    key: &'static str,
+    name: &str,
+) -> Result<(), AllocError> {
+    if number_in(numbers, name).is_some() {
+        return Ok(());
+    }
+    let said = no_name(alloc, "node", name)?;
+    let said = said.as_str();
+    let text = format!(in alloc; "order edge {number}: {said}")?;
+    slips.add("K9", "order", number, Spot::Key(key), text)
+}
+
+/// Adds to `slips` where the order edge `edge`, which has that number, leads back or too far.
+fn note_order(
+    alloc: Global,
+    slips: &mut Slips,
+    numbers: &Numbers,
+    number: usize,
+    edge: &WrittenEdge,
+) -> Result<(), AllocError> {
+    let distance = edge.distance;
+    if distance > MOST_ORDER_DISTANCE {
+        let text = format!(in alloc;
+            "order edge {number}: a distance is at most 255, this one is {distance}"
+        )?;
+        slips.add("K12", "order", number, Spot::Key("distance"), text)?;
+    }
+    let from = number_in(numbers, edge.from.as_str());
+    let to = number_in(numbers, edge.to.as_str());
+    match (from, to) {
+        (Some(source), Some(target)) if distance == 0 && source >= target => {
+            let from = shown(alloc, edge.from.as_str())?;
+            let to = shown(alloc, edge.to.as_str())?;
+            let from = from.as_str();
+            let to = to.as_str();
+            let text = format!(in alloc;
+                "order edge {number}: \"{from}\" isn't before \"{to}\": it needs a \"distance\" of at least 1"
+            )?;
+            slips.add("K11", "order", number, Spot::Key("from"), text)
+        }
+        _ => Ok(()),
+    }
+}

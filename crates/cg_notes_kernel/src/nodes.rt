@@ -1,0 +1,200 @@
+//! Which rules nodes break.
+
+use crate::args::note_args;
+use crate::shapes::node_prefix;
+use cg_kernel::{WrittenArg, WrittenKernel, WrittenNode, op_of};
+use cg_model::{LAST_PORT, LONGEST_NODE_NAME, is_name};
+use cg_names::{Numbers, number_in};
+use cg_slips::{Slips, Spot, unknown_operation};
+use cg_word::Op;
+use std::alloc::{AllocError, Global};
+
+/// A node that is looked at.
+#[derive(Clone, Copy, Drop)]
+pub(crate) struct Here<'a> {
+    /// The kernel as its file writes it.
+    pub(crate) written: &'a WrittenKernel,
+    /// The node's number.
+    pub(crate) number: usize,
+    /// How sentences on it begin.
+    pub(crate) prefix: &'a str,
+}
+
+/// Adds to `slips` which rules the nodes of `written` break, whose names have these `numbers`.
+pub(crate) fn note_nodes(
+    alloc: Global,
+    slips: &mut Slips,
+    numbers: &Numbers,
+    written: &WrittenKernel,
+) -> Result<(), AllocError> {
+    for (number, node) in written.nodes.as_slice().iter().enumerate() {
+        let prefix = node_prefix(alloc, number, Some(node.name.as_str()))?;
+        let here = Here {
+            written,
+            number,
+            prefix: prefix.as_str(),
+        };
+        note_name(alloc, slips, here, numbers, node)?;
+        note_operation(alloc, slips, here, node)?;
+        note_args(alloc, slips, here, numbers, node)?;
+    }
+    Ok(())
+}
+
+/// Adds to `slips` what is wrong with the name of `node`.
+fn note_name(
+    alloc: Global,
+    slips: &mut Slips,
+    here: Here<'_>,
+    numbers: &Numbers,
+    node: &WrittenNode,
+) -> Result<(), AllocError> {
+    let Here { number, prefix, .. } = here;
+    let name = node.name.as_str();
+    if !is_name(name, LONGEST_NODE_NAME) {
+        let text = format!(in alloc;
+            "{prefix}a name is a letter or _ and then letters, digits or _, at most 32 in all"
+        )?;
+        slips.add("K5", "nodes", number, Spot::Key("name"), text)?;
+    }
+    match number_in(numbers, name) {
+        Some(first) if first < number => {
+            let text = format!(in alloc; "{prefix}node {first} has the same name")?;
+            slips.add("K6", "nodes", number, Spot::Key("name"), text)
+        }
+        _ => Ok(()),
+    }
+}
+
+/// Adds to `slips` what is wrong with the operation of `node`, the number of its arguments, and its port.
+fn note_operation(
+    alloc: Global,
+    slips: &mut Slips,
+    here: Here<'_>,
+    node: &WrittenNode,
+) -> Result<(), AllocError> {
+    let Here {
+        written,
+        number,
+        prefix,
+    } = here;
+    let Some(op) = op_of(written, node) else {
+        let said = unsupported(alloc, node.op.as_str())?;
+        let said = said.as_str();
+        let text = format!(in alloc; "{prefix}{said}")?;
+        return slips.add("K7", "nodes", number, Spot::Key("op"), text);
+    };
+    note_count(alloc, slips, here, op, node.args.as_slice().len())?;
+    note_constants(alloc, slips, here, node)?;
+    note_port(alloc, slips, here, op, node.port)?;
+    note_output(alloc, slips, here, op, node.port)
+}
+
+/// Returns that the format knows no operation `name`.
+fn unsupported(alloc: Global, name: &str) -> Result<String, AllocError> {
+    match Op::from_name(name) {
+        Some(_) => format!(in alloc; "{name} is an operation of the format cgk2"),
+        None => unknown_operation(alloc, name),
+    }
+}
+
+/// Adds to `slips` where `count` isn't how many arguments `op` takes.
+fn note_count(
+    alloc: Global,
+    slips: &mut Slips,
+    here: Here<'_>,
+    op: Op,
+    count: usize,
+) -> Result<(), AllocError> {
+    let Here { number, prefix, .. } = here;
+    let arity = op.arity();
+    if arity as usize == count {
+        return Ok(());
+    }
+    let name = op.name();
+    let text = match arity {
+        1 => format!(in alloc; "{prefix}{name} takes 1 argument, this one has {count}")?,
+        _ => format!(in alloc; "{prefix}{name} takes {arity} arguments, this one has {count}")?,
+    };
+    slips.add("K8", "nodes", number, Spot::Item, text)
+}
+
+/// Adds to `slips` where more than one argument of `node` is a number, the second such one.
+fn note_constants(
+    alloc: Global,
+    slips: &mut Slips,
+    here: Here<'_>,
+    node: &WrittenNode,
+) -> Result<(), AllocError> {
+    let Here { number, prefix, .. } = here;
+    let second = node
+        .args
+        .as_slice()
+        .iter()
+        .enumerate()
+        .filter(|(_, arg)| matches!(arg, WrittenArg::Number(_)))
+        .nth(1);
+    let Some((place, _)) = second else {
+        return Ok(());
+    };
+    let text = format!(in alloc; "{prefix}more than one argument is a number")?;
+    slips.add("K14", "nodes", number, Spot::Element("args", place), text)
+}
+
+/// Adds to `slips` what is wrong with `port`, the port of a node with the operation `op`.
+fn note_port(
+    alloc: Global,
+    slips: &mut Slips,
+    here: Here<'_>,
+    op: Op,
+    port: Option<u32>,
+) -> Result<(), AllocError> {
+    let Here { number, prefix, .. } = here;
+    let name = op.name();
+    match port {
+        None if op.has_port() => {
+            let text = format!(in alloc; "{prefix}{name} needs a \"port\" from 0 to 15")?;
+            slips.add("K15", "nodes", number, Spot::Item, text)
+        }
+        Some(_) if !op.has_port() => {
+            let text = format!(in alloc; "{prefix}{name} has no \"port\"")?;
+            slips.add("K15", "nodes", number, Spot::Key("port"), text)
+        }
+        Some(port) if port > LAST_PORT => {
+            let text = format!(in alloc; "{prefix}a port is at most 15, this one is {port}")?;
+            slips.add("K15", "nodes", number, Spot::Key("port"), text)
+        }
+        _ => Ok(()),
+    }
+}
+
+/// Adds to `slips` where an earlier output has the port of this one.
+fn note_output(
+    alloc: Global,
+    slips: &mut Slips,
+    here: Here<'_>,
+    op: Op,
+    port: Option<u32>,
+) -> Result<(), AllocError> {
+    let Here {
+        written,
+        number,
+        prefix,
+    } = here;
+    let Some(port) = port else {
+        return Ok(());
+    };
+    if !op.is_output() {
+        return Ok(());
+    }
+    for (other, node) in written.nodes.as_slice().iter().enumerate() {
+        if other >= number {
+            break;
+        }
+        if node.port == Some(port) && op_of(written, node).is_some_and(|op| op.is_output()) {
+            let text = format!(in alloc; "{prefix}node {other} has port {port} already")?;
+            return slips.add("K16", "nodes", number, Spot::Key("port"), text);
+        }
+    }
+    Ok(())
+}

@@ -1,0 +1,102 @@
+//! Nodes and edges with no place or route, or several.
+
+use crate::shapes::{items_at, text_of};
+use cg_json::word_in;
+use cg_model::{Kernel, Operand};
+use cg_slips::{Slips, Spot};
+use serde_json::Value;
+use std::alloc::{AllocError, Global};
+
+/// The most bytes by which nodes are looked up one by one in the lists of a mapping.
+const MOST_COMPARED: usize = 4_000_000;
+
+/// Adds to `slips` each node of `kernel` that has no place in the mapping file `value`, or several, and each edge that has no
+/// route, or several. Does nothing where a list is
+/// missing, or that would take long.
+pub(crate) fn note_missing(
+    alloc: Global,
+    slips: &mut Slips,
+    kernel: &Kernel,
+    value: &Value,
+) -> Result<(), AllocError> {
+    if value.get("places").is_none() || value.get("routes").is_none() {
+        return Ok(());
+    }
+    let places = items_at(value, "places");
+    let routes = items_at(value, "routes");
+    let items = places.len().saturating_add(routes.len());
+    let ends = kernel.nodes().len().saturating_mul(4);
+    if items.saturating_mul(ends) > MOST_COMPARED {
+        return Ok(());
+    }
+    for node in kernel.nodes() {
+        note_node(alloc, slips, node.name.as_str(), places)?;
+    }
+    for node in kernel.nodes() {
+        for (arg, operand) in node.operands.as_slice().iter().enumerate() {
+            if let Operand::Edge { .. } = operand {
+                note_edge(alloc, slips, node.name.as_str(), arg, routes)?;
+            }
+        }
+    }
+    Ok(())
+}
+
+/// Adds to `slips` where the node `name` has no place among `places`, or several.
+fn note_node(
+    alloc: Global,
+    slips: &mut Slips,
+    name: &str,
+    places: &[Value],
+) -> Result<(), AllocError> {
+    let mut first = None;
+    for (number, place) in places.iter().enumerate() {
+        if text_of(place, "node") == Some(name) {
+            if let Some(earlier) = first {
+                let text = format!(in alloc; "node {name} has a place already, number {earlier}")?;
+                return slips.add("P6", "places", number, Spot::Item, text);
+            }
+            first = Some(number);
+        }
+    }
+    if first.is_some() {
+        return Ok(());
+    }
+    let text = format!(in alloc; "node {name} has no place")?;
+    slips.add("P6", "places", 0, Spot::List, text)
+}
+
+/// Adds to `slips` where the edge to argument `arg` of the node `name` has no route among `routes`, or several.
+fn note_edge(
+    alloc: Global,
+    slips: &mut Slips,
+    name: &str,
+    arg: usize,
+    routes: &[Value],
+) -> Result<(), AllocError> {
+    let mut first = None;
+    for (number, route) in routes.iter().enumerate() {
+        if text_of(route, "to") == Some(name) && has_argument(route, arg) {
+            if let Some(earlier) = first {
+                let text = format!(in alloc;
+                    "argument {arg} of {name} has a route already, number {earlier}"
+                )?;
+                return slips.add("P6", "routes", number, Spot::Item, text);
+            }
+            first = Some(number);
+        }
+    }
+    if first.is_some() {
+        return Ok(());
+    }
+    let text = format!(in alloc; "argument {arg} of {name} has no route")?;
+    slips.add("P6", "routes", 0, Spot::List, text)
+}
+
+/// Checks whether `route` ends at an argument of that number.
+fn has_argument(route: &Value, arg: usize) -> bool {
+    match route.get("arg") {
+        Some(found) => word_in(found).is_some_and(|word| word as usize == arg),
+        None => false,
+    }
+}
