@@ -8,7 +8,9 @@ ghost use Rattle.cg_anneal.specs.Walking.{IsRoutedBy};
 
 use crate::counting::Counting;
 use crate::moves::Pace;
+use crate::progress::Costs;
 use crate::walk::Walk;
+use cg_aside::Aside;
 use cg_check::LegalMapping;
 use cg_model::Request;
 use cg_mrrg::Mrrg;
@@ -34,58 +36,66 @@ pub(crate) enum Reached {
     Cost(u64),
 }
 
-/// Makes the walk of `task` with the seed of `request` and at most its moves.
-pub fn search<'a>(alloc: Global, task: &Task<'a>, request: Request) -> Result<Found<'a>, AllocError>
+/// Makes the walk of `task` with the seed of `request` and at most its moves. `aside` takes the progress.
+pub fn search<'a>(
+    alloc: Global,
+    task: &Task<'a>,
+    request: Request,
+    aside: &mut dyn Aside,
+) -> Result<Found<'a>, AllocError>
     requires few { request.moves ≤ most_moves }
     ensures { IfOk result (IsWalked task.now.arch task.now.kernel task.now.ii request.seed request.moves) }
 {
-    search_by(alloc, Counting::Kept, task, request)
+    search_by(alloc, Counting::Kept, task, request, aside)
 }
 
-/// Makes the walk of `task`, with the costs of states counted as `counting` says.
+/// Makes the walk of `task`, with the costs of states counted as `counting` says. `aside` takes the progress.
 pub(crate) fn search_by<'a>(
     alloc: Global,
     counting: Counting,
     task: &Task<'a>,
     request: Request,
+    aside: &mut dyn Aside,
 ) -> Result<Found<'a>, AllocError>
     requires few { request.moves ≤ most_moves }
     ensures { IfOk result (IsWalked task.now.arch task.now.kernel task.now.ii request.seed request.moves) }
 {
     task.holds();
     let graph = Mrrg::expand(alloc, task.arch(), task.interval())?;
-    let found = walk_over(alloc, counting, &graph, task, request)?;
+    let found = walk_over(alloc, counting, &graph, task, request, aside)?;
     Ok(found)
 }
 
-/// Makes the walk of `task` over `graph`, its modulo routing resource graph.
+/// Makes the walk of `task` over `graph`, its modulo routing resource graph. `aside` takes the progress.
 fn walk_over<'g, 'a>(
     alloc: Global,
     counting: Counting,
     graph: &'g Mrrg<'a>,
     task: &Task<'a>,
     request: Request,
+    aside: &mut dyn Aside,
 ) -> Result<Found<'a>, AllocError>
     requires graph { graph.now ≡ record { arch = task.now.arch; interval = task.now.ii } }
     requires few { request.moves ≤ most_moves }
     ensures { IfOk result (IsWalkedFrom task.now.arch task.now.kernel task.now.ii task.now.early request.seed request.moves) }
 {
     let mut walk = begin(alloc, graph, task)?;
-    end_of(alloc, counting, &mut walk, request)
+    end_of(alloc, counting, &mut walk, request, aside)
 }
 
-/// Makes the moves of `walk` from its start on, and returns how it ends.
+/// Makes the moves of `walk` from its start on, and returns how it ends. `aside` takes the progress.
 fn end_of<'g, 'a>(
     alloc: Global,
     counting: Counting,
     walk: &mut Walk<'g, 'a>,
     request: Request,
+    aside: &mut dyn Aside,
 ) -> Result<Found<'a>, AllocError>
     requires few { request.moves ≤ most_moves }
     requires start { IsStart walk.old.arch walk.old.kernel walk.old.ii walk.old.early walk.old.state }
     ensures { IfOk result (IsWalkedFrom walk.old.arch walk.old.kernel walk.old.ii walk.old.early request.seed request.moves) }
 {
-    match make_moves(alloc, counting, walk, request)? {
+    match make_moves(alloc, counting, walk, request, aside)? {
         Reached::Zero(k) => {
             let end = legal_end(alloc, walk, k)?;
             Ok(end)
@@ -118,12 +128,13 @@ fn route_first(alloc: Global, walk: &mut Walk) -> Result<(), AllocError>
     walk.route_all(alloc, &list)
 }
 
-/// Makes moves until a state of `walk` has cost 0, and else all moves of `request`.
+/// Makes moves until a state of `walk` has cost 0, and else all moves of `request`. `aside` takes the progress.
 fn make_moves(
     alloc: Global,
     counting: Counting,
     walk: &mut Walk,
     request: Request,
+    aside: &mut dyn Aside,
 ) -> Result<Reached, AllocError>
     requires few { request.moves ≤ most_moves }
     requires start { IsStart walk.old.arch walk.old.kernel walk.old.ii walk.old.early walk.old.state }
@@ -131,13 +142,16 @@ fn make_moves(
 {
     walk.holds();
     let moves = request.moves;
-    let mut generator = Lcg64Xsh32::new(request.seed, u64::from(walk.interval()));
+    let ii = walk.interval();
+    let mut generator = Lcg64Xsh32::new(request.seed, u64::from(ii));
+    let mut costs = Costs::new(ii);
     for k in 0..moves {
         walk.holds();
         let cost = walk.cost_by(alloc, counting)?;
         if cost == 0 {
             return Ok(Reached::Zero(k));
         }
+        costs.meet(k, cost, aside);
         let pace = Pace { counting, moves, k };
         walk.step(alloc, pace, &mut generator)?;
     }

@@ -9,6 +9,7 @@ mod finding;
 pub mod laws;
 mod mapping;
 mod moves;
+mod progress;
 mod routing;
 mod walk;
 

@@ -6,16 +6,23 @@ ghost use Rattle.cg_command.specs.Words.{HasShape};
 ghost use Rattle.cg_answers.specs.Commands.{IsAnswer};
 
 use crate::shaped;
+use cg_aside::Aside;
 use cg_command::{Command, Plan};
 use cg_ending::{File, Outcome, Stop};
 use std::alloc::Global;
 
-/// Returns the outcome of the command of `plan` over `files`, its input files in the order of reading.
-pub fn answer(alloc: Global, plan: &Plan, files: &[File]) -> Result<Outcome, Stop>
+/// Returns the outcome of the command of `plan` over `files`, its input files in the order of reading. `aside` takes
+/// the progress of a search.
+pub fn answer(
+    alloc: Global,
+    plan: &Plan,
+    files: &[File],
+    aside: &mut dyn Aside,
+) -> Result<Outcome, Stop>
     requires { HasShape plan.now.command (length files.now) (length plan.now.outputs.items) }
     ensures { Allows (IsAnswer plan.now.command (map file_of files.now) (map string_bytes plan.now.outputs.items)) result }
 {
-    answer_to(alloc, plan.command, files, plan.outputs.as_slice())
+    answer_to(alloc, plan.command, files, plan.outputs.as_slice(), aside)
 }
 
 fn answer_to(
@@ -23,6 +30,7 @@ fn answer_to(
     command: Command,
     files: &[File],
     outputs: &[String],
+    aside: &mut dyn Aside,
 ) -> Result<Outcome, Stop>
     requires { HasShape command (length files.now) (length outputs.now) }
     ensures { Allows (IsAnswer command (map file_of files.now) (map string_bytes outputs.now)) result }
@@ -35,8 +43,8 @@ fn answer_to(
         Command::Bound => shaped::bound(alloc, files, outputs),
         Command::Check => shaped::check(alloc, files, outputs),
         Command::Emit => shaped::emit(alloc, files, outputs),
-        Command::Map(request) => shaped::map(alloc, request, files, outputs),
-        Command::Search(request) => shaped::search(alloc, request, files, outputs),
+        Command::Map(request) => shaped::map(alloc, request, files, outputs, aside),
+        Command::Search(request) => shaped::search(alloc, request, files, outputs, aside),
         Command::Show => shaped::show(alloc, files, outputs),
         Command::Trial { seed } => shaped::trial(alloc, seed, files, outputs),
         Command::Verilog => shaped::verilog(alloc, files, outputs),

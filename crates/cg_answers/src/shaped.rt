@@ -6,6 +6,7 @@ ghost use Rattle.cg_command.specs.Words.{HasShape};
 ghost use Rattle.cg_answers.specs.Commands.{IsAnswer};
 
 use crate::{depending, migrating, netlisting};
+use cg_aside::Aside;
 use cg_command::Command;
 use cg_ending::{File, Outcome, Status, Stop};
 use cg_model::Request;
@@ -98,31 +99,33 @@ pub(crate) fn emit(alloc: Global, files: &[File], outputs: &[String]) -> Result<
 }
 
 /// Answers `map ARCH KERNEL OUT` over `files`; `outputs` are the name of the bits and, where it is given, that of the
-/// mapping.
+/// mapping. `aside` takes the progress.
 pub(crate) fn map(
     alloc: Global,
     request: Request,
     files: &[File],
     outputs: &[String],
+    aside: &mut dyn Aside,
 ) -> Result<Outcome, Stop>
     requires { HasShape (Command.Map request) (length files.now) (length outputs.now) }
     ensures { Allows (IsAnswer (Command.Map request) (map file_of files.now) (map string_bytes outputs.now)) result }
 {
-    cg_map_answers::map(alloc, request, &files[0], &files[1], outputs)
+    cg_map_answers::map(alloc, request, &files[0], &files[1], outputs, aside)
 }
 
 /// Answers `search ARCH KERNEL OUT` over `files`; `outputs` are the name of the bits and, where it is given, that of
-/// the mapping.
+/// the mapping. `aside` takes the progress.
 pub(crate) fn search(
     alloc: Global,
     request: Request,
     files: &[File],
     outputs: &[String],
+    aside: &mut dyn Aside,
 ) -> Result<Outcome, Stop>
     requires { HasShape (Command.Search request) (length files.now) (length outputs.now) }
     ensures { Allows (IsAnswer (Command.Search request) (map file_of files.now) (map string_bytes outputs.now)) result }
 {
-    cg_search_answers::search(alloc, request, &files[0], &files[1], outputs)
+    cg_search_answers::search(alloc, request, &files[0], &files[1], outputs, aside)
 }
 
 /// Answers `show ARCH KERNEL MAPPING [OUT]` over `files`; `outputs` is the name of the picture, where it is given.

@@ -8,10 +8,10 @@ use cg_aside::Aside;
 use std::alloc::{AllocError, Global};
 
 /// Notes what is wrong with `words`, which fit no command, and which words would fit.
-pub fn note_words<A: Aside>(
+pub fn note_words(
     alloc: Global,
     words: &[String],
-    aside: &mut A,
+    aside: &mut dyn Aside,
 ) -> Result<(), AllocError> {
     let Some((first, rest)) = words.split_first() else {
         note_commands(aside);
@@ -31,7 +31,7 @@ pub fn note_words<A: Aside>(
 }
 
 /// Notes the help that `words`, those after `help`, ask for.
-fn note_help<A: Aside>(alloc: Global, words: &[String], aside: &mut A) -> Result<(), AllocError> {
+fn note_help(alloc: Global, words: &[String], aside: &mut dyn Aside) -> Result<(), AllocError> {
     let Some(name) = words.first() else {
         note_commands(aside);
         return Ok(());
@@ -46,11 +46,11 @@ fn note_help<A: Aside>(alloc: Global, words: &[String], aside: &mut A) -> Result
 }
 
 /// Notes what is wrong with `words`, those after the name of the command `usage`, and the lines of the command.
-fn note_misuse<A: Aside>(
+fn note_misuse(
     alloc: Global,
     usage: &'static Usage,
     words: &[String],
-    aside: &mut A,
+    aside: &mut dyn Aside,
 ) -> Result<(), AllocError> {
     match read_words(alloc, usage, words) {
         Ok(()) => {}
@@ -66,7 +66,7 @@ fn note_misuse<A: Aside>(
 }
 
 /// Notes that there is no command `name`, and the lines of all commands.
-fn note_unknown<A: Aside>(alloc: Global, name: &str, aside: &mut A) -> Result<(), AllocError> {
+fn note_unknown(alloc: Global, name: &str, aside: &mut dyn Aside) -> Result<(), AllocError> {
     if name.is_empty() {
         aside.note("no command");
     } else {
@@ -87,14 +87,14 @@ fn nearest_command(alloc: Global, name: &str) -> Result<Option<&'static str>, Al
 }
 
 /// Notes the lines of all commands.
-fn note_commands<A: Aside>(aside: &mut A) {
+fn note_commands(aside: &mut dyn Aside) {
     for line in COMMANDS.lines() {
         aside.note(line);
     }
 }
 
 /// Notes the lines of the command `usage`.
-fn note_command<A: Aside>(usage: &Usage, aside: &mut A) {
+fn note_command(usage: &Usage, aside: &mut dyn Aside) {
     for line in COMMANDS.lines() {
         if line.split(' ').next() == Some(usage.name) {
             aside.note(line);
@@ -103,7 +103,7 @@ fn note_command<A: Aside>(usage: &Usage, aside: &mut A) {
 }
 
 /// Notes `text` as one line: a control character in it, as a line feed, is written as in a literal.
-fn note_text<A: Aside>(alloc: Global, text: &str, aside: &mut A) -> Result<(), AllocError> {
+fn note_text(alloc: Global, text: &str, aside: &mut dyn Aside) -> Result<(), AllocError> {
     let mut line = String::new(alloc);
     for character in text.chars() {
         if character.is_control() {

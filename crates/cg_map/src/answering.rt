@@ -8,18 +8,20 @@ ghost use Rattle.cg_map.specs.Tried.{IsAnswer, IsTried};
 
 use crate::trying::{Attempt, try_task};
 use cg_arch::Arch;
+use cg_aside::Aside;
 use cg_bound::{IntervalVerdict, verdict};
 use cg_model::{Kernel, Request};
 use cg_task::{Answer, Task, first_tried, last_tried};
 use std::alloc::{AllocError, Global};
 
 /// Searches a mapping of `kernel` on `arch`, at the interval that `request` asks for, or at each from the least one
-/// that nothing forbids to as many cycles as the architecture has contexts.
+/// that nothing forbids to as many cycles as the architecture has contexts. `aside` takes the progress.
 pub fn map_answer<'a>(
     alloc: Global,
     arch: &'a Arch,
     kernel: &'a Kernel,
     request: Request,
+    aside: &mut dyn Aside,
 ) -> Result<Answer<'a>, AllocError>
     requires within { IsAsked arch.now request.ii }
     requires few { request.moves ≤ most_moves }
@@ -29,18 +31,19 @@ pub fn map_answer<'a>(
         IntervalVerdict::Impossible(certificate) => Ok(Answer::Impossible(certificate)),
         IntervalVerdict::Allowed => {
             let first = first_tried(alloc, arch, kernel, request.ii)?;
-            tried(alloc, arch, kernel, first, request)
+            tried(alloc, arch, kernel, first, request, aside)
         }
     }
 }
 
-/// Tries the intervals from `first` to the last one.
+/// Tries the intervals from `first` to the last one. `aside` takes the progress.
 fn tried<'a>(
     alloc: Global,
     arch: &'a Arch,
     kernel: &'a Kernel,
     first: u32,
     request: Request,
+    aside: &mut dyn Aside,
 ) -> Result<Answer<'a>, AllocError>
     requires within { IsAsked arch.now request.ii }
     requires few { request.moves ≤ most_moves }
@@ -52,7 +55,7 @@ fn tried<'a>(
     let mut left = Vec::new(alloc);
     for ii in first..last_tried(arch, request.ii) + 1 {
         let task = Task::new(alloc, arch, kernel, ii)?;
-        match try_task(alloc, &task, request)? {
+        match try_task(alloc, &task, request, aside)? {
             Attempt::Mapped(mapping, found_by) => return Ok(Answer::Mapped(mapping, found_by)),
             Attempt::Left(cost) => left.push(cost)?,
         }

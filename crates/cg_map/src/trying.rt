@@ -4,6 +4,7 @@ ghost use Rattle.cg_model.specs.Limits.{most_moves};
 ghost use Rattle.cg_map.specs.Tried.{IsAttempt};
 
 use cg_anneal::{Found, search};
+use cg_aside::Aside;
 use cg_check::LegalMapping;
 use cg_hub::{hub_enough, hub_mapping};
 use cg_model::Request;
@@ -20,11 +21,12 @@ pub enum Attempt<'a> {
 }
 
 /// Tries the interval of `task`: the hub where it suffices, else the walk with the seed of `request` and at most its
-/// moves.
+/// moves. `aside` takes the progress.
 pub fn try_task<'a>(
     alloc: Global,
     task: &Task<'a>,
     request: Request,
+    aside: &mut dyn Aside,
 ) -> Result<Attempt<'a>, AllocError>
     requires few { request.moves ≤ most_moves }
     ensures { IfOk result (IsAttempt task.now.arch task.now.kernel request.seed request.moves task.now.ii) }
@@ -34,7 +36,7 @@ pub fn try_task<'a>(
         let mapping = hub_mapping(alloc, task.arch(), task.kernel(), ii)?;
         return Ok(Attempt::Mapped(mapping, FoundBy::Hub));
     }
-    match search(alloc, task, request)? {
+    match search(alloc, task, request, aside)? {
         Found::Mapped(mapping, count) => Ok(Attempt::Mapped(mapping, FoundBy::Moves(count))),
         Found::Spent(cost) => Ok(Attempt::Left(cost)),
     }

@@ -7,6 +7,7 @@ ghost use Rattle.cg_map_answers.specs.Map.{IsMap, IsWalk};
 ghost use Rattle.cg_task_answers.specs.Searches.{IsWithin, is_above};
 
 use cg_arch::Arch;
+use cg_aside::Aside;
 use cg_ending::{File, Outcome, Stop};
 use cg_inputs::{arch_in, kernel_in};
 use cg_map::map_answer;
@@ -16,13 +17,14 @@ use cg_task_answers::{above, asks_above, found, impossible, left_report, spent};
 use std::alloc::{AllocError, Global};
 
 /// Searches a mapping of the kernel that the file `kernel` gives on the architecture that `arch` gives. Its bits are to
-/// be written under the first name of `outputs`, and the mapping under the second, where there is one.
+/// be written under the first name of `outputs`, and the mapping under the second, where there is one. `aside` takes the progress.
 pub fn map(
     alloc: Global,
     request: Request,
     arch: &File,
     kernel: &File,
     outputs: &[String],
+    aside: &mut dyn Aside,
 ) -> Result<Outcome, Stop>
     requires { IsInRange request }
     ensures { Allows (IsMap request (file_of arch.now) (file_of kernel.now) (map string_bytes outputs.now)) result }
@@ -30,11 +32,12 @@ pub fn map(
     let array = arch_in(alloc, arch)?;
     let graph = kernel_in(alloc, kernel)?;
     let name = arch.name.as_str();
-    let outcome = searched(alloc, request, name, &array, &graph, outputs)?;
+    let outcome = searched(alloc, request, name, &array, &graph, outputs, aside)?;
     Ok(outcome)
 }
 
-/// Searches a mapping of `kernel` on `arch`, which was read from the file `name`, and returns the outcome.
+/// Searches a mapping of `kernel` on `arch`, which was read from the file `name`, and returns the outcome. `aside`
+/// takes the progress.
 fn searched(
     alloc: Global,
     request: Request,
@@ -42,6 +45,7 @@ fn searched(
     arch: &Arch,
     kernel: &Kernel,
     outputs: &[String],
+    aside: &mut dyn Aside,
 ) -> Result<Outcome, AllocError>
     requires { IsInRange request }
     ensures { IfOk result (λ o. IsWithin (IsWalk request (map string_bytes outputs.now)) name.now
@@ -51,7 +55,7 @@ fn searched(
         return above(alloc, name, arch);
     }
     let _valid_arch = arch.units();
-    match map_answer(alloc, arch, kernel, request)? {
+    match map_answer(alloc, arch, kernel, request, aside)? {
         Answer::Impossible(certificate) => impossible(alloc, request, arch, kernel, &certificate),
         Answer::Mapped(mapping, found_by) => found(alloc, "walk", &mapping, found_by, outputs),
         Answer::Spent { first, left } => {

@@ -3,6 +3,7 @@
 use crate::effort::Effort;
 use crate::faults::faults;
 use crate::snapshot::Snapshot;
+use cg_aside::Aside;
 use cg_respond_moves::settle;
 use cg_respond_problem::Problem;
 use cg_respond_state::State;
@@ -23,6 +24,9 @@ const TRIED: u32 = 12;
 
 /// How many are in two attempts of four.
 const FEW_TRIED: u32 = 6;
+
+/// How many moves are made at the least from one report of progress to the next.
+const REPORT_MOVES: u32 = 64;
 
 /// How an attempt ends.
 #[derive(Clone, Copy, Debug, PartialEq, Eq, Drop)]
@@ -51,6 +55,7 @@ pub(crate) struct Pace {
     low: u32,
     since: u32,
     since_move: u32,
+    reported: u32,
 }
 
 impl Pace {
@@ -70,6 +75,7 @@ impl Pace {
             low: u32::MAX,
             since: 0,
             since_move: 0,
+            reported: 0,
         })
     }
 
@@ -153,6 +159,15 @@ impl Pace {
     fn is_stale(&self, nodes: u32) -> bool {
         let moves = STALE_MOVES.max(nodes.saturating_mul(STALE_NODE_MOVES));
         self.since > STALE_SWEEPS && self.made.saturating_sub(self.since_move) > moves
+    }
+
+    /// Reports to `aside` the moves and the least faults of this search, at the interval `ii` in cycles, where enough moves
+    /// were made since it last did.
+    pub(crate) fn report(&mut self, ii: u32, aside: &mut dyn Aside) {
+        if self.made.saturating_sub(self.reported) >= REPORT_MOVES {
+            self.reported = self.made;
+            aside.progress(ii, self.made, self.least);
+        }
     }
 
     /// Makes the best response of `node`, if there are moves left.

@@ -8,6 +8,7 @@ use crate::mapping::mapping;
 use crate::pace::{Ending, Pace};
 use crate::snapshot::Snapshot;
 use crate::sweeps::attempt;
+use cg_aside::Aside;
 use cg_check::{CheckVerdict, LegalMapping, check};
 use cg_model::Mapping;
 use cg_respond_prices::Wiring;
@@ -30,27 +31,29 @@ pub enum Responded<'a> {
     },
 }
 
-/// Searches a mapping of `task`, on the array of `wiring`, with that `effort`.
+/// Searches a mapping of `task`, on the array of `wiring`, with that `effort`. `aside` takes the progress.
 pub fn respond<'a>(
     alloc: Global,
     task: &Task<'a>,
     wiring: &Wiring,
     effort: Effort,
+    aside: &mut dyn Aside,
 ) -> Result<Responded<'a>, AllocError>
     requires few { effort.moves ≤ most_moves }
     ensures { IfOk result (IsResponded task.now.arch task.now.kernel task.now.ii effort.moves) }
 {
     let problem = Problem::new(alloc, task, wiring)?;
-    let responded = attempts(alloc, task, &problem, effort)?;
+    let responded = attempts(alloc, task, &problem, effort, aside)?;
     Ok(responded)
 }
 
-/// Makes one attempt after another until one ends at a mapping or the search is over.
+/// Makes one attempt after another until one ends at a mapping or the search is over. `aside` takes the progress.
 fn attempts<'a>(
     alloc: Global,
     task: &Task<'a>,
     problem: &Problem,
     effort: Effort,
+    aside: &mut dyn Aside,
 ) -> Result<Responded<'a>, AllocError>
     requires few { effort.moves ≤ most_moves }
     ensures { IfOk result (IsResponded task.now.arch task.now.kernel task.now.ii effort.moves) }
@@ -58,7 +61,7 @@ fn attempts<'a>(
     let mut state = State::new(alloc, problem)?;
     let mut pace = Pace::new(alloc, problem, effort)?;
     for number in 0..effort.moves + 1 {
-        let ending = attempt(alloc, problem, &mut state, &mut pace, number)?;
+        let ending = attempt(alloc, problem, &mut state, &mut pace, number, aside)?;
         if ending == Ending::Clean {
             match checked(alloc, task, &pace.best)? {
                 CheckVerdict::Legal(legal) => {

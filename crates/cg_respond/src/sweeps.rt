@@ -4,6 +4,7 @@ use crate::faults::{all_nodes, bad_nodes, is_bad};
 use crate::opening::opening;
 use crate::pace::{Ending, Pace};
 use crate::turning::turn_parts;
+use cg_aside::Aside;
 use cg_respond_moves::shuffle;
 use cg_respond_problem::Problem;
 use cg_respond_state::State;
@@ -21,17 +22,18 @@ const TURNING: u32 = 4;
 /// The greatest interval at which parts are shifted before the first sweep alone.
 const SHORT_INTERVAL: u32 = 2;
 
-/// Makes attempt number `number`, and returns how it ends.
+/// Makes attempt number `number`, and returns how it ends. `aside` takes the progress.
 pub(crate) fn attempt(
     alloc: Global,
     problem: &Problem,
     state: &mut State,
     pace: &mut Pace,
     number: u32,
+    aside: &mut dyn Aside,
 ) -> Result<Ending, AllocError> {
     pace.begin(number);
     if open(alloc, problem, state, pace, number)? {
-        make_sweeps(alloc, problem, state, pace)
+        make_sweeps(alloc, problem, state, pace, aside)
     } else {
         pace.count_once(problem, state)?;
         Ok(Ending::Over)
@@ -58,18 +60,20 @@ fn open(
     Ok(true)
 }
 
-/// Makes sweeps until the attempt ends, and returns how it does.
+/// Makes sweeps until the attempt ends, and returns how it does. `aside` takes the progress.
 fn make_sweeps(
     alloc: Global,
     problem: &Problem,
     state: &mut State,
     pace: &mut Pace,
+    aside: &mut dyn Aside,
 ) -> Result<Ending, AllocError> {
     pace.open();
     for sweep in 0..SWEEPS {
         if let Some(ending) = pace.count(problem, state)? {
             return Ok(ending);
         }
+        pace.report(problem.ii, aside);
         make_sweep(alloc, problem, state, pace, sweep)?;
     }
     Ok(Ending::Stale)

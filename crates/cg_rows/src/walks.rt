@@ -5,6 +5,7 @@ ghost use Rattle.cg_model.specs.Limits.{most_moves};
 use cg_anneal::laws::plain_search;
 use cg_anneal::{Found, search};
 use cg_arch::Arch;
+use cg_aside::Silent;
 use cg_check::LegalMapping;
 use cg_model::{Kernel, Mapping, Place, Request, Route};
 use cg_place::is_offered;
@@ -48,7 +49,7 @@ fn walked<'a>(
         Recur::Times(_) => {
             let task = Task::new(alloc, arch, kernel, ii)?;
             Ok(Some(Ends {
-                found: search(alloc, &task, request)?,
+                found: search(alloc, &task, request, &mut Silent)?,
                 plain: plain_search(alloc, &task, request)?,
             }))
         }

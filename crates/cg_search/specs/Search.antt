@@ -54,7 +54,7 @@ module _ (A : Arch) (K : Kernel) where
   AreMissedFrom ii [] = Unit {0}
   AreMissedFrom ii (M ∷ missed) = IsMissed A K ii M × AreMissedFrom (ii + 1) missed
 
-  -- so many of them
+  -- as many as `count`
   pub record AreMissed (first count : ℕ) (missed : List Mapping) : Type 0 where
     pub each : AreMissedFrom first missed
     pub all : length missed ≡ count

@@ -12,6 +12,7 @@ use crate::course::outcome;
 use crate::misses::Misses;
 use crate::trying::{Call, Outcome};
 use cg_arch::Arch;
+use cg_aside::Aside;
 use cg_bound::{Certificate, IntervalVerdict, verdict};
 use cg_hub::{hub_enough, hub_mapping};
 use cg_model::{Kernel, Mapping, Request};
@@ -30,12 +31,13 @@ pub struct Conclusion<'a> {
 }
 
 /// Searches a mapping of `kernel` on `arch`, at the interval that `request` asks for, or at those from the least one
-/// that nothing forbids to as many cycles as the architecture has contexts; and then over the hub.
+/// that nothing forbids to as many cycles as the architecture has contexts; and then over the hub. `aside` takes the progress.
 pub fn search_answer<'a>(
     alloc: Global,
     arch: &'a Arch,
     kernel: &'a Kernel,
     request: Request,
+    aside: &mut dyn Aside,
 ) -> Result<Conclusion<'a>, AllocError>
     requires within { IsAsked arch.now request.ii }
     requires few { request.moves ≤ most_moves }
@@ -46,7 +48,7 @@ pub fn search_answer<'a>(
         IntervalVerdict::Impossible(certificate) => Ok(impossible(alloc, certificate)),
         IntervalVerdict::Allowed => {
             let first = first_tried(alloc, arch, kernel, request.ii)?;
-            searched(alloc, arch, kernel, first, request)
+            searched(alloc, arch, kernel, first, request, aside)
         }
     }
 }
@@ -62,13 +64,14 @@ fn impossible<'a>(alloc: Global, certificate: Certificate) -> Conclusion<'a>
     }
 }
 
-/// Searches at the intervals from `first` to the last one.
+/// Searches at the intervals from `first` to the last one. `aside` takes the progress.
 fn searched<'a>(
     alloc: Global,
     arch: &'a Arch,
     kernel: &'a Kernel,
     first: u32,
     request: Request,
+    aside: &mut dyn Aside,
 ) -> Result<Conclusion<'a>, AllocError>
     requires within { IsAsked arch.now request.ii }
     requires few { request.moves ≤ most_moves }
@@ -85,7 +88,7 @@ fn searched<'a>(
         request,
         first,
     };
-    match outcome(alloc, &call)? {
+    match outcome(alloc, &call, aside)? {
         Outcome::Found(found) => Ok(Conclusion {
             answer: Answer::Mapped(found.mapping, FoundBy::Moves(found.moves)),
             missed: Vec::new(alloc),

@@ -9,33 +9,42 @@ use crate::misses::{Misses, add, nothing};
 use crate::probing::probed;
 use crate::retrying::{Retried, tried_again};
 use crate::trying::{Call, Found, Outcome, searched_long};
+use cg_aside::Aside;
 use cg_respond::Responded;
 use std::alloc::{AllocError, Global};
 
 /// Searches at the intervals of `call`: long at the one that is asked for; where none is, by probes upwards until one
-/// finds a mapping, and long downwards from there.
-pub(crate) fn outcome<'a>(alloc: Global, call: &Call<'a, '_>) -> Result<Outcome<'a>, AllocError>
+/// finds a mapping, and long downwards from there. `aside` takes the progress.
+pub(crate) fn outcome<'a>(
+    alloc: Global,
+    call: &Call<'a, '_>,
+    aside: &mut dyn Aside,
+) -> Result<Outcome<'a>, AllocError>
     requires posed { IsPosed call.now.arch.now call.now.kernel.now call.now.request.ii call.now.first }
     requires few { call.now.request.moves ≤ most_moves }
     ensures { IfOk result (Comes call.now.arch.now call.now.kernel.now call.now.request.ii call.now.request.moves call.now.first) }
 {
     if let Some(_) = call.request.ii {
-        return asked(alloc, call);
+        return asked(alloc, call, aside);
     }
-    match probed(alloc, call)? {
-        Outcome::Found(found) => Ok(Outcome::Found(lowered(alloc, call, found, &[])?)),
-        Outcome::Left(left) => from_nearest(alloc, call, left),
+    match probed(alloc, call, aside)? {
+        Outcome::Found(found) => Ok(Outcome::Found(lowered(alloc, call, found, &[], aside)?)),
+        Outcome::Left(left) => from_nearest(alloc, call, left, aside),
     }
 }
 
-/// Makes a long search at the interval that is asked for, which is the first of `call`.
-fn asked<'a>(alloc: Global, call: &Call<'a, '_>) -> Result<Outcome<'a>, AllocError>
+/// Makes a long search at the interval that is asked for, which is the first of `call`. `aside` takes the progress.
+fn asked<'a>(
+    alloc: Global,
+    call: &Call<'a, '_>,
+    aside: &mut dyn Aside,
+) -> Result<Outcome<'a>, AllocError>
     requires posed { IsPosed call.now.arch.now call.now.kernel.now call.now.request.ii call.now.first }
     requires few { call.now.request.moves ≤ most_moves }
     requires only { call.now.first ≡ last_tried call.now.arch.now call.now.request.ii }
     ensures { IfOk result (Comes call.now.arch.now call.now.kernel.now call.now.request.ii call.now.request.moves call.now.first) }
 {
-    match searched_long(alloc, call, call.first)? {
+    match searched_long(alloc, call, call.first, aside)? {
         Responded::Mapped(mapping, moves) => Ok(Outcome::Found(Found { mapping, moves })),
         Responded::Spent { faults, mapping } => {
             let mut left = nothing(alloc, call);
@@ -46,11 +55,12 @@ fn asked<'a>(alloc: Global, call: &Call<'a, '_>) -> Result<Outcome<'a>, AllocErr
 }
 
 /// Makes long searches at the intervals of `call` that are nearest to a mapping, where the probes left `left`, and then
-/// downwards from the first at which one finds a mapping.
+/// downwards from the first at which one finds a mapping. `aside` takes the progress.
 fn from_nearest<'a>(
     alloc: Global,
     call: &Call<'a, '_>,
     left: Misses,
+    aside: &mut dyn Aside,
 ) -> Result<Outcome<'a>, AllocError>
     requires posed { IsPosed call.now.arch.now call.now.kernel.now call.now.request.ii call.now.first }
     requires few { call.now.request.moves ≤ most_moves }
@@ -58,10 +68,10 @@ fn from_nearest<'a>(
     requires all { call.now.first + length left.faults.items ≡ last_tried call.now.arch.now call.now.request.ii + 1 }
     ensures { IfOk result (Comes call.now.arch.now call.now.kernel.now call.now.request.ii call.now.request.moves call.now.first) }
 {
-    let Retried { outcome, failed } = tried_again(alloc, call, left)?;
+    let Retried { outcome, failed } = tried_again(alloc, call, left, aside)?;
     match outcome {
         Outcome::Found(found) => {
-            let least = lowered(alloc, call, found, failed.as_slice())?;
+            let least = lowered(alloc, call, found, failed.as_slice(), aside)?;
             Ok(Outcome::Found(least))
         }
         Outcome::Left(left) => Ok(Outcome::Left(left)),

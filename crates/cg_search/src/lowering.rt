@@ -5,17 +5,19 @@ ghost use Rattle.cg_task.specs.Intervals.{last_tried};
 ghost use Rattle.cg_search.specs.Course.{IsPosed, IsLegalFound};
 
 use crate::trying::{Call, Found, searched_long};
+use cg_aside::Aside;
 use cg_respond::Responded;
 use std::alloc::{AllocError, Global};
 
 /// Makes long searches at the intervals of `call` below that of `found`, downwards, until one finds no mapping or the
 /// first interval is done, and returns the mapping of the least interval. At the `failed` intervals such a search found
-/// none before.
+/// none before. `aside` takes the progress.
 pub(crate) fn lowered<'a>(
     alloc: Global,
     call: &Call<'a, '_>,
     found: Found<'a>,
     failed: &[u32],
+    aside: &mut dyn Aside,
 ) -> Result<Found<'a>, AllocError>
     requires posed { IsPosed call.now.arch.now call.now.kernel.now call.now.request.ii call.now.first }
     requires few { call.now.request.moves ≤ most_moves }
@@ -25,7 +27,7 @@ pub(crate) fn lowered<'a>(
     let at = found.mapping.mapping().ii();
     let mut found = found;
     for step in 0..at - call.first {
-        match lower(alloc, call, at - 1 - step, failed)? {
+        match lower(alloc, call, at - 1 - step, failed, aside)? {
             Some(lesser) => found = lesser,
             None => break,
         }
@@ -34,12 +36,13 @@ pub(crate) fn lowered<'a>(
 }
 
 /// Makes a long search at the interval `ii` of `call`, unless it is one of the `failed`; returns the mapping, where it
-/// finds one.
+/// finds one. `aside` takes the progress.
 fn lower<'a>(
     alloc: Global,
     call: &Call<'a, '_>,
     ii: u32,
     failed: &[u32],
+    aside: &mut dyn Aside,
 ) -> Result<Option<Found<'a>>, AllocError>
     requires posed { IsPosed call.now.arch.now call.now.kernel.now call.now.request.ii call.now.first }
     requires few { call.now.request.moves ≤ most_moves }
@@ -50,7 +53,7 @@ fn lower<'a>(
     if failed.contains(&ii) {
         return Ok(None);
     }
-    match searched_long(alloc, call, ii)? {
+    match searched_long(alloc, call, ii, aside)? {
         Responded::Mapped(mapping, moves) => Ok(Some(Found { mapping, moves })),
         Responded::Spent { .. } => Ok(None),
     }

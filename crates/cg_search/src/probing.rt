@@ -6,12 +6,18 @@ ghost use Rattle.cg_search.specs.Course.{IsPosed, Comes};
 use crate::misses::{add, nothing};
 use crate::plan::probe;
 use crate::trying::{Call, Found, Outcome, searched_at};
+use cg_aside::Aside;
 use cg_respond::Responded;
 use cg_task::last_tried;
 use std::alloc::{AllocError, Global};
 
 /// Probes at the intervals of `call` from the first one upwards, until a mapping is found at one or the last is done.
-pub(crate) fn probed<'a>(alloc: Global, call: &Call<'a, '_>) -> Result<Outcome<'a>, AllocError>
+/// `aside` takes the progress.
+pub(crate) fn probed<'a>(
+    alloc: Global,
+    call: &Call<'a, '_>,
+    aside: &mut dyn Aside,
+) -> Result<Outcome<'a>, AllocError>
     requires posed { IsPosed call.now.arch.now call.now.kernel.now call.now.request.ii call.now.first }
     requires few { call.now.request.moves ≤ most_moves }
     ensures { IfOk result (Comes call.now.arch.now call.now.kernel.now call.now.request.ii call.now.request.moves call.now.first) }
@@ -19,7 +25,7 @@ pub(crate) fn probed<'a>(alloc: Global, call: &Call<'a, '_>) -> Result<Outcome<'
     call.arch.contexts();
     let mut left = nothing(alloc, call);
     for ii in call.first..last_tried(call.arch, call.request.ii) + 1 {
-        match searched_at(alloc, call, ii, probe(call.request, ii))? {
+        match searched_at(alloc, call, ii, probe(call.request, ii), aside)? {
             Responded::Mapped(mapping, moves) => {
                 return Ok(Outcome::Found(Found { mapping, moves }));
             }

@@ -6,6 +6,7 @@ ghost use Rattle.cg_search.specs.Course.{IsPosed, AreMisses, Comes};
 
 use crate::misses::{Misses, lessen};
 use crate::trying::{Call, Found, Outcome, searched_long};
+use cg_aside::Aside;
 use cg_respond::Responded;
 use std::alloc::{AllocError, Global};
 
@@ -22,11 +23,12 @@ pub(crate) struct Retried<'a> {
 }
 
 /// Makes long searches at the intervals of `call` at which the least faults are left, one after the other, until one
-/// finds a mapping. `left` is what the probes left at each.
+/// finds a mapping. `left` is what the probes left at each, and `aside` takes the progress.
 pub(crate) fn tried_again<'a>(
     alloc: Global,
     call: &Call<'a, '_>,
     left: Misses,
+    aside: &mut dyn Aside,
 ) -> Result<Retried<'a>, AllocError>
     requires posed { IsPosed call.now.arch.now call.now.kernel.now call.now.request.ii call.now.first }
     requires few { call.now.request.moves ≤ most_moves }
@@ -42,7 +44,7 @@ pub(crate) fn tried_again<'a>(
             break;
         };
         let ii = call.first + at as u32;
-        match searched_long(alloc, call, ii)? {
+        match searched_long(alloc, call, ii, aside)? {
             Responded::Mapped(mapping, moves) => {
                 let outcome = Outcome::Found(Found { mapping, moves });
                 return Ok(Retried { outcome, failed });

@@ -7,6 +7,7 @@ ghost use Rattle.cg_search.specs.Course.{IsPosed, IsSearched};
 use crate::misses::Misses;
 use crate::plan::long;
 use cg_arch::Arch;
+use cg_aside::Aside;
 use cg_model::{Kernel, Request};
 use cg_respond::{Effort, Responded, Wiring, respond};
 use cg_task::{LegalMapping, Task};
@@ -45,11 +46,12 @@ pub(crate) enum Outcome<'a> {
     Left(Misses),
 }
 
-/// Makes a long search at the interval `ii` of `call`.
+/// Makes a long search at the interval `ii` of `call`. `aside` takes the progress.
 pub(crate) fn searched_long<'a>(
     alloc: Global,
     call: &Call<'a, '_>,
     ii: u32,
+    aside: &mut dyn Aside,
 ) -> Result<Responded<'a>, AllocError>
     requires posed { IsPosed call.now.arch.now call.now.kernel.now call.now.request.ii call.now.first }
     requires few { call.now.request.moves ≤ most_moves }
@@ -62,15 +64,17 @@ pub(crate) fn searched_long<'a>(
         call,
         ii,
         long(call.arch, call.kernel, call.request, ii),
+        aside,
     )
 }
 
-/// Searches at the interval `ii` of `call`, as long as `effort` says.
+/// Searches at the interval `ii` of `call`, as long as `effort` says. `aside` takes the progress.
 pub(crate) fn searched_at<'a>(
     alloc: Global,
     call: &Call<'a, '_>,
     ii: u32,
     effort: Effort,
+    aside: &mut dyn Aside,
 ) -> Result<Responded<'a>, AllocError>
     requires posed { IsPosed call.now.arch.now call.now.kernel.now call.now.request.ii call.now.first }
     requires few { call.now.request.moves ≤ most_moves }
@@ -81,7 +85,7 @@ pub(crate) fn searched_at<'a>(
 {
     call.arch.contexts();
     let task = Task::new(alloc, call.arch, call.kernel, ii)?;
-    let responded = respond(alloc, &task, call.wiring, effort)?;
+    let responded = respond(alloc, &task, call.wiring, effort, aside)?;
     if let Responded::Mapped(mapping, _) = &responded {
         mapping.mapping();
     }

@@ -8,6 +8,7 @@ ghost use Rattle.cg_task_answers.specs.Searches.{IsWithin, is_above};
 
 use crate::reporting::faults_left;
 use cg_arch::Arch;
+use cg_aside::Aside;
 use cg_ending::{File, Outcome, Stop};
 use cg_inputs::{arch_in, kernel_in};
 use cg_model::{Kernel, Request};
@@ -18,13 +19,14 @@ use std::alloc::{AllocError, Global};
 
 /// Searches a mapping, by best responses, of the kernel that the file `kernel` gives on the architecture that `arch`
 /// gives. Its bits are to be written under the first name of `outputs`, and the mapping under the second, where there
-/// is one.
+/// is one. `aside` takes the progress.
 pub fn search(
     alloc: Global,
     request: Request,
     arch: &File,
     kernel: &File,
     outputs: &[String],
+    aside: &mut dyn Aside,
 ) -> Result<Outcome, Stop>
     requires { IsInRange request }
     ensures { Allows (IsSearch request (file_of arch.now) (file_of kernel.now) (map string_bytes outputs.now)) result }
@@ -32,11 +34,12 @@ pub fn search(
     let array = arch_in(alloc, arch)?;
     let graph = kernel_in(alloc, kernel)?;
     let name = arch.name.as_str();
-    let outcome = searched(alloc, request, name, &array, &graph, outputs)?;
+    let outcome = searched(alloc, request, name, &array, &graph, outputs, aside)?;
     Ok(outcome)
 }
 
-/// Searches a mapping of `kernel` on `arch`, which was read from the file `name`, and returns the outcome.
+/// Searches a mapping of `kernel` on `arch`, which was read from the file `name`, and returns the outcome. `aside`
+/// takes the progress.
 fn searched(
     alloc: Global,
     request: Request,
@@ -44,6 +47,7 @@ fn searched(
     arch: &Arch,
     kernel: &Kernel,
     outputs: &[String],
+    aside: &mut dyn Aside,
 ) -> Result<Outcome, AllocError>
     requires { IsInRange request }
     ensures { IfOk result (λ o. IsWithin (IsSearched request (map string_bytes outputs.now)) name.now
@@ -53,7 +57,7 @@ fn searched(
         return above(alloc, name, arch);
     }
     let _valid_arch = arch.units();
-    let Conclusion { answer, missed } = search_answer(alloc, arch, kernel, request)?;
+    let Conclusion { answer, missed } = search_answer(alloc, arch, kernel, request, aside)?;
     match answer {
         Answer::Impossible(certificate) => impossible(alloc, request, arch, kernel, &certificate),
         Answer::Mapped(mapping, found_by) => found(alloc, "search", &mapping, found_by, outputs),

@@ -23,9 +23,20 @@ const WANTS_MEMORY: u8 = 1;
 /// The exit status where an argument isn't text.
 const NO_TEXT: u8 = 9;
 
+/// The variable of the environment that is `1` where progress is to be shown.
+const PROGRESS: &str = "CGRA_PROGRESS";
+
 /// The arguments after the program's name.
 fn arguments<R: Env + AllocGlobal>(rt: &R) -> io::Result<Vec<String>> {
     Ok(env::args(rt)?.skip(1).collect(rt.alloc())?)
+}
+
+/// Checks whether the environment asks for progress.
+fn shows_progress<R: Env + AllocGlobal>(rt: &R) -> bool {
+    match env::var(rt, PROGRESS) {
+        Ok(value) => value.as_str() == "1",
+        Err(_) => false,
+    }
 }
 
 /// What the program ends with.
@@ -45,7 +56,7 @@ fn main(rt: HostRuntime) -> ExitCode {
     };
     let mut store = DiskStore::new(&rt);
     let mut out = StdSink::new(&rt);
-    let mut notes = Notes::new(&rt);
+    let mut notes = Notes::new(&rt, shows_progress(&rt));
     let status = run_line_with(
         rt.alloc(),
         words.as_slice(),

@@ -6,6 +6,7 @@ ghost use Rattle.cg_anneal.specs.Ended.{IsWalked};
 use crate::counting::Counting;
 use crate::finding::{Found, search_by};
 use crate::walk::{WEIGHT, Walk};
+use cg_aside::Silent;
 use cg_claims::laws::PlainUsage;
 use cg_model::Request;
 use cg_place::Move;
@@ -22,7 +23,7 @@ pub fn plain_search<'a>(
     requires few { request.moves ≤ most_moves }
     ensures { IfOk result (IsWalked task.now.arch task.now.kernel task.now.ii request.seed request.moves) }
 {
-    search_by(alloc, Counting::Anew, task, request)
+    search_by(alloc, Counting::Anew, task, request, &mut Silent)
 }
 
 impl<'g, 'a> Walk<'g, 'a> {

@@ -10,16 +10,16 @@ use Rattle.cg_anneal.proofs.Nodeless.{some_nodes}
 use Rattle.cg_anneal.proofs.finding.make_moves.Goals as goal
 
 pub loop-k-init : goal.loop-k-init
-loop-k-init c =
+loop-k-init g c =
     let W = c.args.walk.now in
-    let g = c.new-generator.ensures ∙ ap (λ x. generator c.args.request.seed x) (c.from.ensures ∙ c.interval.ensures) in
+    let g = c.new-generator.ensures ∙ ap (λ x. generator c.args.request.seed x) (c.from.ensures ∙ c.interval-ii.ensures) in
     record {
       same = refl;
       walked = subst (λ x. Walked W.arch W.kernel W.ii W.early c.args.request.moves c.args.request.seed 0 x W.state) (sym g) (start c.requires.start);
     }
 
 pub returns-then-cost-eq0 : goal.returns-then-cost-eq0
-returns-then-cost-eq0 c =
+returns-then-cost-eq0 g c =
     let W = c.args.walk.now in
     let V = c.loop-k.walk in
     let same = c.loop-k.invariant.same in
@@ -27,7 +27,7 @@ returns-then-cost-eq0 c =
     (same, zero, (c.loop-k.generator, (c.loop-k.invariant.walked, inl zero)))
 
 pub step-requires-clause-some : goal.step-requires-clause-some
-step-requires-clause-some c =
+step-requires-clause-some g c =
     let W = c.args.walk.now in
     let V = c.loop-k.walk in
     let same = c.loop-k.invariant.same in
@@ -38,12 +38,12 @@ step-requires-clause-some c =
     subst (λ (X : Walking). 0 < length X.kernel.nodes) (sym same) (some_nodes W.arch W.kernel W.ii V.state c.holds.ensures.kernel good some)
 
 pub step-requires-clause-small : goal.step-requires-clause-small
-step-requires-clause-small c =
+step-requires-clause-small g c =
     let W = c.args.walk.now in
     histories_small W.arch W.kernel W.ii W.early c.args.request.moves c.args.request.seed c.loop-k.invariant.walked
 
 pub loop-k-preserved : goal.loop-k-preserved
-loop-k-preserved c =
+loop-k-preserved g c =
     let W = c.args.walk.now in
     let V = c.loop-k.walk in
     let same = c.loop-k.invariant.same in
@@ -54,7 +54,7 @@ loop-k-preserved c =
     record { same = b.0; walked = b.1 }
 
 pub returns-then-left-eq0 : goal.returns-then-left-eq0
-returns-then-left-eq0 c =
+returns-then-left-eq0 g c =
     let W = c.args.walk.now in
     let V = c.loop-k.walk in
     let same = c.loop-k.invariant.same in
@@ -66,7 +66,7 @@ returns-then-left-eq0 c =
     (same, zero, (c.loop-k.generator, (whole, inl zero)))
 
 pub returns : goal.returns
-returns c =
+returns g c =
     let W = c.args.walk.now in
     let V = c.loop-k.walk in
     let same = c.loop-k.invariant.same in

@@ -9,10 +9,10 @@ use Rattle.cg_map.proofs.Attempts.{left_more}
 use Rattle.cg_map.proofs.answering.tried.Goals as goal
 
 pub new-requires-clause-offered : goal.new-requires-clause-offered
-new-requires-clause-offered c = offered c.args.arch.now c.args.kernel.now (last_tried c.args.arch.now c.args.request.ii) c.requires.free
+new-requires-clause-offered g c = offered c.args.arch.now c.args.kernel.now (last_tried c.args.arch.now c.args.request.ii) c.requires.free
 
 pub returns-in-Mapped : goal.returns-in-Mapped
-returns-in-Mapped c =
+returns-in-Mapped g c =
     let (left, at_ii) = c.loop-ii.invariant in
     record {
       costs = c.loop-ii.left.items;
@@ -25,7 +25,7 @@ returns-in-Mapped c =
     }
 
 pub loop-ii-preserved : goal.loop-ii-preserved
-loop-ii-preserved c =
+loop-ii-preserved g c =
     let (left, at_ii) = c.loop-ii.invariant in
     let A = c.args.arch.now in
     let K = c.args.kernel.now in
@@ -38,7 +38,7 @@ loop-ii-preserved c =
     (subst (λ xs. AreLeft A K c.args.request.seed c.args.request.moves c.args.first xs) (sym items) more, subst (λ xs. c.args.first + length xs ≡ c.loop-ii.ii + 1) (sym items) (omega (arith, at_ii, longer)))
 
 pub returns : goal.returns
-returns c =
+returns g c =
     let (left, at_ii) = c.loop-ii.invariant in
     let first = first_within c.args.arch.now c.args.kernel.now c.args.request.ii c.args.first c.contexts-ii-end.ensures.valid c.requires.within c.requires.free c.requires.first in
     (refl, record { left = left; all = omega (arith, at_ii, c.loop-ii-test.false, c.last_tried-ii-end.ensures, first.1, c.loop-ii.auto) })

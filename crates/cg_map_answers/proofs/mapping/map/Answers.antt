@@ -8,7 +8,7 @@ use Rattle.cg_map_answers.specs.Map.{IsMap, IsWalk}
 use Rattle.cg_map_answers.proofs.mapping.map.Goals as goal
 
 pub returns-in_err-array : goal.returns-in_err-array
-returns-in_err-array c =
+returns-in_err-array g c =
     let s = c.args.request in
     let arch = file_of c.args.arch.now in
     let kernel = file_of c.args.kernel.now in
@@ -17,7 +17,7 @@ returns-in_err-array c =
     (arch_refused (IsWalk s outs) s arch kernel c.requires _ c.in_err-array.ensures.refused)
 
 pub returns-in_err-graph : goal.returns-in_err-graph
-returns-in_err-graph c =
+returns-in_err-graph g c =
     let s = c.args.request in
     let arch = file_of c.args.arch.now in
     let kernel = file_of c.args.kernel.now in
@@ -26,7 +26,7 @@ returns-in_err-graph c =
     (kernel_refused (IsWalk s outs) s arch kernel c.requires c.in_ok-array.array c.in_ok-array.ensures.given _ c.in_err-graph.ensures.refused)
 
 pub returns : goal.returns
-returns c =
+returns g c =
     let s = c.args.request in
     let arch = file_of c.args.arch.now in
     let kernel = file_of c.args.kernel.now in

@@ -6,7 +6,7 @@ use Rattle.cg_map_answers.proofs.Searched.{searcher}
 use Rattle.cg_map_answers.proofs.mapping.searched.Goals as goal
 
 pub left_report-requires : goal.left_report-requires
-left_report-requires c =
+left_report-requires g c =
     let s = c.args.request in
     let found = subst (λ a. IsAnswerOf s (record { arch = c.args.arch.now; kernel = c.args.kernel.now }) a) c.in-Spent.is c.in_ok-certificate.ensures in
     subst (λ left. c.in-Spent.first + length left < 2 ^ 32) (sym c.as_slice.ensures.value)

@@ -3,7 +3,7 @@ use Rattle.cg_task.proofs.Intervals.{first_within}
 use Rattle.cg_search.proofs.probing.probed.Goals as goal
 
 pub returns : goal.returns
-returns c =
+returns g c =
     let (each, at_ii) = c.loop-ii.invariant in
     let call = c.args.call.now in
     let first = first_within call.arch.now call.kernel.now call.request.ii call.first c.contexts-ii-end.ensures.valid c.requires.posed.within c.requires.posed.free c.requires.posed.is_first in

@@ -4,4 +4,4 @@ use Rattle.cg_search.specs.Course.{AreMisses}
 use Rattle.cg_search.proofs.retrying.tried_again.Given as goal
 
 abbrev pub invariant-loop-number : goal.invariant-loop-number
-invariant-loop-number l = AreMisses l.call.arch.now l.call.kernel.now l.call.first l.left × (l.call.first + length l.left.faults.items ≡ last_tried l.call.arch.now l.call.request.ii + 1)
+invariant-loop-number g l = AreMisses l.call.arch.now l.call.kernel.now l.call.first l.left × (l.call.first + length l.left.faults.items ≡ last_tried l.call.arch.now l.call.request.ii + 1)
