@@ -1,5 +1,6 @@
 pub mod Steps
 pub mod Named
+pub mod Filled
 pub mod Members
 pub mod Each
 pub mod Lowest

@@ -1,3 +1,4 @@
 pub mod Violations
 pub mod Faults
+pub mod Buckets
 pub mod Cells

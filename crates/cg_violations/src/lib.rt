@@ -1,6 +1,7 @@
 //! All violations of a mapping, and their lines.
 #![tactic(auto)]
 
+mod buckets;
 mod clashing;
 mod finding;
 mod lines;

@@ -4,9 +4,11 @@ ghost use Rattle.cg_model.specs.Kernel.{Kernel as KernelOf, node as node_of};
 ghost use Rattle.cg_model.specs.Array.{resource as resource_of, unit as unit_of};
 ghost use Rattle.cg_model.specs.Mapping.{IsShaped, positions};
 ghost use Rattle.cg_check.specs.Claims.{position_of};
+ghost use Rattle.cg_violations.specs.Buckets.{IsFilled};
 ghost use Rattle.cg_violations.specs.Violations.{violations_of};
 ghost use Rattle.cg_violations.specs.Faults as spec;
 
+use crate::buckets::Buckets;
 use crate::meeting::{Spot, first_meeting, first_on, first_unlike, place};
 use crate::sharing::slot_of;
 use crate::stops::all_stops;
@@ -195,16 +197,16 @@ fn resource_text(
     }
 }
 
-/// Returns what is said of `place` at `rule`. The stops of all routes are `stops`.
+/// Returns what is said of `place` at `rule`. The stops of all routes are in `buckets`.
 fn place_text(
     alloc: Global,
     arch: &Arch,
     kernel: &Kernel,
     mapping: &Mapping,
-    stops: &[Stop],
+    buckets: &Buckets,
     violation: Violation,
 ) -> Result<String, AllocError>
-    requires { map position_of stops.now ≡ positions arch.now kernel.now mapping.now }
+    requires { IsFilled mapping.now.ii (positions arch.now kernel.now mapping.now) buckets.now.ii buckets.now.lists.items }
     ensures { IfOk result (λ text. string_bytes text ≡ spec.place_text arch.now kernel.now mapping.now violation.rule violation.place) }
 {
     match violation.place {
@@ -219,61 +221,62 @@ fn place_text(
             let ii = mapping.ii();
             let spot = Spot { ii, resource, slot };
             let sharing = sharing_of(violation.rule);
+            let stops = buckets.of(spot);
             resource_text(alloc, arch, kernel, stops, sharing, spot)
         }
     }
 }
 
-/// Returns the line of `violation`. The stops of all routes are `stops`.
+/// Returns the line of `violation`. The stops of all routes are in `buckets`.
 #[tactic(auto, unfolding(crate::specs::Faults::fault_line))]
 fn fault_line(
     alloc: Global,
     arch: &Arch,
     kernel: &Kernel,
     mapping: &Mapping,
-    stops: &[Stop],
+    buckets: &Buckets,
     violation: Violation,
 ) -> Result<String, AllocError>
-    requires { map position_of stops.now ≡ positions arch.now kernel.now mapping.now }
+    requires { IsFilled mapping.now.ii (positions arch.now kernel.now mapping.now) buckets.now.ii buckets.now.lists.items }
     ensures { IfOk result (λ line. string_bytes line ≡ spec.fault_line arch.now kernel.now mapping.now violation) }
 {
     let code = violation.rule.code();
-    let place = place_text(alloc, arch, kernel, mapping, stops, violation)?;
+    let place = place_text(alloc, arch, kernel, mapping, buckets, violation)?;
     format!(in alloc; "fault {code} {place}\n")
 }
 
-/// Adds the line of `violation` to `text`. The stops of all routes are `stops`.
+/// Adds the line of `violation` to `text`. The stops of all routes are in `buckets`.
 fn push_line(
     alloc: Global,
     text: &mut Vec<u8>,
     arch: &Arch,
     kernel: &Kernel,
     mapping: &Mapping,
-    stops: &[Stop],
+    buckets: &Buckets,
     violation: Violation,
 ) -> Result<(), AllocError>
-    requires { map position_of stops.now ≡ positions arch.now kernel.now mapping.now }
+    requires { IsFilled mapping.now.ii (positions arch.now kernel.now mapping.now) buckets.now.ii buckets.now.lists.items }
     ensures { OnOk result (text.new.items ≡ text.old.items ++ spec.fault_line arch.now kernel.now mapping.now violation) }
 {
-    let line = fault_line(alloc, arch, kernel, mapping, stops, violation)?;
+    let line = fault_line(alloc, arch, kernel, mapping, buckets, violation)?;
     text.extend_from_slice(line.as_bytes())
 }
 
-/// Returns the lines of `violations`. The stops of all routes are `stops`.
+/// Returns the lines of `violations`. The stops of all routes are in `buckets`.
 fn lines_of(
     alloc: Global,
     arch: &Arch,
     kernel: &Kernel,
     mapping: &Mapping,
-    stops: &[Stop],
+    buckets: &Buckets,
     violations: &[Violation],
 ) -> Result<Vec<u8>, AllocError>
-    requires { map position_of stops.now ≡ positions arch.now kernel.now mapping.now }
+    requires { IsFilled mapping.now.ii (positions arch.now kernel.now mapping.now) buckets.now.ii buckets.now.lists.items }
     ensures { IfOk result (λ text. text.items ≡ flat_map (spec.fault_line arch.now kernel.now mapping.now) violations.now) }
 {
     let mut text = Vec::new(alloc);
     for violation in violations {
-        push_line(alloc, &mut text, arch, kernel, mapping, stops, *violation)?;
+        push_line(alloc, &mut text, arch, kernel, mapping, buckets, *violation)?;
     }
     Ok(text)
 }
@@ -289,8 +292,23 @@ fn first_of(violations: &[Violation], most: usize) -> &[Violation]
     }
 }
 
-/// Returns the lines of the first `most` of all `violations` of `mapping` on `arch`, each with a line feed. A line may take the
-/// time of all positions of routes.
+/// Returns the stops of all routes of `mapping`, in buckets.
+fn all_buckets(
+    alloc: Global,
+    arch: &Arch,
+    kernel: &Kernel,
+    mapping: &Mapping,
+) -> Result<Buckets, AllocError>
+    ensures { IfOk result (λ made. IsFilled mapping.now.ii (positions arch.now kernel.now mapping.now) made.ii made.lists.items) }
+{
+    let stops = all_stops(alloc, arch, kernel, mapping)?;
+    let made = Buckets::new(alloc, mapping.ii(), &stops)?;
+    Ok(made)
+}
+
+/// Returns the lines of the first `most` of all `violations` of `mapping` on `arch`, each with a line feed. All positions of
+/// routes are looked at once; then a line of L6 or L7 takes the time of those in the bucket of its resource and slot, and one of
+/// L3 that of the nodes before its own.
 #[tactic(auto, unfolding(crate::specs::Faults::fault_lines))]
 pub fn fault_lines(
     alloc: Global,
@@ -304,8 +322,8 @@ pub fn fault_lines(
     requires all { violations.now ≡ violations_of arch.now kernel.now mapping.now }
     ensures { IfOk result (λ text. text.items ≡ spec.fault_lines arch.now kernel.now mapping.now most) }
 {
-    let stops = all_stops(alloc, arch, kernel, mapping)?;
+    let buckets = all_buckets(alloc, arch, kernel, mapping)?;
     let shown = first_of(violations, most);
-    let text = lines_of(alloc, arch, kernel, mapping, &stops, shown)?;
+    let text = lines_of(alloc, arch, kernel, mapping, &buckets, shown)?;
     Ok(text)
 }
