@@ -46,7 +46,7 @@ number_given (a ∷ b ∷ c ∷ d ∷ rest) h =
     let hd : d < 256 = h 3 in
     (omega (arith, ha, hb, hc, hd), λ k. h (suc (suc (suc (suc k)))))
 
--- so many words, and bytes after them
+-- n words, and bytes after them
 abbrev AreTaken : ℕ → List ℕ × List ℕ → Type 0
 AreTaken n p = AreWords p.0 × (length p.0 ≡ n) × AreBytes p.1
 

@@ -6,7 +6,7 @@ use Rattle.cg_image_text.specs.declared.fault.Misread.{Misread}
 use Rattle.cg_image_text.specs.declared.run.Run.{Run}
 use Rattle.cg_image_text.specs.Numbers.{and_then, begins, numeral, number}
 
--- so many words, each by the step from the one before, modulo 2^32
+-- n words, each by the step from the one before, modulo 2^32
 abbrev pub words_from : ℕ → ℕ → ℕ → List ℕ
 words_from word step zero = []
 words_from word step (suc n) = word ∷ words_from ((word + step) % words) step n
@@ -27,7 +27,7 @@ from_to a b = record { first = a; step = 1; count = (b + (words - a)) % words + 
 abbrev pub span : List ℕ → List ℕ → Result Run Misread
 span first last = and_then (number first) (λ a. and_then (number last) (λ b. Ok (from_to a b)))
 
--- W*N, so many times the word
+-- W*N, the word N times
 abbrev pub repeat : List ℕ → List ℕ → Result Run Misread
 repeat first count = and_then (number first) (λ word. and_then (numeral 10 count) (λ n. Ok (record { first = word; step = 0; count = n })))
 

@@ -42,7 +42,7 @@ abbrev pub with_words : Image → Section → List ℕ → Image
 with_words image Memory words = record image { memory = words }
 with_words image (Stream port) words = record image { streams = slice_set image.streams port words }
 
--- a run at the end of words, of which there may be so many
+-- a run at the end of words, up to `most` of them
 abbrev pub added : ℕ → List ℕ → Place → Run → Result (List ℕ) TextFault
 added most words place run = if nat_lt most (length words + run.count) then Err (TooLarge place) else Ok (words ++ run_words run)
 

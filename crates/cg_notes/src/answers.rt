@@ -1,31 +1,30 @@
 //! Notes on answers that say no.
 
 use crate::sentences::sentence_of_rule;
-use cg_aside::Aside;
 use std::alloc::{AllocError, Global};
 
 /// The rules of legal mappings.
 const RULES: [&str; 7] = ["L1", "L2", "L3", "L4", "L5", "L6", "L7"];
 
-/// Notes to `aside` what `report`, of a command that did its work or said no, means: which rule a mapping violates, or that
-/// two accesses are left open.
-pub(crate) fn note_answer<A: Aside>(
+/// Adds to `notes` what `report`, of a command that said no, means: which rules a mapping violates, or that two accesses are left
+/// open.
+pub(crate) fn note_answer(
     alloc: Global,
     report: &str,
-    aside: &mut A,
+    notes: &mut Vec<String>,
 ) -> Result<(), AllocError> {
     let Some(line) = telling_line(report) else {
         return Ok(());
     };
     match line.split_once(' ') {
-        Some(("illegal", rest)) => note_violation(alloc, rest, aside),
-        Some(("fault", _)) => note_rules(alloc, report, aside),
-        Some(("unordered", rest)) => note_unordered(alloc, rest, aside),
-        Some(("impossible", rest)) => note_impossible(alloc, rest, aside),
+        Some(("fault", _)) => note_rules(alloc, report, notes),
+        Some(("unordered", rest)) => note_unordered(alloc, rest, notes),
+        Some(("impossible", rest)) => note_impossible(alloc, rest, notes),
         Some(("ii", rest)) if rest.contains(" cost ") || rest.contains(" faults ") => {
-            aside.note(
+            notes.push(String::from_str(
+                alloc,
                 "no mapping was found; another seed, more moves or a greater interval may find one",
-            );
+            )?)?;
             Ok(())
         }
         _ => Ok(()),
@@ -43,7 +42,7 @@ fn telling_line(report: &str) -> Option<&str> {
 }
 
 /// Notes what each rule says that `report` has a violation of.
-fn note_rules<A: Aside>(alloc: Global, report: &str, aside: &mut A) -> Result<(), AllocError> {
+fn note_rules(alloc: Global, report: &str, notes: &mut Vec<String>) -> Result<(), AllocError> {
     for rule in &RULES {
         let front = format!(in alloc; "fault {rule} ")?;
         let count = report
@@ -51,28 +50,15 @@ fn note_rules<A: Aside>(alloc: Global, report: &str, aside: &mut A) -> Result<()
             .filter(|line| line.starts_with(front.as_str()))
             .count();
         if let (Some(sentence), 1..) = (sentence_of_rule(rule), count) {
-            let note = format!(in alloc; "{rule}, {count} times: {sentence}")?;
-            aside.note(note.as_str());
+            let note = format!(in alloc; "{rule} ({count}): {sentence}")?;
+            notes.push(note)?;
         }
     }
     Ok(())
 }
 
-/// Notes the violation that `rest` says, `RULE PLACE`.
-fn note_violation<A: Aside>(alloc: Global, rest: &str, aside: &mut A) -> Result<(), AllocError> {
-    let Some((rule, place)) = rest.split_once(' ') else {
-        return Ok(());
-    };
-    let Some(sentence) = sentence_of_rule(rule) else {
-        return Ok(());
-    };
-    let note = format!(in alloc; "{place}: {sentence} ({rule})")?;
-    aside.note(note.as_str());
-    Ok(())
-}
-
 /// Notes what the certificate at the end of `rest` says: which interval nodes or edges need.
-fn note_impossible<A: Aside>(alloc: Global, rest: &str, aside: &mut A) -> Result<(), AllocError> {
+fn note_impossible(alloc: Global, rest: &str, notes: &mut Vec<String>) -> Result<(), AllocError> {
     let mut words = rest.split(' ').rev();
     let last = words.next().and_then(|word| word.parse::<u32>().ok());
     let what = words.next();
@@ -96,12 +82,12 @@ fn note_impossible<A: Aside>(alloc: Global, rest: &str, aside: &mut A) -> Result
         }
         _ => return Ok(()),
     };
-    aside.note(note.as_str());
+    notes.push(note)?;
     Ok(())
 }
 
 /// Notes that the accesses that `rest` says, `NODE TURN NODE TURN`, are left open.
-fn note_unordered<A: Aside>(alloc: Global, rest: &str, aside: &mut A) -> Result<(), AllocError> {
+fn note_unordered(alloc: Global, rest: &str, notes: &mut Vec<String>) -> Result<(), AllocError> {
     let Some((first, others)) = rest.split_once(' ') else {
         return Ok(());
     };
@@ -114,6 +100,6 @@ fn note_unordered<A: Aside>(alloc: Global, rest: &str, aside: &mut A) -> Result<
     let note = format!(in alloc;
         "{first} in turn {turn} and {second} in turn {last} reach one word, and no edge orders them: depend adds what is needed"
     )?;
-    aside.note(note.as_str());
+    notes.push(note)?;
     Ok(())
 }

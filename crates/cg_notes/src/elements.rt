@@ -1,7 +1,7 @@
 //! Faults of architectures, by the part of a tile, an element or a key.
 
-use crate::finding::{Finding, Place};
 use cg_notes_arch::key_line;
+use cg_notes_texts::{Finding, Place};
 use cg_places::tile_part_at;
 use cg_toml::toml_table;
 use std::alloc::{AllocError, Global};
@@ -99,4 +99,34 @@ pub(crate) fn find_key(
         Some(at) => Ok(Some(Finding::new(alloc, Place::at(bytes, at), sentence)?)),
         None => Ok(None),
     }
+}
+
+/// Returns that the cell `ROW column COLUMN`, which `cell` says, of the grid of the architecture file `bytes` has no tile.
+pub(crate) fn find_letter(
+    alloc: Global,
+    bytes: &[u8],
+    cell: &str,
+) -> Result<Option<Finding>, AllocError> {
+    if bytes.len() > MOST_PARSED {
+        return Ok(None);
+    }
+    let Ok(table) = toml_table(alloc, bytes) else {
+        return Ok(None);
+    };
+    let Some(letter) = letter_of(&table, cell) else {
+        return Ok(None);
+    };
+    let text = format!(in alloc;
+        "there is no tile {letter}: its parts begin with [[tiles.{letter}]]"
+    )?;
+    find_key(alloc, bytes, "grid", text.as_str())
+}
+
+/// Returns the letter of the cell `ROW column COLUMN` of the grid of `table`, an architecture.
+fn letter_of<'a>(table: &'a Value, cell: &str) -> Option<&'a str> {
+    let (row, column) = cell.split_once(" column ")?;
+    let row: usize = row.parse().ok()?;
+    let column: usize = column.parse().ok()?;
+    let cells = table.get("grid")?.as_array()?.get(row)?.as_str()?;
+    cells.get(column..column.saturating_add(1))
 }

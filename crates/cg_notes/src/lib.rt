@@ -3,14 +3,12 @@
 
 mod answers;
 mod elements;
-mod finding;
+mod heads;
+mod reach;
 mod refused;
 mod sentences;
 mod slips;
-mod syntax;
-mod texts;
-mod token;
 mod values;
 mod wholes;
 
-pub use refused::note_report;
+pub use refused::{Refusal, report_notes};

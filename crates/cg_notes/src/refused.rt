@@ -1,43 +1,42 @@
 //! Notes on a refusal.
 
 use crate::answers::note_answer;
-use crate::finding::Finding;
+use crate::reach::{find_hub, find_limit, find_loop};
 use crate::sentences::{sentence_of, sentence_without_place};
-use crate::slips::slips_in;
-use crate::syntax::{find_in_json, find_in_toml};
-use crate::texts::find_in_text;
-use crate::token::find_token;
+use crate::slips::{Noted, slips_in};
 use crate::values::find_value;
-use cg_aside::Aside;
 use cg_ending::File;
+use cg_notes_texts::{
+    Finding, find_in_json, find_in_netlist, find_in_text, find_in_toml, find_token,
+};
 use std::alloc::{AllocError, Global};
 
 /// The most places of one fault that are noted, and the most of further ones.
 const MOST_NOTED: usize = 8;
 
-/// Notes to `aside` what a person needs to hear of `report`, what a call over `files` puts: where in a text a fault
-/// stands, or what an answer means.
-pub fn note_report<A: Aside>(
+/// Adds to `notes` what a person needs to hear of `report`, what a call over `files` puts: where in a text a fault stands, or what an
+/// answer means.
+pub fn report_notes(
     alloc: Global,
     report: &[u8],
     files: &[File],
-    aside: &mut A,
+    notes: &mut Vec<String>,
 ) -> Result<(), AllocError> {
-    note_refused(alloc, report, files, aside)?;
+    note_refused(alloc, report, files, notes)?;
     match std::str::from_utf8(report) {
-        Ok(text) => note_answer(alloc, text, aside),
+        Ok(text) => note_answer(alloc, text, notes),
         Err(_) => Ok(()),
     }
 }
 
-/// Notes to `aside` where in a text the fault stands that `report` gives of one of `files`, and what is wrong there, as
-/// `FILE:LINE:COLUMN: TEXT`: each of its places, up to a few, and then faults of other kinds as further ones. Notes nothing where
+/// Adds to `notes` where in a text the fault stands that `report` gives of one of `files`, and what is wrong there, as
+/// `FILE:LINE:COLUMN: TEXT`: each of its places, up to a few, and then faults of other kinds as further ones. Adds nothing where
 /// the report is no refusal of a text, or a line feed in the file's name would break the line.
-fn note_refused<A: Aside>(
+fn note_refused(
     alloc: Global,
     report: &[u8],
     files: &[File],
-    aside: &mut A,
+    notes: &mut Vec<String>,
 ) -> Result<(), AllocError> {
     let Some(refusal) = Refusal::read(report, files) else {
         return Ok(());
@@ -46,40 +45,23 @@ fn note_refused<A: Aside>(
         return Ok(());
     }
     let slips = slips_in(alloc, refusal.code, refusal.file.bytes.as_slice(), files)?;
-    let mut noted = 0usize;
-    for (code, finding) in &slips {
-        if *code == refusal.code && noted < MOST_NOTED {
-            refusal.note(alloc, finding, "", aside)?;
-            noted = noted.saturating_add(1);
-        }
-    }
-    if noted == 0 {
-        refusal.note_place(alloc, aside)?;
-    }
-    let mut further = 0usize;
-    for (code, finding) in &slips {
-        if *code != refusal.code && further < MOST_NOTED {
-            refusal.note(alloc, finding, "further: ", aside)?;
-            further = further.saturating_add(1);
-        }
-    }
-    Ok(())
+    refusal.note_slips(alloc, slips.as_slice(), notes)
 }
 
 /// A refusal, as a report gives it.
 #[derive(Clone, Copy, Drop)]
-struct Refusal<'a> {
+pub struct Refusal<'a> {
     /// The file that is refused.
-    file: &'a File,
+    pub file: &'a File,
     /// The code of its fault.
-    code: &'a str,
+    pub code: &'a str,
     /// The fault's place.
-    place: &'a str,
+    pub place: &'a str,
 }
 
 impl Refusal<'_> {
     /// Returns the refusal that `report` gives of one of `files`, and `None` where it gives none.
-    fn read<'a>(report: &'a [u8], files: &'a [File]) -> Option<Refusal<'a>> {
+    pub fn read<'a>(report: &'a [u8], files: &'a [File]) -> Option<Refusal<'a>> {
         let text = std::str::from_utf8(report).ok()?;
         let line = text.strip_suffix('\n')?.strip_prefix("malformed ")?;
         files.iter().find_map(|file| Refusal::of_file(file, line))
@@ -93,32 +75,94 @@ impl Refusal<'_> {
         Some(Refusal { file, code, place })
     }
 
-    /// Notes `finding` to `aside`, with `front` before its text.
-    fn note<A: Aside>(
+    /// Adds what `slips` say to `notes`, or what there is to say of the fault's place where none is of its code.
+    fn note_slips(
+        &self,
+        alloc: Global,
+        slips: &[Noted],
+        notes: &mut Vec<String>,
+    ) -> Result<(), AllocError> {
+        self.note_own(alloc, slips, notes)?;
+        if notes.is_empty() {
+            self.note_place(alloc, notes)?;
+        }
+        self.note_further(alloc, slips, notes)
+    }
+
+    /// Adds the first `slips` of the refusal's code to `notes`.
+    fn note_own(
+        &self,
+        alloc: Global,
+        slips: &[Noted],
+        notes: &mut Vec<String>,
+    ) -> Result<(), AllocError> {
+        let mut left = MOST_NOTED;
+        for slip in slips {
+            if slip.is_own && left > 0 {
+                self.note(alloc, &slip.finding, "", notes)?;
+                left -= 1;
+            }
+        }
+        Ok(())
+    }
+
+    /// Adds the first `slips` of other codes to `notes`, as further ones.
+    fn note_further(
+        &self,
+        alloc: Global,
+        slips: &[Noted],
+        notes: &mut Vec<String>,
+    ) -> Result<(), AllocError> {
+        let mut left = MOST_NOTED;
+        for slip in slips {
+            if !slip.is_own && left > 0 {
+                self.note(alloc, &slip.finding, "further: ", notes)?;
+                left -= 1;
+            }
+        }
+        Ok(())
+    }
+
+    /// Adds `finding` to `notes`, with `front` before its text.
+    fn note(
         &self,
         alloc: Global,
         finding: &Finding,
         front: &str,
-        aside: &mut A,
+        notes: &mut Vec<String>,
     ) -> Result<(), AllocError> {
         let name = self.file.name.as_str();
         let Finding { place, text } = finding;
         let text = text.as_str();
         let note = format!(in alloc; "{name}:{place}: {front}{text}")?;
-        aside.note(note.as_str());
+        notes.push(note)?;
         Ok(())
     }
 
-    /// Notes to `aside` what there is to say of the place that the report gives.
-    fn note_place<A: Aside>(&self, alloc: Global, aside: &mut A) -> Result<(), AllocError> {
+    /// Adds what there is to say of the place that the report gives to `notes`.
+    fn note_place(&self, alloc: Global, notes: &mut Vec<String>) -> Result<(), AllocError> {
         if let Some(finding) = self.find(alloc)? {
-            return self.note(alloc, &finding, "", aside);
+            return self.note(alloc, &finding, "", notes);
         }
-        if let Some(sentence) = sentence_without_place(self.code) {
-            let name = self.file.name.as_str();
-            let note = format!(in alloc; "{name}: {sentence}")?;
-            aside.note(note.as_str());
+        if let Some(sentence) = count_sentence(alloc, self.code, self.place)? {
+            return self.note_sentence(alloc, sentence.as_str(), notes);
         }
+        match sentence_without_place(self.code) {
+            Some(sentence) => self.note_sentence(alloc, sentence, notes),
+            None => Ok(()),
+        }
+    }
+
+    /// Adds `sentence`, on the file as a whole, to `notes`.
+    fn note_sentence(
+        &self,
+        alloc: Global,
+        sentence: &str,
+        notes: &mut Vec<String>,
+    ) -> Result<(), AllocError> {
+        let name = self.file.name.as_str();
+        let note = format!(in alloc; "{name}: {sentence}")?;
+        notes.push(note)?;
         Ok(())
     }
 
@@ -130,6 +174,12 @@ impl Refusal<'_> {
             "P1" => find_in_json(alloc, bytes, "mapping"),
             "M1" => find_in_toml(alloc, bytes),
             "T1" | "T2" | "T3" | "T4" => find_in_text(alloc, bytes, self.code, self.place),
+            "V2" | "V3" | "E1" | "E2" | "E3" | "E4" | "E5" | "E6" => {
+                find_in_netlist(alloc, bytes, self.code, self.place)
+            }
+            "A1" => find_limit(alloc, bytes, self.place),
+            "A6" => find_loop(alloc, bytes, self.place),
+            "A9" => find_hub(alloc, bytes, self.place),
             code => match byte_place(self.place) {
                 Some(offset) => find_token(alloc, bytes, code, offset),
                 None => self.find_value(alloc, bytes),
@@ -149,4 +199,26 @@ impl Refusal<'_> {
 /// Returns how many bytes stand before the place `byte N`, and `None` where `place` is no such place.
 fn byte_place(place: &str) -> Option<usize> {
     place.strip_prefix("byte ")?.parse().ok()
+}
+
+/// Returns how many nodes or order edges a kernel would have by the fault `code` at `place`, `nodes N` or `order N`.
+fn count_sentence(alloc: Global, code: &str, place: &str) -> Result<Option<String>, AllocError> {
+    if !matches!(code, "Q7" | "Y1") {
+        return Ok(None);
+    }
+    match place.split_once(' ') {
+        Some(("nodes", count)) => {
+            let text = format!(in alloc;
+                "the kernel would have {count} nodes, and at most 1024 are allowed"
+            )?;
+            Ok(Some(text))
+        }
+        Some(("order", count)) => {
+            let text = format!(in alloc;
+                "the kernel would have {count} order edges, and at most 4096 are allowed"
+            )?;
+            Ok(Some(text))
+        }
+        _ => Ok(None),
+    }
 }

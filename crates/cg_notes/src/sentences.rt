@@ -79,7 +79,6 @@ fn of_pair(code: &str) -> Option<&'static str> {
         "A6" => "these wires form a loop without a register",
         "A9" => "the hub lacks a register or a link",
         "P6" => "it has no place or route, or several",
-        "Q7" => "the kernel would have more than 1024 nodes or 4096 order edges",
         _ => return None,
     };
     Some(sentence)

@@ -1,8 +1,8 @@
 //! Faults of values, which their reports give the place of an item, an element or a key.
 
-use crate::elements::{find_element, find_key, find_tile_part};
-use crate::finding::{Finding, Place};
+use crate::elements::{find_element, find_key, find_letter, find_tile_part};
 use crate::wholes::find_in_file;
+use cg_notes_texts::{Finding, Place};
 use cg_places::{Step, json_value_at};
 use std::alloc::{AllocError, Global};
 
@@ -19,6 +19,7 @@ pub(crate) fn find_value(
         None if place == "file" => Ok(Some(find_in_file(alloc, bytes, code, sentence)?)),
         None if place == "architecture" => find_key(alloc, bytes, "name", sentence),
         None => Ok(None),
+        Some(("row", cell)) if code == "M4" => find_letter(alloc, bytes, cell),
         Some(("row", _)) => find_key(alloc, bytes, "grid", sentence),
         Some(("contexts", _)) => find_key(alloc, bytes, "contexts", sentence),
         Some(("element", rest)) => find_element(alloc, bytes, rest, sentence),

@@ -1,7 +1,8 @@
 //! Faults of whole files: their first keys.
 
-use crate::finding::{Finding, Place};
-use cg_notes_arch::{key_line, unknown_key_line};
+use crate::heads::{Head, Kind, wrong_kind_in_json, wrong_kind_in_toml};
+use cg_notes_arch::unknown_key_line;
+use cg_notes_texts::{Finding, Place};
 use cg_places::{Step, json_key_at, json_value_at};
 use cg_slips::unknown_key;
 use std::alloc::{AllocError, Global};
@@ -24,6 +25,8 @@ struct Format {
     needed: &'static [&'static str],
     /// All keys that it may have.
     keys: &'static [&'static str],
+    /// What the values of keys have to be.
+    heads: &'static [Head],
 }
 
 /// Kernels and mappings, which are JSON.
@@ -34,6 +37,23 @@ const FORMATS: [Format; 2] = [
         names: &["cgk1", "cgk2"],
         needed: &["format", "nodes"],
         keys: &["format", "nodes", "order"],
+        heads: &[
+            Head {
+                key: "format",
+                kind: Kind::Text,
+                sentence: "\"format\" has to be \"cgk2\"",
+            },
+            Head {
+                key: "nodes",
+                kind: Kind::List,
+                sentence: "\"nodes\" has to be a list of nodes, in brackets",
+            },
+            Head {
+                key: "order",
+                kind: Kind::List,
+                sentence: "\"order\" has to be a list of order edges, in brackets",
+            },
+        ],
     },
     Format {
         code: "P",
@@ -41,13 +61,32 @@ const FORMATS: [Format; 2] = [
         names: &["cgm1"],
         needed: &["format", "ii", "places", "routes"],
         keys: &["format", "ii", "places", "routes"],
+        heads: &[
+            Head {
+                key: "format",
+                kind: Kind::Text,
+                sentence: "\"format\" has to be \"cgm1\"",
+            },
+            Head {
+                key: "ii",
+                kind: Kind::UpTo(65_535),
+                sentence: "\"ii\" has to be a whole number up to 65535",
+            },
+            Head {
+                key: "places",
+                kind: Kind::List,
+                sentence: "\"places\" has to be a list of places, in brackets",
+            },
+            Head {
+                key: "routes",
+                kind: Kind::List,
+                sentence: "\"routes\" has to be a list of routes, in brackets",
+            },
+        ],
     },
 ];
 
-/// The keys that an architecture's file must have before its tiles.
-const ARCH_NEEDED: [&str; 4] = ["format", "name", "contexts", "grid"];
-
-/// The keys that it may have there.
+/// The keys that an architecture's file may have before its tiles.
 const ARCH_KEYS: [&str; 8] = [
     "format", "name", "contexts", "memory", "grid", "torus", "hub", "tiles",
 ];
@@ -72,6 +111,9 @@ pub(crate) fn find_in_file(
 /// Returns the first thing that is wrong with the keys of `bytes`, a JSON text that should be of `format`.
 fn wrong_json(alloc: Global, bytes: &[u8], format: &Format) -> Result<Option<Finding>, AllocError> {
     if let Some(finding) = other_format(alloc, bytes, format)? {
+        return Ok(Some(finding));
+    }
+    if let Some(finding) = wrong_kind_in_json(alloc, bytes, format.noun, format.heads)? {
         return Ok(Some(finding));
     }
     for number in 0..MOST_KEYS {
@@ -140,16 +182,11 @@ fn wrong_toml(alloc: Global, bytes: &[u8]) -> Result<Option<Finding>, AllocError
         let place = Place::at(bytes, at);
         return Ok(Some(Finding { place, text }));
     }
-    for key in &ARCH_NEEDED {
-        if key_line(bytes, key).is_none() {
-            return Ok(Some(missing(alloc, key)?));
-        }
-    }
-    Ok(None)
+    wrong_kind_in_toml(alloc, bytes)
 }
 
 /// Returns that the key `key` is missing.
-fn missing(alloc: Global, key: &str) -> Result<Finding, AllocError> {
+pub(crate) fn missing(alloc: Global, key: &str) -> Result<Finding, AllocError> {
     let text = format!(in alloc; "the key \"{key}\" is missing")?;
     Ok(Finding {
         place: Place::START,

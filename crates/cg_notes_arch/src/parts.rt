@@ -23,6 +23,9 @@ const ALL_KEYS: [&str; 7] = ["wire", "reg", "unit", "from", "ops", "latency", "p
 
 /// Returns the byte at which `key` stands in the part `here`, or that at which the part begins.
 pub(crate) fn place_of(here: Here<'_>, key: &str) -> usize {
+    if here.is_listed {
+        return here.at;
+    }
     key_line_in(here.bytes, here.at, key).unwrap_or(here.at)
 }
 

@@ -1,5 +1,6 @@
 //! All that is wrong in the parts of tiles.
 
+use crate::lines::key_line;
 use crate::parts::note_part;
 use cg_places::tile_part_at;
 use cg_toml::toml_table;
@@ -33,6 +34,8 @@ pub(crate) struct Here<'a> {
     pub(crate) part: usize,
     /// Whether the grid has the tile.
     pub(crate) is_used: bool,
+    /// Whether it stands in a list, so that its keys have no lines of their own.
+    pub(crate) is_listed: bool,
 }
 
 /// Slips as they are found, up to a limit.
@@ -78,8 +81,11 @@ pub fn arch_slips(alloc: Global, bytes: &[u8]) -> Result<Vec<TomlSlip>, AllocErr
     };
     for (tile, parts) in tiles.iter() {
         let tile = tile.as_str();
-        let is_used = is_in_grid(&table, tile);
-        note_tile(alloc, &mut slips, bytes, tile, is_used, parts)?;
+        // Other names are no tiles, and there may be many.
+        if tile.len() == 1 {
+            let is_used = is_in_grid(&table, tile);
+            note_tile(alloc, &mut slips, bytes, tile, is_used, parts)?;
+        }
     }
     Ok(slips.found)
 }
@@ -115,17 +121,40 @@ fn note_tile(
     let Some(parts) = parts.as_array() else {
         return Ok(());
     };
+    let mut from = 0usize;
+    let line = line_of(bytes, tile);
     for (number, part) in parts.iter().enumerate() {
-        if let Some(at) = tile_part_at(bytes, tile, number) {
-            let here = Here {
-                bytes,
-                at,
-                tile,
-                part: number,
-                is_used,
-            };
-            note_part(alloc, slips, here, part)?;
-        }
+        let found = match line {
+            Some(at) => Some(at),
+            None => part_from(bytes, tile, from),
+        };
+        let Some(at) = found else {
+            return Ok(());
+        };
+        let here = Here {
+            bytes,
+            at,
+            tile,
+            part: number,
+            is_used,
+            is_listed: line.is_some(),
+        };
+        note_part(alloc, slips, here, part)?;
+        from = at.saturating_add(1);
     }
     Ok(())
+}
+
+/// Returns the byte at which the line of `bytes` begins that sets `tile`, where its parts have no headers of their own.
+fn line_of(bytes: &[u8], tile: &str) -> Option<usize> {
+    match tile_part_at(bytes, tile, 0) {
+        Some(_) => None,
+        None => key_line(bytes, tile),
+    }
+}
+
+/// Returns the byte of `bytes` at which the first part of `tile` begins from byte `from` on.
+fn part_from(bytes: &[u8], tile: &str, from: usize) -> Option<usize> {
+    let at = tile_part_at(bytes.get(from..)?, tile, 0)?;
+    Some(from.saturating_add(at))
 }

@@ -46,7 +46,7 @@ pub fn json_value_at(text: &[u8], path: &[Step<'_>]) -> Option<usize> {
 }
 
 /// Returns the byte at which key `number` stands, counted from 0, of the object that `path` leads to in `text`, a JSON
-/// text: that of its quote. Returns None where there are not so many keys, or no object.
+/// text: that of its quote. Returns None where there are fewer keys, or no object.
 pub fn json_key_at(text: &[u8], path: &[Step<'_>], number: usize) -> Option<usize> {
     let object = json_value_at(text, path)?;
     let mut member = after_mark(text, object, b'{')?;

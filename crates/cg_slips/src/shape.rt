@@ -87,7 +87,7 @@ pub fn note_shape(
     value: &Value,
 ) -> Result<(), AllocError> {
     if !value.is_object() {
-        let text = format!(in alloc; "{prefix}it is no object")?;
+        let text = format!(in alloc; "{prefix}it has to be an object")?;
         return slips.add(shape.codes[0], shape.list, item, Spot::Item, text);
     }
     for field in shape.fields {

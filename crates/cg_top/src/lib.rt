@@ -18,7 +18,7 @@ pub use cg_ending::Status;
 use cg_ending::{File, Outcome, Stop, finish, read_all, usage};
 use cg_files::{Sink, Store};
 use cg_help::note_words;
-use cg_notes::note_report;
+use cg_notes_calls::{note_call, note_writes};
 pub use cg_trial::{TrialParts, trial_parts};
 pub use cg_trial_run::trial;
 pub use laws::always_defined;
@@ -47,14 +47,14 @@ pub fn run_line<S: Store, O: Sink>(
     run_line_with(alloc, words, store, out, &mut Silent)
 }
 
-/// Does the same, and gives `aside` notes for a person: of what is wrong with words or files. They change nothing: store, sink and
-/// status are as without them.
-pub fn run_line_with<S: Store, O: Sink, A: Aside>(
+/// Does what [`run_line`] does, and gives `aside` notes and progress for a person: what is wrong with words or files, what a run left
+/// out, how far a search is. They change nothing: store, sink and status are as without them.
+pub fn run_line_with<S: Store, O: Sink>(
     alloc: Global,
     words: &[String],
     store: &mut S,
     out: &mut O,
-    aside: &mut A,
+    aside: &mut dyn Aside,
 ) -> Status
     ensures call { IsCall (map string_bytes words.now)
         (moment (S.held store.old) (S.read_faults store.old) (S.write_faults store.old) (O.taken out.old) (O.faults out.old))
@@ -69,12 +69,12 @@ pub fn run_line_with<S: Store, O: Sink, A: Aside>(
     carry_out(alloc, words, store, out, aside)
 }
 
-fn carry_out<S: Store, O: Sink, A: Aside>(
+fn carry_out<S: Store, O: Sink>(
     alloc: Global,
     words: &[String],
     store: &mut S,
     out: &mut O,
-    aside: &mut A,
+    aside: &mut dyn Aside,
 ) -> Status
     ensures ends { Ends (map string_bytes words.now)
         (moment (S.held store.old) (S.read_faults store.old) (S.write_faults store.old) (O.taken out.old) (O.faults out.old))
@@ -88,17 +88,22 @@ fn carry_out<S: Store, O: Sink, A: Aside>(
     ensures faults { O.faults out.old ≤ O.faults out.new }
 {
     match outcome(alloc, words, store, aside) {
-        Ok(outcome) => finish(alloc, &outcome, store, out),
+        Ok(outcome) => {
+            let status = finish(alloc, &outcome, store, out);
+            // Where memory runs out for the notes, the status is the same.
+            let _ = note_writes(alloc, status, &outcome, aside);
+            status
+        }
         Err(_) => Status::Memory,
     }
 }
 
 /// Returns the outcome that `words` define, over what `store` gives, and notes what is wrong with them.
-fn outcome<S: Store, A: Aside>(
+fn outcome<S: Store>(
     alloc: Global,
     words: &[String],
     store: &mut S,
-    aside: &mut A,
+    aside: &mut dyn Aside,
 ) -> Result<Outcome, AllocError>
     ensures ok { IfOk result (λ o. IsPlannedBytes (S.held store.old)
         (Rose (S.read_faults store.old) (S.read_faults store.new)) (plan_of (map string_bytes words.now)) (outcome_of o)) }
@@ -122,11 +127,11 @@ fn outcome<S: Store, A: Aside>(
 }
 
 /// Returns the outcome of the planned command, over what `store` gives, and notes what is wrong with its files.
-fn answered<S: Store, A: Aside>(
+fn answered<S: Store>(
     alloc: Global,
     plan: &Plan,
     store: &mut S,
-    aside: &mut A,
+    aside: &mut dyn Aside,
 ) -> Result<Outcome, Stop>
     requires { HasShape plan.now.command (length plan.now.inputs.items) (length plan.now.outputs.items) }
     ensures planned { Allows (IsPlannedBytes (S.held store.old) (Rose (S.read_faults store.old) (S.read_faults store.new))
@@ -138,24 +143,24 @@ fn answered<S: Store, A: Aside>(
     ensures writes { S.write_faults store.new ≡ S.write_faults store.old }
 {
     let files = read_all(alloc, plan.inputs.as_slice(), store)?;
-    let ended = answer(alloc, plan, files.as_slice());
-    noted(alloc, ended, files.as_slice(), aside)
+    let ended = answer(alloc, plan, files.as_slice(), aside);
+    aside.end_progress();
+    noted(alloc, plan.command, ended, files.as_slice(), aside)
 }
 
-/// Returns `ended`, how a command over `files` ended, and notes what a person needs to hear of it.
-fn noted<A: Aside>(
+/// Returns `ended`, how `command` over `files` ended, and notes what a person needs to hear of it.
+fn noted(
     alloc: Global,
+    command: Command,
     ended: Result<Outcome, Stop>,
     files: &[File],
-    aside: &mut A,
+    aside: &mut dyn Aside,
 ) -> Result<Outcome, Stop>
     ensures { result ≡ ended }
 {
     if let Ok(outcome) | Err(Stop::Ended(outcome)) = &ended {
-        if !matches!(outcome.status, Status::Done) {
-            // Where memory runs out for the notes, the outcome is the same.
-            let _ = note_report(alloc, outcome.report.as_slice(), files, aside);
-        }
+        // Where memory runs out for the notes, the outcome is the same.
+        let _ = note_call(alloc, command, outcome, files, aside);
     }
     ended
 }

@@ -8,7 +8,7 @@ use std::alloc::{AllocError, Global};
 const MOST_SHOWN: usize = 60;
 
 /// Returns what the fault `code` says of the field of `bytes`, a text of words, at `place`: `line L column C`.
-pub(crate) fn find_in_text(
+pub fn find_in_text(
     alloc: Global,
     bytes: &[u8],
     code: &str,

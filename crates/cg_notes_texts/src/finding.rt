@@ -5,17 +5,19 @@ use std::fmt;
 
 /// A place in a text. Lines and columns count from 1, and a column counts bytes.
 #[derive(Clone, Copy, Drop)]
-pub(crate) struct Place {
-    pub(crate) line: usize,
-    pub(crate) column: usize,
+pub struct Place {
+    /// The line.
+    pub line: usize,
+    /// The column.
+    pub column: usize,
 }
 
 impl Place {
     /// The first byte of a text.
-    pub(crate) const START: Place = Place { line: 1, column: 1 };
+    pub const START: Place = Place { line: 1, column: 1 };
 
     /// Returns the place of the byte of `bytes` that stands after `offset` others.
-    pub(crate) fn at(bytes: &[u8], offset: usize) -> Place {
+    pub fn at(bytes: &[u8], offset: usize) -> Place {
         let before = &bytes[..offset.min(bytes.len())];
         let lines = before.iter().filter(|byte| **byte == b'\n').count();
         let columns = before
@@ -39,14 +41,16 @@ impl fmt::Display for Place {
 
 /// What a person needs to hear of a text, and of which place.
 #[derive(Drop)]
-pub(crate) struct Finding {
-    pub(crate) place: Place,
-    pub(crate) text: String,
+pub struct Finding {
+    /// The place.
+    pub place: Place,
+    /// What to hear, in a sentence.
+    pub text: String,
 }
 
 impl Finding {
     /// Returns the finding that says `text` of `place`.
-    pub(crate) fn new(alloc: Global, place: Place, text: &str) -> Result<Finding, AllocError> {
+    pub fn new(alloc: Global, place: Place, text: &str) -> Result<Finding, AllocError> {
         let text = String::from_str(alloc, text)?;
         Ok(Finding { place, text })
     }

@@ -12,7 +12,7 @@ const MOST_PARSED: usize = 1_000_000;
 /// Returns why `bytes` are no JSON text, where `what` is the file that should be one. Returns `None` where they are one.
 ///
 /// A text whose values would take too much memory as TOML counts as none.
-pub(crate) fn find_in_json(
+pub fn find_in_json(
     alloc: Global,
     bytes: &[u8],
     what: &str,
@@ -30,6 +30,10 @@ pub(crate) fn find_in_json(
             text,
         }));
     }
+    if bytes.starts_with(b"cgl1") {
+        let text = "this is a loop body: the command loop makes a kernel of it";
+        return Ok(Some(Finding::new(alloc, Place::START, text)?));
+    }
     match json_value(alloc, bytes) {
         Ok(_) => Ok(None),
         Err(JsonFault::NotJson) => json_error(alloc, bytes),
@@ -41,7 +45,7 @@ pub(crate) fn find_in_json(
 /// one.
 ///
 /// A text whose values would take too much memory as JSON counts as none.
-pub(crate) fn find_in_toml(alloc: Global, bytes: &[u8]) -> Result<Option<Finding>, AllocError> {
+pub fn find_in_toml(alloc: Global, bytes: &[u8]) -> Result<Option<Finding>, AllocError> {
     if let Some(finding) = find_in_bytes(alloc, bytes)? {
         return Ok(Some(finding));
     }
@@ -50,6 +54,10 @@ pub(crate) fn find_in_toml(alloc: Global, bytes: &[u8]) -> Result<Option<Finding
     }
     if json_value(alloc, bytes).is_ok() {
         let text = "this is JSON; an architecture is TOML";
+        return Ok(Some(Finding::new(alloc, Place::START, text)?));
+    }
+    if bytes.starts_with(b"module ") {
+        let text = "this is Verilog; an architecture is TOML";
         return Ok(Some(Finding::new(alloc, Place::START, text)?));
     }
     match toml_table(alloc, bytes) {
@@ -80,12 +88,51 @@ fn json_error(alloc: Global, bytes: &[u8]) -> Result<Option<Finding>, AllocError
     match Value::from_slice(alloc, bytes) {
         Ok(_) => Ok(None),
         Err(error) if error.is_memory() => Err(AllocError),
-        Err(error) => Ok(Some(of_json_error(alloc, &error)?)),
+        Err(error) => Ok(Some(of_json_error(alloc, bytes, &error)?)),
     }
 }
 
+/// Returns what may be wrong at `place` of `bytes`, which are no JSON text there; empty where that can't be told.
+fn json_hint(bytes: &[u8], place: Place) -> &'static str {
+    let Some(line) = bytes
+        .split(|byte| *byte == b'\n')
+        .nth(place.line.saturating_sub(1))
+    else {
+        return "";
+    };
+    let offset = bytes.len().saturating_sub(length_from(bytes, place.line));
+    let at = offset.saturating_add(place.column.saturating_sub(1));
+    let before = bytes.get(..at).unwrap_or(&[]);
+    let last = before.iter().rev().find(|byte| !byte.is_ascii_whitespace());
+    match (last, line.get(place.column.saturating_sub(1))) {
+        (_, Some(b'/' | b'#')) => ": there are no comments",
+        (_, Some(b'\'')) => ": texts stand in double quotes",
+        (_, Some(0xEF)) => ": it begins with a byte-order mark",
+        (Some(b','), Some(b']' | b'}')) => ": a comma stands before it",
+        (Some(b'"' | b']' | b'}' | b'0'..=b'9'), Some(b'"' | b'[' | b'{')) =>
+            ": a comma is missing before it",
+        _ => "",
+    }
+}
+
+/// Returns how many bytes of `bytes` there are from line number `line` on.
+fn length_from(bytes: &[u8], line: usize) -> usize {
+    let mut rest = bytes.len();
+    for text in bytes
+        .split(|byte| *byte == b'\n')
+        .take(line.saturating_sub(1))
+    {
+        rest = rest.saturating_sub(text.len().saturating_add(1));
+    }
+    rest
+}
+
 /// Returns what `error` says of which place. At the end of a text the parser may count no column.
-fn of_json_error(alloc: Global, error: &serde_json::Error) -> Result<Finding, AllocError> {
+fn of_json_error(
+    alloc: Global,
+    bytes: &[u8],
+    error: &serde_json::Error,
+) -> Result<Finding, AllocError> {
     let (line, column) = (error.line(), error.column());
     let text = format!(in alloc; "{error}")?;
     let ending = format!(in alloc; " at line {line} column {column}")?;
@@ -95,7 +142,13 @@ fn of_json_error(alloc: Global, error: &serde_json::Error) -> Result<Finding, Al
         line: line.max(1),
         column: column.max(1),
     };
-    Finding::new(alloc, place, message)
+    let hint = if message == "invalid JSON" {
+        json_hint(bytes, place)
+    } else {
+        ""
+    };
+    let text = format!(in alloc; "{message}{hint}")?;
+    Ok(Finding { place, text })
 }
 
 /// Returns what the parser of TOML says of `bytes`, and `None` where it takes them. The caller has seen by `toml_table`

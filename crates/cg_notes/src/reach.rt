@@ -1,0 +1,144 @@
+//! Faults of architectures whose reports give names of resources: loops of wires, and links that a hub lacks.
+
+use crate::elements::find_key;
+use cg_notes_texts::{Finding, Place};
+use cg_places::tile_part_at;
+use cg_toml::toml_table;
+use std::alloc::{AllocError, Global};
+use toml::Value;
+
+/// The most bytes of an architecture that is parsed again for a note.
+const MOST_PARSED: usize = 1_000_000;
+
+/// Returns which limit the architecture file `bytes` passes by `place`, which names what there is too much of.
+pub(crate) fn find_limit(
+    alloc: Global,
+    bytes: &[u8],
+    place: &str,
+) -> Result<Option<Finding>, AllocError> {
+    match place {
+        "grid" => find_key(
+            alloc,
+            bytes,
+            "grid",
+            "the grid has more than 32 rows or columns",
+        ),
+        "memory" => find_key(
+            alloc,
+            bytes,
+            "memory",
+            "the memory has more than 1048576 words",
+        ),
+        "resources" => find_key(
+            alloc,
+            bytes,
+            "grid",
+            "the tiles of the grid have more than 4096 resources: wires, registers, and the ports and outs of units",
+        ),
+        "links" => find_key(
+            alloc,
+            bytes,
+            "grid",
+            "the tiles of the grid have more than 65536 links, one for each driver of a resource",
+        ),
+        "units" => find_key(
+            alloc,
+            bytes,
+            "grid",
+            "the tiles of the grid have more than 1024 units",
+        ),
+        _ => Ok(None),
+    }
+}
+
+/// Returns where in the architecture file `bytes` the loop of wires begins that `names` gives, from its first one on.
+pub(crate) fn find_loop(
+    alloc: Global,
+    bytes: &[u8],
+    names: &str,
+) -> Result<Option<Finding>, AllocError> {
+    let wires = names.split(' ').count();
+    let first = match names.split_once(' ') {
+        Some((first, _)) => first,
+        None => names,
+    };
+    let what = format!(in alloc; "{first} begins a loop without a register; wires in it: {wires}")?;
+    find_part(alloc, bytes, first, what.as_str())
+}
+
+/// Returns what the hub of the architecture file `bytes` lacks by `place`, `hub NAME` or `link FROM TO`.
+pub(crate) fn find_hub(
+    alloc: Global,
+    bytes: &[u8],
+    place: &str,
+) -> Result<Option<Finding>, AllocError> {
+    if let Some(name) = place.strip_prefix("hub ") {
+        let what = format!(in alloc; "the hub's {name} is no register, or is named twice")?;
+        return find_key(alloc, bytes, "hub", what.as_str());
+    }
+    let Some((from, to)) = place
+        .strip_prefix("link ")
+        .and_then(|link| link.split_once(' '))
+    else {
+        return Ok(None);
+    };
+    let what = format!(in alloc; "the hub needs a link from {from} to {to}")?;
+    find_part(alloc, bytes, to, what.as_str())
+}
+
+/// Returns that `what` is wrong with the part of a tile of the architecture file `bytes` that the resource `name` comes from.
+fn find_part(
+    alloc: Global,
+    bytes: &[u8],
+    name: &str,
+    what: &str,
+) -> Result<Option<Finding>, AllocError> {
+    if bytes.len() > MOST_PARSED {
+        return Ok(None);
+    }
+    let Ok(table) = toml_table(alloc, bytes) else {
+        return Ok(None);
+    };
+    let Some((tile, part)) = part_of_name(&table, name) else {
+        return Ok(None);
+    };
+    let Some(at) = tile_part_at(bytes, tile, part) else {
+        return Ok(None);
+    };
+    let text = format!(in alloc; "tile {tile} part {part}: {what}")?;
+    let place = Place::at(bytes, at);
+    Ok(Some(Finding { place, text }))
+}
+
+/// Returns the tile and the number of the part of the architecture `table` that the resource `name` comes from, as `r0c1_h`.
+fn part_of_name<'a>(table: &'a Value, name: &str) -> Option<(&'a str, usize)> {
+    let (row, column, rest) = cell_of(name)?;
+    let line = table.get("grid")?.as_array()?.get(row)?.as_str()?;
+    let tile = line.get(column..column.saturating_add(1))?;
+    let parts = table.get("tiles")?.as_table()?.get(tile)?.as_array()?;
+    let part = parts.iter().position(|part| has_resource(part, rest))?;
+    Some((tile, part))
+}
+
+/// Returns the row and the column that a resource's flat name begins with, and what stands behind them.
+fn cell_of(name: &str) -> Option<(usize, usize, &str)> {
+    let (cell, rest) = name.split_once('_')?;
+    let (row, column) = cell.strip_prefix('r')?.split_once('c')?;
+    Some((row.parse().ok()?, column.parse().ok()?, rest))
+}
+
+/// Checks whether `part` of a tile has the resource `name`: itself, or a port or the out of a unit.
+fn has_resource(part: &Value, name: &str) -> bool {
+    if said(part, "wire") == Some(name) || said(part, "reg") == Some(name) {
+        return true;
+    }
+    match said(part, "unit").and_then(|unit| name.strip_prefix(unit)) {
+        Some(end) => matches!(end, "_a" | "_b" | "_c" | "_o"),
+        None => false,
+    }
+}
+
+/// Returns the text of `key` in `part`.
+fn said<'a>(part: &'a Value, key: &str) -> Option<&'a str> {
+    part.get(key)?.as_str()
+}

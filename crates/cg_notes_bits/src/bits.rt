@@ -1,0 +1,213 @@
+//! What is wrong with bits.
+
+use crate::fields::{HEADER_BITS, Owner, fields_at, slot_bits};
+use crate::form::Form;
+use crate::numbers::number;
+use crate::parts::Part;
+use cg_arch::Arch;
+use cg_model::{Resource, Unit};
+use cg_tiles::read_arch;
+use cg_word::Op;
+use std::alloc::{AllocError, Global};
+
+/// Where a field stands.
+#[derive(Clone, Copy, Drop)]
+struct Spot<'a> {
+    /// The bits' file.
+    bytes: &'a [u8],
+    /// Their format.
+    form: Form,
+    /// The slot.
+    slot: usize,
+    /// The first bit of the field in the file.
+    bit: usize,
+    /// How many bits of the fields of its resource or unit stand before it.
+    before: usize,
+}
+
+/// Returns what the fault `code` at `place` says of `bytes`, bits for the architecture whose file has the bytes `arch`. Returns
+/// None where there is no more to say than what the fault says of all bits.
+pub fn bits_note(
+    alloc: Global,
+    arch: &[u8],
+    bytes: &[u8],
+    code: &str,
+    place: &str,
+) -> Result<Option<String>, AllocError> {
+    let Some(form) = Form::of_code(code) else {
+        return Ok(None);
+    };
+    let Ok(arch) = read_arch(alloc, arch) else {
+        return Ok(None);
+    };
+    match code {
+        "B1" | "C1" => sign_note(alloc, bytes),
+        "B2" | "C2" | "B10" | "C10" => length_note(alloc, &arch, form, bytes),
+        "B4" | "C4" => header_note(alloc, &arch, bytes),
+        "B5" | "C5" | "B6" | "C6" | "B7" | "C7" | "B8" | "C8" | "B11" | "C11" => {
+            match bit_place(place) {
+                Some(bit) => bit_note(alloc, &arch, form, bytes, code, bit),
+                None => Ok(None),
+            }
+        }
+        _ => Ok(None),
+    }
+}
+
+/// Returns what `bytes` are, where they begin as an image does.
+fn sign_note(alloc: Global, bytes: &[u8]) -> Result<Option<String>, AllocError> {
+    if bytes.starts_with(b"CGI1") {
+        let note = String::from_str(alloc, "this is an image, and bits are asked")?;
+        return Ok(Some(note));
+    }
+    Ok(None)
+}
+
+/// Returns the bit that `place` says, `bit N`.
+fn bit_place(place: &str) -> Option<usize> {
+    place.strip_prefix("bit ")?.parse().ok()
+}
+
+/// Returns the interval that the header of `bytes` gives.
+fn interval(bytes: &[u8]) -> u32 {
+    number(bytes, 32, 16)
+}
+
+/// Returns the stages that the header of `bytes` gives.
+fn stages(bytes: &[u8]) -> u32 {
+    number(bytes, 48, 16)
+}
+
+/// Returns how long `bytes` are, and how long they have to be.
+fn length_note(
+    alloc: Global,
+    arch: &Arch,
+    form: Form,
+    bytes: &[u8],
+) -> Result<Option<String>, AllocError> {
+    let length = bytes.len();
+    if length < HEADER_BITS / 8 {
+        let note = format!(in alloc; "the file has {length} bytes, and the header alone 40")?;
+        return Ok(Some(note));
+    }
+    let ii = interval(bytes);
+    let slots = slot_bits(arch, form).saturating_mul(ii as usize);
+    let needed = slots.saturating_add(HEADER_BITS).div_ceil(8);
+    let note = format!(in alloc;
+        "the file has {length} bytes, and the header and {ii} slots take {needed}"
+    )?;
+    Ok(Some(note))
+}
+
+/// Returns what the header of `bytes` says, beside what `arch` allows.
+fn header_note(alloc: Global, arch: &Arch, bytes: &[u8]) -> Result<Option<String>, AllocError> {
+    let ii = interval(bytes);
+    let stages = stages(bytes);
+    let contexts = arch.contexts();
+    let note = format!(in alloc;
+        "the header says interval {ii} and stages {stages}: the interval is 1 to {contexts}, the contexts of the architecture, and the stages are 1 or more"
+    )?;
+    Ok(Some(note))
+}
+
+/// Returns what the fault `code` says of bit `bit` of `bytes`.
+fn bit_note(
+    alloc: Global,
+    arch: &Arch,
+    form: Form,
+    bytes: &[u8],
+    code: &str,
+    bit: usize,
+) -> Result<Option<String>, AllocError> {
+    let Some(body) = bit.checked_sub(HEADER_BITS) else {
+        let stages = stages(bytes);
+        let note = format!(in alloc;
+            "the header says stages {stages}, which isn't one more than the greatest stage of a unit"
+        )?;
+        return Ok(Some(note));
+    };
+    let size = slot_bits(arch, form);
+    if size == 0 {
+        return Ok(None);
+    }
+    let Some(fields) = fields_at(arch, form, body % size) else {
+        return Ok(None);
+    };
+    let spot = Spot {
+        bytes,
+        form,
+        slot: body / size,
+        bit,
+        before: (body % size).saturating_sub(fields.from),
+    };
+    match fields.owner {
+        Owner::Resource(resource) => select_note(alloc, spot, resource),
+        Owner::Unit(unit) => unit_note(alloc, spot, unit, code),
+    }
+}
+
+/// Returns what is wrong with the select of `resource` at `spot`.
+fn select_note(
+    alloc: Global,
+    spot: Spot<'_>,
+    resource: &Resource,
+) -> Result<Option<String>, AllocError> {
+    let slot = spot.slot;
+    let name = resource.name.as_str();
+    let drivers = resource.drivers.as_slice().len();
+    let width = crate::fields::select_bits(resource);
+    let select = number(spot.bytes, spot.bit, width);
+    let note = format!(in alloc;
+        "slot {slot}: resource {name} selects driver {select}, and has {drivers}"
+    )?;
+    Ok(Some(note))
+}
+
+/// Returns what the fault `code` says of the field of `unit` at `spot`.
+fn unit_note(
+    alloc: Global,
+    spot: Spot<'_>,
+    unit: &Unit,
+    code: &str,
+) -> Result<Option<String>, AllocError> {
+    let slot = spot.slot;
+    let name = unit.name.as_str();
+    let part = Part::at(spot.form, spot.before);
+    let value = number(spot.bytes, spot.bit, part.bits(spot.form));
+    let note = match code {
+        "B6" | "C6" => {
+            let greatest = spot.form.greatest;
+            format!(in alloc;
+                "slot {slot}: unit {name}: no operation has the code {value}; codes are 0 to {greatest}"
+            )?
+        }
+        "B7" | "C7" => {
+            let op = op_name(value);
+            format!(in alloc; "slot {slot}: unit {name} doesn't offer {op}")?
+        }
+        "B8" | "C8" => {
+            let reason = reason_at(spot, part);
+            format!(in alloc; "slot {slot}: unit {name}: the {part} is {value}, {reason}")?
+        }
+        _ => format!(in alloc; "slot {slot}: unit {name}: another output goes to port {value}")?,
+    };
+    Ok(Some(note))
+}
+
+/// Returns the name of the operation of that code.
+fn op_name(code: u32) -> &'static str {
+    match Op::from_code(code) {
+        Some(op) => op.name(),
+        None => "off",
+    }
+}
+
+/// Returns why the field `part` of the unit at `spot` may not be what it is.
+fn reason_at(spot: Spot<'_>, part: Part) -> &'static str {
+    let from = spot.bit.saturating_sub(spot.before);
+    if number(spot.bytes, from, spot.form.op_bits) == 0 {
+        "where the unit is off"
+    } else {
+        part.reason()
+    }
+}

@@ -1,0 +1,149 @@
+//! What is wrong with images.
+
+use std::alloc::{AllocError, Global};
+
+/// The most words of a memory.
+const MOST_MEMORY: u32 = 1_048_576;
+
+/// The most words of a stream.
+const MOST_STREAM: u32 = 1_000_000;
+
+/// The bytes of the sign that an image begins with.
+const SIGN: usize = 4;
+
+/// The sections of an image: its memory and sixteen streams.
+const SECTIONS: usize = 17;
+
+/// Where an image ends early.
+#[derive(Clone, Copy, Drop)]
+enum End {
+    /// Before the number of words of that section.
+    Before {
+        section: usize,
+    },
+    /// In that section, of `words` words, behind `there` of them.
+    Within {
+        section: usize,
+        words: u32,
+        there: usize,
+    },
+}
+
+/// Returns what the fault `code` at `place` says of `bytes`, an image. Returns None where there is no more to say than what the
+/// fault says of all images.
+pub fn image_note(
+    alloc: Global,
+    bytes: &[u8],
+    code: &str,
+    place: &str,
+) -> Result<Option<String>, AllocError> {
+    match code {
+        "I1" => sign_note(alloc, bytes),
+        "I2" => match end_of(bytes) {
+            Some(end) => end_note(alloc, end),
+            None => Ok(None),
+        },
+        "I3" => large_note(alloc, place),
+        "I4" => behind_note(alloc, bytes, place),
+        _ => Ok(None),
+    }
+}
+
+/// Returns what `bytes` are, where they look like bits or like a text of words.
+fn sign_note(alloc: Global, bytes: &[u8]) -> Result<Option<String>, AllocError> {
+    if bytes.starts_with(b"CGB") {
+        let note = String::from_str(alloc, "these are bits, and an image is asked")?;
+        return Ok(Some(note));
+    }
+    if bytes.starts_with(b"memory") || bytes.starts_with(b"stream") || bytes.starts_with(b"#") {
+        let note = String::from_str(
+            alloc,
+            "this is a text of words: the command image makes an image of it",
+        )?;
+        return Ok(Some(note));
+    }
+    Ok(None)
+}
+
+/// Returns the number that the first four bytes of `rest` are, and the bytes behind them.
+fn count_in(rest: &[u8]) -> Option<(u32, &[u8])> {
+    match rest {
+        [a, b, c, d, behind @ ..] => Some((u32::from_be_bytes([*a, *b, *c, *d]), behind)),
+        _ => None,
+    }
+}
+
+/// Returns where `bytes`, an image, end early; None where they don't.
+fn end_of(bytes: &[u8]) -> Option<End> {
+    let mut rest = bytes.get(SIGN..)?;
+    for section in 0..SECTIONS {
+        let Some((words, behind)) = count_in(rest) else {
+            return Some(End::Before { section });
+        };
+        let Some(next) = behind.get((words as usize).saturating_mul(4)..) else {
+            let there = behind.len() / 4;
+            return Some(End::Within {
+                section,
+                words,
+                there,
+            });
+        };
+        rest = next;
+    }
+    None
+}
+
+/// Returns how a section is called: the memory, or a stream by its port.
+fn section_name(alloc: Global, section: usize) -> Result<String, AllocError> {
+    match section.checked_sub(1) {
+        Some(port) => format!(in alloc; "stream {port}"),
+        None => String::from_str(alloc, "memory"),
+    }
+}
+
+/// Returns where an image ends that ends early.
+fn end_note(alloc: Global, end: End) -> Result<Option<String>, AllocError> {
+    let note = match end {
+        End::Before { section } => {
+            let name = section_name(alloc, section)?;
+            let name = name.as_str();
+            format!(in alloc; "the image ends before the number of words of {name}")?
+        }
+        End::Within {
+            section,
+            words,
+            there,
+        } => {
+            let name = section_name(alloc, section)?;
+            let name = name.as_str();
+            format!(in alloc; "the image ends in {name}, behind {there} of {words} words")?
+        }
+    };
+    Ok(Some(note))
+}
+
+/// Returns how many words the section may have that `place` says, `memory N` or `stream P N`.
+fn large_note(alloc: Global, place: &str) -> Result<Option<String>, AllocError> {
+    let Some((section, words)) = place.rsplit_once(' ') else {
+        return Ok(None);
+    };
+    let most = if section == "memory" {
+        MOST_MEMORY
+    } else {
+        MOST_STREAM
+    };
+    let note = format!(in alloc; "{section} has {words} words, and at most {most} are allowed")?;
+    Ok(Some(note))
+}
+
+/// Returns how many bytes follow the last stream of `bytes`, which ends before `place`, `byte N`.
+fn behind_note(alloc: Global, bytes: &[u8], place: &str) -> Result<Option<String>, AllocError> {
+    let Some(Ok(end)) = place.strip_prefix("byte ").map(|end| end.parse::<usize>()) else {
+        return Ok(None);
+    };
+    let behind = bytes.len().saturating_sub(end);
+    let note = format!(in alloc;
+        "the last stream ends after {end} bytes, and {behind} bytes follow"
+    )?;
+    Ok(Some(note))
+}

@@ -1,0 +1,15 @@
+//! Notes on refused bits and images: which field of which unit or resource, or which word of a memory or a stream, is wrong.
+#![tactic(auto)]
+
+mod bits;
+mod fields;
+mod form;
+mod images;
+mod numbers;
+mod parts;
+
+pub use bits::bits_note;
+pub use fields::{slot_from, unit_bits, unit_from};
+pub use form::{Form, TODAY};
+pub use images::image_note;
+pub use numbers::unit_fields;

@@ -1,0 +1,93 @@
+//! The fields of a unit in a slot.
+
+use crate::form::Form;
+use std::fmt;
+
+/// The bits of a unit's fields between its operation and its arguments: stage, port and immediate.
+pub(crate) const HEAD_BITS: usize = 52;
+
+/// The bits of an argument's fields: its mode, its count and four words.
+pub(crate) const ARG_BITS: usize = 132;
+
+/// A field of a unit. Arguments and words count from 0.
+#[derive(Clone, Copy, Drop)]
+pub(crate) enum Part {
+    Operation,
+    Stage,
+    Port,
+    Immediate,
+    /// Whether that argument is the immediate.
+    Mode(usize),
+    /// How many initial words that argument has.
+    Count(usize),
+    /// An initial word.
+    Word { arg: usize, word: usize },
+}
+
+impl Part {
+    /// Returns the field that bit `bit` of a unit's fields in `form` belongs to.
+    pub(crate) fn at(form: Form, bit: usize) -> Part {
+        let Some(behind) = bit.checked_sub(form.op_bits) else {
+            return Part::Operation;
+        };
+        match behind {
+            0..=15 => Part::Stage,
+            16..=19 => Part::Port,
+            20..=51 => Part::Immediate,
+            _ => Part::of_arg(behind.saturating_sub(HEAD_BITS)),
+        }
+    }
+
+    /// Returns the field that bit `bit` of the fields of arguments belongs to.
+    fn of_arg(bit: usize) -> Part {
+        let arg = bit / ARG_BITS;
+        match bit % ARG_BITS {
+            0 => Part::Mode(arg),
+            1..=3 => Part::Count(arg),
+            within => Part::Word {
+                arg,
+                word: within.saturating_sub(4) / 32,
+            },
+        }
+    }
+
+    /// Returns how many bits it takes in `form`.
+    pub(crate) fn bits(self, form: Form) -> usize {
+        match self {
+            Part::Operation => form.op_bits,
+            Part::Stage => 16,
+            Part::Port => 4,
+            Part::Immediate | Part::Word { .. } => 32,
+            Part::Mode(_) => 1,
+            Part::Count(_) => 3,
+        }
+    }
+
+    /// Returns what is wrong with it where a unit that isn't off has it out of its one spelling.
+    pub(crate) fn reason(self) -> &'static str {
+        match self {
+            Part::Operation => "no operation",
+            Part::Stage => "above the greatest stage",
+            Part::Port => "where the operation has no port",
+            Part::Immediate => "where no argument is the immediate",
+            Part::Mode(_) =>
+                "where the operation takes no such argument, or another one is the immediate",
+            Part::Count(_) => "above 4, or of an argument without initial words",
+            Part::Word { .. } => "behind the words that its argument has",
+        }
+    }
+}
+
+impl fmt::Display for Part {
+    fn fmt<W: fmt::Write>(&self, f: &mut fmt::Formatter<W>) -> fmt::Result {
+        match *self {
+            Part::Operation => f.write_str("operation"),
+            Part::Stage => f.write_str("stage"),
+            Part::Port => f.write_str("port"),
+            Part::Immediate => f.write_str("immediate"),
+            Part::Mode(arg) => write!(f, "mode of argument {arg}"),
+            Part::Count(arg) => write!(f, "count of argument {arg}"),
+            Part::Word { arg, word } => write!(f, "word {word} of argument {arg}"),
+        }
+    }
+}

@@ -1,0 +1,43 @@
+//! Notes by how a call ended.
+
+use crate::answered::{add_done, add_no};
+use crate::refused::add_refused;
+use cg_aside::Aside;
+use cg_command::Command;
+use cg_ending::{File, Outcome, Status};
+use cg_notes::report_notes;
+use std::alloc::{AllocError, Global};
+
+/// Notes to `aside` what a person needs to hear of `outcome`, that of `command` over `files`: where in a text a fault stands, what an
+/// answer means, or what a run left out.
+pub fn note_call(
+    alloc: Global,
+    command: Command,
+    outcome: &Outcome,
+    files: &[File],
+    aside: &mut dyn Aside,
+) -> Result<(), AllocError> {
+    let mut notes = Vec::new(alloc);
+    let noted = add_notes(alloc, command, outcome, files, &mut notes);
+    for note in &notes {
+        aside.note(note.as_str());
+    }
+    noted
+}
+
+/// Adds to `notes` what a person needs to hear of `outcome`.
+fn add_notes(
+    alloc: Global,
+    command: Command,
+    outcome: &Outcome,
+    files: &[File],
+    notes: &mut Vec<String>,
+) -> Result<(), AllocError> {
+    let report = outcome.report.as_slice();
+    match outcome.status {
+        Status::Done => add_done(alloc, command, report, files, notes),
+        Status::Malformed => add_refused(alloc, report, files, notes),
+        Status::No => add_no(alloc, command, report, files, notes),
+        _ => report_notes(alloc, report, files, notes),
+    }
+}

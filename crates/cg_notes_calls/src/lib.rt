@@ -1,0 +1,10 @@
+//! Notes on a call of a command: what a person needs to hear of its report, and of what it did.
+#![tactic(auto)]
+
+mod answered;
+mod calls;
+mod refused;
+mod writes;
+
+pub use calls::note_call;
+pub use writes::note_writes;

@@ -1,0 +1,10 @@
+//! Notes on mappings that aren't legal: what each violation is, with names and cycles.
+#![tactic(auto)]
+
+mod meeting;
+mod names;
+mod notes;
+mod placing;
+mod routing;
+
+pub use notes::rule_notes;

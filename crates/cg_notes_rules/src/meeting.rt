@@ -1,0 +1,161 @@
+//! Violations of L6 and L7: routes that meet on a resource in a slot.
+
+use crate::names::Mapped;
+use cg_check::{Rule, delay, edge_into, leaves};
+use cg_model::Route;
+use std::alloc::{AllocError, Global};
+
+/// A resource in a slot.
+#[derive(Clone, Copy, Drop)]
+struct Spot {
+    resource: usize,
+    slot: u64,
+    ii: u64,
+}
+
+/// A value on a resource.
+#[derive(Clone, Copy, Drop)]
+struct Stay {
+    /// The node whose value it is.
+    source: u32,
+    /// The cycle, for the value of turn 0.
+    time: u64,
+    /// The resource that it comes from; None where its route begins.
+    from: Option<u32>,
+}
+
+impl Stay {
+    /// Checks whether `other` shares what `rule` says: the value at L6, else the way.
+    fn is_alike(self, other: Stay, rule: Rule) -> bool {
+        match rule {
+            Rule::L6 => self.source == other.source && self.time == other.time,
+            _ => self.from == other.from,
+        }
+    }
+}
+
+/// Returns what meets on resource number `resource` of `mapped` in `slot`, which `rule` forbids.
+pub(crate) fn meeting_note(
+    alloc: Global,
+    mapped: Mapped<'_>,
+    rule: Rule,
+    resource: usize,
+    slot: usize,
+) -> Result<Option<String>, AllocError> {
+    let spot = Spot {
+        resource,
+        slot: slot as u64,
+        ii: u64::from(mapped.mapping.ii()),
+    };
+    let Some(first) = first_stay(mapped, spot, rule, None) else {
+        return Ok(None);
+    };
+    let Some(second) = first_stay(mapped, spot, rule, Some(first)) else {
+        return Ok(None);
+    };
+    let note = match rule {
+        Rule::L6 => values_note(alloc, mapped, spot, first, second)?,
+        _ => ways_note(alloc, mapped, spot, first, second)?,
+    };
+    Ok(Some(note))
+}
+
+/// Returns that the values of two stays are on one resource in one cycle.
+fn values_note(
+    alloc: Global,
+    mapped: Mapped<'_>,
+    spot: Spot,
+    first: Stay,
+    second: Stay,
+) -> Result<String, AllocError> {
+    let name = mapped.resource_name(spot.resource);
+    let slot = spot.slot;
+    let cycle = first.time.max(second.time);
+    let one = mapped.node_name(first.source as usize);
+    let other = mapped.node_name(second.source as usize);
+    let one_turn = turn_in(first, cycle, spot.ii);
+    let other_turn = turn_in(second, cycle, spot.ii);
+    format!(in alloc;
+        "L6: {name} in slot {slot} holds {one} of turn {one_turn} and {other} of turn {other_turn}"
+    )
+}
+
+/// Returns the turn whose value stays as `stay` does in `cycle`, at the interval `ii`.
+fn turn_in(stay: Stay, cycle: u64, ii: u64) -> u64 {
+    match cycle.saturating_sub(stay.time).checked_div(ii) {
+        Some(turn) => turn,
+        None => 0,
+    }
+}
+
+/// Returns that two stays come to one resource by different ways.
+fn ways_note(
+    alloc: Global,
+    mapped: Mapped<'_>,
+    spot: Spot,
+    first: Stay,
+    second: Stay,
+) -> Result<String, AllocError> {
+    let name = mapped.resource_name(spot.resource);
+    let slot = spot.slot;
+    let one = way_name(mapped, first);
+    let other = way_name(mapped, second);
+    format!(in alloc; "L7: {name} in slot {slot} takes its value from {one} and from {other}")
+}
+
+/// Returns the name of the resource that `stay` comes from.
+fn way_name(mapped: Mapped<'_>, stay: Stay) -> &str {
+    match stay.from {
+        Some(from) => mapped.resource_name(from as usize),
+        None => "its unit",
+    }
+}
+
+/// Returns the first stay of `mapped` at `spot`, or the first there that isn't alike with `other` by `rule`.
+fn first_stay(mapped: Mapped<'_>, spot: Spot, rule: Rule, other: Option<Stay>) -> Option<Stay> {
+    for route in mapped.mapping.routes() {
+        if let Some(stay) = stay_on(mapped, route, spot, rule, other) {
+            return Some(stay);
+        }
+    }
+    None
+}
+
+/// Returns the first such stay on `route`.
+fn stay_on(
+    mapped: Mapped<'_>,
+    route: &Route,
+    spot: Spot,
+    rule: Rule,
+    other: Option<Stay>,
+) -> Option<Stay> {
+    let edge = edge_into(mapped.kernel, route)?;
+    let mut time = leaves(mapped.arch, mapped.mapping, edge.source);
+    let mut from: Option<u32> = None;
+    for resource in route.path.as_slice() {
+        if from.is_some() {
+            time = time.saturating_add(delay(mapped.arch, *resource));
+        }
+        let stay = Stay {
+            source: edge.source,
+            time,
+            from,
+        };
+        if *resource as usize == spot.resource && is_met(stay, spot, rule, other) {
+            return Some(stay);
+        }
+        from = Some(*resource);
+    }
+    None
+}
+
+/// Checks whether `stay` is in the slot of `spot`, and isn't alike with `other` by `rule`.
+fn is_met(stay: Stay, spot: Spot, rule: Rule, other: Option<Stay>) -> bool {
+    if stay.time.checked_rem(spot.ii) != Some(spot.slot) {
+        return false;
+    }
+    match other {
+        Some(other) => !stay.is_alike(other, rule),
+        None => true,
+    }
+}

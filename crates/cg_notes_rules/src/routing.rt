@@ -1,0 +1,146 @@
+//! Violations of L5: routes that don't bring their value.
+
+use crate::names::Mapped;
+use cg_check::{DataEdge, delay, edge_into, leaves};
+use cg_model::Route;
+use std::alloc::{AllocError, Global};
+
+/// Returns why the route of `mapped` to argument `arg` of node number `node` doesn't bring its value.
+pub(crate) fn route_note(
+    alloc: Global,
+    mapped: Mapped<'_>,
+    node: u32,
+    arg: u32,
+) -> Result<Option<String>, AllocError> {
+    let routes = mapped.mapping.routes();
+    let Some(route) = routes
+        .iter()
+        .find(|route| route.node == node && route.arg == arg)
+    else {
+        return Ok(None);
+    };
+    let Some(edge) = edge_into(mapped.kernel, route) else {
+        return Ok(None);
+    };
+    let Some(why) = reason(alloc, mapped, route, edge)? else {
+        return Ok(None);
+    };
+    let name = mapped.node_name(node as usize);
+    let source = mapped.node_name(edge.source as usize);
+    let why = why.as_str();
+    let note = format!(in alloc; "L5: the route of {source} to {name}.{arg} {why}")?;
+    Ok(Some(note))
+}
+
+/// Returns why `route` of `mapped` doesn't bring the value of `edge`.
+fn reason(
+    alloc: Global,
+    mapped: Mapped<'_>,
+    route: &Route,
+    edge: DataEdge,
+) -> Result<Option<String>, AllocError> {
+    let path = route.path.as_slice();
+    let (Some(first), Some(last)) = (path.first(), path.last()) else {
+        let note = String::from_str(alloc, "has no resources")?;
+        return Ok(Some(note));
+    };
+    if let Some(note) = start_reason(alloc, mapped, edge, *first)? {
+        return Ok(Some(note));
+    }
+    if let Some(note) = link_reason(alloc, mapped, path)? {
+        return Ok(Some(note));
+    }
+    if let Some(note) = end_reason(alloc, mapped, route, *last)? {
+        return Ok(Some(note));
+    }
+    let note = time_reason(alloc, mapped, route, edge)?;
+    Ok(Some(note))
+}
+
+/// Returns where a route begins, `first`, if that isn't the out of the unit of the source of `edge`.
+fn start_reason(
+    alloc: Global,
+    mapped: Mapped<'_>,
+    edge: DataEdge,
+    first: u32,
+) -> Result<Option<String>, AllocError> {
+    let Some(unit) = mapped.unit(edge.source as usize) else {
+        return Ok(None);
+    };
+    if unit.out == first {
+        return Ok(None);
+    }
+    let first = mapped.resource_name(first as usize);
+    let out = mapped.resource_name(unit.out as usize);
+    let note = format!(in alloc; "begins at {first}, and has to begin at {out}")?;
+    Ok(Some(note))
+}
+
+/// Returns the first two neighbours on `path` between which there is no link.
+fn link_reason(
+    alloc: Global,
+    mapped: Mapped<'_>,
+    path: &[u32],
+) -> Result<Option<String>, AllocError> {
+    let mut before: Option<u32> = None;
+    for resource in path {
+        if let Some(from) = before {
+            if !drives(mapped, from, *resource) {
+                let from = mapped.resource_name(from as usize);
+                let to = mapped.resource_name(*resource as usize);
+                let note = format!(in alloc; "goes from {from} to {to}, and no link does")?;
+                return Ok(Some(note));
+            }
+        }
+        before = Some(*resource);
+    }
+    Ok(None)
+}
+
+/// Checks whether a link of `mapped` goes from resource `from` to resource `to`.
+fn drives(mapped: Mapped<'_>, from: u32, to: u32) -> bool {
+    match mapped.arch.resources().get(to as usize) {
+        Some(resource) => resource.drivers.as_slice().contains(&from),
+        None => false,
+    }
+}
+
+/// Returns where `route` of `mapped` ends, `last`, if that isn't the port of its argument.
+fn end_reason(
+    alloc: Global,
+    mapped: Mapped<'_>,
+    route: &Route,
+    last: u32,
+) -> Result<Option<String>, AllocError> {
+    let unit = mapped.unit(route.node as usize);
+    let port = unit.and_then(|unit| unit.ports.as_slice().get(route.arg as usize).copied());
+    if port == Some(last) {
+        return Ok(None);
+    }
+    let last = mapped.resource_name(last as usize);
+    let unit = mapped.unit_name(route.node as usize);
+    let note = match port {
+        Some(port) => {
+            let port = mapped.resource_name(port as usize);
+            format!(in alloc; "ends at {last}, and has to end at {port}")?
+        }
+        None => format!(in alloc; "ends at {last}, and {unit} has no port for this argument")?,
+    };
+    Ok(Some(note))
+}
+
+/// Returns when the value of `edge` comes to the end of `route` of `mapped`, and when it is needed.
+fn time_reason(
+    alloc: Global,
+    mapped: Mapped<'_>,
+    route: &Route,
+    edge: DataEdge,
+) -> Result<String, AllocError> {
+    let mut comes = leaves(mapped.arch, mapped.mapping, edge.source);
+    for resource in route.path.as_slice().iter().skip(1) {
+        comes = comes.saturating_add(delay(mapped.arch, *resource));
+    }
+    let turns = u64::from(mapped.mapping.ii()).saturating_mul(u64::from(edge.distance));
+    let needed = mapped.time(route.node as usize).saturating_add(turns);
+    format!(in alloc; "brings the value in cycle {comes}, and it is taken in cycle {needed}")
+}

@@ -1,0 +1,54 @@
+//! Inputs that read past their streams.
+
+use cg_pad::Image;
+use std::alloc::{AllocError, Global};
+
+/// The number of ports.
+pub(crate) const PORTS: usize = 16;
+
+/// Adds to `notes` for each port that `inputs` marks from which turn on its input reads past its stream of `image`, where that is
+/// one of `turns` turns.
+pub(crate) fn add_short_streams(
+    alloc: Global,
+    image: &Image,
+    turns: u32,
+    inputs: &[bool; PORTS],
+    notes: &mut Vec<String>,
+) -> Result<(), AllocError> {
+    for (port, stream) in image.streams().iter().enumerate() {
+        let words = stream.as_slice().len();
+        if is_marked(inputs, port) && words < turns as usize {
+            add_short(alloc, port, words, notes)?;
+        }
+    }
+    Ok(())
+}
+
+/// Checks whether `inputs` marks `port`.
+fn is_marked(inputs: &[bool; PORTS], port: usize) -> bool {
+    match inputs.get(port) {
+        Some(mark) => *mark,
+        None => false,
+    }
+}
+
+/// Adds to `notes` that the stream of `port` has `words` words.
+fn add_short(
+    alloc: Global,
+    port: usize,
+    words: usize,
+    notes: &mut Vec<String>,
+) -> Result<(), AllocError> {
+    let note = format!(in alloc;
+        "input from stream {port}, which has {words} words, reads 0 from turn {words} on"
+    )?;
+    notes.push(note)?;
+    Ok(())
+}
+
+/// Marks `port` in `inputs`.
+pub(crate) fn mark(inputs: &mut [bool; PORTS], port: u32) {
+    if let Some(mark) = inputs.get_mut(port as usize) {
+        *mark = true;
+    }
+}

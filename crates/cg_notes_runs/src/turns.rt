@@ -1,0 +1,95 @@
+//! Notes on `turns`.
+
+use crate::outside::{Access, first_outside};
+use crate::streams::{PORTS, add_short_streams, mark};
+use cg_kernel::read_kernel;
+use cg_model::Kernel;
+use cg_pad::{Image, read_image};
+use cg_word::Op;
+use std::alloc::{AllocError, Global};
+
+/// Adds to `notes` what `turns KERNEL TURNS` leaves out of the kernel whose file has the bytes `kernel`: its inputs and its accesses,
+/// for which there is no image.
+pub fn turns_notes(
+    alloc: Global,
+    kernel: &[u8],
+    notes: &mut Vec<String>,
+) -> Result<(), AllocError> {
+    let Ok(kernel) = read_kernel(alloc, kernel) else {
+        return Ok(());
+    };
+    let nodes = kernel.nodes();
+    let has_input = nodes.iter().any(|node| node.op == Op::Input);
+    let has_access = nodes.iter().any(|node| node.op.is_access());
+    let what = match (has_input, has_access) {
+        (true, true) => "inputs and loads read 0",
+        (true, false) => "inputs read 0",
+        (false, true) => "loads read 0",
+        (false, false) => return Ok(()),
+    };
+    let note = format!(in alloc;
+        "there is no image, so {what}: turns KERNEL TURNS IN OUT runs from one"
+    )?;
+    notes.push(note)?;
+    Ok(())
+}
+
+/// Adds to `notes` what a run of `turns` turns of the kernel whose file has the bytes `kernel`, from the image that is `image`, did
+/// outside: where `reaches_outside` is true its first access outside the memory, and inputs past their streams.
+pub fn image_notes(
+    alloc: Global,
+    kernel: &[u8],
+    image: &[u8],
+    turns: u32,
+    reaches_outside: bool,
+    notes: &mut Vec<String>,
+) -> Result<(), AllocError> {
+    let Ok(kernel) = read_kernel(alloc, kernel) else {
+        return Ok(());
+    };
+    let Ok(image) = read_image(alloc, image) else {
+        return Ok(());
+    };
+    if reaches_outside {
+        if let Some(access) = first_outside(alloc, &kernel, &image, turns)? {
+            add_access(alloc, &kernel, &image, access, notes)?;
+        }
+    }
+    add_short_streams(alloc, &image, turns, &inputs_of(&kernel), notes)
+}
+
+/// Returns which ports the inputs of `kernel` read.
+fn inputs_of(kernel: &Kernel) -> [bool; PORTS] {
+    let mut inputs = [false; PORTS];
+    for node in kernel.nodes() {
+        if node.op == Op::Input {
+            mark(&mut inputs, node.port);
+        }
+    }
+    inputs
+}
+
+/// Adds to `notes` that `access` of `kernel` is outside the memory of `image`.
+fn add_access(
+    alloc: Global,
+    kernel: &Kernel,
+    image: &Image,
+    access: Access,
+    notes: &mut Vec<String>,
+) -> Result<(), AllocError> {
+    let Access {
+        node,
+        turn,
+        address,
+    } = access;
+    let words = image.memory().len();
+    let name = match kernel.nodes().get(node) {
+        Some(node) => node.name.as_str(),
+        None => "",
+    };
+    let note = format!(in alloc;
+        "first access outside: {name} in turn {turn} at address {address}, and the memory has {words} words"
+    )?;
+    notes.push(note)?;
+    Ok(())
+}
