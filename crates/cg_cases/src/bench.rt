@@ -12,11 +12,13 @@ struct Shared {
     bytes: Vec<u8>,
 }
 
-/// Keeps the notes of a call.
+/// Keeps the notes and the progress of a call.
 #[derive(Drop)]
 struct Recorder {
     /// The notes, each with a line feed.
     text: Vec<u8>,
+    /// The progress, a line each, and a line `end` for its end.
+    progress: String,
 }
 
 impl Aside for Recorder {
@@ -24,6 +26,15 @@ impl Aside for Recorder {
         // A note that finds no memory is missing, which a case shows.
         let _ = self.text.extend_from_slice(text.as_bytes());
         let _ = self.text.push(b'\n');
+    }
+
+    fn progress(&mut self, ii: u32, moves: u32, least: u32) {
+        // As with notes.
+        let _ = write!(self.progress, "ii {ii} moves {moves} least {least}\n");
+    }
+
+    fn end_progress(&mut self) {
+        let _ = self.progress.push_str("end\n");
     }
 }
 
@@ -35,8 +46,8 @@ pub(crate) struct Bench {
     shared: Vec<Shared>,
     /// How many bytes were put before the last call.
     put_before: usize,
-    /// The notes of the last call.
-    notes: Recorder,
+    /// The notes and the progress of the last call.
+    recorder: Recorder,
 }
 
 impl Bench {
@@ -47,8 +58,9 @@ impl Bench {
             sink: MemSink::new(alloc),
             shared: Vec::new(alloc),
             put_before: 0,
-            notes: Recorder {
+            recorder: Recorder {
                 text: Vec::new(alloc),
+                progress: String::new(alloc),
             },
         }
     }
@@ -141,20 +153,26 @@ impl Bench {
     /// Calls the program with `words`, and returns its exit status.
     pub(crate) fn run(&mut self, alloc: Global, words: &[String]) -> u8 {
         self.put_before = self.sink.taken().len();
-        self.notes.text.clear();
+        self.recorder.text.clear();
+        self.recorder.progress.clear();
         let status = run_line_with(
             alloc,
             words,
             &mut self.store,
             &mut self.sink,
-            &mut self.notes,
+            &mut self.recorder,
         );
         status.number()
     }
 
     /// Returns the notes of the last call, each with a line feed.
     pub(crate) fn notes(&self) -> &[u8] {
-        self.notes.text.as_slice()
+        self.recorder.text.as_slice()
+    }
+
+    /// Returns the progress of the last call, a line each, and a line `end` for its end.
+    pub(crate) fn progress(&self) -> &[u8] {
+        self.recorder.progress.as_bytes()
     }
 
     /// Returns what the last call put.

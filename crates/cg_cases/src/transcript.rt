@@ -18,6 +18,8 @@ enum Purpose {
     Held(String),
     /// The notes of the last call.
     Notes,
+    /// Its progress.
+    Progress,
 }
 
 /// How much of some bytes the content lines say.
@@ -139,6 +141,7 @@ impl Transcript {
             "held" => self.expect(alloc, Purpose::Held(String::from_str(alloc, rest)?)),
             "missing" => self.judge_missing(alloc, rest),
             "notes" => self.expect(alloc, Purpose::Notes),
+            "progress" => self.expect(alloc, Purpose::Progress),
             "same" => self.judge_same(alloc, rest),
             _ => self.differ(alloc, "no such line", line),
         }
@@ -183,6 +186,7 @@ impl Transcript {
             Purpose::Report => self.judge_report(alloc, bytes.as_slice(), reach),
             Purpose::Held(name) => self.judge_held(alloc, name.as_str(), bytes.as_slice(), reach),
             Purpose::Notes => self.judge_notes(alloc, bytes.as_slice(), reach),
+            Purpose::Progress => self.judge_progress(alloc, bytes.as_slice(), reach),
         }
     }
 
@@ -309,6 +313,19 @@ impl Transcript {
         }
         let got = shown(alloc, self.bench.notes())?;
         self.differ(alloc, "notes", got.as_str())
+    }
+
+    fn judge_progress(
+        &mut self,
+        alloc: Global,
+        wanted: &[u8],
+        reach: Reach,
+    ) -> Result<(), AllocError> {
+        if is_wanted(self.bench.progress(), wanted, reach) {
+            return Ok(());
+        }
+        let got = shown(alloc, self.bench.progress())?;
+        self.differ(alloc, "progress", got.as_str())
     }
 
     fn judge_held(
