@@ -1,7 +1,7 @@
 //! What a person needs to hear beside the report.
 #![tactic(auto)]
 
-/// Takes notes and progress for a person. No contract says what is told, or when.
+/// Takes notes and progress for a person. No contract says which come, or when.
 pub trait Aside {
     /// Takes the note `text`: one line, without a line feed.
     fn note(&mut self, text: &str);

@@ -11,7 +11,7 @@ flat ARCH OUT                   writes the flat text of an architecture
 image TEXT OUT                  writes the image that a text of words spells
 loop SOURCE OUT                 writes the kernel of a loop as one writes it
 search ARCH KERNEL OUT          searches a mapping near the least interval, and writes its bits (--ii N, --seed N, --moves N, --mapping FILE)
-map ARCH KERNEL OUT             searches a mapping by a simple walk, and writes its bits (options as search)
+map ARCH KERNEL OUT             searches a mapping by a simple walk, and writes its bits (--ii N, --seed N, --moves N, --mapping FILE)
 migrate ARCH BITS OUT           turns bits of the first format into those of today
 run ARCH BITS TURNS IN OUT      runs an array, or a netlist of it, under a configuration from an image to an image (--netlist FILE)
 show ARCH KERNEL MAPPING [OUT]  puts a table of a legal mapping, and writes its picture

@@ -1,20 +1,17 @@
 //! What is wrong with the words of a command.
 
 use crate::numbers::Range;
-use crate::usages::{SEEDS, TURNS};
+use crate::usages::{SEEDS, TURNS, Usage};
 use std::fmt;
 
 /// What is wrong with the words after a command's name.
 #[derive(Clone, Copy)]
 pub(crate) enum Fault<'a> {
-    /// The command doesn't take the option `name`; it may be that `nearest` is meant.
+    /// The command `usage` doesn't take the option `word`, which has its hyphens; it may be that `nearest` is meant.
     NoOption {
-        name: &'a str,
-        nearest: Option<&'static str>,
-    },
-    /// The word `word` begins with one hyphen.
-    OneHyphen {
+        usage: &'static Usage,
         word: &'a str,
+        nearest: Option<&'static str>,
     },
     /// The option `name` was given before.
     Twice {
@@ -64,14 +61,18 @@ impl fmt::Display for Fault<'_> {
     fn fmt<W: fmt::Write>(&self, f: &mut fmt::Formatter<W>) -> fmt::Result {
         match *self {
             Fault::NoOption {
-                name,
+                word,
                 nearest: Some(nearest),
-            } => write!(f, "no option --{name}; did you mean --{nearest}?"),
+                ..
+            } => write!(f, "no option {word}; did you mean --{nearest}?"),
             Fault::NoOption {
-                name,
+                usage,
+                word,
                 nearest: None,
-            } => write!(f, "no option --{name}"),
-            Fault::OneHyphen { word } => write!(f, "no option {word}"),
+            } => {
+                write!(f, "no option {word}; ")?;
+                write_options(f, usage)
+            }
             Fault::Twice { name } => write!(f, "--{name} stands twice"),
             Fault::NoValue { name } => write!(f, "--{name} needs a value"),
             Fault::HyphenInValue { name, value } => write!(
@@ -118,4 +119,21 @@ fn write_count<W: fmt::Write>(f: &mut fmt::Formatter<W>, count: usize) -> fmt::R
         1 => write!(f, ", got 1 word"),
         _ => write!(f, ", got {count} words"),
     }
+}
+
+/// Writes to `f` which options the command `usage` takes.
+fn write_options<W: fmt::Write>(f: &mut fmt::Formatter<W>, usage: &Usage) -> fmt::Result {
+    let name = usage.name;
+    if usage.options.is_empty() {
+        return write!(f, "{name} takes none");
+    }
+    write!(f, "{name} takes")?;
+    for (index, choice) in usage.options.iter().enumerate() {
+        let option = choice.name;
+        if index > 0 {
+            write!(f, ",")?;
+        }
+        write!(f, " --{option}")?;
+    }
+    Ok(())
 }

@@ -76,26 +76,30 @@ impl<'a> Reader<'a> {
                     self.next = Next::Plain;
                     Ok(())
                 }
-                Some(option) => self.read_option(alloc, option),
-                None => self.read_plain(word),
+                Some(option) => self.read_option(alloc, word, option),
+                None => self.read_plain(alloc, word),
             },
             Next::Value(choice) => {
                 self.next = Next::Any;
                 read_value(choice, word)
             }
-            Next::Plain => self.read_plain(word),
+            Next::Plain => self.read_plain(alloc, word),
         }
     }
 
-    /// Reads `option`, an option without its two hyphens.
-    fn read_option(&mut self, alloc: Global, option: &'a str) -> Result<(), Stop<'a>> {
+    /// Reads `word`, which is two hyphens and `option`.
+    fn read_option(
+        &mut self,
+        alloc: Global,
+        word: &'a str,
+        option: &'a str,
+    ) -> Result<(), Stop<'a>> {
         let (name, value) = match option.split_once('=') {
             Some((name, value)) => (name, Some(value)),
             None => (option, None),
         };
         let Some(choice) = self.usage.choice(name) else {
-            let nearest = nearest_option(alloc, self.usage, name)?;
-            return Err(Stop::Wrong(Fault::NoOption { name, nearest }));
+            return Err(no_option(alloc, self.usage, word, name));
         };
         if self.given.contains(&choice.name) {
             return Err(Stop::Wrong(Fault::Twice { name: choice.name }));
@@ -111,15 +115,15 @@ impl<'a> Reader<'a> {
     }
 
     /// Reads `word`, a plain word.
-    fn read_plain(&mut self, word: &'a str) -> Result<(), Stop<'a>> {
+    fn read_plain(&mut self, alloc: Global, word: &'a str) -> Result<(), Stop<'a>> {
         if word.is_empty() {
             return Err(Stop::Wrong(Fault::EmptyWord));
         }
-        if word.starts_with('-') {
-            return Err(Stop::Wrong(match self.next {
-                Next::Plain => Fault::HyphenInFile { word },
-                _ => Fault::OneHyphen { word },
-            }));
+        if let Some(name) = word.strip_prefix('-') {
+            return Err(match self.next {
+                Next::Plain => Stop::Wrong(Fault::HyphenInFile { word }),
+                _ => no_option(alloc, self.usage, word, name),
+            });
         }
         self.plain.push(word)?;
         Ok(())
@@ -134,6 +138,26 @@ impl<'a> Reader<'a> {
             Some(fault) => Err(Stop::Wrong(fault)),
             None => Ok(()),
         }
+    }
+}
+
+/// Returns that the command `usage` takes no option `word`, which is hyphens and `name`, or behind that a value.
+fn no_option<'a>(alloc: Global, usage: &'static Usage, word: &'a str, name: &str) -> Stop<'a> {
+    match nearest_option(alloc, usage, before_value(name)) {
+        Ok(nearest) => Stop::Wrong(Fault::NoOption {
+            usage,
+            word: before_value(word),
+            nearest,
+        }),
+        Err(error) => error.into(),
+    }
+}
+
+/// Returns `word` without what follows its first `=`.
+fn before_value(word: &str) -> &str {
+    match word.split_once('=') {
+        Some((option, _)) => option,
+        None => word,
     }
 }
 

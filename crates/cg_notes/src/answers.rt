@@ -1,13 +1,9 @@
 //! Notes on answers that say no.
 
-use crate::sentences::sentence_of_rule;
 use std::alloc::{AllocError, Global};
 
-/// The rules of legal mappings.
-const RULES: [&str; 7] = ["L1", "L2", "L3", "L4", "L5", "L6", "L7"];
-
-/// Adds to `notes` what `report`, of a command that said no, means: which rules a mapping violates, or that two accesses are left
-/// open.
+/// Adds to `notes` what `report`, of a command that said no, means: why an interval is impossible, that two accesses are left open, or
+/// what to try where no mapping was found.
 pub(crate) fn note_answer(
     alloc: Global,
     report: &str,
@@ -17,7 +13,6 @@ pub(crate) fn note_answer(
         return Ok(());
     };
     match line.split_once(' ') {
-        Some(("fault", _)) => note_rules(alloc, report, notes),
         Some(("unordered", rest)) => note_unordered(alloc, rest, notes),
         Some(("impossible", rest)) => note_impossible(alloc, rest, notes),
         Some(("ii", rest)) if rest.contains(" cost ") || rest.contains(" faults ") => {
@@ -31,30 +26,14 @@ pub(crate) fn note_answer(
     }
 }
 
-/// Returns the line of `report` that says why: the first of those of intervals or violations, the last of others.
+/// Returns the line of `report` that says why: the first of those of intervals, the last of others.
 fn telling_line(report: &str) -> Option<&str> {
     let first = report.lines().next()?;
-    if first.starts_with("ii ") || first.starts_with("fault ") {
+    if first.starts_with("ii ") {
         Some(first)
     } else {
         report.lines().last()
     }
-}
-
-/// Notes what each rule says that `report` has a violation of.
-fn note_rules(alloc: Global, report: &str, notes: &mut Vec<String>) -> Result<(), AllocError> {
-    for rule in &RULES {
-        let front = format!(in alloc; "fault {rule} ")?;
-        let count = report
-            .lines()
-            .filter(|line| line.starts_with(front.as_str()))
-            .count();
-        if let (Some(sentence), 1..) = (sentence_of_rule(rule), count) {
-            let note = format!(in alloc; "{rule} ({count}): {sentence}")?;
-            notes.push(note)?;
-        }
-    }
-    Ok(())
 }
 
 /// Notes what the certificate at the end of `rest` says: which interval nodes or edges need.
@@ -67,23 +46,37 @@ fn note_impossible(alloc: Global, rest: &str, notes: &mut Vec<String>) -> Result
         return Ok(());
     };
     let note = match (what, last) {
-        (Some("units"), 0) => String::from_str(alloc, "no unit offers the operation")?,
+        (Some("units"), 0) => {
+            let op = class_of(rest);
+            format!(in alloc; "no unit offers {op}, at any interval")?
+        }
         (Some("units"), last) => {
             let least = first.div_ceil(last);
             format!(in alloc;
-                "nodes with one of these operations: {first}, units that offer one: {last}; so the interval is at least {least}"
+                "nodes with one of these operations: {first}, units that offer one: {last}; so the interval is at least {least}: contexts and --ii may not be below"
             )?
         }
         (Some("distance"), 1..) => {
             let least = first.div_ceil(last);
             format!(in alloc;
-                "cycles round these edges: {first}, turns round them: {last}; so the interval is at least {least}"
+                "cycles round these edges: {first}, turns round them: {last}; so the interval is at least {least}: contexts and --ii may not be below"
             )?
         }
         _ => return Ok(()),
     };
     notes.push(note)?;
     Ok(())
+}
+
+/// Returns the operations of the certificate in `rest`, `.. class OPERATIONS nodes ..`.
+fn class_of(rest: &str) -> &str {
+    match rest
+        .split_once("class ")
+        .map(|(_, class)| class.split_once(" nodes "))
+    {
+        Some(Some((class, _))) => class,
+        _ => "the operation",
+    }
 }
 
 /// Notes that the accesses that `rest` says, `NODE TURN NODE TURN`, are left open.

@@ -2,13 +2,9 @@
 #![tactic(auto)]
 
 mod answers;
-mod elements;
-mod heads;
-mod reach;
 mod refused;
 mod sentences;
 mod slips;
 mod values;
-mod wholes;
 
 pub use refused::{Refusal, report_notes};

@@ -1,11 +1,11 @@
 //! Notes on a refusal.
 
 use crate::answers::note_answer;
-use crate::reach::{find_hub, find_limit, find_loop};
 use crate::sentences::{sentence_of, sentence_without_place};
 use crate::slips::{Noted, slips_in};
 use crate::values::find_value;
 use cg_ending::File;
+use cg_notes_elements::{find_hub, find_limit, find_loop};
 use cg_notes_texts::{
     Finding, find_in_json, find_in_netlist, find_in_text, find_in_toml, find_token,
 };
@@ -82,41 +82,27 @@ impl Refusal<'_> {
         slips: &[Noted],
         notes: &mut Vec<String>,
     ) -> Result<(), AllocError> {
-        self.note_own(alloc, slips, notes)?;
+        self.note_some(alloc, slips, true, "", notes)?;
         if notes.is_empty() {
             self.note_place(alloc, notes)?;
         }
-        self.note_further(alloc, slips, notes)
+        self.note_some(alloc, slips, false, "further: ", notes)
     }
 
-    /// Adds the first `slips` of the refusal's code to `notes`.
-    fn note_own(
+    /// Adds the first `slips` of the refusal's code to `notes`, or where `is_own` is false those of other codes, with `front` before
+    /// their texts.
+    fn note_some(
         &self,
         alloc: Global,
         slips: &[Noted],
+        is_own: bool,
+        front: &str,
         notes: &mut Vec<String>,
     ) -> Result<(), AllocError> {
         let mut left = MOST_NOTED;
         for slip in slips {
-            if slip.is_own && left > 0 {
-                self.note(alloc, &slip.finding, "", notes)?;
-                left -= 1;
-            }
-        }
-        Ok(())
-    }
-
-    /// Adds the first `slips` of other codes to `notes`, as further ones.
-    fn note_further(
-        &self,
-        alloc: Global,
-        slips: &[Noted],
-        notes: &mut Vec<String>,
-    ) -> Result<(), AllocError> {
-        let mut left = MOST_NOTED;
-        for slip in slips {
-            if !slip.is_own && left > 0 {
-                self.note(alloc, &slip.finding, "further: ", notes)?;
+            if slip.is_own == is_own && left > 0 {
+                self.note(alloc, &slip.finding, front, notes)?;
                 left -= 1;
             }
         }
@@ -201,12 +187,25 @@ fn byte_place(place: &str) -> Option<usize> {
     place.strip_prefix("byte ")?.parse().ok()
 }
 
-/// Returns how many nodes or order edges a kernel would have by the fault `code` at `place`, `nodes N` or `order N`.
+/// Returns what the number in `place` says at the fault `code`: how many nodes or order edges a kernel would have, words an image or
+/// contexts an architecture.
 fn count_sentence(alloc: Global, code: &str, place: &str) -> Result<Option<String>, AllocError> {
-    if !matches!(code, "Q7" | "Y1") {
+    if !matches!(code, "Q7" | "Y1" | "G2" | "S2") {
         return Ok(None);
     }
     match place.split_once(' ') {
+        Some(("contexts", count)) => {
+            let text = format!(in alloc;
+                "the interval that --ii asks is above the contexts of the architecture, which are {count}"
+            )?;
+            Ok(Some(text))
+        }
+        Some(("words", count)) => {
+            let text = format!(in alloc;
+                "memory words of the image: {count}, more than the architecture has by its key memory"
+            )?;
+            Ok(Some(text))
+        }
         Some(("nodes", count)) => {
             let text = format!(in alloc;
                 "the kernel would have {count} nodes, and at most 1024 are allowed"

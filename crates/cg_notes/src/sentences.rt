@@ -1,4 +1,4 @@
-//! What is wrong at a fault or a rule, in general.
+//! What is wrong at a fault, in general.
 
 /// Returns what is wrong at the fault `code` of a kernel, a mapping or an architecture.
 pub(crate) fn sentence_of(code: &str) -> Option<&'static str> {
@@ -71,9 +71,6 @@ pub(crate) fn sentence_without_place(code: &str) -> Option<&'static str> {
 /// Returns what is wrong at the fault `code` of two files together, or of a file as a whole.
 fn of_pair(code: &str) -> Option<&'static str> {
     let sentence = match code {
-        "G1" => "the file is too long",
-        "G2" => "the interval that is asked is above the contexts of the architecture",
-        "S2" => "the image has more words than the memory of the architecture",
         "A1" =>
             "the grid is above 32 rows or columns, or there are more than 4096 resources, 65536 links, 1024 units or 1048576 words",
         "A6" => "these wires form a loop without a register",
@@ -114,21 +111,6 @@ fn of_bits(code: &str) -> Option<&'static str> {
         "B8" | "C8" => "a field says nothing and isn't 0, or is out of its range",
         "B9" | "C9" => "a bit behind the last slot is 1",
         "B11" | "C11" => "another output goes to this port",
-        _ => return None,
-    };
-    Some(sentence)
-}
-
-/// Returns what is wrong where a mapping violates the rule `rule`.
-pub(crate) fn sentence_of_rule(rule: &str) -> Option<&'static str> {
-    let sentence = match rule {
-        "L1" => "the interval is 0, or above the array's contexts",
-        "L2" => "its unit doesn't offer its operation",
-        "L3" => "an earlier node has the same unit in the same slot",
-        "L4" => "its target begins too early",
-        "L5" => "its route doesn't lead from the source's unit along links to the port in time",
-        "L6" => "the values of two nodes, or of two turns, meet there",
-        "L7" => "routes come to it from two resources",
         _ => return None,
     };
     Some(sentence)

@@ -4,12 +4,9 @@ use cg_ending::File;
 use cg_notes_arch::{TomlSlip, arch_slips};
 use cg_notes_kernel::kernel_slips;
 use cg_notes_mapping::mapping_slips;
-use cg_notes_texts::{Finding, Place};
-use cg_slips::{Slip, Slips};
+use cg_notes_texts::{Finding, MOST_PARSED, Place};
+use cg_slips::Slip;
 use std::alloc::{AllocError, Global};
-
-/// The most bytes of a file that is read again for a note.
-const MOST_READ: usize = 1_000_000;
 
 /// The most slips of a file that are placed.
 const MOST_PLACED: usize = 24;
@@ -31,102 +28,89 @@ pub(crate) fn slips_in(
     bytes: &[u8],
     files: &[File],
 ) -> Result<Vec<Noted>, AllocError> {
-    if bytes.len() > MOST_READ || files.iter().any(|file| file.bytes.len() > MOST_READ) {
+    if bytes.len() > MOST_PARSED || files.iter().any(|file| file.bytes.len() > MOST_PARSED) {
         return Ok(Vec::new(alloc));
     }
     match (code.as_bytes().first(), files) {
-        (Some(b'K'), _) => placed(alloc, code, bytes, &kernel_slips(alloc, bytes)?),
+        (Some(b'K'), _) => placed(alloc, code, bytes, kernel_slips(alloc, bytes)?.as_slice()),
         (Some(b'P'), [arch, kernel, ..]) => {
             let arch = arch.bytes.as_slice();
             let kernel = kernel.bytes.as_slice();
-            placed(
-                alloc,
-                code,
-                bytes,
-                &mapping_slips(alloc, arch, kernel, bytes)?,
-            )
+            let slips = mapping_slips(alloc, arch, kernel, bytes)?;
+            placed(alloc, code, bytes, slips.as_slice())
         }
-        (Some(b'M' | b'A'), _) => of_arch(alloc, code, bytes),
+        (Some(b'M' | b'A'), _) => placed(alloc, code, bytes, arch_slips(alloc, bytes)?.as_slice()),
         _ => Ok(Vec::new(alloc)),
     }
 }
 
-/// Returns `slips` with their places in `bytes`, those of `code` first.
-fn placed(
-    alloc: Global,
-    code: &str,
-    bytes: &[u8],
-    slips: &Slips,
-) -> Result<Vec<Noted>, AllocError> {
-    let mut coded = Vec::new(alloc);
-    add_slips(alloc, &mut coded, code, true, bytes, slips.as_slice())?;
-    add_slips(alloc, &mut coded, code, false, bytes, slips.as_slice())?;
-    Ok(coded)
+/// A slip, of whatever language.
+trait AnySlip {
+    /// Returns the code of its fault.
+    fn code(&self) -> &'static str;
+
+    /// Returns the byte of `bytes`, the file, at which it stands.
+    fn offset(&self, bytes: &[u8]) -> usize;
+
+    /// Returns what is wrong.
+    fn sentence(&self) -> &str;
 }
 
-/// Adds to `coded` the `slips` of `code`, or where `is_own` is false those of other codes.
-fn add_slips(
-    alloc: Global,
-    coded: &mut Vec<Noted>,
-    code: &str,
-    is_own: bool,
-    bytes: &[u8],
-    slips: &[Slip],
-) -> Result<(), AllocError> {
-    for slip in slips {
-        if (slip.code == code) == is_own && coded.len() < MOST_PLACED {
-            add(
-                alloc,
-                coded,
-                is_own,
-                Place::at(bytes, slip.place(bytes)),
-                slip.text.as_str(),
-            )?;
-        }
+impl AnySlip for Slip {
+    fn code(&self) -> &'static str {
+        self.code
     }
-    Ok(())
+
+    fn offset(&self, bytes: &[u8]) -> usize {
+        self.place(bytes)
+    }
+
+    fn sentence(&self) -> &str {
+        self.text.as_str()
+    }
 }
 
-/// Adds to `coded` that `text` is wrong at `place`, by a fault of the refusal's code where `is_own` is true.
-fn add(
+impl AnySlip for TomlSlip {
+    fn code(&self) -> &'static str {
+        self.code
+    }
+
+    fn offset(&self, _bytes: &[u8]) -> usize {
+        self.at
+    }
+
+    fn sentence(&self) -> &str {
+        self.text.as_str()
+    }
+}
+
+/// Returns `slips` with their places in `bytes`, those of `code` first.
+fn placed<S: AnySlip>(
     alloc: Global,
-    coded: &mut Vec<Noted>,
-    is_own: bool,
-    place: Place,
-    text: &str,
-) -> Result<(), AllocError> {
-    let finding = Finding::new(alloc, place, text)?;
-    coded.push(Noted { is_own, finding })?;
-    Ok(())
+    code: &str,
+    bytes: &[u8],
+    slips: &[S],
+) -> Result<Vec<Noted>, AllocError> {
+    let mut noted = Vec::new(alloc);
+    add_slips(alloc, &mut noted, code, true, bytes, slips)?;
+    add_slips(alloc, &mut noted, code, false, bytes, slips)?;
+    Ok(noted)
 }
 
-/// Returns what is wrong in the parts of the architecture file `bytes`, the faults of `code` first.
-fn of_arch(alloc: Global, code: &str, bytes: &[u8]) -> Result<Vec<Noted>, AllocError> {
-    let slips = arch_slips(alloc, bytes)?;
-    let mut coded = Vec::new(alloc);
-    add_parts(alloc, &mut coded, code, true, bytes, slips.as_slice())?;
-    add_parts(alloc, &mut coded, code, false, bytes, slips.as_slice())?;
-    Ok(coded)
-}
-
-/// Adds to `coded` the `slips` of `code`, or where `is_own` is false those of other codes.
-fn add_parts(
+/// Adds to `noted` the `slips` of `code`, or where `is_own` is false those of other codes.
+fn add_slips<S: AnySlip>(
     alloc: Global,
-    coded: &mut Vec<Noted>,
+    noted: &mut Vec<Noted>,
     code: &str,
     is_own: bool,
     bytes: &[u8],
-    slips: &[TomlSlip],
+    slips: &[S],
 ) -> Result<(), AllocError> {
     for slip in slips {
-        if (slip.code == code) == is_own && coded.len() < MOST_PLACED {
-            add(
-                alloc,
-                coded,
-                is_own,
-                Place::at(bytes, slip.at),
-                slip.text.as_str(),
-            )?;
+        if (slip.code() == code) == is_own && noted.len() < MOST_PLACED {
+            let place = Place::at(bytes, slip.offset(bytes));
+            let finding = Finding::new(alloc, place, slip.sentence())?;
+            noted.push(Noted { is_own, finding })?;
         }
     }
     Ok(())

@@ -18,6 +18,11 @@ const NET_KEYS: [&str; 3] = ["wire", "reg", "from"];
 /// The keys of a unit.
 const UNIT_KEYS: [&str; 4] = ["unit", "ops", "latency", "ports"];
 
+/// The keys of the file, which stand before its tiles.
+const FILE_KEYS: [&str; 7] = [
+    "format", "name", "contexts", "memory", "grid", "torus", "hub",
+];
+
 /// The keys of a part of any kind.
 const ALL_KEYS: [&str; 7] = ["wire", "reg", "unit", "from", "ops", "latency", "ports"];
 
@@ -73,7 +78,11 @@ fn note_keys(
     for (key, _) in members.iter() {
         let key = key.as_str();
         if !(&*keys).contains(&key) {
-            let text = unknown_key(alloc, key, keys)?;
+            let text = if FILE_KEYS.contains(&key) {
+                format!(in alloc; "\"{key}\" is a key of the file, and stands before its tiles")?
+            } else {
+                unknown_key(alloc, key, keys)?
+            };
             slips.add(alloc, "M3", here, place_of(here, key), text.as_str())?;
         }
     }
@@ -97,13 +106,20 @@ fn note_name(
             let text = format!(in alloc; "\"{key}\" has to be a text")?;
             slips.add(alloc, "M2", here, at, text.as_str())
         }
-        Some(name) if !is_name(name, LONGEST_NAME) => slips.add(
-            alloc,
-            "A2",
-            here,
-            at,
-            "a name is a letter or _ and then letters, digits or _",
-        ),
+        Some(name) if !is_name(name, LONGEST_NAME) => {
+            let length = name.len();
+            let text = if length > LONGEST_NAME {
+                format!(in alloc;
+                    "a name has at most {LONGEST_NAME} characters with its cell, as r0c0_ before it, and this one alone {length}"
+                )?
+            } else {
+                String::from_str(
+                    alloc,
+                    "a name is a letter or _ and then letters, digits or _",
+                )?
+            };
+            slips.add(alloc, "A2", here, at, text.as_str())
+        }
         Some(_) => Ok(()),
     }
 }

@@ -1,10 +1,10 @@
 //! What is wrong with bits.
 
 use crate::fields::{HEADER_BITS, Owner, fields_at, slot_bits};
-use crate::form::Form;
 use crate::numbers::number;
 use crate::parts::Part;
 use cg_arch::Arch;
+use cg_bits::{CGB1, CGB2, Format};
 use cg_model::{Resource, Unit};
 use cg_tiles::read_arch;
 use cg_word::Op;
@@ -16,7 +16,7 @@ struct Spot<'a> {
     /// The bits' file.
     bytes: &'a [u8],
     /// Their format.
-    form: Form,
+    format: Format,
     /// The slot.
     slot: usize,
     /// The first bit of the field in the file.
@@ -34,7 +34,7 @@ pub fn bits_note(
     code: &str,
     place: &str,
 ) -> Result<Option<String>, AllocError> {
-    let Some(form) = Form::of_code(code) else {
+    let Some(format) = format_of(code) else {
         return Ok(None);
     };
     let Ok(arch) = read_arch(alloc, arch) else {
@@ -42,15 +42,26 @@ pub fn bits_note(
     };
     match code {
         "B1" | "C1" => sign_note(alloc, bytes),
-        "B2" | "C2" | "B10" | "C10" => length_note(alloc, &arch, form, bytes),
+        "B2" | "C2" | "B10" | "C10" => length_note(alloc, &arch, format, bytes),
         "B4" | "C4" => header_note(alloc, &arch, bytes),
         "B5" | "C5" | "B6" | "C6" | "B7" | "C7" | "B8" | "C8" | "B11" | "C11" => {
             match bit_place(place) {
-                Some(bit) => bit_note(alloc, &arch, form, bytes, code, bit),
+                Some(bit) => bit_note(alloc, &arch, format, bytes, code, bit),
                 None => Ok(None),
             }
         }
         _ => Ok(None),
+    }
+}
+
+/// Returns the format of the bits whose faults have codes as `code`; None where `code` is no fault of bits.
+fn format_of(code: &str) -> Option<Format> {
+    if code.starts_with('B') {
+        Some(CGB2)
+    } else if code.starts_with('C') {
+        Some(CGB1)
+    } else {
+        None
     }
 }
 
@@ -82,7 +93,7 @@ fn stages(bytes: &[u8]) -> u32 {
 fn length_note(
     alloc: Global,
     arch: &Arch,
-    form: Form,
+    format: Format,
     bytes: &[u8],
 ) -> Result<Option<String>, AllocError> {
     let length = bytes.len();
@@ -91,7 +102,7 @@ fn length_note(
         return Ok(Some(note));
     }
     let ii = interval(bytes);
-    let slots = slot_bits(arch, form).saturating_mul(ii as usize);
+    let slots = slot_bits(arch, format).saturating_mul(ii as usize);
     let needed = slots.saturating_add(HEADER_BITS).div_ceil(8);
     let note = format!(in alloc;
         "the file has {length} bytes, and the header and {ii} slots take {needed}"
@@ -114,7 +125,7 @@ fn header_note(alloc: Global, arch: &Arch, bytes: &[u8]) -> Result<Option<String
 fn bit_note(
     alloc: Global,
     arch: &Arch,
-    form: Form,
+    format: Format,
     bytes: &[u8],
     code: &str,
     bit: usize,
@@ -126,16 +137,16 @@ fn bit_note(
         )?;
         return Ok(Some(note));
     };
-    let size = slot_bits(arch, form);
+    let size = slot_bits(arch, format);
     if size == 0 {
         return Ok(None);
     }
-    let Some(fields) = fields_at(arch, form, body % size) else {
+    let Some(fields) = fields_at(arch, format, body % size) else {
         return Ok(None);
     };
     let spot = Spot {
         bytes,
-        form,
+        format,
         slot: body / size,
         bit,
         before: (body % size).saturating_sub(fields.from),
@@ -172,11 +183,11 @@ fn unit_note(
 ) -> Result<Option<String>, AllocError> {
     let slot = spot.slot;
     let name = unit.name.as_str();
-    let part = Part::at(spot.form, spot.before);
-    let value = number(spot.bytes, spot.bit, part.bits(spot.form));
+    let part = Part::at(spot.format, spot.before);
+    let value = number(spot.bytes, spot.bit, part.bits(spot.format));
     let note = match code {
         "B6" | "C6" => {
-            let greatest = spot.form.greatest;
+            let greatest = spot.format.greatest;
             format!(in alloc;
                 "slot {slot}: unit {name}: no operation has the code {value}; codes are 0 to {greatest}"
             )?
@@ -205,7 +216,7 @@ fn op_name(code: u32) -> &'static str {
 /// Returns why the field `part` of the unit at `spot` may not be what it is.
 fn reason_at(spot: Spot<'_>, part: Part) -> &'static str {
     let from = spot.bit.saturating_sub(spot.before);
-    if number(spot.bytes, from, spot.form.op_bits) == 0 {
+    if number(spot.bytes, from, spot.format.op_bits as usize) == 0 {
         "where the unit is off"
     } else {
         part.reason()

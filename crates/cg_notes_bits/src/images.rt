@@ -1,18 +1,13 @@
 //! What is wrong with images.
 
+use cg_model::{MOST_MEMORY, MOST_STREAM, PORTS};
 use std::alloc::{AllocError, Global};
-
-/// The most words of a memory.
-const MOST_MEMORY: u32 = 1_048_576;
-
-/// The most words of a stream.
-const MOST_STREAM: u32 = 1_000_000;
 
 /// The bytes of the sign that an image begins with.
 const SIGN: usize = 4;
 
-/// The sections of an image: its memory and sixteen streams.
-const SECTIONS: usize = 17;
+/// The sections of an image: its memory and a stream for each port.
+const SECTIONS: usize = 1 + PORTS;
 
 /// Where an image ends early.
 #[derive(Clone, Copy, Drop)]

@@ -3,13 +3,11 @@
 
 mod bits;
 mod fields;
-mod form;
 mod images;
 mod numbers;
 mod parts;
 
 pub use bits::bits_note;
 pub use fields::{slot_from, unit_bits, unit_from};
-pub use form::{Form, TODAY};
 pub use images::image_note;
 pub use numbers::unit_fields;

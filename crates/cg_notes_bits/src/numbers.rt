@@ -1,7 +1,7 @@
 //! Numbers in bits.
 
-use crate::form::TODAY;
 use crate::parts::{ARG_BITS, HEAD_BITS};
+use cg_bits::CGB2;
 use cg_model::{ArgFields, UnitFields};
 use cg_word::Op;
 
@@ -35,13 +35,13 @@ fn arg_fields(bytes: &[u8], from: usize) -> ArgFields {
 /// Returns the fields of a unit, in the format of today, that stand in `bytes` from bit `from` on. Those of arguments that the
 /// unit has no port for are those of what follows.
 pub fn unit_fields(bytes: &[u8], from: usize) -> UnitFields {
-    let head = from.saturating_add(TODAY.op_bits);
+    let head = from.saturating_add(CGB2.op_bits as usize);
     let arg = |place: usize| {
         let behind = place.saturating_mul(ARG_BITS).saturating_add(HEAD_BITS);
         arg_fields(bytes, head.saturating_add(behind))
     };
     UnitFields {
-        op: Op::from_code(number(bytes, from, TODAY.op_bits)),
+        op: Op::from_code(number(bytes, from, CGB2.op_bits as usize)),
         stage: number(bytes, head, 16),
         port: number(bytes, head.saturating_add(16), 4),
         immediate: number(bytes, head.saturating_add(20), 32),

@@ -1,6 +1,6 @@
 //! The fields of a unit in a slot.
 
-use crate::form::Form;
+use cg_bits::Format;
 use std::fmt;
 
 /// The bits of a unit's fields between its operation and its arguments: stage, port and immediate.
@@ -25,9 +25,9 @@ pub(crate) enum Part {
 }
 
 impl Part {
-    /// Returns the field that bit `bit` of a unit's fields in `form` belongs to.
-    pub(crate) fn at(form: Form, bit: usize) -> Part {
-        let Some(behind) = bit.checked_sub(form.op_bits) else {
+    /// Returns the field that bit `bit` of a unit's fields in `format` belongs to.
+    pub(crate) fn at(format: Format, bit: usize) -> Part {
+        let Some(behind) = bit.checked_sub(format.op_bits as usize) else {
             return Part::Operation;
         };
         match behind {
@@ -51,10 +51,10 @@ impl Part {
         }
     }
 
-    /// Returns how many bits it takes in `form`.
-    pub(crate) fn bits(self, form: Form) -> usize {
+    /// Returns how many bits it takes in `format`.
+    pub(crate) fn bits(self, format: Format) -> usize {
         match self {
-            Part::Operation => form.op_bits,
+            Part::Operation => format.op_bits as usize,
             Part::Stage => 16,
             Part::Port => 4,
             Part::Immediate | Part::Word { .. } => 32,

@@ -5,10 +5,8 @@ use cg_ending::File;
 use cg_notes::report_notes;
 use cg_notes_rules::rule_notes;
 use cg_notes_runs::{array_notes, image_notes, turns_notes, unordered_notes};
+use cg_notes_texts::MOST_PARSED;
 use std::alloc::{AllocError, Global};
-
-/// The most bytes of a text that is read again for a note.
-const MOST_READ: usize = 1_000_000;
 
 /// Adds to `notes` what a person needs to hear of `command`, which did its work over `files` and gave `report`.
 pub(crate) fn add_done(
@@ -50,7 +48,9 @@ pub(crate) fn add_no(
             report_notes(alloc, report, files, notes)?;
             add_turns(alloc, turns, report, files, notes)
         }
-        Command::Check | Command::Emit | Command::Show => { add_violations(alloc, files, notes) }
+        Command::Check | Command::Emit | Command::Show | Command::Violations => {
+            add_violations(alloc, files, notes)
+        }
         _ => report_notes(alloc, report, files, notes),
     }
 }
@@ -121,7 +121,7 @@ fn add_violations(
 
 /// Checks whether `file` is short enough to be read again for a note.
 fn is_short(file: &File) -> bool {
-    file.bytes.len() <= MOST_READ
+    file.bytes.len() <= MOST_PARSED
 }
 
 /// Checks whether `report` says that accesses were outside the memory.

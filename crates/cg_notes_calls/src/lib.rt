@@ -3,8 +3,8 @@
 
 mod answered;
 mod calls;
+mod files;
 mod refused;
-mod writes;
 
 pub use calls::note_call;
-pub use writes::note_writes;
+pub use files::note_files;

@@ -3,10 +3,8 @@
 use cg_ending::File;
 use cg_notes::{Refusal, report_notes};
 use cg_notes_bits::{bits_note, image_note};
+use cg_notes_texts::MOST_PARSED;
 use std::alloc::{AllocError, Global};
-
-/// The most bytes of an architecture that is read again for a note.
-const MOST_READ: usize = 1_000_000;
 
 /// Adds to `notes` what is wrong with the one of `files` that `report` refuses.
 pub(crate) fn add_refused(
@@ -42,7 +40,7 @@ fn refusal_note(
     let note = match image_note(alloc, bytes, code, place)? {
         Some(note) => Some(note),
         None => match files.first() {
-            Some(arch) if arch.bytes.len() <= MOST_READ => {
+            Some(arch) if arch.bytes.len() <= MOST_PARSED => {
                 bits_note(alloc, arch.bytes.as_slice(), bytes, code, place)?
             }
             _ => None,

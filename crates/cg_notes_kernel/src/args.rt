@@ -1,10 +1,10 @@
 //! Which rules arguments break.
 
-use crate::nodes::Here;
+use crate::nodes::{Here, no_node};
 use cg_kernel::{WrittenArg, WrittenKernel, WrittenNode, op_of};
 use cg_model::MOST_DISTANCE;
 use cg_names::{Numbers, number_in};
-use cg_slips::{Slips, Spot, no_name, shown};
+use cg_slips::{Slips, Spot, shown};
 use cg_word::Op;
 use std::alloc::{AllocError, Global};
 
@@ -48,7 +48,7 @@ fn note_source(
     } = here;
     let spot = Spot::ElementKey("args", place, "from");
     let Some(source) = number_in(numbers, from) else {
-        let said = no_name(alloc, "node", from)?;
+        let said = no_node(alloc, slips, written, from)?;
         let said = said.as_str();
         let text = format!(in alloc; "{prefix}argument {place}: {said}")?;
         return slips.add("K9", "nodes", number, spot, text);
@@ -58,7 +58,7 @@ fn note_source(
         let from = from.as_str();
         let name = op.name();
         let text = format!(in alloc;
-            "{prefix}argument {place}: \"{from}\" is a {name}, which has no value"
+            "{prefix}argument {place} comes from \"{from}\", and {name} has no value"
         )?;
         slips.add(
             "K10",

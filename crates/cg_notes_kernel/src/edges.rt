@@ -1,9 +1,10 @@
 //! Which rules order edges break.
 
+use crate::nodes::no_node;
 use cg_kernel::{WrittenEdge, WrittenKernel};
 use cg_model::MOST_ORDER_DISTANCE;
 use cg_names::{Numbers, number_in};
-use cg_slips::{Slips, Spot, no_name, shown};
+use cg_slips::{Slips, Spot, shown};
 use std::alloc::{AllocError, Global};
 
 /// Adds to `slips` which rules the order edges of `written` break.
@@ -14,18 +15,35 @@ pub(crate) fn note_edges(
     written: &WrittenKernel,
 ) -> Result<(), AllocError> {
     for (number, edge) in written.order.as_slice().iter().enumerate() {
-        note_end(alloc, slips, numbers, number, "from", edge.from.as_str())?;
-        note_end(alloc, slips, numbers, number, "to", edge.to.as_str())?;
+        note_end(
+            alloc,
+            slips,
+            numbers,
+            written,
+            number,
+            "from",
+            edge.from.as_str(),
+        )?;
+        note_end(
+            alloc,
+            slips,
+            numbers,
+            written,
+            number,
+            "to",
+            edge.to.as_str(),
+        )?;
         note_order(alloc, slips, numbers, number, edge)?;
     }
     Ok(())
 }
 
-/// Adds to `slips` where `name`, the end at `key` of order edge `number`, is no node.
+/// Adds to `slips` where `name`, the end at `key` of order edge `number` of `written`, is no node.
 fn note_end(
     alloc: Global,
     slips: &mut Slips,
     numbers: &Numbers,
+    written: &WrittenKernel,
     number: usize,
     key: &'static str,
     name: &str,
@@ -33,7 +51,7 @@ fn note_end(
     if number_in(numbers, name).is_some() {
         return Ok(());
     }
-    let said = no_name(alloc, "node", name)?;
+    let said = no_node(alloc, slips, written, name)?;
     let said = said.as_str();
     let text = format!(in alloc; "order edge {number}: {said}")?;
     slips.add("K9", "order", number, Spot::Key(key), text)

@@ -5,7 +5,7 @@ use crate::shapes::node_prefix;
 use cg_kernel::{WrittenArg, WrittenKernel, WrittenNode, op_of};
 use cg_model::{LAST_PORT, LONGEST_NODE_NAME, is_name};
 use cg_names::{Numbers, number_in};
-use cg_slips::{Slips, Spot, unknown_operation};
+use cg_slips::{Slips, Spot, no_name, unknown_operation};
 use cg_word::Op;
 use std::alloc::{AllocError, Global};
 
@@ -39,6 +39,23 @@ pub(crate) fn note_nodes(
         note_args(alloc, slips, here, numbers, node)?;
     }
     Ok(())
+}
+
+/// Returns that no node of `written` is called `name`, and which one may be meant, unless there are many `slips`.
+pub(crate) fn no_node(
+    alloc: Global,
+    slips: &Slips,
+    written: &WrittenKernel,
+    name: &str,
+) -> Result<String, AllocError> {
+    if !slips.are_few() {
+        return no_name(alloc, "node", name, &[]);
+    }
+    let mut names: Vec<&str> = Vec::new(alloc);
+    for node in written.nodes.as_slice() {
+        names.push(node.name.as_str())?;
+    }
+    no_name(alloc, "node", name, names.as_slice())
 }
 
 /// Adds to `slips` what is wrong with the name of `node`.

@@ -150,10 +150,26 @@ fn note_argument(
     if word_in(argument).is_some() {
         return Ok(());
     }
-    let text = format!(in alloc;
-        "{prefix}argument {place} has to be a whole number from 0 to 4294967295, or an object with \"from\""
-    )?;
+    let text = match negative(argument) {
+        Some(word) => format!(in alloc;
+            "{prefix}argument {place}: a number has no sign, and {word} is written for this one"
+        )?,
+        None => format!(in alloc;
+            "{prefix}argument {place} has to be a whole number from 0 to 4294967295, or an object with \"from\""
+        )?,
+    };
     slips.add("K2", "nodes", number, Spot::Element("args", place), text)
+}
+
+/// Returns the word that `value`, a negative number of 32 bits, is written as.
+fn negative(value: &Value) -> Option<u32> {
+    let number = value.as_i64()?;
+    let size = u32::try_from(number.unsigned_abs()).ok()?;
+    if number < 0 && size <= 0x8000_0000 {
+        Some(size.wrapping_neg())
+    } else {
+        None
+    }
 }
 
 /// Adds to `slips` what is wrong with the values of `argument`, an object.

@@ -25,11 +25,12 @@ pub(crate) fn note_names(
     Ok(())
 }
 
-/// Adds to `slips` that no `noun` is called `name`, the value at `spot` of item `number` of `list`, each of which is called
-/// `item`.
+/// Adds to `slips` that no `noun` of those `known` is called `name`, the value at `spot` of item `number` of `list`, each of which
+/// is called `item`.
 fn note_unknown(
     alloc: Global,
     slips: &mut Slips,
+    known: &Known<'_>,
     list: &'static str,
     item: &str,
     number: usize,
@@ -37,10 +38,49 @@ fn note_unknown(
     noun: &str,
     name: &str,
 ) -> Result<(), AllocError> {
-    let said = no_name(alloc, noun, name)?;
+    let said = unknown_name(alloc, slips, known, noun, name)?;
     let said = said.as_str();
     let text = format!(in alloc; "{item} {number}: {said}")?;
     slips.add("P4", list, number, spot, text)
+}
+
+/// Returns that no `noun` of those `known` is called `name`, and which may be meant, unless there are many `slips`.
+fn unknown_name(
+    alloc: Global,
+    slips: &Slips,
+    known: &Known<'_>,
+    noun: &str,
+    name: &str,
+) -> Result<String, AllocError> {
+    if !slips.are_few() {
+        return no_name(alloc, noun, name, &[]);
+    }
+    if noun == "resource" && known.has_unit(name) {
+        return format!(in alloc;
+            "no resource is called \"{name}\", which is a unit: its out is \"{name}_o\""
+        );
+    }
+    let names = known.names(noun);
+    match flat_name(names, name) {
+        Some(flat) => {
+            let name = shown(alloc, name)?;
+            let name = name.as_str();
+            format!(in alloc; "no {noun} is called \"{name}\", did you mean \"{flat}\"?")
+        }
+        None => no_name(alloc, noun, name, names),
+    }
+}
+
+/// Returns the first of `names` that is `name` behind a cell, as `r0c0_alu` is `alu`.
+fn flat_name<'a>(names: &[&'a str], name: &str) -> Option<&'a str> {
+    for known in names {
+        if let Some(front) = known.strip_suffix(name) {
+            if front.ends_with('_') {
+                return Some(*known);
+            }
+        }
+    }
+    None
 }
 
 /// Adds to `slips` which names of `place`, which has that number, are unknown.
@@ -54,13 +94,17 @@ fn note_place(
     if let Some(node) = text_of(place, "node") {
         if !known.has_node(node) {
             let spot = Spot::Key("node");
-            note_unknown(alloc, slips, "places", "place", number, spot, "node", node)?;
+            note_unknown(
+                alloc, slips, known, "places", "place", number, spot, "node", node,
+            )?;
         }
     }
     if let Some(unit) = text_of(place, "unit") {
         if !known.has_unit(unit) {
             let spot = Spot::Key("unit");
-            note_unknown(alloc, slips, "places", "place", number, spot, "unit", unit)?;
+            note_unknown(
+                alloc, slips, known, "places", "place", number, spot, "unit", unit,
+            )?;
         }
     }
     Ok(())
@@ -79,7 +123,9 @@ fn note_end(
     };
     if !known.has_node(to) {
         let spot = Spot::Key("to");
-        return note_unknown(alloc, slips, "routes", "route", number, spot, "node", to);
+        return note_unknown(
+            alloc, slips, known, "routes", "route", number, spot, "node", to,
+        );
     }
     let Some(found) = route.get("arg") else {
         return Ok(());
@@ -87,14 +133,21 @@ fn note_end(
     let Some(arg) = word_in(found) else {
         return Ok(());
     };
-    let said = match known.operands(to).get(arg as usize) {
-        Some(Operand::Edge { .. }) => return Ok(()),
-        Some(Operand::Const(_)) => "is a number, which needs no route",
-        None => "isn't there",
-    };
+    let operands = known.operands(to);
     let to = shown(alloc, to)?;
     let to = to.as_str();
-    let text = format!(in alloc; "route {number}: argument {arg} of \"{to}\" {said}")?;
+    let text = match operands.get(arg as usize) {
+        Some(Operand::Edge { .. }) => return Ok(()),
+        Some(Operand::Const(_)) => format!(in alloc;
+            "route {number}: argument {arg} of \"{to}\" is a number, which needs no route"
+        )?,
+        None => {
+            let count = operands.len();
+            format!(in alloc;
+                "route {number}: \"{to}\" has no argument {arg}: arguments are counted from 0, and it has {count}"
+            )?
+        }
+    };
     slips.add("P4", "routes", number, Spot::Key("arg"), text)
 }
 
@@ -111,7 +164,7 @@ fn note_path(
             Some(name) if !known.has_resource(name) => {
                 let spot = Spot::Element("path", place);
                 return note_unknown(
-                    alloc, slips, "routes", "route", number, spot, "resource", name,
+                    alloc, slips, known, "routes", "route", number, spot, "resource", name,
                 );
             }
             _ => {}

@@ -43,6 +43,15 @@ impl<'a> Known<'a> {
         })
     }
 
+    /// Returns the names of what is a `noun`: nodes, units or resources.
+    pub(crate) fn names(&self, noun: &str) -> &[&'a str] {
+        match noun {
+            "node" => self.nodes.as_slice(),
+            "unit" => self.units.as_slice(),
+            _ => self.resources.as_slice(),
+        }
+    }
+
     /// Checks whether a node is called `name`.
     pub(crate) fn has_node(&self, name: &str) -> bool {
         self.nodes.binary_search(&name).is_ok()

@@ -2,10 +2,11 @@
 ghost use Rattle.std.specs.Prelude.{◌≡◌};
 ghost use Rattle.cg_model.specs.Canonical.{IsCanonical};
 
-use crate::streams::{PORTS, add_short_streams, mark};
+use crate::streams::{add_short_streams, mark};
 use cg_arch::Arch;
-use cg_model::{Unit, UnitFields};
-use cg_notes_bits::{TODAY, slot_from, unit_bits, unit_fields, unit_from};
+use cg_bits::CGB2;
+use cg_model::{PORTS, Unit, UnitFields};
+use cg_notes_bits::{slot_from, unit_bits, unit_fields, unit_from};
 use cg_pad::{Image, Work, read_image};
 use cg_sim::{Sim, SimFault};
 use cg_tiles::read_arch;
@@ -70,14 +71,14 @@ fn inputs_of(run: Run<'_>) -> [bool; PORTS] {
 
 /// Marks in `inputs` the ports that inputs of `run` read in `slot`.
 fn mark_slot(run: Run<'_>, slot: u32, inputs: &mut [bool; PORTS]) {
-    let first = unit_from(run.arch, TODAY, 0);
+    let first = unit_from(run.arch, CGB2, 0);
     let mut from = slot_from(run.arch, slot as usize).saturating_add(first);
     for unit in run.arch.units() {
         let fields = unit_fields(run.bits, from);
         if fields.op == Some(Op::Input) {
             mark(inputs, fields.port);
         }
-        from = from.saturating_add(unit_bits(unit, TODAY));
+        from = from.saturating_add(unit_bits(unit, CGB2));
     }
 }
 
@@ -144,7 +145,7 @@ fn add_in_cycle(
     ) else {
         return Ok(());
     };
-    let first = unit_from(run.arch, TODAY, 0);
+    let first = unit_from(run.arch, CGB2, 0);
     let mut from = slot_from(run.arch, slot as usize).saturating_add(first);
     for unit in run.arch.units() {
         let fields = unit_fields(run.bits, from);
@@ -153,7 +154,7 @@ fn add_in_cycle(
                 return add_access(alloc, run, unit, work, notes);
             }
         }
-        from = from.saturating_add(unit_bits(unit, TODAY));
+        from = from.saturating_add(unit_bits(unit, CGB2));
     }
     Ok(())
 }
@@ -241,7 +242,7 @@ fn add_access(
     let turn = work.turn;
     let address = work.address();
     let note = format!(in alloc;
-        "first access outside: {op} of unit {name} in turn {turn} at address {address}, and the memory has {words} words"
+        "first access outside: {op} of unit {name} in turn {turn} at address {address}, and the memory ends before address {words}"
     )?;
     notes.push(note)?;
     Ok(())

@@ -1,10 +1,8 @@
 //! Inputs that read past their streams.
 
+use cg_model::PORTS;
 use cg_pad::Image;
 use std::alloc::{AllocError, Global};
-
-/// The number of ports.
-pub(crate) const PORTS: usize = 16;
 
 /// Adds to `notes` for each port that `inputs` marks from which turn on its input reads past its stream of `image`, where that is
 /// one of `turns` turns.
@@ -40,7 +38,7 @@ fn add_short(
     notes: &mut Vec<String>,
 ) -> Result<(), AllocError> {
     let note = format!(in alloc;
-        "input from stream {port}, which has {words} words, reads 0 from turn {words} on"
+        "stream {port} is at its end: its input reads 0 from turn {words} on"
     )?;
     notes.push(note)?;
     Ok(())

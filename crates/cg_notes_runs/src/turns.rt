@@ -1,9 +1,9 @@
 //! Notes on `turns`.
 
 use crate::outside::{Access, first_outside};
-use crate::streams::{PORTS, add_short_streams, mark};
+use crate::streams::{add_short_streams, mark};
 use cg_kernel::read_kernel;
-use cg_model::Kernel;
+use cg_model::{Kernel, PORTS};
 use cg_pad::{Image, read_image};
 use cg_word::Op;
 use std::alloc::{AllocError, Global};
@@ -88,7 +88,7 @@ fn add_access(
         None => "",
     };
     let note = format!(in alloc;
-        "first access outside: {name} in turn {turn} at address {address}, and the memory has {words} words"
+        "first access outside: {name} in turn {turn} at address {address}, and the memory ends before address {words}"
     )?;
     notes.push(note)?;
     Ok(())

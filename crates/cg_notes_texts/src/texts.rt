@@ -1,11 +1,16 @@
 //! Faults of texts of words, which their reports give the line and the column of.
 
 use crate::finding::{Finding, Place};
+use cg_help::nearest_name;
+use cg_model::{MOST_MEMORY, MOST_STREAM};
 use cg_slips::shown;
 use std::alloc::{AllocError, Global};
 
 /// The most bytes of a field that are looked at.
 const MOST_SHOWN: usize = 60;
+
+/// The words of the language.
+const WORDS: [&str; 2] = ["memory", "stream"];
 
 /// Returns what the fault `code` says of the field of `bytes`, a text of words, at `place`: `line L column C`.
 pub fn find_in_text(
@@ -17,19 +22,100 @@ pub fn find_in_text(
     let Some(place) = place_of(place) else {
         return Ok(None);
     };
-    let field = shown(alloc, field_at(bytes, place))?;
-    let field = field.as_str();
+    if code == "T1" && bytes.starts_with(b"CGI1") {
+        let text = "this is an image already: words prints its text";
+        return Ok(Some(Finding::new(alloc, Place::START, text)?));
+    }
+    let field = field_at(bytes, place);
+    let name = shown(alloc, field)?;
+    let name = name.as_str();
     let text = match code {
-        "T1" => format!(in alloc;
-            "\"{field}\" is no word: write N, -N, 0xH, A..B or W*N, or begin a section by memory or stream P"
-        )?,
-        "T2" => format!(in alloc; "\"{field}\" stands before memory or stream P")?,
+        "T1" => {
+            let why = unknown_field(alloc, field)?;
+            let why = why.as_str();
+            format!(in alloc; "\"{name}\" is no word: {why}")?
+        }
+        "T2" => format!(in alloc; "\"{name}\" stands before memory or stream P")?,
         "T3" => String::from_str(alloc, "behind stream stands the number of a port, 0 to 15")?,
-        _ => format!(in alloc;
-            "\"{field}\" is no number of 32 bits, or more words than an image may have"
-        )?,
+        _ => {
+            let why = too_large(alloc, field)?;
+            let why = why.as_str();
+            format!(in alloc; "\"{name}\": {why}")?
+        }
     };
     Ok(Some(Finding { place, text }))
+}
+
+/// Returns what may be wrong with `field`, which is no word and begins no section.
+fn unknown_field(alloc: Global, field: &str) -> Result<String, AllocError> {
+    if let Some(near) = nearest_name(alloc, field, &WORDS)? {
+        return format!(in alloc; "did you mean {near}?");
+    }
+    let why = if field.contains(',') {
+        "fields are parted by blanks, not by commas"
+    } else if field.starts_with("stream") {
+        "the number of a port stands behind stream and a blank"
+    } else {
+        "write N, -N, 0xH, A..B or W*N, or begin a section by memory or stream P"
+    };
+    String::from_str(alloc, why)
+}
+
+/// Returns why `field`, which has the form of a word or of several, is too large.
+fn too_large(alloc: Global, field: &str) -> Result<String, AllocError> {
+    if let Some((first, last)) = field.split_once("..") {
+        return match (word_of(first), word_of(last)) {
+            (Some(first), Some(last)) if first > last => format!(in alloc;
+                "a range counts up, and {first} is above {last}"
+            ),
+            (Some(_), Some(_)) => too_many(alloc),
+            _ => no_word(alloc),
+        };
+    }
+    let word = match field.split_once('*') {
+        Some((word, _)) => word,
+        None => field,
+    };
+    match word_of(word) {
+        Some(_) => too_many(alloc),
+        None => no_word(alloc),
+    }
+}
+
+/// Returns that a number is none of a word.
+fn no_word(alloc: Global) -> Result<String, AllocError> {
+    String::from_str(alloc, "a word is from -2147483648 to 4294967295")
+}
+
+/// Returns that a section has too many words.
+fn too_many(alloc: Global) -> Result<String, AllocError> {
+    format!(in alloc;
+        "too many words: at most {MOST_MEMORY} in memory, and {MOST_STREAM} in a stream"
+    )
+}
+
+/// Returns the word that `text` spells; None where it is above those of 32 bits, or spells none.
+fn word_of(text: &str) -> Option<u32> {
+    if let Some(digits) = text.strip_prefix("0x") {
+        return hexadecimal(digits);
+    }
+    match text.strip_prefix('-') {
+        Some(digits) => match digits.parse::<u32>() {
+            Ok(number) if number <= 0x8000_0000 => Some(number.wrapping_neg()),
+            _ => None,
+        },
+        None => text.parse::<u32>().ok(),
+    }
+}
+
+/// Returns the number that `digits` spell in hexadecimal.
+fn hexadecimal(digits: &str) -> Option<u32> {
+    let mut number = 0u32;
+    for digit in digits.chars() {
+        let value = digit.to_digit(16)?;
+        number = number.checked_mul(16)?.checked_add(value)?;
+    }
+    Some(number)
 }
 
 /// Returns the place that `text` says, `line L column C`.

@@ -48,7 +48,7 @@ shaped_at A K ii count i missed M are few here =
 pub missed_by : (A : Arch) (K : Kernel) (a : Answer) (first : ℕ) (left : Vec ℕ) (missed : List Mapping) → AreMissedBy A K a missed → a ≡ Spent first left → AreMissed A K first (length left.items) missed
 missed_by A K a first left missed are is = subst (λ z. AreMissedBy A K z missed) is are
 
--- the same of equal lists
+-- what holds of lists holds of equal ones
 pub missed_same : (A : Arch) (K : Kernel) (first : ℕ) (faults others : List ℕ) (missed met : List Mapping) → AreMissed A K first (length faults) missed → others ≡ faults → met ≡ missed → AreMissed A K first (length others) met
 missed_same A K first faults others missed met are e f =
     subst (λ (z : List ℕ). AreMissed A K first (length z) met) (sym e) (subst (λ (z : List Mapping). AreMissed A K first (length faults) z) (sym f) are)

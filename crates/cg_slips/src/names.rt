@@ -24,37 +24,80 @@ pub fn shown(alloc: Global, name: &str) -> Result<String, AllocError> {
     Ok(text)
 }
 
-/// Returns that there is no key `key`, and which of `keys` may be meant.
+/// Returns that there is no key `key`, and which of `keys` may be meant: the nearest, or any where none is near.
 pub fn unknown_key(alloc: Global, key: &str, keys: &[&'static str]) -> Result<String, AllocError> {
     let near = nearest_name(alloc, key, keys)?;
     let key = shown(alloc, key)?;
     let key = key.as_str();
     match near {
         Some(near) => format!(in alloc; "unknown key \"{key}\", did you mean \"{near}\"?"),
-        None => format!(in alloc; "unknown key \"{key}\""),
+        None => {
+            let all = list_of(alloc, keys)?;
+            let all = all.as_str();
+            format!(in alloc; "unknown key \"{key}\", the keys here are {all}")
+        }
     }
 }
 
-/// Returns that there is no operation `name`, and which may be meant.
+/// Returns `names` one after another, with a comma between two.
+fn list_of(alloc: Global, names: &[&str]) -> Result<String, AllocError> {
+    let mut list = String::new(alloc);
+    for (index, name) in names.iter().enumerate() {
+        if index > 0 {
+            list.push_str(", ")?;
+        }
+        list.push_str(name)?;
+    }
+    Ok(list)
+}
+
+/// Returns that there is no operation `name`, and which may be meant: the nearest, or any where none is near.
 pub fn unknown_operation(alloc: Global, name: &str) -> Result<String, AllocError> {
     let mut names = Vec::new(alloc);
     for op in &Op::ALL {
         names.push(op.name())?;
     }
-    let near = nearest_name(alloc, name, names.as_slice())?;
+    let names = names.as_slice();
+    let near = match nearest_name(alloc, name, names)? {
+        Some(near) => Some(near),
+        None => first_of(name, names),
+    };
     let name = shown(alloc, name)?;
     let name = name.as_str();
     match near {
         Some(near) => format!(in alloc;
             "no operation is called \"{name}\", did you mean \"{near}\"?"
         ),
-        None => format!(in alloc; "no operation is called \"{name}\""),
+        None => {
+            let all = list_of(alloc, names)?;
+            let all = all.as_str();
+            format!(in alloc; "no operation is called \"{name}\", the operations are {all}")
+        }
     }
 }
 
-/// Returns that no `noun` is called `name`.
-pub fn no_name(alloc: Global, noun: &str, name: &str) -> Result<String, AllocError> {
+/// Returns the first of `names`, of three letters or more, that `word` begins with, as `multiply` does with `mul`.
+fn first_of(word: &str, names: &[&'static str]) -> Option<&'static str> {
+    for name in names {
+        if name.len() >= 3 && word.starts_with(*name) {
+            return Some(*name);
+        }
+    }
+    None
+}
+
+/// Returns that no `noun` is called `name`, and which of `names` may be meant.
+pub fn no_name(
+    alloc: Global,
+    noun: &str,
+    name: &str,
+    names: &[&str],
+) -> Result<String, AllocError> {
+    let near = nearest_name(alloc, name, names)?;
     let name = shown(alloc, name)?;
     let name = name.as_str();
-    format!(in alloc; "no {noun} is called \"{name}\"")
+    match near {
+        Some(near) => format!(in alloc; "no {noun} is called \"{name}\", did you mean \"{near}\"?"),
+        None => format!(in alloc; "no {noun} is called \"{name}\""),
+    }
 }

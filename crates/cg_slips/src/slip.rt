@@ -6,6 +6,9 @@ use std::alloc::{AllocError, Global};
 /// The most slips that are kept of a file.
 const MOST_SLIPS: usize = 256;
 
+/// The most slips of a file for whose names the nearest are sought.
+const MOST_SOUGHT: usize = 8;
+
 /// The most keys of an object that are looked at for the place of one.
 const MOST_KEYS: usize = 64;
 
@@ -143,6 +146,11 @@ impl Slips {
             })?;
         }
         Ok(())
+    }
+
+    /// Checks whether there are few slips so far, so that for an unknown name the nearest one may be sought.
+    pub fn are_few(&self) -> bool {
+        self.found.len() < MOST_SOUGHT
     }
 
     /// Returns the slips in the order in which they were added.

@@ -18,7 +18,7 @@ pub use cg_ending::Status;
 use cg_ending::{File, Outcome, Stop, finish, read_all, usage};
 use cg_files::{Sink, Store};
 use cg_help::note_words;
-use cg_notes_calls::{note_call, note_writes};
+use cg_notes_calls::{note_call, note_files};
 pub use cg_trial::{TrialParts, trial_parts};
 pub use cg_trial_run::trial;
 pub use laws::always_defined;
@@ -91,7 +91,7 @@ fn carry_out<S: Store, O: Sink>(
         Ok(outcome) => {
             let status = finish(alloc, &outcome, store, out);
             // Where memory runs out for the notes, the status is the same.
-            let _ = note_writes(alloc, status, &outcome, aside);
+            let _ = note_files(alloc, status, &outcome, aside);
             status
         }
         Err(_) => Status::Memory,

@@ -4,7 +4,7 @@ use Rattle.cg_model.specs.Mapping.{Position}
 use Rattle.cg_check.specs.declared.stop.Stop.{Stop}
 use Rattle.cg_check.specs.Claims.{position_of}
 
--- the bucket of resource r in slot s, among so many
+-- the bucket of resource r in slot s, where there are `count` buckets
 unfoldable pub bucket_of : ℕ → ℕ → ℕ → ℕ → ℕ
 bucket_of count ii r s = (((r * ii) % 2 ^ 64 + s) % 2 ^ 64) % count
 
@@ -16,7 +16,7 @@ bucket count ii p = bucket_of count ii p.resource (p.time % ii)
 abbrev pub in_bucket : ℕ → ℕ → ℕ → List Position → List Position
 in_bucket count ii b ps = filter (λ p. eqb (bucket count ii p) b) ps
 
--- a list for each of so many buckets: its positions
+-- `count` lists, of which list b holds the positions in bucket b
 pub record HasPositions (count ii : ℕ) (ps : List Position) (lists : List (List Stop)) : Type 0 where
   pub long : length lists ≡ count
   pub each : (b : ℕ) → b < count → map position_of (slice_index_or lists b []) ≡ in_bucket count ii b ps

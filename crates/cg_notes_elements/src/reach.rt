@@ -1,21 +1,14 @@
 //! Faults of architectures whose reports give names of resources: loops of wires, and links that a hub lacks.
 
-use crate::elements::find_key;
-use cg_notes_texts::{Finding, Place};
-use cg_places::tile_part_at;
+use crate::elements::{find_key, part_at};
+use crate::names::{cell_of, has_resource, parts_of, tile_at};
+use cg_notes_texts::{Finding, MOST_PARSED, Place};
 use cg_toml::toml_table;
 use std::alloc::{AllocError, Global};
 use toml::Value;
 
-/// The most bytes of an architecture that is parsed again for a note.
-const MOST_PARSED: usize = 1_000_000;
-
 /// Returns which limit the architecture file `bytes` passes by `place`, which names what there is too much of.
-pub(crate) fn find_limit(
-    alloc: Global,
-    bytes: &[u8],
-    place: &str,
-) -> Result<Option<Finding>, AllocError> {
+pub fn find_limit(alloc: Global, bytes: &[u8], place: &str) -> Result<Option<Finding>, AllocError> {
     match place {
         "grid" => find_key(
             alloc,
@@ -52,11 +45,7 @@ pub(crate) fn find_limit(
 }
 
 /// Returns where in the architecture file `bytes` the loop of wires begins that `names` gives, from its first one on.
-pub(crate) fn find_loop(
-    alloc: Global,
-    bytes: &[u8],
-    names: &str,
-) -> Result<Option<Finding>, AllocError> {
+pub fn find_loop(alloc: Global, bytes: &[u8], names: &str) -> Result<Option<Finding>, AllocError> {
     let wires = names.split(' ').count();
     let first = match names.split_once(' ') {
         Some((first, _)) => first,
@@ -67,11 +56,7 @@ pub(crate) fn find_loop(
 }
 
 /// Returns what the hub of the architecture file `bytes` lacks by `place`, `hub NAME` or `link FROM TO`.
-pub(crate) fn find_hub(
-    alloc: Global,
-    bytes: &[u8],
-    place: &str,
-) -> Result<Option<Finding>, AllocError> {
+pub fn find_hub(alloc: Global, bytes: &[u8], place: &str) -> Result<Option<Finding>, AllocError> {
     if let Some(name) = place.strip_prefix("hub ") {
         let what = format!(in alloc; "the hub's {name} is no register, or is named twice")?;
         return find_key(alloc, bytes, "hub", what.as_str());
@@ -102,7 +87,7 @@ fn find_part(
     let Some((tile, part)) = part_of_name(&table, name) else {
         return Ok(None);
     };
-    let Some(at) = tile_part_at(bytes, tile, part) else {
+    let Some(at) = part_at(bytes, tile, part) else {
         return Ok(None);
     };
     let text = format!(in alloc; "tile {tile} part {part}: {what}")?;
@@ -113,32 +98,9 @@ fn find_part(
 /// Returns the tile and the number of the part of the architecture `table` that the resource `name` comes from, as `r0c1_h`.
 fn part_of_name<'a>(table: &'a Value, name: &str) -> Option<(&'a str, usize)> {
     let (row, column, rest) = cell_of(name)?;
-    let line = table.get("grid")?.as_array()?.get(row)?.as_str()?;
-    let tile = line.get(column..column.saturating_add(1))?;
-    let parts = table.get("tiles")?.as_table()?.get(tile)?.as_array()?;
-    let part = parts.iter().position(|part| has_resource(part, rest))?;
+    let tile = tile_at(table, row, column)?;
+    let part = parts_of(table, tile)?
+        .iter()
+        .position(|part| has_resource(part, rest))?;
     Some((tile, part))
-}
-
-/// Returns the row and the column that a resource's flat name begins with, and what stands behind them.
-fn cell_of(name: &str) -> Option<(usize, usize, &str)> {
-    let (cell, rest) = name.split_once('_')?;
-    let (row, column) = cell.strip_prefix('r')?.split_once('c')?;
-    Some((row.parse().ok()?, column.parse().ok()?, rest))
-}
-
-/// Checks whether `part` of a tile has the resource `name`: itself, or a port or the out of a unit.
-fn has_resource(part: &Value, name: &str) -> bool {
-    if said(part, "wire") == Some(name) || said(part, "reg") == Some(name) {
-        return true;
-    }
-    match said(part, "unit").and_then(|unit| name.strip_prefix(unit)) {
-        Some(end) => matches!(end, "_a" | "_b" | "_c" | "_o"),
-        None => false,
-    }
-}
-
-/// Returns the text of `key` in `part`.
-fn said<'a>(part: &'a Value, key: &str) -> Option<&'a str> {
-    part.get(key)?.as_str()
 }

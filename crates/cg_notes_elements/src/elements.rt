@@ -1,18 +1,16 @@
 //! Faults of architectures, by the part of a tile, an element or a key.
 
+use crate::names::{parts_of, repeated_name, tile_at, unknown_driver};
 use cg_notes_arch::key_line;
-use cg_notes_texts::{Finding, Place};
+use cg_notes_texts::{Finding, MOST_PARSED, Place};
 use cg_places::tile_part_at;
 use cg_toml::toml_table;
 use std::alloc::{AllocError, Global};
 use toml::Value;
 
-/// The most bytes of an architecture that is parsed again for a note.
-const MOST_PARSED: usize = 1_000_000;
-
 /// Returns what is wrong with the part that `rest` says, `TILE part NUMBER`, in the architecture file `bytes`, of which
 /// `sentence` says it in general.
-pub(crate) fn find_tile_part(
+pub fn find_tile_part(
     alloc: Global,
     bytes: &[u8],
     rest: &str,
@@ -24,7 +22,7 @@ pub(crate) fn find_tile_part(
     let Ok(part) = number.parse::<usize>() else {
         return Ok(None);
     };
-    let Some(at) = tile_part_at(bytes, tile, part) else {
+    let Some(at) = part_at(bytes, tile, part) else {
         return Ok(None);
     };
     let text = format!(in alloc; "tile {tile} part {part}: {sentence}")?;
@@ -32,11 +30,20 @@ pub(crate) fn find_tile_part(
     Ok(Some(Finding { place, text }))
 }
 
-/// Returns what is wrong with the element that `rest` says, `NUMBER` or `NUMBER driver NAME`, in the architecture file
+/// Returns the byte of `bytes` at which part number `part` of `tile` begins, or the line that has all of them.
+pub(crate) fn part_at(bytes: &[u8], tile: &str, part: usize) -> Option<usize> {
+    match tile_part_at(bytes, tile, part) {
+        Some(at) => Some(at),
+        None => key_line(bytes, tile),
+    }
+}
+
+/// Returns what the fault `code` says of the element that `rest` says, `NUMBER` or `NUMBER driver NAME`, in the architecture file
 /// `bytes`, of which `sentence` says it in general.
-pub(crate) fn find_element(
+pub fn find_element(
     alloc: Global,
     bytes: &[u8],
+    code: &str,
     rest: &str,
     sentence: &str,
 ) -> Result<Option<Finding>, AllocError> {
@@ -56,27 +63,48 @@ pub(crate) fn find_element(
     let Some((tile, part)) = part_of_element(&table, element) else {
         return Ok(None);
     };
-    let Some(at) = tile_part_at(bytes, tile, part) else {
+    let Some(at) = part_at(bytes, tile, part) else {
         return Ok(None);
     };
-    let text = match driver {
-        Some(driver) => format!(in alloc; "tile {tile} part {part}: {driver}: {sentence}")?,
-        None => format!(in alloc; "tile {tile} part {part}: {sentence}")?,
-    };
+    let what = wrong_element(alloc, &table, code, tile, part, driver, sentence)?;
+    let what = what.as_str();
+    let text = format!(in alloc; "tile {tile} part {part}: {what}")?;
     let place = Place::at(bytes, at);
     Ok(Some(Finding { place, text }))
+}
+
+/// Returns what the fault `code` says of part number `part` of `tile` in `table`, an architecture, and of what drives it, of which
+/// `sentence` says it in general.
+fn wrong_element(
+    alloc: Global,
+    table: &Value,
+    code: &str,
+    tile: &str,
+    part: usize,
+    driver: Option<&str>,
+    sentence: &str,
+) -> Result<String, AllocError> {
+    match (code, driver) {
+        ("A4", Some(driver)) => unknown_driver(alloc, table, driver),
+        (_, Some(driver)) => format!(in alloc; "{driver}: {sentence}"),
+        ("A3", None) => match repeated_name(alloc, table, tile, part)? {
+            Some(text) => Ok(text),
+            None => String::from_str(alloc, sentence),
+        },
+        ("A2", None) => format!(in alloc; "{sentence} with its cell, as r0c0_ before it"),
+        _ => String::from_str(alloc, sentence),
+    }
 }
 
 /// Returns the tile and the part that element `element` of the architecture `table` comes from: elements are counted
 /// through the tiles of the grid, row by row.
 fn part_of_element(table: &Value, element: usize) -> Option<(&str, usize)> {
-    let tiles = table.get("tiles")?.as_table()?;
     let mut left = element;
     for row in table.get("grid")?.as_array()? {
         let row = row.as_str()?;
         for place in 0..row.len() {
             let tile = row.get(place..place.saturating_add(1))?;
-            let Some(parts) = tiles.get(tile).and_then(|parts| parts.as_array()) else {
+            let Some(parts) = parts_of(table, tile) else {
                 continue;
             };
             if left < parts.len() {
@@ -89,7 +117,7 @@ fn part_of_element(table: &Value, element: usize) -> Option<(&str, usize)> {
 }
 
 /// Returns that `sentence` is wrong of the key `key` of the architecture file `bytes`.
-pub(crate) fn find_key(
+pub fn find_key(
     alloc: Global,
     bytes: &[u8],
     key: &str,
@@ -102,11 +130,7 @@ pub(crate) fn find_key(
 }
 
 /// Returns that the cell `ROW column COLUMN`, which `cell` says, of the grid of the architecture file `bytes` has no tile.
-pub(crate) fn find_letter(
-    alloc: Global,
-    bytes: &[u8],
-    cell: &str,
-) -> Result<Option<Finding>, AllocError> {
+pub fn find_letter(alloc: Global, bytes: &[u8], cell: &str) -> Result<Option<Finding>, AllocError> {
     if bytes.len() > MOST_PARSED {
         return Ok(None);
     }
@@ -125,8 +149,5 @@ pub(crate) fn find_letter(
 /// Returns the letter of the cell `ROW column COLUMN` of the grid of `table`, an architecture.
 fn letter_of<'a>(table: &'a Value, cell: &str) -> Option<&'a str> {
     let (row, column) = cell.split_once(" column ")?;
-    let row: usize = row.parse().ok()?;
-    let column: usize = column.parse().ok()?;
-    let cells = table.get("grid")?.as_array()?.get(row)?.as_str()?;
-    cells.get(column..column.saturating_add(1))
+    tile_at(table, row.parse().ok()?, column.parse().ok()?)
 }

@@ -2,14 +2,11 @@
 
 use crate::wholes::missing;
 use cg_json::{json_value, word_in};
-use cg_notes_arch::key_line;
-use cg_notes_texts::{Finding, Place};
+use cg_notes_arch::{key_line, table_line};
+use cg_notes_texts::{Finding, MOST_PARSED, Place};
 use cg_places::{Step, json_value_at, tile_part_at};
 use cg_toml::toml_table;
 use std::alloc::{AllocError, Global};
-
-/// The most bytes of a file that is parsed again for a note.
-const MOST_PARSED: usize = 1_000_000;
 
 /// What a value has to be.
 #[derive(Clone, Copy, Drop)]
@@ -175,12 +172,19 @@ fn wrong_letter(
         let sentence = "there are no tiles: a part of the tile A begins with [[tiles.A]]";
         return Ok(Some(finding_at(alloc, bytes, None, sentence)?));
     };
-    for (tile, _) in tiles.iter() {
+    for (tile, parts) in tiles.iter() {
         let tile = tile.as_str();
         if !is_letter(tile) {
             let at = tile_part_at(bytes, tile, 0);
             let sentence = "a tile is called by one letter";
             return Ok(Some(finding_at(alloc, bytes, at, sentence)?));
+        }
+        if parts.as_array().is_none() {
+            let at = table_line(bytes, tile).or(key_line(bytes, tile));
+            let text = format!(in alloc;
+                "the parts of tile {tile} are a list: each begins with [[tiles.{tile}]]"
+            )?;
+            return Ok(Some(finding_at(alloc, bytes, at, text.as_str())?));
         }
     }
     Ok(None)

@@ -92,7 +92,7 @@ const ARCH_KEYS: [&str; 8] = [
 ];
 
 /// Returns what is wrong with `bytes` as a whole at the fault `code`, of which `sentence` says it in general.
-pub(crate) fn find_in_file(
+pub fn find_in_file(
     alloc: Global,
     bytes: &[u8],
     code: &str,

@@ -1,0 +1,74 @@
+//! Notes on files that weren't read or written.
+
+use cg_aside::Aside;
+use cg_ending::{Outcome, Status};
+use std::alloc::{AllocError, Global};
+
+/// Notes to `aside` which file couldn't be read by `outcome`, or is too long; or which files it writes, where `status` says that one
+/// of them, or the report, couldn't be written.
+pub fn note_files(
+    alloc: Global,
+    status: Status,
+    outcome: &Outcome,
+    aside: &mut dyn Aside,
+) -> Result<(), AllocError> {
+    let notes = match status {
+        Status::ReadFault => read_notes(alloc, outcome)?,
+        Status::Malformed => long_notes(alloc, outcome)?,
+        Status::WriteFault => write_notes(alloc, outcome)?,
+        _ => return Ok(()),
+    };
+    for note in &notes {
+        aside.note(note.as_str());
+    }
+    Ok(())
+}
+
+/// Returns a note on the file that couldn't be read: the report of `outcome` names it.
+fn read_notes(alloc: Global, outcome: &Outcome) -> Result<Vec<String>, AllocError> {
+    let mut notes = Vec::new(alloc);
+    if let Some(name) = name_in(outcome, "read fault ", "") {
+        notes.push(format!(in alloc;
+            "{name}: there is no such file, or it may not be read, or it is a folder"
+        )?)?;
+    }
+    Ok(notes)
+}
+
+/// Returns a note on the file that is too long, where the report of `outcome` says so.
+fn long_notes(alloc: Global, outcome: &Outcome) -> Result<Vec<String>, AllocError> {
+    let mut notes = Vec::new(alloc);
+    if let Some(name) = name_in(outcome, "malformed ", ": G1 TooLong limit 16777216") {
+        notes.push(format!(in alloc;
+            "{name}: the file is too long, and isn't looked at: at most 16777216 bytes are read"
+        )?)?;
+    }
+    Ok(notes)
+}
+
+/// Returns the name of a file in the report of `outcome`, a line with `front` before it and `end` behind it; None where the report
+/// isn't such a line.
+fn name_in<'a>(outcome: &'a Outcome, front: &str, end: &str) -> Option<&'a str> {
+    let report = std::str::from_utf8(outcome.report.as_slice()).ok()?;
+    let name = report
+        .strip_suffix('\n')?
+        .strip_prefix(front)?
+        .strip_suffix(end)?;
+    if name.contains('\n') {
+        None
+    } else {
+        Some(name)
+    }
+}
+
+/// Returns a note for each file that `outcome` writes.
+fn write_notes(alloc: Global, outcome: &Outcome) -> Result<Vec<String>, AllocError> {
+    let mut notes = Vec::new(alloc);
+    for file in &outcome.writes {
+        let name = file.name.as_str();
+        if !name.contains('\n') {
+            notes.push(format!(in alloc; "to be written: {name}")?)?;
+        }
+    }
+    Ok(notes)
+}

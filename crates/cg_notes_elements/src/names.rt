@@ -1,0 +1,161 @@
+//! Names of the elements of a cell: those of a tile's parts, and of the ports and outs of its units.
+
+use cg_help::nearest_name;
+use std::alloc::{AllocError, Global};
+use toml::Value;
+
+/// The keys that wires and registers are named by.
+const NETS: [&str; 2] = ["wire", "reg"];
+
+/// The letters of the ports of a unit.
+const PORTS: [&str; 3] = ["a", "b", "c"];
+
+/// Returns the row and the column that a resource's flat name begins with, and what stands behind them.
+pub(crate) fn cell_of(name: &str) -> Option<(usize, usize, &str)> {
+    let (cell, rest) = name.split_once('_')?;
+    let (row, column) = cell.strip_prefix('r')?.split_once('c')?;
+    Some((row.parse().ok()?, column.parse().ok()?, rest))
+}
+
+/// Returns the tile in the cell at `row` and `column` of the grid of `table`, an architecture.
+pub(crate) fn tile_at(table: &Value, row: usize, column: usize) -> Option<&str> {
+    let line = table.get("grid")?.as_array()?.get(row)?.as_str()?;
+    line.get(column..column.saturating_add(1))
+}
+
+/// Returns the parts of `tile` in `table`, an architecture.
+pub(crate) fn parts_of<'a>(table: &'a Value, tile: &str) -> Option<&'a [Value]> {
+    let parts = table.get("tiles")?.as_table()?.get(tile)?.as_array()?;
+    Some(parts.as_slice())
+}
+
+/// Returns the text of `key` in `part`.
+pub(crate) fn said<'a>(part: &'a Value, key: &str) -> Option<&'a str> {
+    part.get(key)?.as_str()
+}
+
+/// Checks whether `part` of a tile has the resource `name`: itself, or a port or the out of a unit.
+pub(crate) fn has_resource(part: &Value, name: &str) -> bool {
+    if said(part, "wire") == Some(name) || said(part, "reg") == Some(name) {
+        return true;
+    }
+    match said(part, "unit").and_then(|unit| name.strip_prefix(unit)) {
+        Some(end) => matches!(end, "_a" | "_b" | "_c" | "_o"),
+        None => false,
+    }
+}
+
+/// Adds to `names` those of the resources of `part`, and where `with_units` is true that of its unit.
+fn add_names(
+    alloc: Global,
+    part: &Value,
+    with_units: bool,
+    names: &mut Vec<String>,
+) -> Result<(), AllocError> {
+    for key in &NETS {
+        if let Some(name) = said(part, key) {
+            names.push(String::from_str(alloc, name)?)?;
+        }
+    }
+    let Some(unit) = said(part, "unit") else {
+        return Ok(());
+    };
+    if with_units {
+        names.push(String::from_str(alloc, unit)?)?;
+    }
+    names.push(format!(in alloc; "{unit}_o")?)?;
+    for letter in PORTS.iter().take(port_count(part)) {
+        let letter = *letter;
+        names.push(format!(in alloc; "{unit}_{letter}")?)?;
+    }
+    Ok(())
+}
+
+/// Returns how many ports `part`, a unit, has.
+fn port_count(part: &Value) -> usize {
+    match part.get("ports").and_then(|ports| ports.as_array()) {
+        Some(ports) => ports.len(),
+        None => 0,
+    }
+}
+
+/// Returns that no resource is called `driver`, its flat name, in `table`, an architecture, and which may be meant.
+pub(crate) fn unknown_driver(
+    alloc: Global,
+    table: &Value,
+    driver: &str,
+) -> Result<String, AllocError> {
+    let Some((row, column, rest)) = cell_of(driver) else {
+        return format!(in alloc; "{driver}: no resource is called so");
+    };
+    let Some(tile) = tile_at(table, row, column) else {
+        return format!(in alloc;
+            "{driver}: no resource is called so, and the grid has no cell in row {row}, column {column}"
+        );
+    };
+    let parts = parts_of(table, tile).unwrap_or(&[]);
+    if parts.iter().any(|part| said(part, "unit") == Some(rest)) {
+        return format!(in alloc;
+            "{driver}: no resource is called so, which is a unit: its out is {driver}_o"
+        );
+    }
+    let mut names = Vec::new(alloc);
+    for part in parts {
+        add_names(alloc, part, false, &mut names)?;
+    }
+    match near_name(alloc, rest, names.as_slice())? {
+        Some(near) => {
+            let near = near.as_str();
+            format!(in alloc;
+                "{driver}: no resource is called so, did you mean r{row}c{column}_{near}?"
+            )
+        }
+        None => format!(in alloc; "{driver}: no resource is called so, tile {tile} has no {rest}"),
+    }
+}
+
+/// Returns the one of `names` that may be meant by `name`.
+fn near_name(alloc: Global, name: &str, names: &[String]) -> Result<Option<String>, AllocError> {
+    let mut known: Vec<&str> = Vec::new(alloc);
+    for name in names {
+        known.push(name.as_str())?;
+    }
+    match nearest_name(alloc, name, known.as_slice())? {
+        Some(near) => Ok(Some(String::from_str(alloc, near)?)),
+        None => Ok(None),
+    }
+}
+
+/// Returns which name of part number `part` of `tile` in `table`, an architecture, an earlier part of the tile has too.
+pub(crate) fn repeated_name(
+    alloc: Global,
+    table: &Value,
+    tile: &str,
+    part: usize,
+) -> Result<Option<String>, AllocError> {
+    let parts = parts_of(table, tile).unwrap_or(&[]);
+    let mut names = Vec::new(alloc);
+    if let Some(part) = parts.get(part) {
+        add_names(alloc, part, true, &mut names)?;
+    }
+    for (number, earlier) in parts.iter().enumerate().take(part) {
+        let mut taken = Vec::new(alloc);
+        add_names(alloc, earlier, true, &mut taken)?;
+        if let Some(name) = common_name(names.as_slice(), taken.as_slice()) {
+            let text = format!(in alloc; "{name} is a name of part {number}")?;
+            return Ok(Some(text));
+        }
+    }
+    Ok(None)
+}
+
+/// Returns the first of `names` that is one of `others`.
+fn common_name<'a>(names: &'a [String], others: &[String]) -> Option<&'a str> {
+    for name in names {
+        let name = name.as_str();
+        if others.iter().any(|other| other.as_str() == name) {
+            return Some(name);
+        }
+    }
+    None
+}

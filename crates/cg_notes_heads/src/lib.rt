@@ -1,0 +1,7 @@
+//! Notes on files as wholes: their first keys, and of which kind the values of these are.
+#![tactic(auto)]
+
+mod heads;
+mod wholes;
+
+pub use wholes::find_in_file;

@@ -1,0 +1,149 @@
+//! What may be wrong where a loop body has an unexpected token.
+
+use crate::token::{Token, is_word_byte, last_byte, last_word};
+use cg_help::nearest_name;
+use cg_word::Op;
+use std::alloc::{AllocError, Global};
+
+/// The operations that a loop body calls.
+const CALLED: [&str; 16] = [
+    "add", "sub", "mul", "and", "or", "xor", "shl", "shr", "sar", "eq", "ne", "lts", "ltu", "mins",
+    "maxs", "select",
+];
+
+/// Returns what may be wrong where `token` follows `before` in a loop body; empty where that can't be said.
+pub(crate) fn loop_hint(before: &[u8], token: Token<'_>) -> &'static str {
+    let Some(last) = last_byte(before) else {
+        return "; a loop body begins with cgl1;";
+    };
+    match token {
+        Token::Word(word) => word_hint(before, last, word),
+        Token::Byte(byte) => byte_hint(last, byte),
+    }
+}
+
+/// Returns the last word of `before` as a text; empty where there is none.
+fn last_name(before: &[u8]) -> &str {
+    std::str::from_utf8(last_word(before)).unwrap_or("")
+}
+
+/// Returns what may be wrong where `word` follows `before`, whose last byte is `last`.
+fn word_hint(before: &[u8], last: u8, word: &str) -> &'static str {
+    if begins_with_digit(word) {
+        return match last {
+            b'=' | b'(' | b'[' | b',' =>
+                "; a number has at most ten digits, and is at most 4294967295",
+            _ => "",
+        };
+    }
+    match (last_name(before), word) {
+        ("let" | "array" | "carry", _) if is_word_byte(last) =>
+            "; it is a word of the language, and no name",
+        (_, "array" | "carry") if last == b';' => "; declarations stand before the first statement",
+        (_, "if") if last == b';' =>
+            "; a condition stands behind a store or an output, as in a[turn] = s if s < 6;",
+        (_, "if") =>
+            "; a condition stands behind a store or an output alone: select(c, x, y) chooses a value",
+        _ => "",
+    }
+}
+
+/// Checks whether `word` begins with a digit.
+fn begins_with_digit(word: &str) -> bool {
+    match word.as_bytes().first() {
+        Some(first) => first.is_ascii_digit(),
+        None => false,
+    }
+}
+
+/// Returns what may be wrong where `byte` follows a byte `last`.
+fn byte_hint(last: u8, byte: u8) -> &'static str {
+    match (last, byte) {
+        (b'=' | b'(' | b'[' | b',' | b'+' | b'*' | b'<', b'-') =>
+            "; a number has no sign: write (0 - 1) for -1, in a declaration 4294967295",
+        (b'+' | b'-' | b'*', b'=') => "; write s = s + 1 for s += 1",
+        (b'+', b'+') | (b'-', b'-') => "; write s = s + 1 for s++",
+        (b'<', b'<') => "; write shl(a, b)",
+        (_, b'>') => "; write b < a for a > b",
+        (_, b'/' | b'%') => "; nothing divides: shr(a, 1) halves, and and(a, 7) is the rest by 8",
+        (_, b'&') => "; write and(a, b)",
+        (_, b'|') => "; write or(a, b)",
+        (_, b'^') => "; write xor(a, b)",
+        (_, b'!') => "; write ne(a, b) for a != b",
+        (_, b'?') => "; write select(c, a, b)",
+        (_, b'{' | b'}') => "; there are no braces",
+        _ => "",
+    }
+}
+
+/// Returns what is wrong with a call where `token`, a bracket or a comma, follows `before` in a loop body: what is called, or how
+/// many operands it takes. Returns None where the token belongs to no call.
+pub(crate) fn describe_call(
+    alloc: Global,
+    before: &[u8],
+    token: Token<'_>,
+) -> Result<Option<String>, AllocError> {
+    match token {
+        Token::Byte(b'(') => describe_called(alloc, before),
+        Token::Byte(b',' | b')') => describe_count(alloc, before, token),
+        _ => Ok(None),
+    }
+}
+
+/// Returns that what `before` ends with can't be called.
+fn describe_called(alloc: Global, before: &[u8]) -> Result<Option<String>, AllocError> {
+    let text = match last_name(before) {
+        "" => return Ok(None),
+        "for" | "while" => String::from_str(
+            alloc,
+            "unexpected (; the body of the loop alone is written, which each turn does",
+        )?,
+        "if" => String::from_str(
+            alloc,
+            "unexpected (; a condition stands behind a store or an output, as in a[turn] = s if s < 6;",
+        )?,
+        name => match nearest_name(alloc, name, &CALLED)? {
+            Some(near) => format!(in alloc;
+                "unexpected (; no operation is called {name}, did you mean {near}?"
+            )?,
+            None => format!(in alloc; "unexpected (; no operation is called {name}")?,
+        },
+    };
+    Ok(Some(text))
+}
+
+/// Returns how many operands the operation takes within whose brackets `token` follows `before`.
+fn describe_count(
+    alloc: Global,
+    before: &[u8],
+    token: Token<'_>,
+) -> Result<Option<String>, AllocError> {
+    let Some(open) = open_bracket(before) else {
+        return Ok(None);
+    };
+    let name = last_name(before.get(..open).unwrap_or(&[]));
+    match Op::from_name(name) {
+        Some(op) => {
+            let arity = op.arity();
+            let text = format!(in alloc; "unexpected {token}; {name} takes {arity} operands")?;
+            Ok(Some(text))
+        }
+        None => Ok(None),
+    }
+}
+
+/// Returns the place in `before` of the last round bracket of its statement that is open at its end.
+fn open_bracket(before: &[u8]) -> Option<usize> {
+    let mut closed = 0usize;
+    for back in 0..before.len() {
+        let place = before.len().saturating_sub(back).saturating_sub(1);
+        match before.get(place) {
+            Some(b')') => closed = closed.saturating_add(1),
+            Some(b'(') if closed == 0 => return Some(place),
+            Some(b'(') => closed = closed.saturating_sub(1),
+            Some(b';') => return None,
+            _ => {}
+        }
+    }
+    None
+}

@@ -1,0 +1,149 @@
+//! Faults of texts that are no JSON.
+
+use crate::finding::{Finding, Place};
+use serde_json::Value;
+use std::alloc::{AllocError, Global};
+
+/// Returns what the parser of JSON says of `bytes`, and `None` where it takes them. The caller has seen by `json_value`
+/// that their values don't take too much memory.
+pub(crate) fn json_error(alloc: Global, bytes: &[u8]) -> Result<Option<Finding>, AllocError> {
+    match Value::from_slice(alloc, bytes) {
+        Ok(_) => Ok(None),
+        Err(error) if error.is_memory() => Err(AllocError),
+        Err(error) => Ok(Some(of_json_error(alloc, bytes, &error)?)),
+    }
+}
+
+/// Returns what `error` says of which place. At the end of a text the parser may count no column.
+fn of_json_error(
+    alloc: Global,
+    bytes: &[u8],
+    error: &serde_json::Error,
+) -> Result<Finding, AllocError> {
+    let (line, column) = (error.line(), error.column());
+    let text = format!(in alloc; "{error}")?;
+    let ending = format!(in alloc; " at line {line} column {column}")?;
+    let message = text.as_str();
+    let message = message.strip_suffix(ending.as_str()).unwrap_or(message);
+    let place = Place {
+        line: line.max(1),
+        column: column.max(1),
+    };
+    let hint = json_hint(alloc, bytes, place, message)?;
+    let hint = hint.as_str();
+    let text = format!(in alloc; "{message}{hint}")?;
+    Ok(Finding { place, text })
+}
+
+/// Returns what may be wrong at `place` of `bytes`, which are no JSON text there by `message`; empty where that can't be said.
+fn json_hint(
+    alloc: Global,
+    bytes: &[u8],
+    place: Place,
+    message: &str,
+) -> Result<String, AllocError> {
+    let at = offset_of(bytes, place);
+    if message == "invalid JSON" {
+        let before = bytes.get(..at).unwrap_or(&[]);
+        let last = before.iter().rev().find(|byte| !byte.is_ascii_whitespace());
+        let hint = byte_hint(last.copied(), bytes.get(at..).unwrap_or(&[]));
+        return String::from_str(alloc, hint);
+    }
+    if at < before_last(bytes) {
+        return Ok(String::new(alloc));
+    }
+    within(alloc, bytes, "isn't closed")
+}
+
+/// Returns that the last bracket of `bytes` that is open at their end, outside texts, `is` so; empty where there is none.
+pub(crate) fn within(alloc: Global, bytes: &[u8], is: &str) -> Result<String, AllocError> {
+    match open_bracket(alloc, bytes)? {
+        Some(Open { byte, place }) => {
+            let bracket = char::from(byte);
+            format!(in alloc; ": the {bracket} of {place} {is}")
+        }
+        None => Ok(String::new(alloc)),
+    }
+}
+
+/// Returns what may be wrong where `rest` follows the byte `last`.
+fn byte_hint(last: Option<u8>, rest: &[u8]) -> &'static str {
+    match (last, rest) {
+        (_, [b'/' | b'#', ..]) => ": there are no comments",
+        (_, [b'\'', ..]) => ": texts stand in double quotes",
+        (_, [0xEF, ..]) => ": it begins with a byte-order mark",
+        (Some(b'0'), [b'x' | b'X', ..]) | (_, [b'0', b'x' | b'X', ..]) => ": numbers are decimal",
+        (_, [b'0', b'0'..=b'9', ..]) => ": a number doesn't begin with 0",
+        (_, [b'T' | b'F' | b'N', ..]) => ": true, false and null have small letters",
+        (_, [b'+', ..]) => ": a number has no plus sign",
+        (Some(b','), [b']' | b'}', ..]) => ": a comma stands before it",
+        (Some(b']' | b'}'), [b']' | b'}', ..]) => ": no bracket of this kind is open",
+        (Some(b'"' | b']' | b'}' | b'0'..=b'9'), [b'"' | b'[' | b'{' | b'0'..=b'9', ..]) =>
+            ": a comma or a colon is missing before it",
+        (Some(b'{' | b','), [b'a'..=b'z' | b'A'..=b'Z' | b'_', ..]) =>
+            ": a key stands in double quotes",
+        (Some(b':' | b'['), [b'a'..=b'z' | b'A'..=b'Z' | b'_', ..]) =>
+            ": a text stands in double quotes",
+        _ => "",
+    }
+}
+
+/// Returns the place of the byte at `place` of `bytes`, or their length where the line is shorter.
+fn offset_of(bytes: &[u8], place: Place) -> usize {
+    let mut at = 0usize;
+    for line in bytes
+        .split(|byte| *byte == b'\n')
+        .take(place.line.saturating_sub(1))
+    {
+        at = at.saturating_add(line.len()).saturating_add(1);
+    }
+    at.saturating_add(place.column.saturating_sub(1))
+        .min(bytes.len())
+}
+
+/// Returns how many bytes of `bytes` stand before the last one that is no blank and no line end.
+fn before_last(bytes: &[u8]) -> usize {
+    let blanks = bytes
+        .iter()
+        .rev()
+        .take_while(|byte| byte.is_ascii_whitespace())
+        .count();
+    bytes.len().saturating_sub(blanks).saturating_sub(1)
+}
+
+/// A bracket that isn't closed.
+#[derive(Clone, Copy, Drop)]
+struct Open {
+    byte: u8,
+    place: Place,
+}
+
+/// Returns the last bracket of `bytes` that isn't closed at their end, outside texts.
+fn open_bracket(alloc: Global, bytes: &[u8]) -> Result<Option<Open>, AllocError> {
+    let mut open: Vec<usize> = Vec::new(alloc);
+    let mut is_text = false;
+    let mut is_escaped = false;
+    for (at, byte) in bytes.iter().enumerate() {
+        if is_escaped {
+            is_escaped = false;
+        } else if is_text && *byte == b'\\' {
+            is_escaped = true;
+        } else if *byte == b'"' {
+            is_text = !is_text;
+        } else if !is_text && matches!(*byte, b'[' | b'{') {
+            open.push(at)?;
+        } else if !is_text && matches!(*byte, b']' | b'}') {
+            let _ = open.pop();
+        }
+    }
+    let Some(at) = open.last() else {
+        return Ok(None);
+    };
+    match bytes.get(*at) {
+        Some(byte) => Ok(Some(Open {
+            byte: *byte,
+            place: Place::at(bytes, *at),
+        })),
+        None => Ok(None),
+    }
+}
