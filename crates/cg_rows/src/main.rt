@@ -11,6 +11,7 @@ mod routes;
 mod texts;
 mod trial;
 mod walks;
+mod ways;
 
 use cg_arch::Arch;
 use cg_hub::serial;
@@ -60,6 +61,7 @@ fn first_rows(
 fn last_rows(rt: &(impl Files + Print + AllocGlobal), arch: &Arch) -> io::Result<()> {
     row_of_outputs(rt, arch)?;
     rows_of_two_units(rt)?;
+    row_of_ways(rt)?;
     rows_of_filter(rt, arch)?;
     rows_of_trial(rt)
 }
@@ -229,6 +231,18 @@ fn row_of_moves(rt: &(impl Files + Print + AllocGlobal), arch: &Arch) -> io::Res
     };
     let holds = places::moves_of_three_nodes(rt.alloc(), arch, &kernel)?;
     say(rt, "moves of three nodes", holds)
+}
+
+/// Prints the row of the registers on ways.
+fn row_of_ways(rt: &(impl Files + Print + AllocGlobal)) -> io::Result<()> {
+    let Some(arch) = arch_in(rt, "ways.toml")? else {
+        return rt.print("ways.toml is no architecture\n");
+    };
+    let Some(kernel) = kernel_in(rt, "ways.json")? else {
+        return rt.print("ways.json is no kernel\n");
+    };
+    let holds = ways::registers_on_ways(rt.alloc(), &arch, &kernel)?;
+    say(rt, "registers on ways", holds)
 }
 
 /// Prints the rows of a filter, which one unit doesn't offer.

@@ -1,0 +1,10 @@
+pub mod Totals
+pub mod Slots
+pub mod Weights
+pub mod Claims
+pub mod Latencies
+pub mod Duality
+pub mod Legal
+pub mod Excluded
+pub mod Intervals
+pub mod Summed

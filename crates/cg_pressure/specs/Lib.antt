@@ -1,0 +1,3 @@
+pub mod Pressure
+pub mod Sums
+pub mod Times

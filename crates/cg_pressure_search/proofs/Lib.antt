@@ -1,0 +1,10 @@
+pub mod Logs
+pub mod Lifts
+pub mod Pushes
+pub mod Standing
+pub mod Routes
+pub mod Circulations
+pub mod Certificates
+pub mod Ends
+pub mod Values
+pub mod Finished

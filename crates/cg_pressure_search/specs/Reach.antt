@@ -1,0 +1,70 @@
+-- The places that are reached from one by tight links, forwards, and backwards where there is flow.
+use Rattle.std.specs.Prelude.{◌≡◌, ℕ, ◌+◌, ◌<◌, ◌≤◌, ◌⊎◌, true, false, List, length, slice_index, slice_index_or}
+use Rattle.cg_pressure_search.specs.declared.network.Link.{Link}
+use Rattle.cg_pressure_search.specs.declared.reach.Step.{Step}
+use Rattle.cg_pressure_search.specs.declared.reach.Reached.{Reached}
+use Rattle.cg_pressure_search.specs.Network.{link, IsTight}
+
+-- past the last step
+abbrev pub no_step : Step
+no_step = record { place = 0; link = 0; back = false; before = 0 }
+
+-- step i
+abbrev pub step : List Step → ℕ → Step
+step steps i = slice_index_or steps i no_step
+
+-- step i goes over a tight link from the place of an earlier one
+pub record IsMove (links : List Link) (flow at : List ℕ) (steps : List Step) (i : ℕ) (s : Step) : Type 0 where
+  pub earlier : s.before < i
+  pub known : s.link < length links
+  pub tight : IsTight at (link links s.link)
+  pub ends :
+      ((s.back ≡ false) × ((link links s.link).from ≡ (step steps s.before).place) × ((link links s.link).to ≡ s.place))
+      ⊎ ((s.back ≡ true) × ((link links s.link).to ≡ (step steps s.before).place) × ((link links s.link).from ≡ s.place) × (0 < slice_index flow s.link))
+
+-- each place that is reached has one step, and its number more 1 in `order`; all others have 0
+pub record IsLog (links : List Link) (flow at : List ℕ) (steps : List Step) (order : List ℕ) : Type 0 where
+  pub each : length order ≡ length at
+  pub moves : (i : ℕ) → 0 < i → i < length steps → IsMove links flow at steps i (step steps i)
+  pub marks : (i : ℕ) → i < length steps → slice_index order (step steps i).place ≡ i + 1
+  pub marked : (x : ℕ) → 0 < slice_index order x →
+      (i : ℕ) × (i < length steps) × (slice_index order x ≡ i + 1) × ((step steps i).place ≡ x)
+
+-- link k leads to no other place
+abbrev pub IsDone : List Link → List ℕ → List ℕ → List ℕ → ℕ → Type 0
+IsDone links flow at order k =
+    IsTight at (link links k) →
+    (0 < slice_index order (link links k).from → 0 < slice_index order (link links k).to)
+    × (0 < slice_index flow k → 0 < slice_index order (link links k).to → 0 < slice_index order (link links k).from)
+
+-- nor does one of the first `count`
+abbrev pub IsClosed : List Link → ℕ → List ℕ → List ℕ → List ℕ → Type 0
+IsClosed links count flow at order = (k : ℕ) → k < count → IsDone links flow at order k
+
+-- all places that are reached from `start`
+pub record IsReached (links : List Link) (count : ℕ) (flow at : List ℕ) (start : ℕ) (r : Reached) : Type 0 where
+  pub log : IsLog links flow at r.steps.items r.order.items
+  pub some : 0 < length r.steps.items
+  pub first : (step r.steps.items 0).place ≡ start
+  pub closed : IsClosed links count flow at r.order.items
+
+-- one link more was looked at
+pub record IsVisited (links : List Link) (flow at : List ℕ) (steps : List Step) (order : List ℕ) (steps' : List Step) (order' : List ℕ) (k : ℕ) : Type 0 where
+  pub log : IsLog links flow at steps' order'
+  pub first : step steps' 0 ≡ step steps 0
+  pub longer : (length steps' ≡ length steps + 1) ⊎ ((length steps' ≡ length steps) × (order' ≡ order) × IsDone links flow at order k)
+
+-- the first `count` links were looked at once
+pub record IsSwept (links : List Link) (count : ℕ) (flow at : List ℕ) (steps steps' : List Step) (order' : List ℕ) : Type 0 where
+  pub log : IsLog links flow at steps' order'
+  pub first : step steps' 0 ≡ step steps 0
+  pub longer : length steps ≤ length steps'
+  pub closed : length steps' ≡ length steps → IsClosed links count flow at order'
+
+-- places are reached from `start`, and all of them once `done` is their number
+pub record IsSpread (links : List Link) (count : ℕ) (flow at : List ℕ) (start : ℕ) (steps : List Step) (order : List ℕ) (done : ℕ) : Type 0 where
+  pub log : IsLog links flow at steps order
+  pub some : 0 < length steps
+  pub first : (step steps 0).place ≡ start
+  pub within : done ≤ length steps
+  pub closed : done ≡ length steps → IsClosed links count flow at order

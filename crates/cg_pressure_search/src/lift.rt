@@ -1,0 +1,82 @@
+//! Places that are lifted together, as far as links let them.
+ghost use Rattle.std.specs.Prelude.{◌≡◌, ℕ, ◌+◌, ◌^◌, ◌<◌, ◌≤◌, IfOk, length, slice_index};
+ghost use Rattle.cg_pressure_search.specs.Network.{IsGraph, AreKept, link};
+ghost use Rattle.cg_pressure_search.specs.Lift.{LetsRise, IsRisen, IsLifted};
+
+use crate::network::Link;
+use crate::reach::{Reached, reach};
+use std::alloc::{AllocError, Global};
+
+/// Returns by how many cycles, up to `need`, the first `count` links let the places of `order` rise.
+fn room(links: &[Link], count: usize, at: &[u64], order: &[usize], need: u64) -> u64
+    requires graph { IsGraph (length at.now) links.now }
+    requires times { (x : ℕ) → slice_index at.now x ≤ 2 ^ 62 }
+    requires known { count ≤ length links.now }
+    requires each { length order.now ≡ length at.now }
+    requires open { (k : ℕ) → k < count → LetsRise links.now at.now order.now 1 k }
+    requires some { 0 < need }
+    ensures positive { 0 < result }
+    ensures most { result ≤ need }
+    ensures rises { (k : ℕ) → k < count → LetsRise links.now at.now order.now result k }
+{
+    let mut by = need;
+    for k in 0..count {
+        let link = links[k];
+        if order[link.from] != 0 && order[link.to] == 0 {
+            let gap = (at[link.to] + link.loss) - (at[link.from] + link.gain);
+            if gap < by {
+                by = gap;
+            }
+        }
+    }
+    by
+}
+
+/// Lifts the places of `order` by `by` cycles.
+fn rise(at: &mut Vec<u64>, order: &[usize], by: u64)
+    requires each { length order.now ≡ length at.old.items }
+    requires small { (x : ℕ) → 0 < slice_index order.now x → slice_index at.old.items x + by ≤ 2 ^ 62 }
+    ensures risen { IsRisen order.now at.old.items by at.new.items }
+    ensures each { length at.new.items ≡ length at.old.items }
+{
+    for x in 0..order.len() {
+        if order[x] != 0 {
+            at[x] += by;
+        }
+    }
+}
+
+/// Lifts `start` by `need` cycles, with all places that have to rise with it so that the first `count` links stay kept. Once
+/// `goal` is one of them, it ends with the places that are reached.
+pub(crate) fn lift(
+    alloc: Global,
+    links: &[Link],
+    count: usize,
+    flow: &[u32],
+    at: &mut Vec<u64>,
+    start: usize,
+    goal: usize,
+    need: u64,
+) -> Result<Option<Reached>, AllocError>
+    requires graph { IsGraph (length at.old.items) links.now }
+    requires flows { length flow.now ≡ length links.now }
+    requires known { count ≤ length links.now }
+    requires kept { AreKept links.now count flow.now at.old.items }
+    requires start { start < length at.old.items }
+    requires goal { goal < length at.old.items }
+    requires times { (x : ℕ) → slice_index at.old.items x ≤ 2 ^ 61 }
+    requires near { slice_index at.old.items start + need ≤ slice_index at.old.items goal + 2 ^ 33 }
+    ensures { IfOk result (IsLifted links.now count flow.now at.old.items start goal need at.new.items) }
+{
+    let mut left = need;
+    while left > 0 {
+        let reached = reach(alloc, links, count, flow, at, start)?;
+        if reached.order[goal] != 0 {
+            return Ok(Some(reached));
+        }
+        let by = room(links, count, at, &reached.order, left);
+        rise(at, &reached.order, by);
+        left -= by;
+    }
+    Ok(None)
+}

@@ -1,0 +1,35 @@
+//! The registers on the ways of edges through three units.
+
+use cg_arch::Arch;
+use cg_model::Kernel;
+use cg_ways::find_ways;
+use std::alloc::{AllocError, Global};
+
+/// Checks whether the registers on the shortest ways are those of the drivers. Unit a counts, and units b and c select: their
+/// first port is driven by a wire from a, the second by a register from a, and the third by the other's out at once and by
+/// their own through a register.
+pub(crate) fn registers_on_ways(
+    alloc: Global,
+    arch: &Arch,
+    kernel: &Kernel,
+) -> Result<bool, AllocError> {
+    let ways = find_ways(alloc, arch, kernel)?;
+    let by_wire = ways.far(1, 0);
+    let by_register = ways.far(1, 1);
+    let no_link = ways.far(1, 2);
+    let constant = ways.far(2, 0);
+    let to_itself = ways.far(2, 2);
+    let from_selected = ways.far(3, 0);
+    let to_the_other = ways.far(3, 2);
+    let past_the_last = ways.far(4, 0);
+    Ok(
+        by_wire == Some(0)
+            && by_register == Some(1)
+            && no_link.is_none()
+            && constant.is_none()
+            && to_itself == Some(1)
+            && from_selected.is_none()
+            && to_the_other == Some(0)
+            && past_the_last.is_none(),
+    )
+}

@@ -1,0 +1,28 @@
+-- Closed chains of edges that are too long for an interval (the recurrence constraint of modulo scheduling, Rau 1994) when
+-- the registers that the value of each data edge crosses at least are added to its latency.
+use Rattle.std.specs.Prelude.{ℕ, ◌+◌, List, Option, Some, None}
+use Rattle.cg_model.specs.Kernel.{Kernel}
+use Rattle.cg_model.specs.Array.{Arch}
+use Rattle.cg_edges.specs.declared.edge.Edge.{Edge}
+use Rattle.cg_edges.specs.declared.edge.EdgeId.{EdgeId}
+use Rattle.cg_edges.specs.declared.edge.EdgeId.TheVariants.{Arg, Order}
+use Rattle.cg_edges.specs.Edges.{edge_of}
+use Rattle.cg_edges.specs.Chain.{IsCycle}
+
+-- the registers that the value of an edge crosses at least: `far v p` for operand p of node v, none for an order edge
+abbrev pub registers_of : (ℕ → ℕ → ℕ) → EdgeId → ℕ
+registers_of far (Arg v p) = far v p
+registers_of far (Order k) = 0
+
+-- an edge, where there is one, with n cycles added to its latency
+abbrev pub longer : ℕ → Option Edge → Option Edge
+longer n (Some e) = Some (record { source = e.source; target = e.target; latency = e.latency + n; distance = e.distance })
+longer n None = None
+
+-- the edge that is named, with those registers added to its latency
+abbrev pub edge_with : Arch → Kernel → (ℕ → ℕ → ℕ) → EdgeId → Option Edge
+edge_with A K far x = longer (registers_of far x) (edge_of A K x)
+
+-- a non-empty closed chain of these edges whose latencies exceed ii times its distances
+abbrev pub IsWayCycle : Arch → Kernel → (ℕ → ℕ → ℕ) → ℕ → List EdgeId → Type 0
+IsWayCycle A K far ii ids = IsCycle (edge_with A K far) ii ids

@@ -1,0 +1,29 @@
+//! Laws of closed chains that are too long with the registers on their ways. Every function here has an empty body, and its
+//! clauses speak of the definitions alone.
+ghost use Rattle.std.specs.Prelude.{◌≡◌, ◌≤◌, ◌↔◌, ℕ, List};
+ghost use Rattle.cg_model.specs.Kernel.{Kernel, IsKernel};
+ghost use Rattle.cg_model.specs.Array.{Arch};
+ghost use Rattle.cg_model.specs.Mapping.{Mapping, IsLegal};
+ghost use Rattle.cg_edges.specs.declared.edge.EdgeId.{EdgeId};
+ghost use Rattle.cg_recur.specs.Recurrences.{IsRecurrence};
+ghost use Rattle.cg_pressure.specs.Pressure.{IsKept};
+ghost use Rattle.cg_way_cycles.specs.WayCycles.{IsWayCycle};
+
+/// States that no closed chain `ids` is too long for the interval of a legal mapping `M`, where the value of each data edge
+/// crosses at least the registers that `far` gives for its operand.
+pub fn excludes()
+    ensures { (A : Arch) (K : Kernel) (M : Mapping) (far : ℕ → ℕ → ℕ) (ids : List EdgeId) →
+        IsKernel K → IsLegal A K M → IsKept A K M far → IsWayCycle A K far M.ii ids → ⊥ }
+{}
+
+/// States that a closed chain `ids` that is too long for interval `j` is too long for each lower interval `i`.
+pub fn falls()
+    ensures { (A : Arch) (K : Kernel) (far : ℕ → ℕ → ℕ) (i j : ℕ) (ids : List EdgeId) →
+        i ≤ j → IsWayCycle A K far j ids → IsWayCycle A K far i ids }
+{}
+
+/// States that `ids` is too long exactly where it is a recurrence, if `far` is 0 everywhere.
+pub fn plain()
+    ensures { (A : Arch) (K : Kernel) (far : ℕ → ℕ → ℕ) (ii : ℕ) (ids : List EdgeId) →
+        ((v p : ℕ) → far v p ≡ 0) → IsWayCycle A K far ii ids ↔ IsRecurrence A K ii ids }
+{}

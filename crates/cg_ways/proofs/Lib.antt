@@ -1,0 +1,10 @@
+pub mod Marks
+pub mod Paths
+pub mod Steps
+pub mod Found
+pub mod Searches
+pub mod Least
+pub mod Offering
+pub mod Questions
+pub mod Rows
+pub mod Kept
