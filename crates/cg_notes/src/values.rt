@@ -31,6 +31,9 @@ pub(crate) fn find_value(
     }
 }
 
+/// The bytes of a text that are looked through first for an item.
+const FIRST_SOUGHT: usize = 1_000_000;
+
 /// Returns that `sentence` is wrong of item `number` of `list` in the JSON text `bytes`.
 fn find_item(
     alloc: Global,
@@ -39,8 +42,19 @@ fn find_item(
     number: usize,
     sentence: &str,
 ) -> Result<Option<Finding>, AllocError> {
-    match json_value_at(bytes, &[Step::Key(list), Step::Item(number)]) {
+    match item_at(bytes, list, number) {
         Some(at) => Ok(Some(Finding::new(alloc, Place::at(bytes, at), sentence)?)),
         None => Ok(None),
+    }
+}
+
+/// Returns the byte at which item `number` of `list` begins in the JSON text `bytes`. In a long text it is sought in the first part
+/// alone where it stands there, so that a second `list` far behind it isn't seen.
+fn item_at(bytes: &[u8], list: &str, number: usize) -> Option<usize> {
+    let path = [Step::Key(list), Step::Item(number)];
+    let first = bytes.get(..FIRST_SOUGHT).unwrap_or(bytes);
+    match json_value_at(first, &path) {
+        Some(at) => Some(at),
+        None => json_value_at(bytes, &path),
     }
 }
