@@ -7,5 +7,5 @@ mod parts;
 mod references;
 mod slips;
 
-pub use lines::{key_line, table_line, unknown_key_line};
+pub use lines::{key_line, key_line_in, unknown_key_line};
 pub use slips::{TomlSlip, arch_slips};

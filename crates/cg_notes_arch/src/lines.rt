@@ -54,25 +54,6 @@ pub fn key_line_in(bytes: &[u8], first: usize, key: &str) -> Option<usize> {
     None
 }
 
-/// Returns the byte at which the line of `bytes` begins that opens `tile` as one table, `[tiles.A]`.
-pub fn table_line(bytes: &[u8], tile: &str) -> Option<usize> {
-    let mut at = 0usize;
-    for line in bytes.split(|byte| *byte == b'\n') {
-        let begins = at;
-        at = at.saturating_add(line.len()).saturating_add(1);
-        if table_of(line) == Some(tile) {
-            return Some(begins);
-        }
-    }
-    None
-}
-
-/// Returns the tile that `line` opens as one table.
-fn table_of(line: &[u8]) -> Option<&str> {
-    let text = std::str::from_utf8(line).ok()?;
-    text.trim().strip_prefix("[tiles.")?.strip_suffix(']')
-}
-
 /// Checks whether the first byte of `line` that is no blank is a bracket.
 fn begins_with_bracket(line: &[u8]) -> bool {
     line.iter().find(|byte| !is_blank(**byte)) == Some(&b'[')

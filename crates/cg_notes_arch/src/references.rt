@@ -9,6 +9,9 @@ use toml::Value;
 /// The most ports of a unit.
 const MOST_PORTS: usize = 3;
 
+/// What is wrong with ports that aren't lists.
+const WRONG_PORTS: &str = "\"ports\" has to be a list of lists of references";
+
 /// Adds to `slips` what is wrong with the drivers of `value`, the wire or register `here`.
 pub(crate) fn note_from(
     alloc: Global,
@@ -16,12 +19,19 @@ pub(crate) fn note_from(
     here: Here<'_>,
     value: &Value,
 ) -> Result<(), AllocError> {
-    match value.get("from") {
-        Some(found) => {
-            let at = place_of(here, "from");
-            note_references(alloc, slips, here, at, "from", found)
-        }
-        None => note_missing(alloc, slips, here, "from"),
+    let Some(found) = value.get("from") else {
+        return note_missing(alloc, slips, here, "from");
+    };
+    let at = place_of(here, "from");
+    match found.as_array() {
+        Some(references) => note_references(alloc, slips, here, at, references.as_slice()),
+        None => slips.add(
+            alloc,
+            "M2",
+            here,
+            at,
+            "\"from\" has to be a list of references",
+        ),
     }
 }
 
@@ -37,8 +47,7 @@ pub(crate) fn note_ports(
     };
     let at = place_of(here, "ports");
     let Some(ports) = found.as_array() else {
-        let text = "\"ports\" has to be a list of lists of references";
-        return slips.add(alloc, "M2", here, at, text);
+        return slips.add(alloc, "M2", here, at, WRONG_PORTS);
     };
     let count = ports.len();
     if count > MOST_PORTS {
@@ -46,28 +55,23 @@ pub(crate) fn note_ports(
         slips.add(alloc, "A7", here, at, text.as_str())?;
     }
     for port in ports.iter() {
-        note_references(alloc, slips, here, at, "ports", port)?;
+        let Some(references) = port.as_array() else {
+            return slips.add(alloc, "M2", here, at, WRONG_PORTS);
+        };
+        note_references(alloc, slips, here, at, references.as_slice())?;
     }
     Ok(())
 }
 
-/// Adds to `slips` what is wrong with `value`, a list of references of `key`, which stands at byte `at`.
+/// Adds to `slips` what is wrong with `references`, which stand at byte `at`.
 fn note_references(
     alloc: Global,
     slips: &mut TomlSlips,
     here: Here<'_>,
     at: usize,
-    key: &str,
-    value: &Value,
+    references: &[Value],
 ) -> Result<(), AllocError> {
-    let Some(references) = value.as_array() else {
-        let text = match key {
-            "from" => "\"from\" has to be a list of references",
-            _ => "\"ports\" has to be a list of lists of references",
-        };
-        return slips.add(alloc, "M2", here, at, text);
-    };
-    for reference in references.iter() {
+    for reference in references {
         match reference.as_str() {
             None => slips.add(alloc, "M2", here, at, "a reference has to be a text")?,
             Some(text) => note_reference(alloc, slips, here, at, text)?,

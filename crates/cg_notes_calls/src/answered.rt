@@ -99,7 +99,8 @@ fn add_run(
     }
 }
 
-/// Adds to `notes` which rules a mapping violates: `files` are its architecture, its kernel and itself.
+/// Adds to `notes` which rules a mapping violates: `files` are its architecture, its kernel and itself. Adds nothing where a line feed
+/// in the mapping's name would break the lines.
 fn add_violations(
     alloc: Global,
     files: &[File],
@@ -107,10 +108,15 @@ fn add_violations(
 ) -> Result<(), AllocError> {
     match files {
         [arch, kernel, mapping] if is_short(arch) && is_short(kernel) && is_short(mapping) => {
+            let name = mapping.name.as_str();
+            if name.contains('\n') {
+                return Ok(());
+            }
             rule_notes(
                 alloc,
                 arch.bytes.as_slice(),
                 kernel.bytes.as_slice(),
+                name,
                 mapping.bytes.as_slice(),
                 notes,
             )

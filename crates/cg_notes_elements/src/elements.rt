@@ -1,7 +1,9 @@
 //! Faults of architectures, by the part of a tile, an element or a key.
 
-use crate::names::{parts_of, repeated_name, tile_at, unknown_driver};
-use cg_notes_arch::key_line;
+use crate::names::{parts_of, repeated_name, tile_at};
+use crate::references::wrong_driver;
+use cg_grid::Cell;
+use cg_notes_arch::{key_line, key_line_in};
 use cg_notes_texts::{Finding, MOST_PARSED, Place};
 use cg_places::tile_part_at;
 use cg_toml::toml_table;
@@ -38,6 +40,17 @@ pub(crate) fn part_at(bytes: &[u8], tile: &str, part: usize) -> Option<usize> {
     }
 }
 
+/// Returns the byte of `bytes` at which the drivers of part number `part` of `tile` stand, the line of its key `from` or `ports`; that
+/// of the part itself where its keys have no lines.
+pub(crate) fn drivers_at(bytes: &[u8], tile: &str, part: usize) -> Option<usize> {
+    let Some(at) = tile_part_at(bytes, tile, part) else {
+        return key_line(bytes, tile);
+    };
+    key_line_in(bytes, at, "from")
+        .or(key_line_in(bytes, at, "ports"))
+        .or(Some(at))
+}
+
 /// Returns what the fault `code` says of the element that `rest` says, `NUMBER` or `NUMBER driver NAME`, in the architecture file
 /// `bytes`, of which `sentence` says it in general.
 pub fn find_element(
@@ -60,57 +73,77 @@ pub fn find_element(
     let Ok(table) = toml_table(alloc, bytes) else {
         return Ok(None);
     };
-    let Some((tile, part)) = part_of_element(&table, element) else {
+    let Some(origin) = origin_of(&table, element) else {
         return Ok(None);
     };
-    let Some(at) = part_at(bytes, tile, part) else {
+    let Origin { tile, part, .. } = origin;
+    let (found, what) = match driver {
+        Some(driver) => (
+            drivers_at(bytes, tile, part),
+            wrong_driver(alloc, &table, code, origin, driver, sentence)?,
+        ),
+        None => (
+            part_at(bytes, tile, part),
+            wrong_element(alloc, &table, code, origin, sentence)?,
+        ),
+    };
+    let Some(at) = found else {
         return Ok(None);
     };
-    let what = wrong_element(alloc, &table, code, tile, part, driver, sentence)?;
     let what = what.as_str();
     let text = format!(in alloc; "tile {tile} part {part}: {what}")?;
     let place = Place::at(bytes, at);
     Ok(Some(Finding { place, text }))
 }
 
-/// Returns what the fault `code` says of part number `part` of `tile` in `table`, an architecture, and of what drives it, of which
-/// `sentence` says it in general.
+/// Where an element of an architecture comes from.
+#[derive(Clone, Copy, Drop)]
+pub(crate) struct Origin<'a> {
+    /// Its cell.
+    pub(crate) cell: Cell,
+    /// The tile of that cell.
+    pub(crate) tile: &'a str,
+    /// The number of its part there.
+    pub(crate) part: usize,
+}
+
+/// Returns what the fault `code` says of the element from `origin` in `table`, an architecture, of which `sentence` says it in
+/// general.
 fn wrong_element(
     alloc: Global,
     table: &Value,
     code: &str,
-    tile: &str,
-    part: usize,
-    driver: Option<&str>,
+    origin: Origin<'_>,
     sentence: &str,
 ) -> Result<String, AllocError> {
-    match (code, driver) {
-        ("A4", Some(driver)) => unknown_driver(alloc, table, driver),
-        (_, Some(driver)) => format!(in alloc; "{driver}: {sentence}"),
-        ("A3", None) => match repeated_name(alloc, table, tile, part)? {
+    match code {
+        "A3" => match repeated_name(alloc, table, origin.tile, origin.part)? {
             Some(text) => Ok(text),
             None => String::from_str(alloc, sentence),
         },
-        ("A2", None) => format!(in alloc; "{sentence} with its cell, as r0c0_ before it"),
+        "A2" => format!(in alloc; "{sentence} with its cell, as r0c0_ before it"),
         _ => String::from_str(alloc, sentence),
     }
 }
 
-/// Returns the tile and the part that element `element` of the architecture `table` comes from: elements are counted
-/// through the tiles of the grid, row by row.
-fn part_of_element(table: &Value, element: usize) -> Option<(&str, usize)> {
+/// Returns where element `element` of the architecture `table` comes from: elements are counted through the tiles of the grid, row
+/// by row.
+fn origin_of(table: &Value, element: usize) -> Option<Origin<'_>> {
     let mut left = element;
-    for row in table.get("grid")?.as_array()? {
-        let row = row.as_str()?;
-        for place in 0..row.len() {
-            let tile = row.get(place..place.saturating_add(1))?;
-            let Some(parts) = parts_of(table, tile) else {
-                continue;
-            };
-            if left < parts.len() {
-                return Some((tile, left));
+    for (row, cells) in table.get("grid")?.as_array()?.iter().enumerate() {
+        let cells = cells.as_str()?;
+        for column in 0..cells.len() {
+            let tile = cells.get(column..column.saturating_add(1))?;
+            let count = parts_of(table, tile).unwrap_or(&[]).len();
+            if left < count {
+                let cell = Cell { row, column };
+                return Some(Origin {
+                    cell,
+                    tile,
+                    part: left,
+                });
             }
-            left = left.saturating_sub(parts.len());
+            left = left.saturating_sub(count);
         }
     }
     None

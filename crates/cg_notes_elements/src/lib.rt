@@ -4,6 +4,7 @@
 mod elements;
 mod names;
 mod reach;
+mod references;
 
 pub use elements::{find_element, find_key, find_letter, find_tile_part};
 pub use reach::{find_hub, find_limit, find_loop};

@@ -46,7 +46,7 @@ pub(crate) fn has_resource(part: &Value, name: &str) -> bool {
 }
 
 /// Adds to `names` those of the resources of `part`, and where `with_units` is true that of its unit.
-fn add_names(
+pub(crate) fn add_names(
     alloc: Global,
     part: &Value,
     with_units: bool,
@@ -79,43 +79,12 @@ fn port_count(part: &Value) -> usize {
     }
 }
 
-/// Returns that no resource is called `driver`, its flat name, in `table`, an architecture, and which may be meant.
-pub(crate) fn unknown_driver(
-    alloc: Global,
-    table: &Value,
-    driver: &str,
-) -> Result<String, AllocError> {
-    let Some((row, column, rest)) = cell_of(driver) else {
-        return format!(in alloc; "{driver}: no resource is called so");
-    };
-    let Some(tile) = tile_at(table, row, column) else {
-        return format!(in alloc;
-            "{driver}: no resource is called so, and the grid has no cell in row {row}, column {column}"
-        );
-    };
-    let parts = parts_of(table, tile).unwrap_or(&[]);
-    if parts.iter().any(|part| said(part, "unit") == Some(rest)) {
-        return format!(in alloc;
-            "{driver}: no resource is called so, which is a unit: its out is {driver}_o"
-        );
-    }
-    let mut names = Vec::new(alloc);
-    for part in parts {
-        add_names(alloc, part, false, &mut names)?;
-    }
-    match near_name(alloc, rest, names.as_slice())? {
-        Some(near) => {
-            let near = near.as_str();
-            format!(in alloc;
-                "{driver}: no resource is called so, did you mean r{row}c{column}_{near}?"
-            )
-        }
-        None => format!(in alloc; "{driver}: no resource is called so, tile {tile} has no {rest}"),
-    }
-}
-
 /// Returns the one of `names` that may be meant by `name`.
-fn near_name(alloc: Global, name: &str, names: &[String]) -> Result<Option<String>, AllocError> {
+pub(crate) fn near_name(
+    alloc: Global,
+    name: &str,
+    names: &[String],
+) -> Result<Option<String>, AllocError> {
     let mut known: Vec<&str> = Vec::new(alloc);
     for name in names {
         known.push(name.as_str())?;

@@ -1,8 +1,8 @@
 //! Faults of architectures whose reports give names of resources: loops of wires, and links that a hub lacks.
 
-use crate::elements::{find_key, part_at};
+use crate::elements::{drivers_at, find_key};
 use crate::names::{cell_of, has_resource, parts_of, tile_at};
-use cg_notes_texts::{Finding, MOST_PARSED, Place};
+use cg_notes_texts::{Finding, MOST_PARSED, Place, short_list};
 use cg_toml::toml_table;
 use std::alloc::{AllocError, Global};
 use toml::Value;
@@ -46,13 +46,19 @@ pub fn find_limit(alloc: Global, bytes: &[u8], place: &str) -> Result<Option<Fin
 
 /// Returns where in the architecture file `bytes` the loop of wires begins that `names` gives, from its first one on.
 pub fn find_loop(alloc: Global, bytes: &[u8], names: &str) -> Result<Option<Finding>, AllocError> {
-    let wires = names.split(' ').count();
-    let first = match names.split_once(' ') {
-        Some((first, _)) => first,
-        None => names,
-    };
-    let what = format!(in alloc; "{first} begins a loop without a register; wires in it: {wires}")?;
-    find_part(alloc, bytes, first, what.as_str())
+    let mut wires: Vec<&str> = Vec::new(alloc);
+    for name in names.split(' ') {
+        wires.push(name)?;
+    }
+    let list = short_list(alloc, wires.as_slice())?;
+    let list = list.as_str();
+    let what = format!(in alloc;
+        "these wires drive one another in a ring, and a register has to be between: {list}"
+    )?;
+    match wires.first() {
+        Some(first) => find_drivers(alloc, bytes, first, what.as_str()),
+        None => Ok(None),
+    }
 }
 
 /// Returns what the hub of the architecture file `bytes` lacks by `place`, `hub NAME` or `link FROM TO`.
@@ -68,11 +74,11 @@ pub fn find_hub(alloc: Global, bytes: &[u8], place: &str) -> Result<Option<Findi
         return Ok(None);
     };
     let what = format!(in alloc; "the hub needs a link from {from} to {to}")?;
-    find_part(alloc, bytes, to, what.as_str())
+    find_drivers(alloc, bytes, to, what.as_str())
 }
 
-/// Returns that `what` is wrong with the part of a tile of the architecture file `bytes` that the resource `name` comes from.
-fn find_part(
+/// Returns that `what` is wrong with the drivers of the resource `name` in the architecture file `bytes`.
+fn find_drivers(
     alloc: Global,
     bytes: &[u8],
     name: &str,
@@ -87,7 +93,7 @@ fn find_part(
     let Some((tile, part)) = part_of_name(&table, name) else {
         return Ok(None);
     };
-    let Some(at) = part_at(bytes, tile, part) else {
+    let Some(at) = drivers_at(bytes, tile, part) else {
         return Ok(None);
     };
     let text = format!(in alloc; "tile {tile} part {part}: {what}")?;

@@ -110,9 +110,14 @@ fn note_distance(
         )?;
     }
     if init as u64 != u64::from(distance) {
-        let text = format!(in alloc;
-            "{prefix}argument {place}: \"init\" has {init} words, and the distance is {distance}"
-        )?;
+        let text = match init {
+            0 => format!(in alloc;
+                "{prefix}argument {place}: \"init\" is missing or empty: it has a word for each turn of the distance, which is {distance}, as \"init\":[0] at distance 1"
+            )?,
+            _ => format!(in alloc;
+                "{prefix}argument {place}: \"init\" has {init} words, and the distance is {distance}"
+            )?,
+        };
         slips.add("K13", "nodes", number, Spot::Element("args", place), text)?;
     }
     Ok(())

@@ -4,7 +4,9 @@
 mod meeting;
 mod names;
 mod notes;
+mod places;
 mod placing;
 mod routing;
+mod timing;
 
 pub use notes::rule_notes;

@@ -58,4 +58,12 @@ impl<'a> Mapped<'a> {
             None => "",
         }
     }
+
+    /// Returns the numbers of the resources that drive resource number `resource`.
+    pub(crate) fn drivers(self, resource: usize) -> &'a [u32] {
+        match self.arch.resources().get(resource) {
+            Some(resource) => resource.drivers.as_slice(),
+            None => &[],
+        }
+    }
 }

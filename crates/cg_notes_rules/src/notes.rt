@@ -2,11 +2,13 @@
 
 use crate::meeting::meeting_note;
 use crate::names::Mapped;
+use crate::places::MappingFile;
 use crate::placing::{interval_note, order_note, shared_note, unit_note};
 use crate::routing::route_note;
 use cg_check::{Rule, RulePlace, Violation};
 use cg_kernel::read_kernel;
 use cg_mapping::read_mapping;
+use cg_notes_texts::Place;
 use cg_tiles::read_arch;
 use cg_violations::violations;
 use std::alloc::{AllocError, Global};
@@ -14,15 +16,20 @@ use std::alloc::{AllocError, Global};
 /// The most violations that are noted.
 const MOST_NOTED: usize = 8;
 
-/// Adds to `notes` what the first violations are of the mapping that is the file with the bytes `mapping`, by `arch` and `kernel`,
-/// the bytes of its architecture's and its kernel's files.
+/// Adds to `notes` what the first violations are of the mapping that is the file `name` with the bytes `mapping`, by `arch` and
+/// `kernel`, the bytes of its architecture's and its kernel's files: `NAME:LINE:COLUMN: TEXT`, or `NAME: TEXT` where several routes
+/// violate a rule together.
 pub fn rule_notes(
     alloc: Global,
     arch: &[u8],
     kernel: &[u8],
+    name: &str,
     mapping: &[u8],
     notes: &mut Vec<String>,
 ) -> Result<(), AllocError> {
+    let Some(file) = MappingFile::read(alloc, mapping) else {
+        return Ok(());
+    };
     let Ok(arch) = read_arch(alloc, arch) else {
         return Ok(());
     };
@@ -39,11 +46,25 @@ pub fn rule_notes(
         mapping: &mapping,
     };
     for violation in found.iter().take(MOST_NOTED) {
-        if let Some(note) = violation_note(alloc, mapped, *violation)? {
-            notes.push(note)?;
+        if let Some(text) = violation_note(alloc, mapped, *violation)? {
+            let place = file.place_of(mapped, violation.place);
+            notes.push(placed_note(alloc, name, place, text.as_str())?)?;
         }
     }
     Ok(())
+}
+
+/// Returns the note that says `text` of `place` in the file `name`.
+fn placed_note(
+    alloc: Global,
+    name: &str,
+    place: Option<Place>,
+    text: &str,
+) -> Result<String, AllocError> {
+    match place {
+        Some(place) => format!(in alloc; "{name}:{place}: {text}"),
+        None => format!(in alloc; "{name}: {text}"),
+    }
 }
 
 /// Returns what `violation` of `mapped` is.

@@ -1,8 +1,10 @@
 //! Violations of L5: routes that don't bring their value.
 
 use crate::names::Mapped;
-use cg_check::{DataEdge, delay, edge_into, leaves};
+use crate::timing::time_reason;
+use cg_check::{DataEdge, edge_into};
 use cg_model::Route;
+use cg_notes_texts::short_list;
 use std::alloc::{AllocError, Global};
 
 /// Returns why the route of `mapped` to argument `arg` of node number `node` doesn't bring its value.
@@ -88,7 +90,11 @@ fn link_reason(
             if !drives(mapped, from, *resource) {
                 let from = mapped.resource_name(from as usize);
                 let to = mapped.resource_name(*resource as usize);
-                let note = format!(in alloc; "goes from {from} to {to}, and no link does")?;
+                let drivers = drivers_of(alloc, mapped, *resource)?;
+                let drivers = drivers.as_str();
+                let note = format!(in alloc;
+                    "goes from {from} to {to}, and no link does; {drivers}"
+                )?;
                 return Ok(Some(note));
             }
         }
@@ -99,10 +105,22 @@ fn link_reason(
 
 /// Checks whether a link of `mapped` goes from resource `from` to resource `to`.
 fn drives(mapped: Mapped<'_>, from: u32, to: u32) -> bool {
-    match mapped.arch.resources().get(to as usize) {
-        Some(resource) => resource.drivers.as_slice().contains(&from),
-        None => false,
+    mapped.drivers(to as usize).contains(&from)
+}
+
+/// Returns which resources of `mapped` drive resource number `resource`.
+fn drivers_of(alloc: Global, mapped: Mapped<'_>, resource: u32) -> Result<String, AllocError> {
+    let mut names: Vec<&str> = Vec::new(alloc);
+    for driver in mapped.drivers(resource as usize) {
+        names.push(mapped.resource_name(*driver as usize))?;
     }
+    let name = mapped.resource_name(resource as usize);
+    if names.is_empty() {
+        return format!(in alloc; "nothing drives {name}");
+    }
+    let list = short_list(alloc, names.as_slice())?;
+    let list = list.as_str();
+    format!(in alloc; "{name} is driven by {list}")
 }
 
 /// Returns where `route` of `mapped` ends, `last`, if that isn't the port of its argument.
@@ -127,20 +145,4 @@ fn end_reason(
         None => format!(in alloc; "ends at {last}, and {unit} has no port for this argument")?,
     };
     Ok(Some(note))
-}
-
-/// Returns when the value of `edge` comes to the end of `route` of `mapped`, and when it is needed.
-fn time_reason(
-    alloc: Global,
-    mapped: Mapped<'_>,
-    route: &Route,
-    edge: DataEdge,
-) -> Result<String, AllocError> {
-    let mut comes = leaves(mapped.arch, mapped.mapping, edge.source);
-    for resource in route.path.as_slice().iter().skip(1) {
-        comes = comes.saturating_add(delay(mapped.arch, *resource));
-    }
-    let turns = u64::from(mapped.mapping.ii()).saturating_mul(u64::from(edge.distance));
-    let needed = mapped.time(route.node as usize).saturating_add(turns);
-    format!(in alloc; "brings the value in cycle {comes}, and it is taken in cycle {needed}")
 }

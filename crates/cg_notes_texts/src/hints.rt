@@ -11,14 +11,15 @@ const CALLED: [&str; 16] = [
     "maxs", "select",
 ];
 
-/// Returns what may be wrong where `token` follows `before` in a loop body; empty where that can't be said.
-pub(crate) fn loop_hint(before: &[u8], token: Token<'_>) -> &'static str {
+/// Returns what may be wrong where `token`, with which `rest` begins, follows `before` in a loop body; empty where that can't be
+/// said.
+pub(crate) fn loop_hint(before: &[u8], rest: &[u8], token: Token<'_>) -> &'static str {
     let Some(last) = last_byte(before) else {
         return "; a loop body begins with cgl1;";
     };
     match token {
         Token::Word(word) => word_hint(before, last, word),
-        Token::Byte(byte) => byte_hint(last, byte),
+        Token::Byte(byte) => sign_hint(last, rest).unwrap_or(other_hint(last, byte)),
     }
 }
 
@@ -56,21 +57,47 @@ fn begins_with_digit(word: &str) -> bool {
     }
 }
 
-/// Returns what may be wrong where `byte` follows a byte `last`.
-fn byte_hint(last: u8, byte: u8) -> &'static str {
+/// Returns what stands for a sign of two bytes or more that other languages have, where `rest` begins with it or, behind the byte
+/// `last`, with its second byte. Returns None where there is no such sign.
+fn sign_hint(last: u8, rest: &[u8]) -> Option<&'static str> {
+    let hint = match (last, rest) {
+        (_, [b'+', b'=', ..]) | (b'+', [b'=', ..]) =>
+            "; write the assignment out: x = x + 2 for x += 2",
+        (_, [b'-', b'=', ..]) | (b'-', [b'=', ..]) =>
+            "; write the assignment out: x = x - 2 for x -= 2",
+        (_, [b'*', b'=', ..]) | (b'*', [b'=', ..]) =>
+            "; write the assignment out: x = x * 2 for x *= 2",
+        (_, [b'+', b'+', ..]) | (b'+', [b'+', b';' | b')', ..]) =>
+            "; write the assignment out: x = x + 1 for x++",
+        (_, [b'-', b'-', ..]) | (b'-', [b'-', b';' | b')', ..]) =>
+            "; write the assignment out: x = x - 1 for x--",
+        (_, [b'>', b'>', ..]) => "; write sar(a, 2) for a >> 2, or shr(a, 2) where a has no sign",
+        (_, [b'<', b'<', ..]) | (b'<', [b'<', ..]) => "; write shl(a, 2) for a << 2",
+        (_, [b'>', b'=', ..]) => "; write (a < b) == 0 for a >= b",
+        (_, [b'<', b'=', ..]) | (b'<', [b'=', ..]) => "; write (b < a) == 0 for a <= b",
+        (_, [b'!', b'=', ..]) => "; write ne(a, b), which is (a == b) == 0, for a != b",
+        (_, [b'&', b'&', ..]) => "; write and(a, b) for a && b, where both are 0 or 1",
+        (_, [b'|', b'|', ..]) => "; write or(a, b) for a || b, where both are 0 or 1",
+        (b'*', [b'*', ..]) => "; write a * a for a ** 2",
+        _ => return None,
+    };
+    Some(hint)
+}
+
+/// Returns what may be wrong where `byte`, which begins no sign of two bytes, follows a byte `last`; empty where that can't be said.
+fn other_hint(last: u8, byte: u8) -> &'static str {
     match (last, byte) {
-        (b'=' | b'(' | b'[' | b',' | b'+' | b'*' | b'<', b'-') =>
+        (b'=' | b'(' | b'[' | b',' | b'+' | b'-' | b'*' | b'<', b'-') =>
             "; a number has no sign: write (0 - 1) for -1, in a declaration 4294967295",
-        (b'+' | b'-' | b'*', b'=') => "; write s = s + 1 for s += 1",
-        (b'+', b'+') | (b'-', b'-') => "; write s = s + 1 for s++",
-        (b'<', b'<') => "; write shl(a, b)",
+        (b'0'..=b'9', b'.') => "; a number is a whole one, without a point",
         (_, b'>') => "; write b < a for a > b",
         (_, b'/' | b'%') => "; nothing divides: shr(a, 1) halves, and and(a, 7) is the rest by 8",
-        (_, b'&') => "; write and(a, b)",
-        (_, b'|') => "; write or(a, b)",
-        (_, b'^') => "; write xor(a, b)",
-        (_, b'!') => "; write ne(a, b) for a != b",
-        (_, b'?') => "; write select(c, a, b)",
+        (_, b'&') => "; write and(a, b) for a & b",
+        (_, b'|') => "; write or(a, b) for a | b",
+        (_, b'^') => "; write xor(a, b) for a ^ b",
+        (_, b'!') => "; write a == 0 for !a",
+        (_, b'~') => "; write xor(a, 4294967295) for ~a",
+        (_, b'?') => "; write select(c, a, b) for c ? a : b",
         (_, b'{' | b'}') => "; there are no braces",
         _ => "",
     }

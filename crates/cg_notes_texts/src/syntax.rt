@@ -1,8 +1,10 @@
 //! Faults of texts that are no JSON or no TOML.
 
 use crate::finding::{Finding, Place};
+use crate::headers::{header_tile, table_line};
 use crate::json::{json_error, within};
 use cg_json::{JsonFault, json_value};
+use cg_slips::shown;
 use cg_toml::{TomlFault, toml_table};
 use std::alloc::{AllocError, Global};
 
@@ -17,7 +19,7 @@ pub fn find_in_json(
     bytes: &[u8],
     what: &str,
 ) -> Result<Option<Finding>, AllocError> {
-    if let Some(finding) = find_in_bytes(alloc, bytes)? {
+    if let Some(finding) = find_in_bytes(alloc, bytes, what)? {
         return Ok(Some(finding));
     }
     if bytes.len() > MOST_PARSED {
@@ -45,7 +47,7 @@ pub fn find_in_json(
 ///
 /// A text whose values would take too much memory as JSON counts as none.
 pub fn find_in_toml(alloc: Global, bytes: &[u8]) -> Result<Option<Finding>, AllocError> {
-    if let Some(finding) = find_in_bytes(alloc, bytes)? {
+    if let Some(finding) = find_in_bytes(alloc, bytes, "architecture")? {
         return Ok(Some(finding));
     }
     if bytes.len() > MOST_PARSED {
@@ -80,15 +82,13 @@ fn other_text(bytes: &[u8]) -> Option<&'static str> {
     }
 }
 
-/// Returns why `bytes` can be no text of any language: they are bits or an image, no UTF-8, or blank. Returns `None` otherwise.
-fn find_in_bytes(alloc: Global, bytes: &[u8]) -> Result<Option<Finding>, AllocError> {
-    if bytes.starts_with(b"CGB") {
-        let text = "these are bits, and no text";
-        return Ok(Some(Finding::new(alloc, Place::START, text)?));
-    }
-    if bytes.starts_with(b"CGI") {
-        let text = "this is an image, and no text";
-        return Ok(Some(Finding::new(alloc, Place::START, text)?));
+/// Returns why `bytes` can be no text of any language, where `what` is the file that they should be: they are bits or an image, no
+/// UTF-8, or blank. Returns `None` otherwise.
+fn find_in_bytes(alloc: Global, bytes: &[u8], what: &str) -> Result<Option<Finding>, AllocError> {
+    if let Some(is) = no_text(bytes) {
+        let text = format!(in alloc; "{is}, and the file of the {what} is asked")?;
+        let place = Place::START;
+        return Ok(Some(Finding { place, text }));
     }
     if let Err(error) = std::str::from_utf8(bytes) {
         let place = Place::at(bytes, error.valid_up_to());
@@ -103,6 +103,17 @@ fn find_in_bytes(alloc: Global, bytes: &[u8]) -> Result<Option<Finding>, AllocEr
     Ok(None)
 }
 
+/// Returns what `bytes` are where they begin as bits or as an image.
+fn no_text(bytes: &[u8]) -> Option<&'static str> {
+    if bytes.starts_with(b"CGB") {
+        Some("these are bits")
+    } else if bytes.starts_with(b"CGI") {
+        Some("this is an image")
+    } else {
+        None
+    }
+}
+
 /// Returns what the parser of TOML says of `bytes`, and `None` where it takes them. The caller has seen by `toml_table`
 /// that their values don't take too much memory.
 fn toml_error(alloc: Global, bytes: &[u8]) -> Result<Option<Finding>, AllocError> {
@@ -113,29 +124,64 @@ fn toml_error(alloc: Global, bytes: &[u8]) -> Result<Option<Finding>, AllocError
                 return Err(AllocError);
             };
             let message = error.message().lines().next().unwrap_or("");
-            let hint = toml_hint(bytes.get(span.start..).unwrap_or(&[]));
-            let list = within(
-                alloc,
-                bytes.get(..span.start).unwrap_or(&[]),
-                "is open here",
-            )?;
-            let list = list.as_str();
-            let text = format!(in alloc; "{message}{hint}{list}")?;
+            if message == "duplicate key" {
+                if let Some(finding) = table_for_list(alloc, bytes, span.start)? {
+                    return Ok(Some(finding));
+                }
+            }
+            let hint = toml_hint(alloc, bytes, span.start, message)?;
+            let hint = hint.as_str();
+            let text = format!(in alloc; "{message}{hint}")?;
             let place = Place::at(bytes, span.start);
             Ok(Some(Finding { place, text }))
         }
     }
 }
 
-/// Returns what may be wrong where `rest` is no TOML; empty where that can't be said.
-fn toml_hint(rest: &[u8]) -> &'static str {
+/// Returns that the parts of a tile are a list, where a header stands at byte `at` of `bytes` and the tile is opened as one table.
+fn table_for_list(alloc: Global, bytes: &[u8], at: usize) -> Result<Option<Finding>, AllocError> {
+    let Some(tile) = header_tile(bytes.get(at..).unwrap_or(&[])) else {
+        return Ok(None);
+    };
+    let Some(begins) = table_line(bytes, tile) else {
+        return Ok(None);
+    };
+    let tile = shown(alloc, tile)?;
+    let tile = tile.as_str();
+    let text = format!(in alloc;
+        "the parts of a tile are a list: each begins with its header in two brackets, [[tiles.{tile}]]"
+    )?;
+    let place = Place::at(bytes, begins);
+    Ok(Some(Finding { place, text }))
+}
+
+/// Returns what may be wrong at byte `at` of `bytes`, which are no TOML there by `message`; empty where that can't be said.
+fn toml_hint(alloc: Global, bytes: &[u8], at: usize, message: &str) -> Result<String, AllocError> {
+    match start_hint(bytes.get(at..).unwrap_or(&[]), message) {
+        "" => within(alloc, bytes.get(..at).unwrap_or(&[]), "is open here"),
+        hint => String::from_str(alloc, hint),
+    }
+}
+
+/// Returns what may be wrong where `rest` is no TOML by `message`; empty where that can't be said.
+fn start_hint(rest: &[u8], message: &str) -> &'static str {
     if rest.starts_with(b"//") || rest.starts_with(b"/*") || rest.starts_with(b"--") {
         ": a comment begins with #"
     } else if rest.starts_with(b"True") || rest.starts_with(b"False") {
         ": true and false have small letters"
     } else if rest.starts_with(b"{") {
         ": is this JSON?"
+    } else if message.starts_with("invalid value") && begins_with_letter(rest) {
+        ": a text stands in double quotes"
     } else {
         ""
+    }
+}
+
+/// Checks whether `rest` begins with a letter.
+fn begins_with_letter(rest: &[u8]) -> bool {
+    match rest.first() {
+        Some(first) => first.is_ascii_alphabetic(),
+        None => false,
     }
 }

@@ -36,7 +36,13 @@ pub fn find_in_text(
             format!(in alloc; "\"{name}\" is no word: {why}")?
         }
         "T2" => format!(in alloc; "\"{name}\" stands before memory or stream P")?,
-        "T3" => String::from_str(alloc, "behind stream stands the number of a port, 0 to 15")?,
+        "T3" if field == "stream" => String::from_str(
+            alloc,
+            "behind stream stands the number of a port, 0 to 15",
+        )?,
+        "T3" => format!(in alloc;
+            "\"{name}\" is no port: behind stream stands a number from 0 to 15, as a field of its own"
+        )?,
         _ => {
             let why = too_large(alloc, field)?;
             let why = why.as_str();

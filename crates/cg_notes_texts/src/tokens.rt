@@ -44,12 +44,13 @@ fn unexpected(
             return Ok(text);
         }
     }
-    let hint = if begins_comment(bytes.get(offset..).unwrap_or(&[])) {
+    let rest = bytes.get(offset..).unwrap_or(&[]);
+    let hint = if begins_comment(rest) {
         "; there are no comments"
     } else if ends_without_semicolon(before) {
         "; is a semicolon missing before it?"
     } else if code == "Q1" {
-        loop_hint(before, token)
+        loop_hint(before, rest, token)
     } else {
         ""
     };

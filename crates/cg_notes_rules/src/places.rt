@@ -1,0 +1,78 @@
+//! Where in the text of a mapping a violation stands.
+
+use crate::names::Mapped;
+use cg_check::RulePlace;
+use cg_json::{items_or_none, json_value, text_at, word_in};
+use cg_notes_texts::Place;
+use cg_places::{Step, json_value_at};
+use serde_json::Value;
+use std::alloc::Global;
+
+/// The file of a mapping.
+#[derive(Drop)]
+pub(crate) struct MappingFile<'a> {
+    /// Its bytes.
+    bytes: &'a [u8],
+    /// The value that they stand for.
+    value: Value,
+}
+
+impl<'a> MappingFile<'a> {
+    /// Returns the file of the bytes `bytes`; None where they are no JSON text.
+    pub(crate) fn read(alloc: Global, bytes: &'a [u8]) -> Option<MappingFile<'a>> {
+        match json_value(alloc, bytes) {
+            Ok(value) => Some(MappingFile { bytes, value }),
+            Err(_) => None,
+        }
+    }
+
+    /// Returns where the interval, the place or the route stands that violates a rule at `place` of `mapped`, the mapping of the file:
+    /// of an order edge the place of its target. Returns None where it is a resource, which several routes meet on.
+    pub(crate) fn place_of(&self, mapped: Mapped<'_>, place: RulePlace) -> Option<Place> {
+        match place {
+            RulePlace::Mapping => self.place_at(&[Step::Key("ii")]),
+            RulePlace::Node(node) => self.node_place(mapped.node_name(node)),
+            RulePlace::Order(edge) => {
+                let target = mapped.kernel.order().get(edge)?.to;
+                self.node_place(mapped.node_name(target as usize))
+            }
+            RulePlace::Arg { node, arg } => self.route_place(mapped.node_name(node as usize), arg),
+            RulePlace::Resource { .. } => None,
+        }
+    }
+
+    /// Returns where the place of the node `name` stands.
+    fn node_place(&self, name: &str) -> Option<Place> {
+        let number = self
+            .items("places")
+            .iter()
+            .position(|place| text_at(place, "node") == Some(name))?;
+        self.place_at(&[Step::Key("places"), Step::Item(number)])
+    }
+
+    /// Returns where the route to argument `arg` of the node `name` stands.
+    fn route_place(&self, name: &str, arg: u32) -> Option<Place> {
+        let number = self.items("routes").iter().position(|route| text_at(route, "to") == Some(name)
+            && has_argument(route, arg))?;
+        self.place_at(&[Step::Key("routes"), Step::Item(number)])
+    }
+
+    /// Returns the items of the list at `key`, none where there is none.
+    fn items(&self, key: &str) -> &[Value] {
+        items_or_none(&self.value, key).unwrap_or(&[])
+    }
+
+    /// Returns where the value stands that `path` leads to.
+    fn place_at(&self, path: &[Step<'_>]) -> Option<Place> {
+        let at = json_value_at(self.bytes, path)?;
+        Some(Place::at(self.bytes, at))
+    }
+}
+
+/// Checks whether `route` ends at argument `arg`.
+fn has_argument(route: &Value, arg: u32) -> bool {
+    match route.get("arg") {
+        Some(found) => word_in(found) == Some(arg),
+        None => false,
+    }
+}
