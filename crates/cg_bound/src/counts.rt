@@ -37,8 +37,8 @@ fn offers_one(set: OpSet, offered: OpSet) -> bool
         .any(move |op: Op| set.has(op) && offered.has(op))
 }
 
-/// The sum of the latencies of a chain of edges, and that of their distances.
-pub(crate) fn sums(arch: &Arch, kernel: &Kernel, ids: &[EdgeId]) -> (u128, u128)
+/// Returns the sum of the latencies of the edges `ids` of a chain, in cycles, and that of their distances, in turns.
+pub fn sums(arch: &Arch, kernel: &Kernel, ids: &[EdgeId]) -> (u128, u128)
     ensures latency { result.0 ≡ latencies (edge_of arch.now kernel.now) ids.now }
     ensures distance { result.1 ≡ distances (edge_of arch.now kernel.now) ids.now }
 {

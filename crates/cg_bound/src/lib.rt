@@ -10,6 +10,7 @@ mod text;
 mod unoffered;
 
 pub use cg_edges::{Arch, EdgeId, Kernel};
+pub use counts::sums;
 pub use interval::{Certificate, IntervalVerdict, LeastInterval, bound, verdict};
 pub use laws::{always_bounded, certifies, excludes, one_least};
-pub use text::{certificate_text, push_chain, push_set};
+pub use text::{certificate_text, edge_word, push_chain, push_edges, push_set};

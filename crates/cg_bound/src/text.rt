@@ -73,8 +73,8 @@ pub fn push_chain(
     Ok(())
 }
 
-/// Adds edges, each after a blank.
-fn push_edges(
+/// Adds the edges `ids` to `text`, each after a blank, as ` x.0 order.1`.
+pub fn push_edges(
     alloc: Global,
     text: &mut Vec<u8>,
     kernel: &Kernel,
@@ -89,8 +89,9 @@ fn push_edges(
     Ok(())
 }
 
-/// An edge after a blank.
-fn edge_word(alloc: Global, kernel: &Kernel, id: EdgeId) -> Result<String, AllocError>
+/// Returns the text of edge `id` after a blank: the name of the node that takes the value and the number of the operand, or
+/// `order` and the number of the order edge.
+pub fn edge_word(alloc: Global, kernel: &Kernel, id: EdgeId) -> Result<String, AllocError>
     ensures { IfOk result (λ s. string_bytes s ≡ spec.edge_word kernel.now id) }
 {
     match id {

@@ -39,8 +39,15 @@ sum_more w s r t f a b l e g h i = e' ∙ sym (total_next w f)
 pub product_le : (s r a b : ℕ) → s ≤ a → r ≤ b → s * r ≤ a * b
 product_le s r a b h k = let p = mul-le-mul_left s k in let q = mul-le-mul_right b h in omega arith
 
--- the comparison of the sides
-pub sides : (ii r d e l s g f t r' d' e' l' s' g' f' t' : ℕ) → r ≡ r' → d ≡ d' → e ≡ e' → l ≡ l' → s ≡ s' → g ≡ g' → f ≡ f' → t ≡ t' →
-    (ltb (ii * r + ii * (d + e) + l) (ii * s + g + f + t) ≡ true → ii * r' + ii * (d' + e') + l' < ii * s' + g' + f' + t')
-    × (ii * r' + ii * (d' + e') + l' < ii * s' + g' + f' + t' → ltb (ii * r + ii * (d + e) + l) (ii * s + g + f + t) ≡ true)
-sides ii r d e l s g f t r' d' e' l' s' g' f' t' a1 a2 a3 a4 a5 a6 a7 a8 = rw (a1, a2, a3, a4, a5, a6, a7, a8) (ltb-true _ _, lt-ltb _ _)
+-- the sides, and their comparison
+pub sum_along : (ii s g f t s' g' f' t' : ℕ) → s ≡ s' → g ≡ g' → f ≡ f' → t ≡ t' → ii * s + g + f + t ≡ ii * s' + g' + f' + t'
+sum_along ii s g f t s' g' f' t' a1 a2 a3 a4 = rw (a1, a2, a3, a4) refl
+
+pub sum_against : (ii d e l d' e' l' : ℕ) → d ≡ d' → e ≡ e' → l ≡ l' → ii * (d + e) + l ≡ ii * (d' + e') + l'
+sum_against ii d e l d' e' l' a1 a2 a3 = rw (a1, a2, a3) refl
+
+pub sides : (ii r r' b d l n m : ℕ) → r ≡ r' → b ≡ d + l → n ≡ m →
+    (ltb (ii * r + b) n ≡ true → ii * r' + d + l < m) × (ii * r' + d + l < m → ltb (ii * r + b) n ≡ true)
+sides ii r r' b d l n m e f g =
+    let q = ap (λ z. ii * z) e in
+    (λ h. let a = ltb-true _ _ h in omega arith, λ h. lt-ltb _ _ (omega arith))

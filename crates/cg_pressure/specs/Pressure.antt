@@ -120,6 +120,17 @@ IsKept A K M far = (v p u d : ℕ) (init : List ℕ) → HasOperand K v p (Edge 
 abbrev pub no_far : ℕ → ℕ → ℕ
 no_far v p = 0
 
+-- what is gained along a circulation, and what is taken from it
+abbrev pub along : Arch → Kernel → (ℕ → ℕ → ℕ) → ℕ → Pressure → ℕ
+along A K far ii P = ii * stays K P (λ a. a.distance) + gained A K P + pulls K P (λ a. far a.target a.arg) + ties K P (λ a. 1)
+
+abbrev pub against : Arch → Kernel → ℕ → Pressure → ℕ
+against A K ii P = ii * (pulls K P (λ a. a.distance) + ties K P (λ a. a.distance)) + lost A K P
+
+-- what its stays come to at least
+abbrev pub least_stays : Arch → Kernel → (ℕ → ℕ → ℕ) → ℕ → Pressure → ℕ
+least_stays A K far ii P = along A K far ii P - against A K ii P
+
 -- what the stays of a circulation come to at least exceeds the registers times the interval
 abbrev pub IsExcess : Arch → Kernel → (ℕ → ℕ → ℕ) → ℕ → Pressure → Type 0
 IsExcess A K far ii P =

@@ -1,6 +1,7 @@
 //! The check of a certificate by its sums.
 ghost use Rattle.std.specs.Prelude.{◌≡◌, ◌^◌, ◌≤◌, ◌↔◌, IsTrue};
-ghost use Rattle.cg_pressure.specs.Pressure.{gained, lost, IsBalanced, IsExcess, IsPressure};
+ghost use Rattle.cg_pressure.specs.Pressure as spec;
+ghost use Rattle.cg_pressure.specs.Pressure.{gained, lost, along, against, IsBalanced, IsExcess, IsPressure};
 ghost use Rattle.cg_pressure.specs.Sums.{table, IsShort};
 
 use crate::certificate::Pressure;
@@ -65,22 +66,53 @@ fn losses(arch: &Arch, kernel: &Kernel, p: &Pressure) -> u128
     loss
 }
 
+/// Returns what the distances of the edges that stay, the latencies that are gained, the registers on ways and the order edges
+/// come to.
+fn along(arch: &Arch, kernel: &Kernel, far: &[u32], ii: u32, p: &Pressure) -> u128
+    requires short { IsShort p.now }
+    ensures value { result ≡ along arch.now kernel.now (table far.now) ii p.now }
+    ensures small { result ≤ 2 ^ 114 }
+{
+    let forth = ii as u128 * sum_stays(kernel, far, &p.stays, Of::Distance)
+        + gains(arch, kernel, p);
+    forth + sum_pulls(kernel, far, &p.pulls, Of::Far) + sum_ties(kernel, far, &p.ties, Of::One)
+}
+
+/// Returns what the distances of the edges against them and the latencies that are lost come to.
+fn against(arch: &Arch, kernel: &Kernel, ii: u32, p: &Pressure) -> u128
+    requires short { IsShort p.now }
+    ensures value { result ≡ against arch.now kernel.now ii p.now }
+    ensures small { result ≤ 2 ^ 124 }
+{
+    let back = sum_pulls(kernel, &[], &p.pulls, Of::Distance)
+        + sum_ties(kernel, &[], &p.ties, Of::Distance);
+    ii as u128 * back + losses(arch, kernel, p)
+}
+
 /// Checks whether the stays come to more than the registers times the interval.
 fn exceeds(arch: &Arch, kernel: &Kernel, far: &[u32], ii: u32, p: &Pressure) -> bool
     requires short { IsShort p.now }
     ensures { IsTrue result ↔ IsExcess arch.now kernel.now (table far.now) ii p.now }
 {
-    let back = sum_pulls(kernel, far, &p.pulls, Of::Distance)
-        + sum_ties(kernel, far, &p.ties, Of::Distance);
-    let room = ii as u128 * count_registers(arch) as u128
-        + ii as u128 * back
-        + losses(arch, kernel, p);
-    let forth = ii as u128 * sum_stays(kernel, far, &p.stays, Of::Distance)
-        + gains(arch, kernel, p);
-    let need = forth
-        + sum_pulls(kernel, far, &p.pulls, Of::Far)
-        + sum_ties(kernel, far, &p.ties, Of::One);
+    let room = ii as u128 * count_registers(arch) as u128 + against(arch, kernel, ii, p);
+    let need = along(arch, kernel, far, ii, p);
     room < need
+}
+
+/// Returns how many cycles the values of the edges that stay are in registers at least, in all, at interval `ii`; by the
+/// circulation `certificate`. `far` has three numbers a node: for each operand the registers that a value crosses at least on
+/// its way there.
+pub fn least_stays(
+    arch: &Arch,
+    kernel: &Kernel,
+    far: &[u32],
+    ii: u32,
+    certificate: &Pressure,
+) -> u128
+    requires short { IsShort certificate.now }
+    ensures { result ≡ spec.least_stays arch.now kernel.now (table far.now) ii certificate.now }
+{
+    along(arch, kernel, far, ii, certificate).saturating_sub(against(arch, kernel, ii, certificate))
 }
 
 /// Checks whether `certificate` shows that no legal mapping has interval `ii`. `far` has three numbers a node: for each

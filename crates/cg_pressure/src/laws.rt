@@ -7,8 +7,8 @@ ghost use Rattle.cg_model.specs.Mapping.{Mapping, IsLegal};
 ghost use Rattle.cg_pressure.specs.declared.certificate.Pressure.{Pressure};
 ghost use Rattle.cg_pressure.specs.Pressure.{no_far, IsKept, IsPressure, HasNoPressure, IsLoose, Falls, Rises};
 
-/// No legal mapping whose values cross as many registers as `far` says has an interval with a certificate of pressure.
-/// Where nothing is known of the ways, no legal mapping has.
+/// States that no legal mapping whose values cross as many registers as `far` says has an interval with a certificate of
+/// pressure, and that none at all has where nothing is known of the ways.
 pub fn excludes()
     ensures kept { (A : Arch) (K : Kernel) (M : Mapping) (far : ℕ → ℕ → ℕ) (P : Pressure) →
         IsKernel K → IsLegal A K M → IsKept A K M far → IsPressure A K far M.ii P → ⊥ }
@@ -16,19 +16,19 @@ pub fn excludes()
         IsKernel K → IsLegal A K M → IsPressure A K no_far M.ii P → ⊥ }
 {}
 
-/// A certificate that falls excludes each smaller interval too.
+/// States that a certificate `P` that falls excludes each smaller interval too.
 pub fn falls()
     ensures { (A : Arch) (K : Kernel) (far : ℕ → ℕ → ℕ) (i j : ℕ) (P : Pressure) →
         Falls A K P → i ≤ j → IsPressure A K far j P → IsPressure A K far i P }
 {}
 
-/// A certificate that rises excludes each greater interval too.
+/// States that a certificate `P` that rises excludes each greater interval too.
 pub fn rises()
     ensures { (A : Arch) (K : Kernel) (far : ℕ → ℕ → ℕ) (i j : ℕ) (P : Pressure) →
         Rises A K P → i ≤ j → IsPressure A K far i P → IsPressure A K far j P }
 {}
 
-/// Times with stays that fit in the registers show that no certificate excludes the interval.
+/// States that times with stays that fit in the registers show that no certificate excludes the interval.
 pub fn loose()
     ensures { (A : Arch) (K : Kernel) (far : ℕ → ℕ → ℕ) (ii : ℕ) (time lasts longest : ℕ → ℕ) →
         IsKernel K → IsLoose A K far ii time lasts longest → HasNoPressure A K far ii }

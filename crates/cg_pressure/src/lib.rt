@@ -12,7 +12,7 @@ mod times;
 
 pub use certificate::{Pressure, Pull, Stay, Tie};
 pub use cg_edges::{Arch, Kernel};
-pub use check::check_pressure;
+pub use check::{check_pressure, least_stays};
 pub use counts::{count_registers, most_latency};
 pub use dependence::{Dependence, data_edge, order_edge};
 pub use laws::{excludes, falls, loose, rises};

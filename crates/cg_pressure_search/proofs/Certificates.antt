@@ -1,5 +1,5 @@
 -- The lists of a certificate, edge by edge.
-use Rattle.std.proofs.Common.{◌≡◌, ℕ, ◌+◌, ◌*◌, ◌<◌, ◌≤◌, length, add-one, List, [], ◌∷◌, ◌++◌, Option, Some, None, refl, sym, ap, ◌∙◌, subst, arith}
+use Rattle.std.proofs.Common.{◌≡◌, ℕ, ◌+◌, ◌*◌, ◌^◌, ◌<◌, ◌≤◌, length, add-one, List, [], ◌∷◌, ◌++◌, Option, Some, None, refl, sym, ap, ◌∙◌, subst, arith}
 use Rattle.std.specs.Prelude.{slice_index}
 use Rattle.cg_pressure.specs.declared.dependence.Dependence.{Dependence}
 use Rattle.cg_pressure.specs.declared.certificate.Stay.{Stay as StayEdge}
@@ -11,7 +11,9 @@ use Rattle.cg_pressure_search.specs.declared.network.Link.{Link}
 use Rattle.cg_pressure_search.specs.declared.network.Part.{Part}
 use Rattle.cg_pressure_search.specs.declared.network.Part.TheVariants.{Stay, Pull, Tie}
 use Rattle.cg_pressure_search.specs.Network.{link}
-use Rattle.cg_pressure_search.specs.Taken.{on_stay, on_pull, on_tie, taken}
+use Rattle.cg_pressure.specs.declared.certificate.Pressure.{Pressure}
+use Rattle.cg_pressure.specs.Sums.{IsShort}
+use Rattle.cg_pressure_search.specs.Taken.{on_stay, on_pull, on_tie, taken, HasAtMost}
 
 pub weigh_more : {X : Type 0} (weight : X → ℕ) (edge : X → Option Dependence) (f : Dependence → ℕ) (xs : List X) (x : X) →
     weigh weight edge f (xs ++ (x ∷ [])) ≡ weigh weight edge f xs + weight x * on_edge f (edge x)
@@ -66,3 +68,11 @@ module _ (links : List Link) (flow : List ℕ) (k : ℕ) (f : Part → ℕ) wher
 
   pub whole : (s : ℕ) → k ≡ length links → s ≡ taken links flow k f → s ≡ taken links flow (length links) f
   whole s e a = a ∙ ap (λ j. taken links flow j f) e
+
+-- a list that grew by at most one
+pub one_more : (k n m : ℕ) → n ≤ k → m ≤ n + 1 → m ≤ k + 1
+one_more k n m a b = omega arith
+
+-- lists with at most an edge for each link are short
+pub short : (n : ℕ) (P : Pressure) → n ≤ 2 ^ 14 → HasAtMost n P → IsShort P
+short n P few (a, b, c) = (omega arith, omega arith, omega arith)

@@ -2,8 +2,10 @@
 use Rattle.std.specs.Prelude.{◌≡◌, ℕ, ◌+◌, ◌-◌, ◌<◌, if◌then◌else◌, Bool, false, List, slice_index, slice_index_or}
 use Rattle.cg_model.specs.Kernel.{Kernel}
 use Rattle.cg_model.specs.Array.{Arch}
+use Rattle.cg_pressure.specs.declared.certificate.Pressure.{Pressure}
 use Rattle.cg_pressure.specs.declared.times.Times.{Times}
 use Rattle.cg_pressure.specs.Pressure.{IsPressure}
+use Rattle.cg_pressure.specs.Sums.{IsShort}
 use Rattle.cg_pressure.specs.Times.{begins, lasts, longest, AreLoose}
 use Rattle.cg_pressure_search.specs.declared.find.Outcome.{Outcome}
 use Rattle.cg_pressure_search.specs.declared.find.Outcome.TheVariants.{Excluded, Open}
@@ -18,7 +20,11 @@ pub record IsSchedule (n : ℕ) (at : List ℕ) (routed : List Bool) (t : Times)
   pub last : (w : ℕ) → w < n → lasts t w ≡ slice_index at (n + w) - slice_index at w
   pub stay : (w : ℕ) → w < n → longest t w ≡ stay_of n at routed w
 
+-- a certificate with short lists
+abbrev pub IsFound : Arch → Kernel → (ℕ → ℕ → ℕ) → ℕ → Pressure → Type 0
+IsFound A K far ii P = IsPressure A K far ii P × IsShort P
+
 -- a certificate, or times that exclude each certificate
 abbrev pub IsSound : Arch → Kernel → (ℕ → ℕ → ℕ) → ℕ → Outcome → Type 0
-IsSound A K far ii (Excluded P) = IsPressure A K far ii P
+IsSound A K far ii (Excluded P) = IsFound A K far ii P
 IsSound A K far ii (Open t) = AreLoose A K far ii t

@@ -1,5 +1,5 @@
 -- What a certificate takes of the flows on links.
-use Rattle.std.specs.Prelude.{◌≡◌, ℕ, ◌+◌, ◌*◌, eqb, List, length, slice_index}
+use Rattle.std.specs.Prelude.{◌≡◌, ℕ, ◌+◌, ◌*◌, ◌≤◌, eqb, List, length, slice_index}
 use Rattle.cg_model.specs.Kernel.{Kernel}
 use Rattle.cg_pressure.specs.declared.certificate.Pressure.{Pressure}
 use Rattle.cg_pressure.specs.declared.dependence.Dependence.{Dependence}
@@ -55,3 +55,7 @@ pub record IsTaken (K : Kernel) (links : List Link) (flow : List ℕ) (P : Press
   pub on_stays : (f : Dependence → ℕ) → stays K P f ≡ taken links flow (length links) (on_stay K f)
   pub on_pulls : (f : Dependence → ℕ) → pulls K P f ≡ taken links flow (length links) (on_pull K f)
   pub on_ties : (f : Dependence → ℕ) → ties K P f ≡ taken links flow (length links) (on_tie K f)
+
+-- its lists have at most n edges each
+abbrev pub HasAtMost : ℕ → Pressure → Type 0
+HasAtMost n P = (length P.stays.items ≤ n) × (length P.pulls.items ≤ n) × (length P.ties.items ≤ n)

@@ -7,7 +7,7 @@ ghost use Rattle.cg_pressure.specs.declared.certificate.Tie as tie;
 ghost use Rattle.cg_pressure.specs.Pressure.{data_edge, order_edge, weigh};
 ghost use Rattle.cg_pressure_search.specs.declared.network.Part.TheVariants as parts;
 ghost use Rattle.cg_pressure_search.specs.Network.{link};
-ghost use Rattle.cg_pressure_search.specs.Taken.{on_stay, on_pull, on_tie, IsTaken};
+ghost use Rattle.cg_pressure_search.specs.Taken.{on_stay, on_pull, on_tie, IsTaken, HasAtMost};
 
 use crate::network::{Link, Part};
 use cg_edges::Kernel;
@@ -17,9 +17,10 @@ use std::alloc::{AllocError, Global};
 /// Adds the edge of `part` to the edges that stay, if it is one of them and has a flow.
 fn add_stay(list: &mut Vec<Stay>, kernel: &Kernel, part: Part, flow: u32) -> Result<(), AllocError>
     requires { (v p : ℕ) → part ≡ parts.Stay v p → flow ≤ 1 }
-    ensures { OnOk result ((f : edges.Dependence → ℕ) →
+    ensures taken { OnOk result ((f : edges.Dependence → ℕ) →
         weigh (λ (s : stay.Stay). 1) (λ s. data_edge kernel.now s.node s.arg) f list.new.items
         ≡ weigh (λ (s : stay.Stay). 1) (λ s. data_edge kernel.now s.node s.arg) f list.old.items + flow * on_stay kernel.now f part) }
+    ensures longer { OnOk result (length list.new.items ≤ length list.old.items + 1) }
 {
     if flow > 0 {
         if let Part::Stay(node, arg) = part {
@@ -31,9 +32,10 @@ fn add_stay(list: &mut Vec<Stay>, kernel: &Kernel, part: Part, flow: u32) -> Res
 
 /// Adds the edge of `part` to the data edges against them, if it is one and has a flow.
 fn add_pull(list: &mut Vec<Pull>, kernel: &Kernel, part: Part, flow: u32) -> Result<(), AllocError>
-    ensures { OnOk result ((f : edges.Dependence → ℕ) →
+    ensures taken { OnOk result ((f : edges.Dependence → ℕ) →
         weigh (λ (x : pull.Pull). x.weight) (λ x. data_edge kernel.now x.node x.arg) f list.new.items
         ≡ weigh (λ (x : pull.Pull). x.weight) (λ x. data_edge kernel.now x.node x.arg) f list.old.items + flow * on_pull kernel.now f part) }
+    ensures longer { OnOk result (length list.new.items ≤ length list.old.items + 1) }
 {
     if flow > 0 {
         if let Part::Pull(node, arg) = part {
@@ -49,9 +51,10 @@ fn add_pull(list: &mut Vec<Pull>, kernel: &Kernel, part: Part, flow: u32) -> Res
 
 /// Adds the edge of `part` to the order edges against them, if it is one and has a flow.
 fn add_tie(list: &mut Vec<Tie>, kernel: &Kernel, part: Part, flow: u32) -> Result<(), AllocError>
-    ensures { OnOk result ((f : edges.Dependence → ℕ) →
+    ensures taken { OnOk result ((f : edges.Dependence → ℕ) →
         weigh (λ (x : tie.Tie). x.weight) (λ x. order_edge kernel.now x.edge) f list.new.items
         ≡ weigh (λ (x : tie.Tie). x.weight) (λ x. order_edge kernel.now x.edge) f list.old.items + flow * on_tie kernel.now f part) }
+    ensures longer { OnOk result (length list.new.items ≤ length list.old.items + 1) }
 {
     if flow > 0 {
         if let Part::Tie(edge) = part {
@@ -70,7 +73,8 @@ pub(crate) fn certificate(
 ) -> Result<Pressure, AllocError>
     requires flows { length flow.now ≡ length links.now }
     requires ones { (k v p : ℕ) → (link links.now k).part ≡ parts.Stay v p → slice_index flow.now k ≤ 1 }
-    ensures { IfOk result (IsTaken kernel.now links.now flow.now) }
+    ensures taken { IfOk result (IsTaken kernel.now links.now flow.now) }
+    ensures few { IfOk result (HasAtMost (length links.now)) }
 {
     let mut stays = Vec::new(alloc);
     let mut pulls = Vec::new(alloc);

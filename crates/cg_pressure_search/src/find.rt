@@ -5,12 +5,11 @@
 //! one after another, and then the value of one node after another is routed, by places that are lifted together.
 ghost use Rattle.std.specs.Prelude.{◌≡◌, ℕ, ◌+◌, ◌^◌, ◌<◌, ◌≤◌, IfOk, Some, length, slice_index};
 ghost use Rattle.cg_model.specs.Kernel.{size};
-ghost use Rattle.cg_pressure.specs.Pressure.{IsPressure};
 ghost use Rattle.cg_pressure.specs.Sums.{table};
 ghost use Rattle.cg_pressure_search.specs.Network.{IsGraph};
 ghost use Rattle.cg_pressure_search.specs.Parts.{IsNetwork};
 ghost use Rattle.cg_pressure_search.specs.Route.{IsSettled, IsRouting, AreRouted, HasSpans};
-ghost use Rattle.cg_pressure_search.specs.Finish.{IsSchedule, IsSound};
+ghost use Rattle.cg_pressure_search.specs.Finish.{IsSchedule, IsFound, IsSound};
 
 use crate::extract::certificate;
 use crate::network::{Link, network};
@@ -49,7 +48,7 @@ fn recurrence(
     requires flows { length flow.old.items ≡ length links.now }
     requires idle { (k : ℕ) → slice_index flow.old.items k ≡ 0 }
     requires blocked { IsSettled links.now flow.old.items (size kernel.now + size kernel.now + size kernel.now) at.now (Some blocked.now) }
-    ensures { IfOk result (IsPressure arch.now kernel.now (table far.now) ii) }
+    ensures { IfOk result (IsFound arch.now kernel.now (table far.now) ii) }
 {
     let _nodes = kernel.nodes();
     let by = ii * count_registers(arch) as u32 + 1;

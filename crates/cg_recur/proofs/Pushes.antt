@@ -107,7 +107,7 @@ module _ (es : List Edge) (ii n : ℕ) (log : List Step) (last : List ℕ) (j : 
       let lat = (within j e rise.is).2 in
       record {
         node = let a = (within j e rise.is).1 in let b = rise.node in omega arith;
-        small = let a = rise.deeper in let b = rise.sum in let c = ap (λ z. z * 2 ^ 8) a in omega arith;
+        small = let a = rise.deeper in let b = rise.sum in let c = ap (λ z. z * 2 ^ 16) a in omega arith;
         from = inr (record {
           earlier = l;
           by = e;

@@ -8,7 +8,7 @@ use Rattle.cg_recur.specs.declared.moments.Outcome.TheVariants.{Same, Raised, De
 
 -- each edge joins nodes below n, and its latency is small
 abbrev pub IsWithin : List Edge → ℕ → Type 0
-IsWithin es n = (k : ℕ) (e : Edge) → slice_get es k ≡ Some e → (e.source < n) × (e.target < n) × (e.latency < 2 ^ 8)
+IsWithin es n = (k : ℕ) (e : Edge) → slice_get es k ≡ Some e → (e.source < n) × (e.target < n) × (e.latency < 2 ^ 16)
 
 -- what `step` gives past the end of a log
 abbrev pub no_step : Step
@@ -36,7 +36,7 @@ pub record Follows (es : List Edge) (ii : ℕ) (log : List Step) (i : ℕ) (s : 
 pub record IsStep (es : List Edge) (ii n : ℕ) (log : List Step) (i : ℕ) (s : Step) : Type 0 where
   pub node : s.node < n
   pub from : Starts s ⊎ Follows es ii log i s
-  pub small : s.time ≤ s.depth * 2 ^ 8
+  pub small : s.time ≤ s.depth * 2 ^ 16
 
 -- a log of such moments, in which each node's times rise; `last` has the latest moment of each node
 pub record IsLog (es : List Edge) (ii n : ℕ) (log : List Step) (last : List ℕ) : Type 0 where

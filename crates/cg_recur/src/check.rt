@@ -37,7 +37,7 @@ pub fn check_cycle(arch: &Arch, kernel: &Kernel, ii: u32, cycle: &[EdgeId]) -> b
 }
 
 /// Returns the node that edge `id` leaves; 0 where the kernel has no such edge.
-fn source(arch: &Arch, kernel: &Kernel, id: EdgeId) -> usize
+pub fn source(arch: &Arch, kernel: &Kernel, id: EdgeId) -> usize
     ensures { result ≡ source_of (edge_of arch.now kernel.now id) }
 {
     match find_edge(arch, kernel, id) {

@@ -9,5 +9,6 @@ mod recur;
 mod rounds;
 
 pub use cg_edges::{Arch, EdgeId, Kernel};
-pub use check::check_cycle;
-pub use recur::{Recur, earliest_times, recurrence};
+pub use check::{check_cycle, source};
+pub use recur::{Recur, earliest_times, name_all, recurrence};
+pub use rounds::{Numbered, longest_chains};

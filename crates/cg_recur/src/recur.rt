@@ -56,7 +56,11 @@ pub fn earliest_times(
 }
 
 /// Returns the names of the edges whose numbers are `numbers`.
-fn name_all(alloc: Global, names: &[EdgeId], numbers: &[usize]) -> Result<Vec<EdgeId>, AllocError>
+pub fn name_all(
+    alloc: Global,
+    names: &[EdgeId],
+    numbers: &[usize],
+) -> Result<Vec<EdgeId>, AllocError>
     requires { (i : ℕ) → i < length numbers.now → slice_index numbers.now i < length names.now }
     ensures { IfOk result (λ ids. ids.items ≡ map (name_at names.now) numbers.now) }
 {

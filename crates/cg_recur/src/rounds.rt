@@ -21,7 +21,7 @@ pub(crate) struct Rounds {
 
 /// The longest chains of edges, or why they have no end.
 #[derive(Drop)]
-pub(crate) enum Numbered {
+pub enum Numbered {
     /// The edges of a closed chain that is too long for the interval, by number.
     Cycle(Vec<usize>),
     /// The earliest time of each node.
@@ -30,7 +30,7 @@ pub(crate) enum Numbered {
 
 /// Returns the earliest times of the nodes, or a closed chain of `edges` that is too long for the interval `ii`, where
 /// there is one.
-pub(crate) fn longest_chains(
+pub fn longest_chains(
     alloc: Global,
     edges: &[Edge],
     nodes: usize,

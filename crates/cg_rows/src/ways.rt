@@ -13,7 +13,7 @@ pub(crate) fn registers_on_ways(
     arch: &Arch,
     kernel: &Kernel,
 ) -> Result<bool, AllocError> {
-    let ways = find_ways(alloc, arch, kernel)?;
+    let ways = find_ways(alloc, arch, kernel, 2)?;
     let by_wire = ways.far(1, 0);
     let by_register = ways.far(1, 1);
     let no_link = ways.far(1, 2);

@@ -1,2 +1,4 @@
-mod Legal
+pub mod Legal
 mod Equal
+mod Found
+pub mod Decided

@@ -1,13 +1,15 @@
 -- Closed chains of edges that are too long for an interval (the recurrence constraint of modulo scheduling, Rau 1994) when
 -- the registers that the value of each data edge crosses at least are added to its latency.
 use Rattle.std.specs.Prelude.{ℕ, ◌+◌, List, Option, Some, None}
+use Rattle.std.specs.declared.vec.Vec.{Vec}
+use Rattle.std.specs.declared.alloc.Global.{Global}
 use Rattle.cg_model.specs.Kernel.{Kernel}
 use Rattle.cg_model.specs.Array.{Arch}
 use Rattle.cg_edges.specs.declared.edge.Edge.{Edge}
 use Rattle.cg_edges.specs.declared.edge.EdgeId.{EdgeId}
 use Rattle.cg_edges.specs.declared.edge.EdgeId.TheVariants.{Arg, Order}
 use Rattle.cg_edges.specs.Edges.{edge_of}
-use Rattle.cg_edges.specs.Chain.{IsCycle}
+use Rattle.cg_edges.specs.Chain.{IsCycle, IsShown}
 
 -- the registers that the value of an edge crosses at least: `far v p` for operand p of node v, none for an order edge
 abbrev pub registers_of : (ℕ → ℕ → ℕ) → EdgeId → ℕ
@@ -26,3 +28,12 @@ edge_with A K far x = longer (registers_of far x) (edge_of A K x)
 -- a non-empty closed chain of these edges whose latencies exceed ii times its distances
 abbrev pub IsWayCycle : Arch → Kernel → (ℕ → ℕ → ℕ) → ℕ → List EdgeId → Type 0
 IsWayCycle A K far ii ids = IsCycle (edge_with A K far) ii ids
+
+-- no closed chain of these edges is too long for an interval of ii cycles
+abbrev pub HasNoWayCycle : Arch → Kernel → (ℕ → ℕ → ℕ) → ℕ → Type 0
+HasNoWayCycle A K far ii = (ids : List EdgeId) → IsWayCycle A K far ii ids → ⊥
+
+-- such a chain that repeats no node and begins at its least one, or none where there is none at all
+abbrev pub IsWayAnswer : Arch → Kernel → (ℕ → ℕ → ℕ) → ℕ → Option (Vec EdgeId Global) → Type 0
+IsWayAnswer A K far ii (Some ids) = IsWayCycle A K far ii ids.items × IsShown (edge_with A K far) ids.items
+IsWayAnswer A K far ii None = HasNoWayCycle A K far ii

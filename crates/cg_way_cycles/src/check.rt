@@ -1,12 +1,11 @@
 //! The check of a closed chain of edges.
 ghost use Rattle.std.specs.Prelude.{◌≡◌, ◌↔◌, IsTrue};
-ghost use Rattle.cg_edges.specs.Chain.{source_of};
-ghost use Rattle.cg_edges.specs.Edges.{edge_of};
 ghost use Rattle.cg_pressure.specs.Sums.{table};
 ghost use Rattle.cg_way_cycles.specs.WayCycles.{registers_of, IsWayCycle};
 
 use cg_edges::{Arch, EdgeId, Kernel, find_edge};
 use cg_pressure::far_at;
+use cg_recur::source;
 
 /// Checks whether `cycle` names the edges of a closed chain whose latencies, with the registers added that their values cross
 /// at least, exceed the interval `ii` times its distances. `far` has three numbers a node: for each operand the registers that
@@ -38,21 +37,11 @@ pub fn check_way_cycle(arch: &Arch, kernel: &Kernel, far: &[u32], ii: u32, cycle
 }
 
 /// Returns the number that `far` has for edge `id`: the registers that its value crosses at least; 0 for an order edge.
-fn least_registers(far: &[u32], id: EdgeId) -> u32
+pub fn least_registers(far: &[u32], id: EdgeId) -> u32
     ensures { result ≡ registers_of (table far.now) id }
 {
     match id {
         EdgeId::Arg { node, arg } => far_at(far, node, arg),
         EdgeId::Order(_) => 0,
-    }
-}
-
-/// Returns the node that edge `id` leaves; 0 where the kernel has no such edge.
-fn source(arch: &Arch, kernel: &Kernel, id: EdgeId) -> usize
-    ensures { result ≡ source_of (edge_of arch.now kernel.now id) }
-{
-    match find_edge(arch, kernel, id) {
-        None => 0,
-        Some(edge) => edge.source,
     }
 }

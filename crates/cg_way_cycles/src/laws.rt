@@ -1,13 +1,13 @@
 //! Laws of closed chains that are too long with the registers on their ways. Every function here has an empty body, and its
 //! clauses speak of the definitions alone.
-ghost use Rattle.std.specs.Prelude.{◌≡◌, ◌≤◌, ◌↔◌, ℕ, List};
-ghost use Rattle.cg_model.specs.Kernel.{Kernel, IsKernel};
-ghost use Rattle.cg_model.specs.Array.{Arch};
+ghost use Rattle.std.specs.Prelude.{◌≡◌, ◌≤◌, ◌⊎◌, ◌↔◌, ℕ, List, length};
+ghost use Rattle.cg_model.specs.Kernel.{Kernel, IsKernel, size};
+ghost use Rattle.cg_model.specs.Array.{Arch, IsArch};
 ghost use Rattle.cg_model.specs.Mapping.{Mapping, IsLegal};
 ghost use Rattle.cg_edges.specs.declared.edge.EdgeId.{EdgeId};
 ghost use Rattle.cg_recur.specs.Recurrences.{IsRecurrence};
 ghost use Rattle.cg_pressure.specs.Pressure.{IsKept};
-ghost use Rattle.cg_way_cycles.specs.WayCycles.{IsWayCycle};
+ghost use Rattle.cg_way_cycles.specs.WayCycles.{IsWayCycle, HasNoWayCycle};
 
 /// States that no closed chain `ids` is too long for the interval of a legal mapping `M`, where the value of each data edge
 /// crosses at least the registers that `far` gives for its operand.
@@ -26,4 +26,11 @@ pub fn falls()
 pub fn plain()
     ensures { (A : Arch) (K : Kernel) (far : ℕ → ℕ → ℕ) (ii : ℕ) (ids : List EdgeId) →
         ((v p : ℕ) → far v p ≡ 0) → IsWayCycle A K far ii ids ↔ IsRecurrence A K ii ids }
+{}
+
+/// States that for each interval `ii` of a valid kernel on a valid architecture there is a closed chain that is too long, of no
+/// more edges than the kernel has nodes, or none at all, where values cross at most 4096 registers by `far`.
+pub fn always_decided()
+    ensures { (A : Arch) (K : Kernel) (far : ℕ → ℕ → ℕ) (ii : ℕ) → IsArch A → IsKernel K → ((v p : ℕ) → far v p ≤ 4096) →
+        ((ids : List EdgeId) × IsWayCycle A K far ii ids × (length ids ≤ size K)) ⊎ HasNoWayCycle A K far ii }
 {}

@@ -3,8 +3,10 @@
 #![tactic(auto)]
 
 mod check;
+mod find;
 mod laws;
 
 pub use cg_edges::{Arch, EdgeId, Kernel};
-pub use check::check_way_cycle;
-pub use laws::{excludes, falls, plain};
+pub use check::{check_way_cycle, least_registers};
+pub use find::find_way_cycle;
+pub use laws::{always_decided, excludes, falls, plain};

@@ -1,10 +1,14 @@
 pub mod Marks
 pub mod Paths
 pub mod Steps
+pub mod Settled
 pub mod Found
-pub mod Searches
 pub mod Least
+pub mod Searches
+pub mod Looks
 pub mod Offering
 pub mod Questions
 pub mod Rows
-pub mod Kept
+pub mod Tables
+pub mod Always
+pub mod Legal

@@ -1,6 +1,7 @@
 -- The outs and ports of the units that offer an operation.
-use Rattle.std.proofs.Common.{◌≡◌, ℕ, ◌+◌, ◌<◌, ◌≤◌, ◌⊎◌, inl, inr, List, [], ◌∷◌, ◌++◌, length, get_or, Bool, true, false, cond, refl, sym, ap, ◌∙◌, subst, arith, ⊎_elim, Contains}
+use Rattle.std.proofs.Common.{◌≡◌, ℕ, ◌+◌, ◌<◌, ◌≤◌, ◌⊎◌, inl, inr, List, [], ◌∷◌, ◌++◌, length, get_or, Bool, true, false, cond, eqb, eqb-true, refl, sym, ap, ◌∙◌, subst, arith, ⊎_elim, Contains}
 use Rattle.std.specs.Prelude.{Option, Some, None, slice_get}
+use Rattle.std.specs.Option.{option_eq}
 use Rattle.std.proofs.lemmas.Bool.{cases_eq, cases_lt}
 use Rattle.std.proofs.lemmas.List.{get_or_default, get_or_past}
 use Rattle.std.proofs.lemmas.Option.{slice_get_within, get_or_from_slice_get}
@@ -13,10 +14,12 @@ use Rattle.cg_model.specs.declared.array.Kind.TheVariants.{Wire, Out}
 use Rattle.cg_model.specs.Array.{Arch, IsArch, unit, resource}
 use Rattle.cg_model.specs.Mapping.{Goes}
 use Rattle.cg_model.proofs.Lookups.{Contains-nil}
-use Rattle.cg_ways.specs.Ways.{IsLeast}
-use Rattle.cg_ways.specs.Search.{Joins, AreBelow}
-use Rattle.cg_ways.specs.Question.{AreOuts, ArePorts, IsOwnWay, HasOwnWay, lesser}
-use Rattle.cg_ways.proofs.Least.{least_same, lesser_least}
+use Rattle.cg_ways.specs.declared.question.Ends.{Ends}
+use Rattle.cg_ways.specs.declared.question.Ends.TheVariants.{Any}
+use Rattle.cg_ways.specs.declared.question.Question.{Question}
+use Rattle.cg_ways.specs.Search.{Joins, IsFound, AreBelow}
+use Rattle.cg_ways.specs.Question.{AreEnds, IsAskedWay, IsAnswer, AreOuts, ArePorts, IsAskedWayTo, HasAskedWay, IsFloor, lesser}
+use Rattle.cg_ways.proofs.Least.{found_same, found_lesser}
 
 -- a unit that is read
 pub unit_read : (A : Arch) (units : List Unit) (place : ℕ) (u : Unit) → units ≡ A.units → place < length A.units → u ≡ get_or units place u → u ≡ unit A place
@@ -30,22 +33,24 @@ pub not_offered : (A : Arch) (x : ℕ) (u : Unit) (op : Op) (b : Bool) → u ≡
 not_offered A x u op b e is f c = let t : among u.ops op ≡ true = ap (λ z. among z.ops op) e ∙ among_it (unit A x).ops op c in absurd (cc)
 
 -- a unit more
-module _ (A : Arch) (op : Op) (place : ℕ) (list : List ℕ) (h : AreOuts A op place list) where
-  pub outs_with : (out : ℕ) → Contains (unit A place).ops op → out ≡ (unit A place).out → AreOuts A op (place + 1) (list ++ out ∷ [])
-  outs_with out c e = record {
-    all = λ x l d.
-        ⊎_elim {C = Contains (list ++ out ∷ []) (unit A x).out} (λ f. subst (Contains (list ++ out ∷ [])) (e ∙ ap (λ z. (unit A z).out) (sym f)) (Contains-push list out))
-        (λ ne. Contains-append_left list (out ∷ []) (unit A x).out (h.all x (omega arith) d)) (cases_eq x place);
+module _ (A : Arch) (op : Op) (ends : Ends) (y place : ℕ) (list : List ℕ) (h : AreOuts A op ends y place list) where
+  pub outs_with : (out : ℕ) → Contains (unit A place).ops op → AreEnds ends place y → out ≡ (unit A place).out → AreOuts A op ends y (place + 1) (list ++ out ∷ [])
+  outs_with out c fit e = record {
+    all = λ x l d f.
+        ⊎_elim {C = Contains (list ++ out ∷ []) (unit A x).out} (λ g. subst (Contains (list ++ out ∷ [])) (e ∙ ap (λ z. (unit A z).out) (sym g)) (Contains-push list out))
+        (λ ne. Contains-append_left list (out ∷ []) (unit A x).out (h.all x (omega arith) d f)) (cases_eq x place);
     only = λ r d.
-        ⊎_elim {C = (x : ℕ) × (x < place + 1) × Contains (unit A x).ops op × ((unit A x).out ≡ r)} (λ k. let (x, l, o, f) = h.only r k in (x, omega arith, o, f))
-        (λ f. (place, omega arith, c, sym e ∙ f)) (Contains-push_cases list out r d);
+        ⊎_elim {C = (x : ℕ) × (x < place + 1) × Contains (unit A x).ops op × AreEnds ends x y × ((unit A x).out ≡ r)}
+        (λ k. let (x, l, o, f, g) = h.only r k in (x, omega arith, o, f, g))
+        (λ g. (place, omega arith, c, fit, sym e ∙ g)) (Contains-push_cases list out r d);
   }
 
-  pub outs_without : (Contains (unit A place).ops op → ⊥) → AreOuts A op (place + 1) list
+  pub outs_without : (Contains (unit A place).ops op → AreEnds ends place y → ⊥) → AreOuts A op ends y (place + 1) list
   outs_without none = record {
-    all = λ x l d.
-        ⊎_elim {C = Contains list (unit A x).out} (λ f. absurd (none (subst (λ z. Contains (unit A z).ops op) f d))) (λ ne. h.all x (omega arith) d) (cases_eq x place);
-    only = λ r d. let (x, l, o, f) = h.only r d in (x, omega arith, o, f);
+    all = λ x l d f.
+        ⊎_elim {C = Contains list (unit A x).out} (λ g. absurd (none (subst (λ z. Contains (unit A z).ops op) g d) (subst (λ z. AreEnds ends z y) g f)))
+        (λ ne. h.all x (omega arith) d f) (cases_eq x place);
+    only = λ r d. let (x, l, o, f, g) = h.only r d in (x, omega arith, o, f, g);
   }
 
 module _ (A : Arch) (op : Op) (arg place : ℕ) (list : List ℕ) (h : ArePorts A op arg place list) where
@@ -105,8 +110,8 @@ port_known A arch x p r l at =
     let e : get_or (unit A x).ports p 0 ≡ r = get_or_from_slice_get (unit A x).ports p r 0 at in
     omega arith
 
-pub outs_below : (A : Arch) → IsArch A → (op : Op) (list : List ℕ) → AreOuts A op (length A.units) list → AreBelow (length A.resources) list
-outs_below A arch op list h = λ r c. let (x, l, o, e) = h.only r c in subst (λ z. z < length A.resources) e (out_known A arch x l)
+pub outs_below : (A : Arch) → IsArch A → (op : Op) (ends : Ends) (y : ℕ) (list : List ℕ) → AreOuts A op ends y (length A.units) list → AreBelow (length A.resources) list
+outs_below A arch op ends y list h = λ r c. let (x, l, o, f, e) = h.only r c in subst (λ z. z < length A.resources) e (out_known A arch x l)
 
 pub ports_below : (A : Arch) → IsArch A → (op : Op) (arg : ℕ) (list : List ℕ) → ArePorts A op arg (length A.units) list → AreBelow (length A.resources) list
 ports_below A arch op arg list h = λ r c. let (y, l, o, at) = h.only r c in port_known A arch y arg r l at
@@ -118,31 +123,77 @@ single r q c = ⊎_elim {C = r ≡ q} (λ h. absurd (Contains-nil q h)) (λ e. e
 pub one_below : (count r : ℕ) → r < count → AreBelow count (r ∷ [])
 one_below count r l = λ q c. let e = single r q c in omega arith
 
--- the ways of one unit
-pub own_ways : (A : Arch) (from to : Op) (arg x out port : ℕ) → Contains (unit A x).ops from → Contains (unit A x).ops to → slice_get (unit A x).ports arg ≡ Some port → out ≡ (unit A x).out →
-    (o : Option ℕ) → IsLeast (Joins A (out ∷ []) (port ∷ [])) o → IsLeast (IsOwnWay A from to arg x) o
-own_ways A from to arg x out port f t at is o h =
-    least_same (Joins A (out ∷ []) (port ∷ [])) (IsOwnWay A from to arg x)
-    (λ n (q, a, (r, b, w)).
-    let w' = subst (λ z. (path : List ℕ) × Goes A q 0 path z n) (sym (single port r b)) w in
-    (f, t, (port, at, subst (λ z. (path : List ℕ) × Goes A z 0 path port n) (sym (single out q a) ∙ is) w')))
-    (λ n (a, b, (r, at', w)).
-    let same : r ≡ port = cc in
-    (out, Contains-push [] out, (port, Contains-push [] port, subst (λ z. (path : List ℕ) × Goes A out 0 path z n) same (subst (λ z. (path : List ℕ) × Goes A z 0 path r n) (sym is) w))))
+-- ways between any units
+abbrev pub asked_of_any : Question → Question
+asked_of_any q = record { from = q.from; to = q.to; arg = q.arg; ends = Any }
+
+pub any_ways : (A : Arch) (q : Question) (y : ℕ) (outs ports : List ℕ) → AreOuts A q.from Any y (length A.units) outs → ArePorts A q.to q.arg (length A.units) ports → (o : Option ℕ) →
+    IsFound A (Joins A outs ports) o → IsFound A (IsAskedWay A (asked_of_any q)) o
+any_ways A q place outs ports f t o h =
+    found_same A (Joins A outs ports) (IsAskedWay A (asked_of_any q))
+    (λ n (s, a, (r, b, w)).
+    let (x, lx, ox, ex, e) = f.only s a in
+    let (y, ly, oy, at) = t.only r b in
+    (x, y, (lx, ox), (ly, oy), ex, (r, at, subst (λ z. (path : List ℕ) × Goes A z 0 path r n) (sym e) w)))
+    (λ n (x, y, (lx, ox), (ly, oy), ex, (r, at, w)). ((unit A x).out, f.all x lx ox ex, (r, t.all y r ly oy at, w)))
     o h
 
-pub own_more : (A : Arch) (from to : Op) (arg place : ℕ) (best far : Option ℕ) → IsLeast (HasOwnWay A from to arg place) best → IsLeast (IsOwnWay A from to arg place) far →
-    IsLeast (HasOwnWay A from to arg (place + 1)) (lesser best far)
-own_more A from to arg place best far f g =
-    least_same (λ n. HasOwnWay A from to arg place n ⊎ IsOwnWay A from to arg place n) (HasOwnWay A from to arg (place + 1))
-    (λ n h. ⊎_elim {C = HasOwnWay A from to arg (place + 1) n} (λ (x, l, w). (x, omega arith, w)) (λ w. (place, omega arith, w)) h)
-    (λ n (x, l, w).
-    ⊎_elim {C = HasOwnWay A from to arg place n ⊎ IsOwnWay A from to arg place n} (λ e. inr (subst (λ z. IsOwnWay A from to arg z n) e w)) (λ ne. inl (x, omega arith, w)) (cases_eq x place))
-    (lesser best far) (lesser_least (HasOwnWay A from to arg place) (IsOwnWay A from to arg place) best far f g)
+-- they answer a question about any units
+pub any_answer : (A : Arch) (q : Question) → q.ends ≡ Any → (o : Option ℕ) → IsFound A (IsAskedWay A (asked_of_any q)) o → IsAnswer A q o
+any_answer A q e o h =
+    found_same A (IsAskedWay A (asked_of_any q)) (IsAskedWay A q) (λ n (x, y, a, b, ends, w). (x, y, a, b, subst (λ z. AreEnds z x y) (sym e) ends, w))
+    (λ n (x, y, a, b, ends, w). (x, y, a, b, tt, w)) o h
 
--- where there are no registers at one of the first units, there are fewest
-pub zero_least : (A : Arch) (from to : Op) (arg place count : ℕ) (best : Option ℕ) → best ≡ Some 0 → place ≤ count → IsLeast (HasOwnWay A from to arg place) best → IsLeast (HasOwnWay A from to arg count) best
-zero_least A from to arg place count None e l h = absurd (cc)
-zero_least A from to arg place count (Some n) e l ((x, k, w), low) =
-    let zero : n ≡ 0 = cc in
-    ((x, omega arith, w), λ m way. omega arith)
+-- no answer is below them
+pub any_floor : (A : Arch) (q : Question) (o : Option ℕ) → IsFound A (IsAskedWay A (asked_of_any q)) o → IsFloor A q o
+any_floor A q None h = λ n (x, y, a, b, ends, w). h.least n (x, y, a, b, tt, w)
+any_floor A q (Some least) h = λ n (x, y, a, b, ends, w). h.least.1 n (x, y, a, b, tt, w)
+
+-- the ways to one unit
+pub unit_ways : (A : Arch) (q : Question) (y port : ℕ) (outs : List ℕ) → Contains (unit A y).ops q.to → slice_get (unit A y).ports q.arg ≡ Some port →
+    AreOuts A q.from q.ends y (length A.units) outs → (o : Option ℕ) → IsFound A (Joins A outs (port ∷ [])) o → IsFound A (IsAskedWayTo A q y) o
+unit_ways A q y port outs t at f o h =
+    found_same A (Joins A outs (port ∷ [])) (IsAskedWayTo A q y)
+    (λ n (s, a, (r, b, w)).
+    let (x, lx, ox, ex, e) = f.only s a in
+    let w' = subst (λ z. (path : List ℕ) × Goes A s 0 path z n) (sym (single port r b)) w in
+    (t, (x, (lx, ox), ex, (port, at, subst (λ z. (path : List ℕ) × Goes A z 0 path port n) (sym e) w'))))
+    (λ n (t', (x, (lx, ox), ex, (r, at', w))).
+    let same : r ≡ port = cc in
+    ((unit A x).out, f.all x lx ox ex, (port, Contains-push [] port, subst (λ z. (path : List ℕ) × Goes A (unit A x).out 0 path z n) same w)))
+    o h
+
+-- one unit more
+pub ways_more : (A : Arch) (q : Question) (place : ℕ) (best far : Option ℕ) → IsFound A (HasAskedWay A q place) best → IsFound A (IsAskedWayTo A q place) far →
+    IsFound A (HasAskedWay A q (place + 1)) (lesser best far)
+ways_more A q place best far f g =
+    found_same A (λ n. HasAskedWay A q place n ⊎ IsAskedWayTo A q place n) (HasAskedWay A q (place + 1))
+    (λ n h. ⊎_elim {C = HasAskedWay A q (place + 1) n} (λ (y, l, w). (y, omega arith, w)) (λ w. (place, omega arith, w)) h)
+    (λ n (y, l, w).
+    ⊎_elim {C = HasAskedWay A q place n ⊎ IsAskedWayTo A q place n} (λ e. inr (subst (λ z. IsAskedWayTo A q z n) e w)) (λ ne. inl (y, omega arith, w)) (cases_eq y place))
+    (lesser best far) (found_lesser A (HasAskedWay A q place) (IsAskedWayTo A q place) best far f g)
+
+-- a way to one of the first units is one
+way_to : (A : Arch) (q : Question) (place n : ℕ) → place ≤ length A.units → HasAskedWay A q place n → IsAskedWay A q n
+way_to A q place n l (y, k, (t, (x, a, ends, w))) = (x, y, a, (omega arith, t), ends, w)
+
+-- all units
+pub ways_whole : (A : Arch) (q : Question) (best : Option ℕ) → IsFound A (HasAskedWay A q (length A.units)) best → IsAnswer A q best
+ways_whole A q best h =
+    found_same A (HasAskedWay A q (length A.units)) (IsAskedWay A q) (λ n w. way_to A q (length A.units) n (omega arith) w)
+    (λ n (x, y, a, (l, t), ends, w). (y, l, (t, (x, a, ends, w)))) best h
+
+-- an answer that no other is below
+at_floor : (A : Arch) (q : Question) (place : ℕ) (best : Option ℕ) → place ≤ length A.units → IsFloor A q best → IsFound A (HasAskedWay A q place) best → IsAnswer A q best
+at_floor A q place None l f h = record { least = f; small = h.small }
+at_floor A q place (Some n) l f h = record { least = (way_to A q place n l h.least.0, f); small = h.small }
+
+same_number : (a b : Option ℕ) → option_eq eqb a b ≡ true → a ≡ b
+same_number None None e = refl
+same_number None (Some y) e = absurd (cc)
+same_number (Some x) None e = absurd (cc)
+same_number (Some x) (Some y) e = ap Some (eqb-true x y e)
+
+pub floor_answer : (A : Arch) (q : Question) (place : ℕ) (floor best : Option ℕ) → place ≤ length A.units → IsFloor A q floor → option_eq eqb best floor ≡ true → IsFound A (HasAskedWay A q place) best →
+    IsAnswer A q best
+floor_answer A q place floor best l f e h = at_floor A q place best l (subst (IsFloor A q) (sym (same_number best floor e)) f) h

@@ -1,5 +1,5 @@
 -- The rows of a table.
-use Rattle.std.proofs.Common.{◌≡◌, ℕ, ◌+◌, ◌<◌, List, [], ◌∷◌, ◌++◌, length, get_or, eqb-true, eq-eqb, refl, sym, ap, ◌∙◌, subst, arith, ⊎_elim, Contains}
+use Rattle.std.proofs.Common.{◌≡◌, ℕ, ◌+◌, ◌<◌, List, [], ◌∷◌, ◌++◌, length, get_or, refl, sym, ap, ◌∙◌, subst, arith, ⊎_elim, Contains}
 use Rattle.std.specs.Prelude.{Option, Some, None, slice_get}
 use Rattle.std.proofs.lemmas.Bool.{cases_eq, cases_lt}
 use Rattle.std.proofs.lemmas.List.{get_or_push, get_or_append_left, get_or_past, length_push, get_or_default}
@@ -11,9 +11,9 @@ use Rattle.cg_model.specs.Kernel.{Kernel, HasOperand, node, no_node, size}
 use Rattle.cg_model.specs.Array.{Arch, unit}
 use Rattle.cg_model.proofs.Mappings.{operand_within}
 use Rattle.cg_ways.specs.declared.question.Question.{Question}
-use Rattle.cg_ways.specs.Ways.{HasWay, IsFar, far_of, AreWays}
-use Rattle.cg_ways.specs.Question.{IsAskedWay, IsAnswer, IsQuestionOf, IsNoEdge, IsRowTo, IsRow, AreRowsTo}
-use Rattle.cg_ways.proofs.Least.{least_same}
+use Rattle.cg_ways.specs.Ways.{HasWay, far_of, AreWays, AreSmall}
+use Rattle.cg_ways.specs.Question.{IsAskedWay, IsAnswer, IsQuestionOf, IsNoEdge, IsFoundFar, IsRowTo, IsRow, AreRowsTo}
+use Rattle.cg_ways.proofs.Least.{found_same, found_none}
 
 -- a node that is read, and its operands
 pub node_read : (K : Kernel) (nodes : List Node) (v : ℕ) (n : Node) → nodes ≡ K.nodes → v < size K → n ≡ get_or nodes v n → n ≡ node K v
@@ -30,79 +30,88 @@ operand_read K v p operands o o' e l is same =
 pub constant_no_edge : (K : Kernel) (v p w : ℕ) → HasOperand K v p (Constant w) → IsNoEdge K v p
 constant_no_edge K v p w h = λ u d init h'. absurd (cc)
 
--- what is no edge has no way
-pub no_far : (A : Arch) (K : Kernel) (v p : ℕ) → IsNoEdge K v p → IsFar A K v p None
-no_far A K v p none = λ n (u, d, init, h, x, y, may, way). none u d init h
+module _ (A : Arch) (K : Kernel) (ii : ℕ) where
+  -- what is no edge has no way
+  pub no_far : (v p : ℕ) → IsNoEdge K v p → IsFoundFar A K ii v p None
+  no_far v p none = found_none A (HasWay A K ii v p) (λ n (u, d, init, h, x, y, may, way). none u d init h)
 
--- the answer to an edge's question
-pub edge_far : (A : Arch) (K : Kernel) (v p : ℕ) (q : Question) → IsQuestionOf K v p q → (o : Option ℕ) → IsAnswer A q o → IsFar A K v p o
-edge_far A K v p q is o h = least_same (IsAskedWay A q) (HasWay A K v p) to from o h
-  where
-    to : (n : ℕ) → IsAskedWay A q n → HasWay A K v p n
-    to n (x, y, (lx, ox), (ly, oy), one, (port, at, w)) = (
-      is.source,
-      is.distance,
-      is.init,
-      is.operand,
-      x,
-      y,
-      record {
-        source = (lx, subst (Contains (unit A x).ops) is.from ox);
-        target = (ly, subst (Contains (unit A y).ops) is.to oy);
-        one = λ e. one (is.own ∙ eq-eqb is.source v e);
-      },
-      (port, subst (λ z. slice_get (unit A y).ports z ≡ Some port) is.arg at, w),
-    )
+  -- the answer to an edge's question
+  pub edge_far : (v p : ℕ) (q : Question) → IsQuestionOf K ii v p q → (o : Option ℕ) → IsAnswer A q o → IsFoundFar A K ii v p o
+  edge_far v p q is o h = found_same A (IsAskedWay A q) (HasWay A K ii v p) to from o h
+    where
+      to : (n : ℕ) → IsAskedWay A q n → HasWay A K ii v p n
+      to n (x, y, (lx, ox), (ly, oy), ends, (port, at, w)) =
+          let may = (is.ends x y).0 ends in (
+            is.source,
+            is.distance,
+            is.init,
+            is.operand,
+            x,
+            y,
+            record {
+              source = (lx, subst (Contains (unit A x).ops) is.from ox);
+              target = (ly, subst (Contains (unit A y).ops) is.to oy);
+              one = may.0;
+              apart = may.1;
+            },
+            (port, subst (λ z. slice_get (unit A y).ports z ≡ Some port) is.arg at, w),
+          )
 
-    from : (n : ℕ) → HasWay A K v p n → IsAskedWay A q n
-    from n (u, d, init, h, x, y, may, (port, at, w)) =
-        let same : u ≡ is.source = let k = is.operand in cc in (
-          x,
-          y,
-          (may.source.0, subst (Contains (unit A x).ops) (ap (λ z. (node K z).op) same ∙ sym is.from) may.source.1),
-          (may.target.0, subst (Contains (unit A y).ops) (sym is.to) may.target.1),
-          (λ t. may.one (same ∙ eqb-true is.source v (sym is.own ∙ t))),
-          (port, subst (λ z. slice_get (unit A y).ports z ≡ Some port) (sym is.arg) at, w),
-        )
+      from : (n : ℕ) → HasWay A K ii v p n → IsAskedWay A q n
+      from n (u, d, init, h, x, y, may, (port, at, w)) =
+          let same : u ≡ is.source = let k = is.operand in cc in (
+            x,
+            y,
+            (may.source.0, subst (Contains (unit A x).ops) (ap (λ z. (node K z).op) same ∙ sym is.from) may.source.1),
+            (may.target.0, subst (Contains (unit A y).ops) (sym is.to) may.target.1),
+            (is.ends x y).1 (λ e. may.one (same ∙ e), λ one e. sym same ∙ may.apart one e),
+            (port, subst (λ z. slice_get (unit A y).ports z ≡ Some port) (sym is.arg) at, w),
+          )
 
--- one operand more
-pub row_more : (A : Arch) (K : Kernel) (v p : ℕ) (row : List (Option ℕ)) (far : Option ℕ) → IsRowTo A K v p row → IsFar A K v p far → IsRowTo A K v (p + 1) (row ++ far ∷ [])
-row_more A K v p row far h is = record {
-  each = let e = length_push row far in let f = h.each in omega arith;
-  fars = λ i l.
-      ⊎_elim {C = IsFar A K v i (get_or (row ++ far ∷ []) i None)}
-      (λ e. let at : get_or (row ++ far ∷ []) i None ≡ far = get_or_push row far None i (let f = h.each in omega arith) in
-      subst (IsFar A K v i) (sym at) (subst (λ z. IsFar A K v z far) (sym e) is))
-      (λ ne. let at : get_or (row ++ far ∷ []) i None ≡ get_or row i None = get_or_append_left row (far ∷ []) None i (let f = h.each in omega arith) in
-      subst (IsFar A K v i) (sym at) (h.fars i (omega arith)))
-      (cases_eq i p);
-}
+  -- one operand more
+  pub row_more : (v p : ℕ) (row : List (Option ℕ)) (far : Option ℕ) → IsRowTo A K ii v p row → IsFoundFar A K ii v p far → IsRowTo A K ii v (p + 1) (row ++ far ∷ [])
+  row_more v p row far h is = record {
+    each = let e = length_push row far in let f = h.each in omega arith;
+    fars = λ i l.
+        ⊎_elim {C = IsFoundFar A K ii v i (get_or (row ++ far ∷ []) i None)}
+        (λ e. let at : get_or (row ++ far ∷ []) i None ≡ far = get_or_push row far None i (let f = h.each in omega arith) in
+        subst (IsFoundFar A K ii v i) (sym at) (subst (λ z. IsFoundFar A K ii v z far) (sym e) is))
+        (λ ne. let at : get_or (row ++ far ∷ []) i None ≡ get_or row i None = get_or_append_left row (far ∷ []) None i (let f = h.each in omega arith) in
+        subst (IsFoundFar A K ii v i) (sym at) (h.fars i (omega arith)))
+        (cases_eq i p);
+  }
 
--- all operands
-pub row_whole : (A : Arch) (K : Kernel) (v p : ℕ) (row : List (Option ℕ)) → IsRowTo A K v p row → p ≡ length (node K v).operands → IsRow A K v row
-row_whole A K v p row h e = λ i.
-    ⊎_elim {C = IsFar A K v i (get_or row i None)} (λ l. h.fars i l)
-    (λ l. subst (IsFar A K v i) (sym (get_or_past row i None (let f = h.each in omega arith)))
-    (no_far A K v i (λ u d init o. let k = slice_get_within (node K v).operands i (Edge u d init) o in omega arith)))
-    (cases_lt i p)
+  -- all operands
+  pub row_whole : (v p : ℕ) (row : List (Option ℕ)) → IsRowTo A K ii v p row → p ≡ length (node K v).operands → IsRow A K ii v row
+  row_whole v p row h e = λ i.
+      ⊎_elim {C = IsFoundFar A K ii v i (get_or row i None)} (λ l. h.fars i l)
+      (λ l. subst (IsFoundFar A K ii v i) (sym (get_or_past row i None (let f = h.each in omega arith)))
+      (no_far v i (λ u d init o. let k = slice_get_within (node K v).operands i (Edge u d init) o in omega arith)))
+      (cases_lt i p)
 
--- one node more
-pub rows_more : (A : Arch) (K : Kernel) (v : ℕ) (rows : List (List (Option ℕ))) (row : List (Option ℕ)) → AreRowsTo A K v rows → IsRow A K v row → AreRowsTo A K (v + 1) (rows ++ row ∷ [])
-rows_more A K v rows row h is = record {
-  each = let e = length_push rows row in let f = h.each in omega arith;
-  right = λ w l.
-      ⊎_elim {C = IsRow A K w (get_or (rows ++ row ∷ []) w [])}
-      (λ e. let at : get_or (rows ++ row ∷ []) w [] ≡ row = get_or_push rows row [] w (let f = h.each in omega arith) in
-      subst (IsRow A K w) (sym at) (subst (λ z. IsRow A K z row) (sym e) is))
-      (λ ne. let at : get_or (rows ++ row ∷ []) w [] ≡ get_or rows w [] = get_or_append_left rows (row ∷ []) [] w (let f = h.each in omega arith) in
-      subst (IsRow A K w) (sym at) (h.right w (omega arith)))
-      (cases_eq w v);
-}
+  -- one node more
+  pub rows_more : (v : ℕ) (rows : List (List (Option ℕ))) (row : List (Option ℕ)) → AreRowsTo A K ii v rows → IsRow A K ii v row → AreRowsTo A K ii (v + 1) (rows ++ row ∷ [])
+  rows_more v rows row h is = record {
+    each = let e = length_push rows row in let f = h.each in omega arith;
+    right = λ w l.
+        ⊎_elim {C = IsRow A K ii w (get_or (rows ++ row ∷ []) w [])}
+        (λ e. let at : get_or (rows ++ row ∷ []) w [] ≡ row = get_or_push rows row [] w (let f = h.each in omega arith) in
+        subst (IsRow A K ii w) (sym at) (subst (λ z. IsRow A K ii z row) (sym e) is))
+        (λ ne. let at : get_or (rows ++ row ∷ []) w [] ≡ get_or rows w [] = get_or_append_left rows (row ∷ []) [] w (let f = h.each in omega arith) in
+        subst (IsRow A K ii w) (sym at) (h.right w (omega arith)))
+        (cases_eq w v);
+  }
 
--- all nodes
-pub rows_whole : (A : Arch) (K : Kernel) (v : ℕ) (rows : List (List (Option ℕ))) → AreRowsTo A K v rows → v ≡ size K → AreWays A K rows
-rows_whole A K v rows h e = λ w p.
-    ⊎_elim {C = IsFar A K w p (far_of rows w p)} (λ l. h.right w l p)
-    (λ l. let past : far_of rows w p ≡ None = ap (λ z. get_or z p None) (get_or_past rows w [] (let f = h.each in omega arith)) in
-    subst (IsFar A K w p) (sym past) (no_far A K w p (λ u d init o. let k = operand_within K w p (Edge u d init) o in omega arith)))
-    (cases_lt w v)
+  -- all nodes
+  pub rows_whole : (v : ℕ) (rows : List (List (Option ℕ))) → AreRowsTo A K ii v rows → v ≡ size K → (w p : ℕ) → IsFoundFar A K ii w p (far_of rows w p)
+  rows_whole v rows h e w p =
+      ⊎_elim {C = IsFoundFar A K ii w p (far_of rows w p)} (λ l. h.right w l p)
+      (λ l. let past : far_of rows w p ≡ None = ap (λ z. get_or z p None) (get_or_past rows w [] (let f = h.each in omega arith)) in
+      subst (IsFoundFar A K ii w p) (sym past) (no_far w p (λ u d init o. let k = operand_within K w p (Edge u d init) o in omega arith)))
+      (cases_lt w v)
+
+  pub rows_ways : (v : ℕ) (rows : List (List (Option ℕ))) → AreRowsTo A K ii v rows → v ≡ size K → AreWays A K ii rows
+  rows_ways v rows h e = λ w p. (rows_whole v rows h e w p).least
+
+  pub rows_small : (v : ℕ) (rows : List (List (Option ℕ))) → AreRowsTo A K ii v rows → v ≡ size K → AreSmall (length A.resources) rows
+  rows_small v rows h e = λ w p. (rows_whole v rows h e w p).small

@@ -2,7 +2,7 @@
 use Rattle.std.specs.Prelude.{◌≡◌, ℕ, ◌+◌, ◌<◌, ◌≤◌, ◌⊎◌, ◌++◌, if◌then◌else◌, eqb, List, [], length, Contains, Option, Some, None, sum_by, slice_index, slice_index_or, slice_set, replicate, Bool, true, false, ◌↔◌}
 use Rattle.cg_model.specs.Array.{Arch, resource, delay}
 use Rattle.cg_ways.specs.declared.search.Search.{Search}
-use Rattle.cg_ways.specs.Ways.{Leads}
+use Rattle.cg_ways.specs.Ways.{Leads, IsLeast, IsSmall}
 
 -- a way of n registers leads from resource q to one of the ends
 abbrev pub Reaches : Arch → List ℕ → ℕ → ℕ → Type 0
@@ -11,6 +11,11 @@ Reaches A ends q n = (r : ℕ) × Contains ends r × Leads A q r n
 -- a way of n registers leads from one of the resources `from` to one of the ends
 abbrev pub Joins : Arch → List ℕ → List ℕ → ℕ → Type 0
 Joins A from ends n = (q : ℕ) × Contains from q × Reaches A ends q n
+
+-- what a search finds: the least number with a property, which is at most the number of the architecture's resources
+pub record IsFound (A : Arch) (P : ℕ → Type 0) (far : Option ℕ) : Type 0 where
+  pub least : IsLeast P far
+  pub small : IsSmall (length A.resources) far
 
 -- the number of resource r; None where it has none yet
 abbrev pub number : List (Option ℕ) → ℕ → Option ℕ
@@ -51,7 +56,7 @@ pub record IsUnderWay (A : Arch) (ends : List ℕ) (numbers : List (Option ℕ))
   pub passed : (i : ℕ) → i < at → HasNumber numbers (slice_index front i)
   pub reached : at ≤ length front
 
--- the same of a search
+-- search s is under way
 abbrev pub IsSearch : Arch → List ℕ → Search → Type 0
 IsSearch A ends s = IsUnderWay A ends s.numbers.items s.level s.front.items s.at s.later.items
 
@@ -79,7 +84,7 @@ pub record IsBegun (ends : List ℕ) (count : ℕ) (s : Search) : Type 0 where
   pub at : s.at ≡ 0
   pub later : s.later.items ≡ []
 
--- the same search at the first resource from `at` on that has no number, or at the end of the front
+-- search t is search s gone on to the first resource from `at` on that has no number, or to the end of the front
 pub record IsSkipped (s t : Search) : Type 0 where
   pub numbers : t.numbers.items ≡ s.numbers.items
   pub level : t.level ≡ s.level
@@ -87,7 +92,7 @@ pub record IsSkipped (s t : Search) : Type 0 where
   pub at : IsNext s.numbers.items s.front.items s.at t.at
   pub later : t.later.items ≡ s.later.items
 
--- the same search at the next number, for which those wait that waited for later
+-- search t is search s gone on to the next number, for which those wait that waited for later
 pub record IsRisen (s t : Search) : Type 0 where
   pub numbers : t.numbers.items ≡ s.numbers.items
   pub level : t.level ≡ s.level + 1

@@ -1,13 +1,16 @@
 //! The least numbers of registers on the ways of a kernel's data edges through an architecture.
 #![tactic(auto)]
 
+mod answers;
 mod laws;
+mod missing;
 mod question;
 mod search;
 mod table;
 mod units;
 mod ways;
 
-pub use laws::keeps_far;
+pub use laws::{always_found, keeps_far, kept, no_way};
+pub use missing::{Missing, first_without_way};
 pub use table::Ways;
 pub use ways::find_ways;

@@ -1,8 +1,7 @@
 //! The search backward along links: the least number of registers on a way between resources.
 ghost use Rattle.std.specs.Prelude.{◌≡◌, ℕ, ◌+◌, ◌<◌, ◌≤◌, List, IfOk, OnOk, IfSome, IfNone, None, length, replicate};
 ghost use Rattle.cg_model.specs.Array as arrays;
-ghost use Rattle.cg_ways.specs.Ways.{IsLeast};
-ghost use Rattle.cg_ways.specs.Search.{AreBelow, IsNext, AreMarks, IsBegun, IsSkipped, IsRisen, IsSearch, IsOpen, IsOver, IsSettled, Joins};
+ghost use Rattle.cg_ways.specs.Search.{AreBelow, IsNext, AreMarks, IsBegun, IsSkipped, IsRisen, IsSearch, IsOpen, IsOver, IsSettled, Joins, IsFound};
 
 use cg_arch::{Arch, Kind};
 use std::alloc::{AllocError, Global};
@@ -146,7 +145,7 @@ pub(crate) fn least(
 ) -> Result<Option<u32>, AllocError>
     requires from { AreBelow (length arch.now.resources) from.now }
     requires ends { AreBelow (length arch.now.resources) ends.now }
-    ensures { IfOk result (IsLeast (Joins arch.now from.now ends.now)) }
+    ensures { IfOk result (IsFound arch.now (Joins arch.now from.now ends.now)) }
 {
     let count = arch.resources().len();
     let marks = marks(alloc, count, from)?;

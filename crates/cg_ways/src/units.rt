@@ -1,24 +1,30 @@
 //! The ways between units that offer two operations.
-ghost use Rattle.std.specs.Prelude.{◌≡◌, ◌<◌, if◌then◌else◌, IfOk, None, Some, length, true, slice_get};
+ghost use Rattle.std.specs.Prelude.{◌≡◌, ◌<◌, if◌then◌else◌, IfOk, None, length, slice_get};
 ghost use Rattle.cg_word.specs.Sets.{among};
-ghost use Rattle.cg_ways.specs.Ways.{IsLeast};
-ghost use Rattle.cg_ways.specs.Search.{AreBelow};
-ghost use Rattle.cg_ways.specs.Question.{AreOuts, ArePorts, IsOwnWay, HasOwnWay, lesser};
+ghost use Rattle.cg_ways.specs.Search.{AreBelow, IsFound};
+ghost use Rattle.cg_ways.specs.Question.{IsAnswer, IsFloor, AreOuts, ArePorts, IsAskedWayTo, lesser};
 
+use crate::question::{Ends, Question};
 use crate::search::least;
 use cg_arch::{Arch, Op, Unit};
 use std::alloc::{AllocError, Global};
 
-/// Lists the outs of the units that offer `op`.
-pub(crate) fn outs(alloc: Global, arch: &Arch, op: Op) -> Result<Vec<u32>, AllocError>
+/// Lists the outs of the units that offer `op` and are such ends with unit number `place`.
+fn outs(
+    alloc: Global,
+    arch: &Arch,
+    op: Op,
+    ends: Ends,
+    place: usize,
+) -> Result<Vec<u32>, AllocError>
     ensures known { IfOk result (λ list. AreBelow (length arch.now.resources) list.items) }
-    ensures exact { IfOk result (λ list. AreOuts arch.now op (length arch.now.units) list.items) }
+    ensures exact { IfOk result (λ list. AreOuts arch.now op ends place (length arch.now.units) list.items) }
 {
     let units = arch.units();
     let mut outs = Vec::new(alloc);
-    for place in 0..units.len() {
-        if units[place].ops.has(op) {
-            outs.push(units[place].out)?;
+    for source in 0..units.len() {
+        if units[source].ops.has(op) && ends.fit(source, place) {
+            outs.push(units[source].out)?;
         }
     }
     Ok(outs)
@@ -36,7 +42,7 @@ fn port_for(unit: &Unit, op: Op, arg: usize) -> Option<u32>
 }
 
 /// Lists port number `arg` of each unit that offers `op`.
-pub(crate) fn ports(alloc: Global, arch: &Arch, op: Op, arg: usize) -> Result<Vec<u32>, AllocError>
+fn ports(alloc: Global, arch: &Arch, op: Op, arg: usize) -> Result<Vec<u32>, AllocError>
     ensures known { IfOk result (λ list. AreBelow (length arch.now.resources) list.items) }
     ensures exact { IfOk result (λ list. ArePorts arch.now op arg (length arch.now.units) list.items) }
 {
@@ -61,55 +67,67 @@ fn lesser(a: Option<u32>, b: Option<u32>) -> Option<u32>
     }
 }
 
-/// Checks whether `far` is there and is 0, below which there is nothing.
-fn is_zero(far: Option<u32>) -> bool
-    ensures { result ≡ true → far ≡ Some 0 }
+/// Finds the least number of registers on a way for a question, whichever units its ends are.
+fn at_any(alloc: Global, arch: &Arch, question: Question) -> Result<Option<u32>, AllocError>
+    ensures floor { IfOk result (IsFloor arch.now question) }
+    ensures answer { question.ends ≡ Ends.Any → IfOk result (IsAnswer arch.now question) }
 {
-    match far {
-        Some(number) => number == 0,
-        None => false,
-    }
+    // Units that may be any leave none out, whichever the other is.
+    let outs = outs(alloc, arch, question.from, Ends::Any, 0)?;
+    let ports = ports(alloc, arch, question.to, question.arg)?;
+    least(alloc, arch, &outs, &ports)
 }
 
-/// Finds the least number of registers on a way from the out of the unit number `place` to its own port number `arg`, where it
-/// offers both operations.
+/// Finds the least number of registers on a way for a question to the port of unit number `place`.
 fn at_unit(
     alloc: Global,
     arch: &Arch,
-    from: Op,
-    to: Op,
-    arg: usize,
+    question: Question,
     place: usize,
 ) -> Result<Option<u32>, AllocError>
     requires { place < length arch.now.units }
-    ensures { IfOk result (IsLeast (IsOwnWay arch.now from to arg place)) }
+    ensures { IfOk result (IsFound arch.now (IsAskedWayTo arch.now question place)) }
 {
-    let unit = &arch.units()[place];
-    if !unit.ops.has(from) {
-        return Ok(None);
-    }
-    match port_for(unit, to, arg) {
-        Some(port) => least(alloc, arch, &[unit.out], &[port]),
+    match port_for(&arch.units()[place], question.to, question.arg) {
+        Some(port) => {
+            let outs = outs(alloc, arch, question.from, question.ends, place)?;
+            least(alloc, arch, &outs, &[port])
+        }
         None => Ok(None),
     }
 }
 
-/// Finds the least number of registers on a way from the out of a unit that offers both operations to its own port number `arg`.
-pub(crate) fn own(
+/// Answers a question unit by unit, until an answer is `floor`, below which there is none.
+fn at_units(
     alloc: Global,
     arch: &Arch,
-    from: Op,
-    to: Op,
-    arg: usize,
+    question: Question,
+    floor: Option<u32>,
 ) -> Result<Option<u32>, AllocError>
-    ensures { IfOk result (IsLeast (HasOwnWay arch.now from to arg (length arch.now.units))) }
+    requires { IsFloor arch.now question floor }
+    ensures { IfOk result (IsAnswer arch.now question) }
 {
     let mut best = None;
     for place in 0..arch.units().len() {
-        if is_zero(best) {
+        if best == floor {
             return Ok(best);
         }
-        best = lesser(best, at_unit(alloc, arch, from, to, arg, place)?);
+        best = lesser(best, at_unit(alloc, arch, question, place)?);
     }
     Ok(best)
+}
+
+/// Answers a question.
+pub(crate) fn work_out(
+    alloc: Global,
+    arch: &Arch,
+    question: Question,
+) -> Result<Option<u32>, AllocError>
+    ensures { IfOk result (IsAnswer arch.now question) }
+{
+    let floor = at_any(alloc, arch, question)?;
+    if question.ends == Ends::Any {
+        return Ok(floor);
+    }
+    at_units(alloc, arch, question, floor)
 }

@@ -1,20 +1,35 @@
 //! The table of the least numbers of registers.
-ghost use Rattle.std.specs.Prelude.{◌≡◌, ◌<◌, IfOk, OnOk, IfSome, IfNone, length};
+ghost use Rattle.std.specs.Prelude.{◌≡◌, ℕ, ◌<◌, ◌↔◌, IfOk, OnOk, IfSome, IfNone, length};
 ghost use Rattle.cg_model.specs.Kernel as kernels;
-ghost use Rattle.cg_ways.specs.Ways.{IsFar, AreWays};
-ghost use Rattle.cg_ways.specs.Question.{AreAnswers, IsQuestionOf, IsNoEdge, IsRow};
+ghost use Rattle.cg_ways.specs.Ways.{AreWays, AreSmall};
+ghost use Rattle.cg_ways.specs.Question.{AreEnds, MayBeEnds, AreAnswers, IsQuestionOf, IsNoEdge, IsFoundFar, IsRow};
 
-use crate::question::{Answer, Question, ask};
+use crate::answers::{Answer, ask};
+use crate::question::{Ends, Question};
 use crate::table::Ways;
 use cg_arch::Arch;
 use cg_model::{Items, Kernel, Operand};
 use std::alloc::{AllocError, Global};
 
-/// Returns the question that operand number `arg` of a node asks; None where it is no edge.
-fn question_at(kernel: &Kernel, node: usize, arg: usize) -> Option<Question>
+/// Returns which units may hold nodes number `source` and `target` at interval `ii`: one where they are one node, and two where
+/// they aren't and the interval is 1, in which a unit holds one node.
+fn ends_at(source: usize, target: usize, ii: u32) -> Ends
+    ensures { (x y : ℕ) → AreEnds result x y ↔ MayBeEnds ii source target x y }
+{
+    if source == target {
+        Ends::One
+    } else if ii == 1 {
+        Ends::Apart
+    } else {
+        Ends::Any
+    }
+}
+
+/// Returns the question that operand number `arg` of a node asks at interval `ii`; None where it is no edge.
+fn question_at(kernel: &Kernel, ii: u32, node: usize, arg: usize) -> Option<Question>
     requires node { node < kernels.size kernel.now }
     requires arg { arg < length (kernels.node kernel.now node).operands }
-    ensures edge { IfSome result (IsQuestionOf kernel.now node arg) }
+    ensures edge { IfSome result (IsQuestionOf kernel.now ii node arg) }
     ensures none { IfNone result (IsNoEdge kernel.now node arg) }
 {
     let nodes = kernel.nodes();
@@ -28,17 +43,18 @@ fn question_at(kernel: &Kernel, node: usize, arg: usize) -> Option<Question>
                 from: nodes[source].op,
                 to: target.op,
                 arg,
-                own: source == node,
+                ends: ends_at(source, node, ii),
             })
         }
     }
 }
 
-/// Finds the least number of registers on a way for operand number `arg` of a node; None where there is no way.
+/// Finds the least number of registers on a way for operand number `arg` of a node at interval `ii`; None where there is no way.
 fn far_at(
     alloc: Global,
     arch: &Arch,
     kernel: &Kernel,
+    ii: u32,
     node: usize,
     arg: usize,
     answers: &mut Vec<Answer>,
@@ -46,44 +62,46 @@ fn far_at(
     requires node { node < kernels.size kernel.now }
     requires arg { arg < length (kernels.node kernel.now node).operands }
     requires answers { AreAnswers arch.now answers.old.items }
-    ensures far { IfOk result (IsFar arch.now kernel.now node arg) }
+    ensures far { IfOk result (IsFoundFar arch.now kernel.now ii node arg) }
     ensures kept { OnOk result (AreAnswers arch.now answers.new.items) }
 {
-    match question_at(kernel, node, arg) {
+    match question_at(kernel, ii, node, arg) {
         Some(question) => ask(alloc, arch, answers, question),
         None => Ok(None),
     }
 }
 
-/// Finds the numbers for all operands of a node.
+/// Finds the numbers for all operands of a node at interval `ii`.
 fn row_of(
     alloc: Global,
     arch: &Arch,
     kernel: &Kernel,
+    ii: u32,
     node: usize,
     answers: &mut Vec<Answer>,
 ) -> Result<Items<Option<u32>>, AllocError>
     requires node { node < kernels.size kernel.now }
     requires answers { AreAnswers arch.now answers.old.items }
-    ensures row { IfOk result (λ row. IsRow arch.now kernel.now node row) }
+    ensures row { IfOk result (λ row. IsRow arch.now kernel.now ii node row) }
     ensures kept { OnOk result (AreAnswers arch.now answers.new.items) }
 {
     let operands = kernel.nodes()[node].operands.as_slice();
     let mut row = Vec::new(alloc);
     for arg in 0..operands.len() {
-        row.push(far_at(alloc, arch, kernel, node, arg, answers)?)?;
+        row.push(far_at(alloc, arch, kernel, ii, node, arg, answers)?)?;
     }
     Ok(Items::new(row))
 }
 
-/// Finds the least number of registers on a way for each edge of `kernel` through `arch`.
-pub fn find_ways(alloc: Global, arch: &Arch, kernel: &Kernel) -> Result<Ways, AllocError>
-    ensures { IfOk result (λ w. AreWays arch.now kernel.now w) }
+/// Finds the least number of registers on a way for each edge of `kernel` through `arch` at interval `ii`.
+pub fn find_ways(alloc: Global, arch: &Arch, kernel: &Kernel, ii: u32) -> Result<Ways, AllocError>
+    ensures ways { IfOk result (λ w. AreWays arch.now kernel.now ii w) }
+    ensures small { IfOk result (λ w. AreSmall (length arch.now.resources) w) }
 {
     let mut answers = Vec::new(alloc);
     let mut rows = Vec::new(alloc);
     for node in 0..kernel.nodes().len() {
-        rows.push(row_of(alloc, arch, kernel, node, &mut answers)?)?;
+        rows.push(row_of(alloc, arch, kernel, ii, node, &mut answers)?)?;
     }
     Ok(Ways::new(rows))
 }

@@ -4,6 +4,7 @@ use Rattle.cg_pressure.specs.Pressure.{total, registers}
 use Rattle.cg_pressure.specs.Sums.{table}
 use Rattle.cg_pressure.specs.Times.{longest}
 use Rattle.cg_pressure_search.specs.Finish.{IsSchedule, stay_of}
+use Rattle.cg_pressure_search.proofs.Certificates.{short}
 use Rattle.cg_pressure_search.proofs.Values.{stay_small, certifies}
 use Rattle.cg_pressure_search.proofs.Finished.{loose, excess, stays_sum}
 use Rattle.cg_pressure_search.proofs.find.decide.Goals as goal
@@ -33,6 +34,8 @@ returns c =
     let d = ap (λ z. c.args.ii * z) c.count_registers.ensures.value in
     let f = c.if-all_stays-ii.false in
     let g = stays_sum (size K) c.args.at.now c.args.routed.now c.in_ok-times.times s in
-    let much : c.args.ii * registers c.args.arch.now < total (size K) (stay_of (size K) c.args.at.now c.args.routed.now) = omega arith in
-    certifies c.args.arch.now K (table c.args.far.now) c.args.ii c.nodes-n.ensures.valid c.args.links.now c.args.flow.now c.args.routed.now c.requires.network.right c.requires.routing.circulation c.in_ok-certificate.field-0 c.in_ok-certificate.ensures
-    (excess c.args.arch.now K (table c.args.far.now) c.args.ii c.nodes-n.ensures.valid c.args.links.now c.requires.network c.args.flow.now c.args.at.now c.args.routed.now c.requires.routing c.requires.all c.requires.graph much)
+    let much : c.args.ii * registers c.args.arch.now < total (size K) (stay_of (size K) c.args.at.now c.args.routed.now) = omega arith in (
+      certifies c.args.arch.now K (table c.args.far.now) c.args.ii c.nodes-n.ensures.valid c.args.links.now c.args.flow.now c.args.routed.now c.requires.network.right c.requires.routing.circulation c.in_ok-certificate.field-0 c.in_ok-certificate.ensures.taken
+          (excess c.args.arch.now K (table c.args.far.now) c.args.ii c.nodes-n.ensures.valid c.args.links.now c.requires.network c.args.flow.now c.args.at.now c.args.routed.now c.requires.routing c.requires.all c.requires.graph much),
+      short (length c.args.links.now) c.in_ok-certificate.field-0 c.requires.graph.short c.in_ok-certificate.ensures.few,
+    )

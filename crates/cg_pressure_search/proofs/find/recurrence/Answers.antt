@@ -7,6 +7,7 @@ use Rattle.cg_pressure_search.specs.Network.{link}
 use Rattle.cg_pressure_search.specs.Push.{IsPushed, gather}
 use Rattle.cg_pressure_search.specs.Route.{IsCirculation}
 use Rattle.cg_pressure_search.proofs.Logs.{read}
+use Rattle.cg_pressure_search.proofs.Certificates.{short}
 use Rattle.cg_pressure_search.proofs.Values.{stay_small, certifies}
 use Rattle.cg_pressure_search.proofs.Finished.{within, circulation, blocked_excess}
 use Rattle.cg_pressure_search.proofs.find.recurrence.Goals as goal
@@ -49,5 +50,7 @@ returns c =
     (circulation A K far c.args.ii good links c.requires.network flow c.args.at.now m by flow1 c.requires.idle c.requires.flows inside c.requires.graph pushed) in
     let much : c.args.ii * registers A < by = let d = ap (λ z. c.args.ii * z) c.count_registers.ensures.value in omega arith in
     let more = subst (λ (z : List ℕ). c.args.ii * registers A + gather links z (λ l. l.loss) < gather links z (λ l. l.gain)) (sym q)
-    (blocked_excess A K far c.args.ii good links c.requires.network flow c.args.at.now m by flow1 c.requires.idle c.requires.flows inside c.requires.graph pushed much long) in
-    certifies A K far c.args.ii good links c.deref.result.now [] c.requires.network.right circ c.in_ok-found.found c.in_ok-found.ensures more
+    (blocked_excess A K far c.args.ii good links c.requires.network flow c.args.at.now m by flow1 c.requires.idle c.requires.flows inside c.requires.graph pushed much long) in (
+      certifies A K far c.args.ii good links c.deref.result.now [] c.requires.network.right circ c.in_ok-found.found c.in_ok-found.ensures.taken more,
+      short (length c.args.links.now) c.in_ok-found.found c.requires.graph.short c.in_ok-found.ensures.few,
+    )

@@ -1,4 +1,4 @@
-use Rattle.cg_ways.proofs.Kept.{keeps_far}
+use Rattle.cg_ways.proofs.Legal.{keeps_far}
 use Rattle.cg_ways.proofs.laws.keeps_far.Goals as goal
 
 pub returns : goal.returns

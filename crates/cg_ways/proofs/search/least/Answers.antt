@@ -3,7 +3,7 @@ use Rattle.std.proofs.lemmas.Bool.{false≢true}
 use Rattle.cg_model.specs.Array.{Arch}
 use Rattle.cg_ways.specs.Search.{lacking}
 use Rattle.cg_ways.proofs.Marks.{below_same, is_marked, from_marked, read_mark}
-use Rattle.cg_ways.proofs.Searches.{begun, begun_unmet, begun_few, open_front, settled, fewer, still_unmet, unmet_same, found_at, found_none}
+use Rattle.cg_ways.proofs.Searches.{begun, begun_unmet, begun_few, open_front, settled, fewer, small_level, still_unmet, unmet_same, found_at, found_nowhere}
 use Rattle.cg_ways.proofs.search.least.Goals as goal
 
 pub marks-requires : goal.marks-requires
@@ -58,6 +58,8 @@ returns-then-index c =
     found_at A c.args.ends.now c.args.from.now c.in-Some.resource c.take.new.self c.in-Some.ensures.some s
     (unmet_same c.args.from.now c.loop-resource.search c.take.new.self c.in-Some.ensures.numbers c.loop-resource.invariant.unmet)
     (from_marked c.args.from.now (length c.resources-count.result.now) c.in_ok-marks.marks.items m c.in-Some.resource (sym (read_mark c.in_ok-marks.marks.items c.in-Some.resource c.index.result.now within c.index.ensures) ∙ c.if-index.true))
+    (small_level A c.resources-count.ensures.valid c.args.ends.now c.in-Some.resource c.take.new.self c.in-Some.ensures.some s c.loop-resource.search.level c.in-Some.ensures.level
+    (let same : lacking c.take.new.self.numbers.items ≡ lacking c.loop-resource.search.numbers.items = ap lacking c.in-Some.ensures.numbers in let few = c.loop-resource.invariant.few in omega arith))
 
 pub loop-resource-smaller : goal.loop-resource-smaller
 loop-resource-smaller c =
@@ -91,5 +93,5 @@ pub returns : goal.returns
 returns c =
     let A : Arch = c.args.arch.now in
     let s = c.in_default.ensures.kept A c.args.ends.now c.loop-resource.invariant.search in
-    found_none A c.args.ends.now c.args.from.now c.take.new.self c.in_default.ensures.none s
+    found_nowhere A c.args.ends.now c.args.from.now c.take.new.self c.in_default.ensures.none s
     (unmet_same c.args.from.now c.loop-resource.search c.take.new.self c.in_default.ensures.numbers c.loop-resource.invariant.unmet)

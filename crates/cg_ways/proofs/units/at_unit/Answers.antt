@@ -1,45 +1,40 @@
-use Rattle.std.proofs.Common.{[], ◌∷◌, length, ap, arith}
+use Rattle.std.proofs.Common.{[], ◌∷◌, length, sym, subst}
 use Rattle.std.proofs.lemmas.Result.{IfOk-weaker}
 use Rattle.cg_model.specs.Array.{Arch}
-use Rattle.cg_ways.specs.Ways.{IsLeast}
-use Rattle.cg_ways.specs.Search.{Joins}
-use Rattle.cg_ways.specs.Question.{IsOwnWay}
-use Rattle.cg_ways.proofs.Offering.{unit_read, offered, not_offered, port_found, no_port, out_known, port_known, one_below, own_ways}
+use Rattle.cg_ways.specs.Search.{AreBelow, Joins, IsFound}
+use Rattle.cg_ways.specs.Question.{AreOuts, IsAskedWayTo}
+use Rattle.cg_ways.proofs.Least.{found_none}
+use Rattle.cg_ways.proofs.Offering.{unit_read, port_found, no_port, port_known, one_below, unit_ways}
 use Rattle.cg_ways.proofs.units.at_unit.Goals as goal
 
-pub returns-then-not-has : goal.returns-then-not-has
-returns-then-not-has c =
-    let A : Arch = c.args.arch.now in
-    let read = unit_read A c.units.result.now c.args.place c.index-units-place.result c.units.ensures.units c.requires c.index-units-place.is in
-    λ n (f, t, w). not_offered A c.args.place c.index-units-place.result c.args.from c.has.result read c.has.ensures c.if-not-has.true f
-
 pub least-requires-clause-from : goal.least-requires-clause-from
-least-requires-clause-from c =
-    let A : Arch = c.args.arch.now in
-    let read = unit_read A c.units.result.now c.args.place c.index-units-place.result c.units.ensures.units c.requires c.index-units-place.is in
-    let known = out_known A c.units.ensures.valid c.args.place c.requires in
-    one_below (length A.resources) c.index-units-place.result.out (let e = ap (λ z. z.out) read in omega arith)
+least-requires-clause-from c = subst (AreBelow (length c.args.arch.now.resources)) (sym c.deref.ensures.value) c.in_ok-outs-in-Some.ensures.known
 
 pub least-requires-clause-ends : goal.least-requires-clause-ends
 least-requires-clause-ends c =
     let A : Arch = c.args.arch.now in
+    let q = c.args.question in
     let u = c.index-units-place.result in
     let read = unit_read A c.units.result.now c.args.place u c.units.ensures.units c.requires c.index-units-place.is in
-    let (t, at) = port_found A c.args.place u c.args.to c.args.arg c.in-Some.port c.port_for.result read c.port_for.ensures c.in-Some.is in
-    one_below (length A.resources) c.in-Some.port (port_known A c.units.ensures.valid c.args.place c.args.arg c.in-Some.port c.requires at)
+    let (t, at) = port_found A c.args.place u q.to q.arg c.in-Some.port c.port_for.result read c.port_for.ensures c.in-Some.is in
+    one_below (length A.resources) c.in-Some.port (port_known A c.units.ensures.valid c.args.place q.arg c.in-Some.port c.requires at)
 
-pub returns-in-Some : goal.returns-in-Some
-returns-in-Some c =
+pub returns-in_ok-outs-in-Some : goal.returns-in_ok-outs-in-Some
+returns-in_ok-outs-in-Some c =
     let A : Arch = c.args.arch.now in
+    let q = c.args.question in
     let u = c.index-units-place.result in
     let read = unit_read A c.units.result.now c.args.place u c.units.ensures.units c.requires c.index-units-place.is in
-    let (t, at) = port_found A c.args.place u c.args.to c.args.arg c.in-Some.port c.port_for.result read c.port_for.ensures c.in-Some.is in
-    IfOk-weaker c.least.result (IsLeast (Joins A (u.out ∷ []) (c.in-Some.port ∷ []))) (IsLeast (IsOwnWay A c.args.from c.args.to c.args.arg c.args.place))
-    (λ o h. own_ways A c.args.from c.args.to c.args.arg c.args.place u.out c.in-Some.port (offered A c.args.place u c.args.from c.has.result read c.has.ensures c.if-not-has.false) t at (ap (λ z. z.out) read) o h)
+    let (t, at) = port_found A c.args.place u q.to q.arg c.in-Some.port c.port_for.result read c.port_for.ensures c.in-Some.is in
+    IfOk-weaker c.least.result (IsFound A (Joins A c.deref.result.now (c.in-Some.port ∷ []))) (IsFound A (IsAskedWayTo A q c.args.place))
+    (λ o h. unit_ways A q c.args.place c.in-Some.port c.deref.result.now t at
+    (subst (AreOuts A q.from q.ends c.args.place (length A.units)) (sym c.deref.ensures.value) c.in_ok-outs-in-Some.ensures.exact) o h)
     c.least.ensures
 
 pub returns-in-None : goal.returns-in-None
 returns-in-None c =
     let A : Arch = c.args.arch.now in
+    let q = c.args.question in
     let read = unit_read A c.units.result.now c.args.place c.index-units-place.result c.units.ensures.units c.requires c.index-units-place.is in
-    λ n (f, t, (r, at, w)). no_port A c.args.place c.index-units-place.result c.args.to c.args.arg c.port_for.result read c.port_for.ensures c.in-None.is r t at
+    found_none A (IsAskedWayTo A q c.args.place)
+    (λ n (t, (x, a, ends, (r, at, w))). no_port A c.args.place c.index-units-place.result q.to q.arg c.port_for.result read c.port_for.ensures c.in-None.is r t at)

@@ -52,5 +52,5 @@ returns-in-Edge-clause-edge c =
       from = ap (λ z. z.op) (sym c.index-nodes-source.is ∙ source);
       to = ap (λ z. z.op) read;
       arg = refl;
-      own = refl;
+      ends = c.ends_at.ensures;
     }

@@ -1,0 +1,10 @@
+pub mod Links
+pub mod Networks
+pub mod Ends
+pub mod Values
+pub mod Residual
+pub mod Sent
+pub mod Routed
+pub mod Decided
+pub mod Built
+pub mod Always

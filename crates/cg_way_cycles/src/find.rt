@@ -1,0 +1,60 @@
+//! The search for a closed chain of edges that is too long.
+ghost use Rattle.std.specs.Prelude.{◌≡◌, ℕ, ◌≤◌, IfOk, Some, length, slice_get, slice_index};
+ghost use Rattle.cg_edges.specs.declared.edge.Edge.{Edge};
+ghost use Rattle.cg_pressure.specs.Sums.{table};
+ghost use Rattle.cg_way_cycles.specs.Lengthened.{AreLonger};
+ghost use Rattle.cg_way_cycles.specs.WayCycles.{IsWayAnswer};
+
+use crate::check::least_registers;
+use cg_edges::{Arch, Edge, EdgeId, Kernel, edges_of, latencies_are_small};
+use cg_recur::{Numbered, longest_chains, name_all};
+use std::alloc::{AllocError, Global};
+
+/// Returns a closed chain of edges whose latencies, with the registers added that their values cross at least, exceed the
+/// interval `ii` times its distances, where there is one. It meets no node twice, and begins at its least-numbered node.
+/// `far` has three numbers a node: for each operand the registers that a value crosses at least on its way there.
+pub fn find_way_cycle(
+    alloc: Global,
+    arch: &Arch,
+    kernel: &Kernel,
+    far: &[u32],
+    ii: u32,
+) -> Result<Option<Vec<EdgeId>>, AllocError>
+    requires small { (k : ℕ) → slice_index far.now k ≤ 4096 }
+    ensures { IfOk result (λ found. IsWayAnswer arch.now kernel.now (table far.now) ii found) }
+{
+    latencies_are_small(arch);
+    let list = edges_of(alloc, arch, kernel)?;
+    let edges = lengthen(alloc, &list.names, &list.edges, far)?;
+    let nodes = kernel.nodes().len();
+    match longest_chains(alloc, &edges, nodes, ii)? {
+        Numbered::Cycle(numbers) => Ok(Some(name_all(alloc, &list.names, &numbers)?)),
+        Numbered::Times(_) => Ok(None),
+    }
+}
+
+/// Returns `edges` with longer latencies: to each the registers are added that `far` has for the edge, none for an order edge.
+/// `names` has the names of the edges.
+fn lengthen(
+    alloc: Global,
+    names: &[EdgeId],
+    edges: &[Edge],
+    far: &[u32],
+) -> Result<Vec<Edge>, AllocError>
+    requires each { length names.now ≡ length edges.now }
+    requires quick { (k : ℕ) (e : Edge) → slice_get edges.now k ≡ Some e → e.latency ≤ 4 }
+    requires small { (k : ℕ) → slice_index far.now k ≤ 4096 }
+    ensures { IfOk result (λ long. AreLonger (table far.now) names.now edges.now long.items) }
+{
+    let mut long = Vec::new(alloc);
+    for k in 0..edges.len() {
+        let edge = edges[k];
+        long.push(Edge {
+            source: edge.source,
+            target: edge.target,
+            latency: edge.latency + least_registers(far, names[k]),
+            distance: edge.distance,
+        })?;
+    }
+    Ok(long)
+}

@@ -1,0 +1,47 @@
+//! The answers to questions, which are kept.
+ghost use Rattle.std.specs.Prelude.{◌≡◌, ◌<◌, IfOk, OnOk, IfSome, length, slice_index_or};
+ghost use Rattle.cg_ways.specs.Question.{IsAnswer, AreAnswers};
+ghost use Rattle.cg_ways.specs.declared.answers.Answer as answers_kept;
+
+use crate::question::{Question, is_same};
+use crate::units::work_out;
+use cg_arch::Arch;
+use std::alloc::{AllocError, Global};
+
+/// The answer to a question: None where there is no way.
+#[derive(Clone, Copy, Drop)]
+pub(crate) struct Answer {
+    pub question: Question,
+    pub far: Option<u32>,
+}
+
+/// Finds the place of the answer to a question among those that are kept.
+fn find(answers: &[Answer], question: Question) -> Option<usize>
+    ensures { IfSome result (λ place. (place < length answers.now) × ((a : answers_kept.Answer) → (slice_index_or answers.now place a).question ≡ question)) }
+{
+    for place in 0..answers.len() {
+        if is_same(answers[place].question, question) {
+            return Some(place);
+        }
+    }
+    None
+}
+
+/// Answers a question by what is kept, or anew, and keeps the answer.
+pub(crate) fn ask(
+    alloc: Global,
+    arch: &Arch,
+    answers: &mut Vec<Answer>,
+    question: Question,
+) -> Result<Option<u32>, AllocError>
+    requires { AreAnswers arch.now answers.old.items }
+    ensures answer { IfOk result (IsAnswer arch.now question) }
+    ensures kept { OnOk result (AreAnswers arch.now answers.new.items) }
+{
+    if let Some(place) = find(answers, question) {
+        return Ok(answers[place].far);
+    }
+    let far = work_out(alloc, arch, question)?;
+    answers.push(Answer { question, far })?;
+    Ok(far)
+}
