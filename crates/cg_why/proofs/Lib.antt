@@ -1,0 +1,5 @@
+pub mod Reasons
+pub mod Owns
+mod Tables
+mod Exclusions
+pub mod Always

@@ -1,0 +1,55 @@
+//! The least numbers of registers on the ways of a kernel's data edges, for all intervals.
+ghost use Rattle.std.specs.Prelude.{◌≡◌, ◌≤◌, IfOk};
+ghost use Rattle.cg_why.specs.Why.{AreNumbers, AreAllNumbers, numbers_at};
+
+use cg_edges::{Arch, Kernel};
+use cg_ways::{Missing, find_ways, first_without_way};
+use std::alloc::{AllocError, Global};
+
+/// The numbers for an interval.
+#[derive(Drop)]
+pub struct Numbers {
+    /// Three numbers a node: for each operand the registers that a value crosses at least on its way there.
+    pub far: Vec<u32>,
+    /// The first data edge for which there is no way; None where each has one.
+    pub missing: Option<Missing>,
+}
+
+/// The numbers for all intervals. In an interval of one cycle no unit holds two nodes, so some ways are longer there.
+#[derive(Drop)]
+pub struct Fars {
+    /// Those for interval 1.
+    pub first: Numbers,
+    /// Those for every greater one.
+    pub rest: Numbers,
+}
+
+/// Finds the numbers for interval `ii`.
+fn find_numbers(alloc: Global, arch: &Arch, kernel: &Kernel, ii: u32) -> Result<Numbers, AllocError>
+    ensures { IfOk result (AreNumbers arch.now kernel.now ii) }
+{
+    let _resources = arch.resources();
+    let _nodes = kernel.nodes();
+    let ways = find_ways(alloc, arch, kernel, ii)?;
+    let far = ways.three_a_node(alloc)?;
+    let missing = first_without_way(kernel, &ways);
+    Ok(Numbers { far, missing })
+}
+
+/// Finds the numbers for all intervals.
+pub(crate) fn find_fars(alloc: Global, arch: &Arch, kernel: &Kernel) -> Result<Fars, AllocError>
+    ensures { IfOk result (AreAllNumbers arch.now kernel.now) }
+{
+    let first = find_numbers(alloc, arch, kernel, 1)?;
+    let rest = find_numbers(alloc, arch, kernel, 2)?;
+    Ok(Fars { first, rest })
+}
+
+impl Fars {
+    /// Returns the numbers for interval `ii`.
+    pub fn at(&self, ii: u32) -> &Numbers
+        ensures { result.now ≡ numbers_at self.now ii }
+    {
+        if ii == 1 { &self.first } else { &self.rest }
+    }
+}

@@ -1,0 +1,31 @@
+//! What excludes the intervals of a kernel on an architecture.
+ghost use Rattle.std.specs.Prelude.{IfOk};
+ghost use Rattle.cg_why.specs.Why.{IsWhy};
+
+use crate::first::{First, find_first};
+use crate::numbers::{Fars, find_fars};
+use crate::own::{Own, find_owns};
+use cg_edges::{Arch, Kernel};
+use std::alloc::{AllocError, Global};
+
+/// What excludes the intervals of a kernel on an architecture.
+#[derive(Drop)]
+pub struct Why {
+    /// The registers on the ways of the data edges, on which reasons stand.
+    pub fars: Fars,
+    /// The least interval that no reason of a kind excludes, for each kind.
+    pub owns: Vec<Own>,
+    /// The least interval that no reason excludes.
+    pub first: First,
+}
+
+/// Finds the least interval that no recurrence, no overfull set of operations, no ways and no registers exclude, with what
+/// excludes the intervals below it.
+pub fn explain(alloc: Global, arch: &Arch, kernel: &Kernel) -> Result<Why, AllocError>
+    ensures { IfOk result (IsWhy arch.now kernel.now) }
+{
+    let fars = find_fars(alloc, arch, kernel)?;
+    let owns = find_owns(alloc, arch, kernel, &fars)?;
+    let first = find_first(alloc, arch, kernel, &fars, &owns)?;
+    Ok(Why { fars, owns, first })
+}

@@ -1,0 +1,39 @@
+-- `why ARCH KERNEL`.
+use Rattle.std.specs.Prelude.{◌≡◌, Result, Ok, Err}
+use Rattle.cg_model.specs.Mapping.{Mapping, IsLegal}
+use Rattle.cg_ending.specs.declared.outcome.Status.TheVariants.{Done}
+use Rattle.cg_files.specs.Held.{Appends}
+use Rattle.cg_ending.specs.Outcome.{Name, File, Outcome}
+use Rattle.cg_ending.specs.Ends.{Moment}
+use Rattle.cg_ending.specs.Refusals.{reports}
+use Rattle.cg_inputs.specs.Sources.{Pair, ArePaired, HoldPair}
+use Rattle.cg_mapping_answers.specs.Bound.{IsBelow}
+use Rattle.cg_why.specs.declared.why.Why.{Why}
+use Rattle.cg_why.specs.Why.{IsWhy}
+use Rattle.cg_why_text.specs.Text.{why_text}
+
+-- which reasons are shown is left open where several serve, and so are the times that show that there are enough registers
+pub record IsExplained (p : Pair) (o : Outcome) : Type 0 where
+  pub why : Why
+  pub is_why : IsWhy p.arch p.kernel why
+  pub outcome : o ≡ reports Done (why_text p.arch p.kernel why)
+
+-- by what the files give
+abbrev pub IsExplaining : Result Pair Outcome → Outcome → Type 0
+IsExplaining (Ok p) o = IsExplained p o
+IsExplaining (Err refused) o = o ≡ refused
+
+pub record IsWhyOf (arch kernel : File) (o : Outcome) : Type 0 where
+  pub pair : Result Pair Outcome
+  pub given : ArePaired arch kernel pair
+  pub explaining : IsExplaining pair o
+
+-- Done: an architecture and a kernel were read; what was put is the least interval that no reason excludes, and what excludes
+-- those below it. No mapping of a lower interval is legal, and where there is no such interval none is
+pub record IsWhyRun (arch kernel : Name) (before after : Moment) : Type 0 where
+  pub pair : Pair
+  pub read : HoldPair arch kernel before pair
+  pub why : Why
+  pub is_why : IsWhy pair.arch pair.kernel why
+  pub excludes : (M : Mapping) → IsBelow why.first.least M.ii → IsLegal pair.arch pair.kernel M → ⊥
+  pub put : Appends before.taken (why_text pair.arch pair.kernel why) after.taken

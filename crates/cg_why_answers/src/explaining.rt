@@ -1,0 +1,31 @@
+//! `why ARCH KERNEL`.
+ghost use Rattle.cg_ending.specs.Allowed.{Allows};
+ghost use Rattle.cg_ending.specs.Outcome.{file_of};
+ghost use Rattle.cg_why_answers.specs.Why.{IsWhyOf, IsExplained};
+
+use cg_arch::Arch;
+use cg_ending::{File, Outcome, Status, Stop};
+use cg_inputs::{arch_in, kernel_in};
+use cg_model::Kernel;
+use cg_why::explain;
+use cg_why_text::why_report;
+use std::alloc::Global;
+
+/// Returns the outcome of `why`: the least interval that no reason excludes for the kernel that the file `kernel` gives on
+/// the architecture that `arch` gives, and what excludes those below it.
+pub fn why(alloc: Global, arch: &File, kernel: &File) -> Result<Outcome, Stop>
+    ensures { Allows (IsWhyOf (file_of arch.now) (file_of kernel.now)) result }
+{
+    let array = arch_in(alloc, arch)?;
+    let graph = kernel_in(alloc, kernel)?;
+    explained(alloc, &array, &graph)
+}
+
+/// Returns the outcome for `kernel` on `array`: the report on what excludes its intervals.
+fn explained(alloc: Global, array: &Arch, kernel: &Kernel) -> Result<Outcome, Stop>
+    ensures { Allows (IsExplained (record { arch = array.now; kernel = kernel.now })) result }
+{
+    let found = explain(alloc, array, kernel)?;
+    let report = why_report(alloc, array, kernel, &found)?;
+    Ok(Outcome::new(alloc, Status::Done, report))
+}

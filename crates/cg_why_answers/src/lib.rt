@@ -1,0 +1,6 @@
+//! What `why` answers. From the bytes of input files to an outcome.
+#![tactic(auto)]
+
+mod explaining;
+
+pub use explaining::why;

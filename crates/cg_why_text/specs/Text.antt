@@ -1,0 +1,135 @@
+-- What is reported of the least interval that no reason excludes.
+use Rattle.std.specs.Prelude.{ℕ, zero, suc, ◌+◌, ◌*◌, ⊤, eqb, if◌then◌else◌, List, [], ◌++◌, length, flat_map, sum_by, codes, decimal, Option, Some, None}
+use Rattle.cg_model.specs.Kernel.{Kernel, size}
+use Rattle.cg_model.specs.Array.{Arch}
+use Rattle.cg_edges.specs.declared.edge.EdgeId.{EdgeId}
+use Rattle.cg_edges.specs.declared.edge.EdgeId.TheVariants.{Arg, Order}
+use Rattle.cg_edges.specs.Edges.{edge_of}
+use Rattle.cg_edges.specs.Chain.{latencies, distances}
+use Rattle.cg_bound.specs.Text.{edge_word, edge_words, cycle_text, class_text}
+use Rattle.cg_ways.specs.declared.missing.Missing.{Missing}
+use Rattle.cg_pressure.specs.declared.certificate.Stay.{Stay}
+use Rattle.cg_pressure.specs.declared.certificate.Pull.{Pull}
+use Rattle.cg_pressure.specs.declared.certificate.Tie.{Tie}
+use Rattle.cg_pressure.specs.declared.certificate.Pressure.{Pressure}
+use Rattle.cg_pressure.specs.declared.times.Times.{Times}
+use Rattle.cg_pressure.specs.Pressure.{registers, least_stays, total}
+use Rattle.cg_pressure.specs.Times.{longest}
+use Rattle.cg_way_cycles.specs.WayCycles.{registers_of}
+use Rattle.cg_why.specs.declared.reason.Kind.{Kind}
+use Rattle.cg_why.specs.declared.reason.Kind.TheVariants as kinds
+use Rattle.cg_why.specs.declared.reason.Reason.{Reason}
+use Rattle.cg_why.specs.declared.reason.Reason.TheVariants.{Recurrence, Class, NoWay, Ways, Registers}
+use Rattle.cg_why.specs.declared.numbers.Fars.{Fars}
+use Rattle.cg_why.specs.declared.own.Own.{Own}
+use Rattle.cg_why.specs.declared.first.First.{First}
+use Rattle.cg_why.specs.declared.why.Why.{Why}
+use Rattle.cg_why.specs.Why.{far_at, below_of, HasShortLists}
+
+-- ---- reasons
+
+-- a closed chain with the sums of its latencies, of the registers on its ways, and of its distances
+abbrev pub way_cycle_text : Arch → Kernel → (ℕ → ℕ → ℕ) → List EdgeId → List ℕ
+way_cycle_text A K far ids =
+    codes "cycle" ++ (edge_words K ids ++ (codes " latency " ++ (decimal (latencies (edge_of A K) ids)
+    ++ (codes " ways " ++ (decimal (sum_by (registers_of far) ids) ++ (codes " distance " ++ decimal (distances (edge_of A K) ids)))))))
+
+-- a number after a blank
+abbrev pub weight_word : ℕ → List ℕ
+weight_word weight = codes " " ++ decimal weight
+
+-- edges of a circulation, each after a blank; a weight behind it
+abbrev pub stay_word : Kernel → Stay → List ℕ
+stay_word K s = edge_word K (Arg s.node s.arg)
+
+abbrev pub pull_word : Kernel → Pull → List ℕ
+pull_word K x = edge_word K (Arg x.node x.arg) ++ weight_word x.weight
+
+abbrev pub tie_word : Kernel → Tie → List ℕ
+tie_word K x = edge_word K (Order x.edge) ++ weight_word x.weight
+
+-- the name of a list that isn't empty
+abbrev pub heading : List ℕ → ℕ → List ℕ
+heading name zero = []
+heading name (suc n) = name
+
+abbrev pub circulation_text : Kernel → Pressure → List ℕ
+circulation_text K P =
+    heading (codes " stay") (length P.stays.items) ++ (flat_map (stay_word K) P.stays.items
+    ++ (heading (codes " pull") (length P.pulls.items) ++ (flat_map (pull_word K) P.pulls.items
+    ++ (heading (codes " tie") (length P.ties.items) ++ flat_map (tie_word K) P.ties.items))))
+
+-- how many register slots the values need at least, of how many, and by which circulation
+abbrev pub registers_text : Arch → Kernel → (ℕ → ℕ → ℕ) → ℕ → Pressure → List ℕ
+registers_text A K far ii P =
+    codes "registers " ++ (decimal (least_stays A K far ii P) ++ (codes " of " ++ (decimal (ii * registers A) ++ circulation_text K P)))
+
+abbrev pub no_way_text : Kernel → Missing → List ℕ
+no_way_text K m = codes "no way" ++ edge_word K (Arg m.node m.arg)
+
+abbrev pub reason_text : Arch → Kernel → (ℕ → ℕ → ℕ) → ℕ → Reason → List ℕ
+reason_text A K far ii (Recurrence ids) = cycle_text A K ids.items
+reason_text A K far ii (Class set) = class_text A K set
+reason_text A K far ii (NoWay m) = no_way_text K m
+reason_text A K far ii (Ways ids) = way_cycle_text A K far ids.items
+reason_text A K far ii (Registers P) = registers_text A K far ii P
+
+-- that a reason excludes an interval, behind a colon
+abbrev pub impossible_words : ℕ → List ℕ
+impossible_words ii = codes ": impossible at ii " ++ (decimal ii ++ codes ": ")
+
+abbrev pub impossible_text : Arch → Kernel → Fars → ℕ → Reason → List ℕ
+impossible_text A K f ii r = impossible_words ii ++ reason_text A K (far_at f ii) ii r
+
+-- the lists of a reason are short, where there is one
+abbrev pub HasShortBelow : Option Reason → Type 0
+HasShortBelow (Some r) = HasShortLists r
+HasShortBelow None = ⊤
+
+-- ---- lines
+
+abbrev pub least_word : Option ℕ → List ℕ
+least_word (Some l) = decimal l
+least_word None = codes "none"
+
+abbrev pub kind_word : Kind → List ℕ
+kind_word kinds.Recurrence = codes "recurrence "
+kind_word kinds.Ways = codes "ways "
+kind_word kinds.Class = codes "class "
+kind_word kinds.Registers = codes "registers "
+
+-- what excludes the interval below
+abbrev pub below_text : Arch → Kernel → Fars → ℕ → Option Reason → List ℕ
+below_text A K f ii (Some r) = impossible_text A K f ii r
+below_text A K f ii None = []
+
+abbrev pub own_line : Arch → Kernel → Fars → Own → List ℕ
+own_line A K f own =
+    kind_word own.kind ++ (least_word own.least ++ (below_text A K f (below_of A.contexts own.least) own.below ++ codes "\n"))
+
+-- the lines of those whose least interval is one more than `below`
+abbrev pub lines_above : Arch → Kernel → Fars → List Own → ℕ → List ℕ
+lines_above A K f owns below = flat_map (λ own. if eqb (below_of A.contexts own.least) below then own_line A K f own else []) owns
+
+-- the lines of those whose least interval is at most n, the greatest first
+abbrev pub lines_to : Arch → Kernel → Fars → List Own → ℕ → List ℕ
+lines_to A K f owns zero = []
+lines_to A K f owns (suc n) = lines_above A K f owns n ++ lines_to A K f owns n
+
+-- the least interval that no reason excludes, and what excludes the one below it where the lines of the kinds don't say it
+abbrev pub first_line : Arch → Kernel → Fars → First → List ℕ
+first_line A K f first =
+    codes "least " ++ (least_word first.least ++ (below_text A K f (below_of A.contexts first.least) first.also ++ codes "\n"))
+
+-- how many register slots are enough at the least interval, of how many
+abbrev pub free_line : Arch → Kernel → Option ℕ → Option Times → List ℕ
+free_line A K (Some l) (Some t) =
+    codes "free " ++ (decimal l ++ (codes ": " ++ (decimal (total (size K) (longest t))
+    ++ (codes " of " ++ (decimal (l * registers A) ++ codes " register slots are enough\n")))))
+free_line A K l t = []
+
+-- the whole report
+abbrev pub why_text : Arch → Kernel → Why → List ℕ
+why_text A K w =
+    first_line A K w.fars w.first
+    ++ (lines_to A K w.fars w.owns.items (A.contexts + 1) ++ free_line A K w.first.least w.first.times)

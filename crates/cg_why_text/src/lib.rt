@@ -1,0 +1,10 @@
+//! What is reported of the least interval that no reason excludes.
+#![tactic(auto)]
+
+mod lines;
+mod reasons;
+mod report;
+
+pub use lines::push_lines;
+pub use reasons::push_reason;
+pub use report::why_report;
