@@ -4,7 +4,7 @@ use Rattle.cg_ending.specs.declared.outcome.Status.{Status}
 use Rattle.cg_ending.specs.declared.outcome.Status.TheVariants.{Done, Impossible}
 use Rattle.cg_ending.specs.Outcome.{Name, File, Outcome}
 use Rattle.cg_command.specs.declared.plans.Command.{Command}
-use Rattle.cg_command.specs.declared.plans.Command.TheVariants.{Turns, TurnsOnImage, Flat, Run, Bound, Check, Emit, Map, Search, Show, Trial, Verilog, Loop, Depend, Migrate, Bench, Image, Words, Violations}
+use Rattle.cg_command.specs.declared.plans.Command.TheVariants.{Turns, TurnsOnImage, Flat, Run, Bound, Check, Emit, Map, Search, Show, Trial, Verilog, Loop, Depend, Migrate, Bench, Image, Words, Violations, Why}
 use Rattle.cg_inputs.proofs.Sound.{owns, IsSound, IsNamed}
 use Rattle.cg_run_answers.proofs.TurnsAnswers.{sound_turns, quiet_turns, accepted_turns}
 use Rattle.cg_run_answers.proofs.OnImage.{same_on_image, sound_on_image, accepted_on_image, named_on_image}
@@ -15,6 +15,7 @@ use Rattle.cg_bench_answers.proofs.Benched.{same_bench, sound_bench, accepted_be
 use Rattle.cg_image_answers.proofs.Imaged.{same_image, sound_image, accepted_image, named_image}
 use Rattle.cg_image_answers.proofs.Worded.{same_words, sound_words, accepted_words, quiet_words}
 use Rattle.cg_violations_answers.proofs.Listed.{same_violations, sound_violations, accepted_violations, quiet_violations}
+use Rattle.cg_why_answers.proofs.Explained.{same_why, sound_why, accepted_why, quiet_why}
 use Rattle.cg_mapping_answers.proofs.Bounded.{same_bound, sound_bound, accepted_bound, quiet_bound}
 use Rattle.cg_mapping_answers.proofs.Checked.{same_check, sound_check, accepted_check, quiet_check}
 use Rattle.cg_mapping_answers.proofs.Bitstream.{same_emit, sound_emit, accepted_emit, named_emit}
@@ -50,6 +51,7 @@ agree_in (Bench n) (f ∷ g ∷ h ∷ []) (out ∷ []) a b p q = same_bench n f 
 agree_in Image (f ∷ []) (out ∷ []) a b p q = same_image f out a b p q
 agree_in Words (f ∷ []) [] a b p q = same_words f a b p q
 agree_in Violations (f ∷ g ∷ h ∷ []) [] a b p q = same_violations f g h a b p q
+agree_in Why (f ∷ g ∷ []) [] a b p q = same_why f g a b p q
 agree_in _ _ _ a b p q = absurd p
 
 -- the commands that may say no, and those that search
@@ -91,6 +93,7 @@ sound (Bench n) (f ∷ g ∷ h ∷ []) (out ∷ []) o p = sound_bench n f g h ou
 sound Image (f ∷ []) (out ∷ []) o p = sound_image f out o p
 sound Words (f ∷ []) [] o p = sound_words f o p
 sound Violations (f ∷ g ∷ h ∷ []) [] o p = sound_violations f g h o p
+sound Why (f ∷ g ∷ []) [] o p = sound_why f g o p
 sound _ _ _ o p = absurd p
 
 -- what a command accepts it does
@@ -115,6 +118,7 @@ accepted (Bench n) (f ∷ g ∷ h ∷ []) (out ∷ []) o a p = accepted_bench n 
 accepted Image (f ∷ []) (out ∷ []) o a p = accepted_image f out o a p
 accepted Words (f ∷ []) [] o a p = accepted_words f o a p
 accepted Violations (f ∷ g ∷ h ∷ []) [] o a p = accepted_violations f g h o a p
+accepted Why (f ∷ g ∷ []) [] o a p = accepted_why f g o a p
 accepted _ _ _ o a p = absurd p
 
 -- where an interval is forbidden, a command says that it is impossible, and writes nothing
@@ -199,6 +203,10 @@ quiet Violations [] o p = absurd p
 quiet Violations (f ∷ []) o p = absurd p
 quiet Violations (f ∷ g ∷ []) o p = absurd p
 quiet Violations (f ∷ g ∷ h ∷ k ∷ fs) o p = absurd p
+quiet Why (f ∷ g ∷ []) o p = quiet_why f g o p
+quiet Why [] o p = absurd p
+quiet Why (f ∷ []) o p = absurd p
+quiet Why (f ∷ g ∷ h ∷ fs) o p = absurd p
 
 -- a command writes its output files, or nothing
 pub named : (c : Command) (files : List File) (outputs : List Name) (o : Outcome) → IsAnswer c files outputs o → IsNamed outputs o
@@ -222,4 +230,5 @@ named (Bench n) (f ∷ g ∷ h ∷ []) (out ∷ []) o p = named_bench n f g h ou
 named Image (f ∷ []) (out ∷ []) o p = named_image f out o p
 named Words (f ∷ []) [] o p = inr (quiet_words f o p)
 named Violations (f ∷ g ∷ h ∷ []) [] o p = inr (quiet_violations f g h o p)
+named Why (f ∷ g ∷ []) [] o p = inr (quiet_why f g o p)
 named _ _ _ o p = absurd p

@@ -2,7 +2,7 @@
 use Rattle.std.proofs.Common.{◌≡◌, ◌⊎◌, inl, inr, ℕ, List, [], ◌∷◌, length, refl, arith}
 use Rattle.cg_ending.specs.Outcome.{Name, File, Outcome}
 use Rattle.cg_command.specs.declared.plans.Command.{Command}
-use Rattle.cg_command.specs.declared.plans.Command.TheVariants.{Turns, TurnsOnImage, Flat, Run, Bound, Check, Emit, Map, Search, Show, Trial, Verilog, Loop, Depend, Migrate, Bench, Image, Words, Violations}
+use Rattle.cg_command.specs.declared.plans.Command.TheVariants.{Turns, TurnsOnImage, Flat, Run, Bound, Check, Emit, Map, Search, Show, Trial, Verilog, Loop, Depend, Migrate, Bench, Image, Words, Violations, Why}
 use Rattle.cg_command.specs.Words.{HasShape}
 use Rattle.cg_run_answers.specs.Turns.{turns_of}
 use Rattle.cg_run_answers.proofs.OnImage.{some_on_image}
@@ -13,6 +13,7 @@ use Rattle.cg_image_answers.specs.Image.{image_of}
 use Rattle.cg_image_answers.specs.Words.{words_of}
 use Rattle.cg_violations_answers.proofs.Listed.{some_violations}
 use Rattle.cg_gates_answers.proofs.NetlistAnswers.{some_netlist_run}
+use Rattle.cg_why_answers.proofs.Explained.{some_whying}
 use Rattle.cg_mapping_answers.proofs.Bounded.{some_bounding}
 use Rattle.cg_mapping_answers.proofs.Checked.{some_check}
 use Rattle.cg_mapping_answers.proofs.Bitstream.{some_emit}
@@ -135,3 +136,8 @@ some_outcome Violations (f ∷ []) outputs shape = absurd (omega (arith, shape.0
 some_outcome Violations (f ∷ g ∷ []) outputs shape = absurd (omega (arith, shape.0))
 some_outcome Violations (f ∷ g ∷ h ∷ k ∷ fs) outputs shape = absurd (omega (arith, shape.0))
 some_outcome Violations (f ∷ g ∷ h ∷ []) (out ∷ outs) shape = absurd (omega (arith, shape.1))
+some_outcome Why (f ∷ g ∷ []) [] shape = some_whying f g
+some_outcome Why [] outputs shape = absurd (omega (arith, shape.0))
+some_outcome Why (f ∷ []) outputs shape = absurd (omega (arith, shape.0))
+some_outcome Why (f ∷ g ∷ h ∷ fs) outputs shape = absurd (omega (arith, shape.0))
+some_outcome Why (f ∷ g ∷ []) (out ∷ outs) shape = absurd (omega (arith, shape.1))

@@ -7,7 +7,7 @@ use Rattle.cg_check.specs.Legal.{Mapped}
 use Rattle.cg_check.specs.declared.rule.Violation.{Violation}
 use Rattle.cg_check.specs.Rules.{violation}
 use Rattle.cg_command.specs.declared.plans.Command.{Command}
-use Rattle.cg_command.specs.declared.plans.Command.TheVariants.{Turns, TurnsOnImage, Flat, Run, Bound, Check, Emit, Map, Search, Show, Trial, Verilog, Loop, Depend, Migrate, Bench, Image, Words, Violations}
+use Rattle.cg_command.specs.declared.plans.Command.TheVariants.{Turns, TurnsOnImage, Flat, Run, Bound, Check, Emit, Map, Search, Show, Trial, Verilog, Loop, Depend, Migrate, Bench, Image, Words, Violations, Why}
 use Rattle.cg_mapping_answers.specs.Emit.{IsEmittedBy, IsEmission}
 use Rattle.cg_mapping_answers.proofs.Checked.{quiet_check}
 use Rattle.cg_show_answers.proofs.Shown.{unwritten_show}
@@ -67,3 +67,4 @@ judged Migrate files outputs o j p said = absurd (not_judging j)
 judged (Bench n) files outputs o j p said = absurd (not_judging j)
 judged Image files outputs o j p said = absurd (not_judging j)
 judged Words files outputs o j p said = absurd (not_judging j)
+judged Why files outputs o j p said = absurd (not_judging j)

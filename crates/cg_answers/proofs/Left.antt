@@ -7,7 +7,7 @@ use Rattle.cg_ending.specs.Outcome.{Name, File, Outcome}
 use Rattle.cg_ending.specs.Reads.{AreRead, HoldsBytes}
 use Rattle.cg_ending.specs.Ends.{Moment, Completed}
 use Rattle.cg_command.specs.declared.plans.Command.{Command}
-use Rattle.cg_command.specs.declared.plans.Command.TheVariants.{Turns, TurnsOnImage, Flat, Run, Bound, Check, Emit, Map, Search, Show, Trial, Verilog, Loop, Depend, Migrate, Bench, Image, Words, Violations}
+use Rattle.cg_command.specs.declared.plans.Command.TheVariants.{Turns, TurnsOnImage, Flat, Run, Bound, Check, Emit, Map, Search, Show, Trial, Verilog, Loop, Depend, Migrate, Bench, Image, Words, Violations, Why}
 use Rattle.cg_inputs.proofs.Wholes.{one_read, first_read, second_read, three_read}
 use Rattle.cg_run_answers.proofs.TurnsAnswers.{turned_left}
 use Rattle.cg_run_answers.proofs.OnImage.{ordered_left, unordered_left}
@@ -18,6 +18,7 @@ use Rattle.cg_image_answers.proofs.Imaged.{imaged_left}
 use Rattle.cg_image_answers.proofs.Worded.{worded_left}
 use Rattle.cg_violations_answers.proofs.Listed.{unviolated_left, violated_left}
 use Rattle.cg_gates_answers.proofs.NetlistAnswers.{four_read, netlist_run_left}
+use Rattle.cg_why_answers.proofs.Explained.{why_left}
 use Rattle.cg_mapping_answers.proofs.Bounded.{bound_left}
 use Rattle.cg_mapping_answers.proofs.Checked.{legal_left, illegal_left}
 use Rattle.cg_mapping_answers.proofs.Bitstream.{emitted_left, unemitted_left}
@@ -98,6 +99,8 @@ left_done Words (f ∷ []) [] o before after read bytes answer is done =
 left_done Violations (f ∷ g ∷ h ∷ []) [] o before after read bytes answer is done =
     let r = three_read before.held f.name g.name h.name f g h read in
     unviolated_left f.name g.name h.name f g h before after r.0 r.1 r.2 o answer is done
+left_done Why (f ∷ g ∷ []) [] o before after read bytes answer is done =
+    why_left f.name g.name f g before after (first_read before.held f.name g.name f g read) (second_read before.held f.name g.name f g read) o answer is done
 left_done _ _ _ o before after read bytes answer is done = absurd answer
 
 left_no : (command : Command) (files : List File) (outputs : List Name) (o : Outcome) (before after : Moment)
@@ -130,6 +133,7 @@ left_no Words files outputs o before after read answer is done = absurd (never (
 left_no Violations (f ∷ g ∷ h ∷ []) [] o before after read answer is done =
     let r = three_read before.held f.name g.name h.name f g h read in
     violated_left f.name g.name h.name f g h before after r.0 r.1 r.2 o answer is done
+left_no Why files outputs o before after read answer is done = absurd (never (owns_of Why) No o (sound Why files outputs o answer) refl is)
 left_no _ _ _ o before after read answer is done = absurd answer
 
 left_impossible : (command : Command) (files : List File) (outputs : List Name) (o : Outcome) (before after : Moment)
@@ -155,6 +159,7 @@ left_impossible (Bench n) files outputs o before after read answer is done = abs
 left_impossible Image files outputs o before after read answer is done = absurd (never (owns_of Image) Impossible o (sound Image files outputs o answer) refl is)
 left_impossible Words files outputs o before after read answer is done = absurd (never (owns_of Words) Impossible o (sound Words files outputs o answer) refl is)
 left_impossible Violations files outputs o before after read answer is done = absurd (never (owns_of Violations) Impossible o (sound Violations files outputs o answer) refl is)
+left_impossible Why files outputs o before after read answer is done = absurd (never (owns_of Why) Impossible o (sound Why files outputs o answer) refl is)
 left_impossible _ _ _ o before after read answer is done = absurd answer
 
 left_spent : (command : Command) (files : List File) (outputs : List Name) (o : Outcome) (before after : Moment)
@@ -180,6 +185,7 @@ left_spent (Bench n) files outputs o before after read answer is done = absurd (
 left_spent Image files outputs o before after read answer is done = absurd (never (owns_of Image) BudgetSpent o (sound Image files outputs o answer) refl is)
 left_spent Words files outputs o before after read answer is done = absurd (never (owns_of Words) BudgetSpent o (sound Words files outputs o answer) refl is)
 left_spent Violations files outputs o before after read answer is done = absurd (never (owns_of Violations) BudgetSpent o (sound Violations files outputs o answer) refl is)
+left_spent Why files outputs o before after read answer is done = absurd (never (owns_of Why) BudgetSpent o (sound Why files outputs o answer) refl is)
 left_spent _ _ _ o before after read answer is done = absurd answer
 
 -- of files that were read, by their own names

@@ -5,7 +5,7 @@ use Rattle.cg_ending.specs.Outcome.{Name, File, Outcome}
 use Rattle.cg_ending.specs.Reads.{AreRead}
 use Rattle.cg_ending.specs.Ends.{Moment}
 use Rattle.cg_command.specs.declared.plans.Command.{Command}
-use Rattle.cg_command.specs.declared.plans.Command.TheVariants.{Turns, TurnsOnImage, Flat, Run, Bound, Check, Emit, Map, Search, Show, Trial, Verilog, Loop, Depend, Migrate, Bench, Image, Words, Violations}
+use Rattle.cg_command.specs.declared.plans.Command.TheVariants.{Turns, TurnsOnImage, Flat, Run, Bound, Check, Emit, Map, Search, Show, Trial, Verilog, Loop, Depend, Migrate, Bench, Image, Words, Violations, Why}
 use Rattle.cg_inputs.proofs.Wholes.{first_read, second_read, three_read}
 use Rattle.cg_task_answers.specs.Runs.{FirstRuns}
 use Rattle.cg_mapping_answers.specs.Emit.{FirstRunsRead}
@@ -52,6 +52,7 @@ free (Bench n) (w ∷ ws) inputs before h = tt
 free Image (w ∷ ws) inputs before h = tt
 free Words (w ∷ ws) inputs before h = tt
 free Violations (w ∷ ws) inputs before h = tt
+free Why (w ∷ ws) inputs before h = tt
 free Emit (w ∷ ws) inputs before h = absurd (cc)
 free (Map s) (w ∷ ws) inputs before h = absurd (cc)
 free (Search s) (w ∷ ws) inputs before h = absurd (cc)
@@ -83,6 +84,7 @@ by_names (Bench n) files outputs o before read answer = free (Bench n) o.writes 
 by_names Image files outputs o before read answer = free Image o.writes (names_in files) before refl
 by_names Words files outputs o before read answer = free Words o.writes (names_in files) before refl
 by_names Violations files outputs o before read answer = free Violations o.writes (names_in files) before refl
+by_names Why files outputs o before read answer = free Why o.writes (names_in files) before refl
 by_names _ _ _ o before read answer = absurd answer
 
 pub writes_run : (c : Command) (inputs outputs : List Name) (files : List File) (o : Outcome) (before : Moment) → AreRead before.held inputs files → IsAnswer c files outputs o → RunWrites o.writes c inputs before

@@ -7,7 +7,7 @@ use Rattle.cg_ending.specs.Outcome.{Name, File, Outcome}
 use Rattle.cg_ending.specs.Ends.{Moment}
 use Rattle.cg_kernel.specs.Answer.{answer_of}
 use Rattle.cg_command.specs.declared.plans.Command.{Command}
-use Rattle.cg_command.specs.declared.plans.Command.TheVariants.{Turns, TurnsOnImage, Flat, Run, Bound, Check, Emit, Map, Search, Show, Trial, Verilog, Loop, Depend, Migrate, Bench, Image, Words, Violations}
+use Rattle.cg_command.specs.declared.plans.Command.TheVariants.{Turns, TurnsOnImage, Flat, Run, Bound, Check, Emit, Map, Search, Show, Trial, Verilog, Loop, Depend, Migrate, Bench, Image, Words, Violations, Why}
 use Rattle.cg_pad.specs.Bytes as images
 use Rattle.cg_model.specs.Work as works
 use Rattle.cg_model.specs.Array.{Arch}
@@ -25,6 +25,7 @@ use Rattle.cg_mapping_answers.specs.Bound.{IsBoundOf, IsPairInput, IsBoundRun}
 use Rattle.cg_mapping_answers.specs.Check.{IsCheck, IsLegalInput, IsLegalCheck, IsIllegalCheck}
 use Rattle.cg_mapping_answers.specs.Emit.{IsEmit, RunsRead, IsEmittedRun}
 use Rattle.cg_violations_answers.specs.Violations.{IsViolations, IsViolatedRun}
+use Rattle.cg_why_answers.specs.Why.{IsWhyOf, IsWhyRun}
 use Rattle.cg_map_answers.specs.Map.{IsMap, IsMappable, IsMapRun, IsSpentRun}
 use Rattle.cg_task_answers.specs.Searches.{IsForbiddenInput, IsImpossibleRun}
 use Rattle.cg_task_answers.specs.Runs.{RunsOfPair}
@@ -58,6 +59,7 @@ IsAnswer (Bench n) (arch ∷ file ∷ input ∷ []) (out ∷ []) o = IsBench n a
 IsAnswer Image (file ∷ []) (out ∷ []) o = o ≡ image_of file out
 IsAnswer Words (file ∷ []) [] o = o ≡ words_of file
 IsAnswer Violations (arch ∷ kernel ∷ mapping ∷ []) [] o = IsViolations arch kernel mapping o
+IsAnswer Why (arch ∷ kernel ∷ []) [] o = IsWhyOf arch kernel o
 IsAnswer _ _ _ o = ⊥
 
 -- how the statuses of two outcomes that the command allows for the same files agree: they are equal; but whether `search` finds
@@ -104,6 +106,7 @@ Accepts (Bench n) (arch ∷ file ∷ input ∷ []) = IsRunnable arch file input
 Accepts Image (file ∷ []) = IsImageText file
 Accepts Words (file ∷ []) = IsImageFile file
 Accepts Violations (arch ∷ kernel ∷ mapping ∷ []) = IsLegalInput arch kernel mapping
+Accepts Why (arch ∷ kernel ∷ []) = IsPairInput arch kernel
 Accepts _ _ = ⊥
 
 -- the input files for which the command says that an interval is impossible
@@ -143,6 +146,7 @@ LeavesDone (Bench n) (arch ∷ file ∷ input ∷ []) (out ∷ []) before after 
 LeavesDone Image (file ∷ []) (out ∷ []) before after = IsImaged file out before after
 LeavesDone Words (file ∷ []) [] before after = IsWorded file before after
 LeavesDone Violations (arch ∷ kernel ∷ mapping ∷ []) [] before after = IsLegalCheck arch kernel mapping before after
+LeavesDone Why (arch ∷ kernel ∷ []) [] before after = IsWhyRun arch kernel before after
 LeavesDone _ _ _ before after = ⊥
 
 -- the commands that judge a mapping before they write: where they end with No, they write nothing

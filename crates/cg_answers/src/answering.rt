@@ -55,5 +55,6 @@ fn answer_to(
         Command::Image => shaped::image(alloc, files, outputs),
         Command::Words => shaped::words(alloc, files, outputs),
         Command::Violations => shaped::violations(alloc, files, outputs),
+        Command::Why => shaped::why(alloc, files, outputs),
     }
 }

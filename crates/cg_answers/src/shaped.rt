@@ -229,3 +229,11 @@ pub(crate) fn violations(alloc: Global, files: &[File], outputs: &[String]) -> R
 {
     cg_violations_answers::violations(alloc, &files[0], &files[1], &files[2])
 }
+
+/// Answers `why ARCH KERNEL` over `files`.
+pub(crate) fn why(alloc: Global, files: &[File], outputs: &[String]) -> Result<Outcome, Stop>
+    requires { HasShape (Command.Why) (length files.now) (length outputs.now) }
+    ensures { Allows (IsAnswer (Command.Why) (map file_of files.now) (map string_bytes outputs.now)) result }
+{
+    cg_why_answers::why(alloc, &files[0], &files[1])
+}

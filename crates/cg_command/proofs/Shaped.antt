@@ -6,10 +6,10 @@ use Rattle.std.specs.Str.Parse.{digits_value}
 use Rattle.std.proofs.lemmas.Bool.{leb-true}
 use Rattle.cg_model.specs.Limits.{most_turns, most_contexts, most_moves}
 use Rattle.cg_command.specs.declared.plans.Command.{Command}
-use Rattle.cg_command.specs.declared.plans.Command.TheVariants.{Turns, TurnsOnImage, Flat, Run, Bound, Check, Emit, Map, Search, Show, Trial, Verilog, Loop, Depend, Migrate, Bench, Image, Words, Violations}
+use Rattle.cg_command.specs.declared.plans.Command.TheVariants.{Turns, TurnsOnImage, Flat, Run, Bound, Check, Emit, Map, Search, Show, Trial, Verilog, Loop, Depend, Migrate, Bench, Image, Words, Violations, Why}
 use Rattle.cg_model.specs.declared.request.Request.{Request}
 use Rattle.cg_model.specs.Request.{IsInRange}
-use Rattle.cg_command.specs.Words.{Text, Given, Arguments, Plan, HasShape, values_said, said_once, asked_interval, named_file, request_of, written_plan, searching_plan, map_plan, search_plan, usual_moves, usual_responses, positive, seed_of, moves_of, is_number, number_up_to, turns_of, turns_plan, file_plan, array_plan, run_plan, takes, with_options, search_options, run_options, bound_plan, mapping_plan, words_plan, emit_plan, show_plan, trial_plan, migrate_plan, bench_plan, is_empty, without_options, command_plan, further_plan, arguments_of, plan_of}
+use Rattle.cg_command.specs.Words.{Text, Given, Arguments, Plan, HasShape, values_said, said_once, asked_interval, named_file, request_of, written_plan, searching_plan, map_plan, search_plan, usual_moves, usual_responses, positive, seed_of, moves_of, is_number, number_up_to, turns_of, turns_plan, file_plan, array_plan, run_plan, takes, with_options, search_options, run_options, pair_plan, mapping_plan, words_plan, emit_plan, show_plan, trial_plan, migrate_plan, bench_plan, is_empty, without_options, command_plan, further_plan, arguments_of, plan_of}
 
 -- the plan has the shape of its command
 abbrev pub IsShaped : Plan → Type 0
@@ -57,11 +57,11 @@ file_shaped command shape (a ∷ []) = none_shaped
 file_shaped command shape (input ∷ output ∷ []) = one_shaped (record { command = command; inputs = input ∷ []; outputs = output ∷ [] }) shape
 file_shaped command shape (a ∷ b ∷ c ∷ more) = none_shaped
 
-bound_shaped : (words : List Text) → AreShaped (bound_plan words)
-bound_shaped [] = none_shaped
-bound_shaped (a ∷ []) = none_shaped
-bound_shaped (arch ∷ kernel ∷ []) = one_shaped (record { command = Bound; inputs = arch ∷ kernel ∷ []; outputs = [] }) (refl, refl)
-bound_shaped (a ∷ b ∷ c ∷ more) = none_shaped
+pair_shaped : (command : Command) → HasShape command 2 0 → (words : List Text) → AreShaped (pair_plan command words)
+pair_shaped command shape [] = none_shaped
+pair_shaped command shape (a ∷ []) = none_shaped
+pair_shaped command shape (arch ∷ kernel ∷ []) = one_shaped (record { command = command; inputs = arch ∷ kernel ∷ []; outputs = [] }) shape
+pair_shaped command shape (a ∷ b ∷ c ∷ more) = none_shaped
 
 mapping_shaped : (command : Command) → HasShape command 3 0 → (words : List Text) → AreShaped (mapping_plan command words)
 mapping_shaped command shape [] = none_shaped
@@ -227,14 +227,15 @@ further_shaped name said =
     (either_shaped (bytes_eq name (codes "migrate")) (without_options migrate_plan said) _ (without_shaped migrate_plan said (migrate_shaped said.words))
     (either_shaped (bytes_eq name (codes "bench")) (without_options bench_plan said) _ (without_shaped bench_plan said (bench_shaped said.words))
     (either_shaped (bytes_eq name (codes "image")) (without_options (file_plan Image) said) _ (without_shaped (file_plan Image) said (file_shaped Image (refl, refl) said.words))
-    (either_shaped (bytes_eq name (codes "words")) (without_options words_plan said) None (without_shaped words_plan said (words_shaped said.words)) none_shaped)))))))
+    (either_shaped (bytes_eq name (codes "words")) (without_options words_plan said) _ (without_shaped words_plan said (words_shaped said.words))
+    (either_shaped (bytes_eq name (codes "why")) (without_options (pair_plan Why) said) None (without_shaped (pair_plan Why) said (pair_shaped Why (refl, refl) said.words)) none_shaped))))))))
 
 command_shaped : (name : Text) (said : Arguments) → AreShaped (command_plan name said)
 command_shaped name said =
     either_shaped (bytes_eq name (codes "turns")) (without_options turns_plan said) _ (without_shaped turns_plan said (turns_shaped said.words))
     (either_shaped (bytes_eq name (codes "flat")) (without_options (file_plan Flat) said) _ (without_shaped (file_plan Flat) said (file_shaped Flat (refl, refl) said.words))
     (either_shaped (bytes_eq name (codes "run")) (with_options run_options run_plan said) _ (with_shaped run_options run_plan said (run_shaped said))
-    (either_shaped (bytes_eq name (codes "bound")) (without_options bound_plan said) _ (without_shaped bound_plan said (bound_shaped said.words))
+    (either_shaped (bytes_eq name (codes "bound")) (without_options (pair_plan Bound) said) _ (without_shaped (pair_plan Bound) said (pair_shaped Bound (refl, refl) said.words))
     (either_shaped (bytes_eq name (codes "check")) (without_options (mapping_plan Check) said) _ (without_shaped (mapping_plan Check) said (mapping_shaped Check (refl, refl) said.words))
     (either_shaped (bytes_eq name (codes "violations")) (without_options (mapping_plan Violations) said) _ (without_shaped (mapping_plan Violations) said (mapping_shaped Violations (refl, refl) said.words))
     (either_shaped (bytes_eq name (codes "emit")) (without_options emit_plan said) _ (without_shaped emit_plan said (emit_shaped said.words))

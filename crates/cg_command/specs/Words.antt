@@ -6,7 +6,7 @@ use Rattle.cg_model.specs.Limits.{most_turns}
 use Rattle.cg_model.specs.Request.{IsInRange}
 pub use Rattle.cg_command.specs.Numbers.{Text, is_number, number_up_to, positive, turns_of, interval_of, seed_of, moves_of, usual_seed, usual_moves, usual_responses}
 use Rattle.cg_command.specs.declared.plans.Command.{Command}
-use Rattle.cg_command.specs.declared.plans.Command.TheVariants.{Turns, TurnsOnImage, Flat, Run, Bound, Check, Emit, Map, Search, Show, Trial, Verilog, Loop, Depend, Migrate, Bench, Image, Words, Violations}
+use Rattle.cg_command.specs.declared.plans.Command.TheVariants.{Turns, TurnsOnImage, Flat, Run, Bound, Check, Emit, Map, Search, Show, Trial, Verilog, Loop, Depend, Migrate, Bench, Image, Words, Violations, Why}
 use Rattle.cg_model.specs.declared.request.Request.{Request}
 use Rattle.cg_command.specs.declared.plans.Plan.{Plan as PlanValue}
 use Rattle.cg_command.specs.declared.arguments.Arguments.{Arguments as ArgumentsValue}
@@ -156,10 +156,10 @@ abbrev pub file_plan : Command → List Text → Option Plan
 file_plan command (input ∷ output ∷ []) = Some (record { command = command; inputs = input ∷ []; outputs = output ∷ [] })
 file_plan command _ = None
 
--- bound ARCH KERNEL
-abbrev pub bound_plan : List Text → Option Plan
-bound_plan (arch ∷ kernel ∷ []) = Some (record { command = Bound; inputs = arch ∷ kernel ∷ []; outputs = [] })
-bound_plan _ = None
+-- bound ARCH KERNEL and why ARCH KERNEL
+abbrev pub pair_plan : Command → List Text → Option Plan
+pair_plan command (arch ∷ kernel ∷ []) = Some (record { command = command; inputs = arch ∷ kernel ∷ []; outputs = [] })
+pair_plan command _ = None
 
 -- check ARCH KERNEL MAPPING and violations ARCH KERNEL MAPPING
 abbrev pub mapping_plan : Command → List Text → Option Plan
@@ -288,7 +288,8 @@ further_plan name said =
     else (if bytes_eq name (codes "bench") then without_options bench_plan said
     else (if bytes_eq name (codes "image") then without_options (file_plan Image) said
     else (if bytes_eq name (codes "words") then without_options words_plan said
-    else None)))))))
+    else (if bytes_eq name (codes "why") then without_options (pair_plan Why) said
+    else None))))))))
 
 -- the plan of the command of this name
 abbrev pub command_plan : Text → Arguments → Option Plan
@@ -296,7 +297,7 @@ command_plan name said =
     if bytes_eq name (codes "turns") then without_options turns_plan said
     else (if bytes_eq name (codes "flat") then without_options (file_plan Flat) said
     else (if bytes_eq name (codes "run") then with_options run_options run_plan said
-    else (if bytes_eq name (codes "bound") then without_options bound_plan said
+    else (if bytes_eq name (codes "bound") then without_options (pair_plan Bound) said
     else (if bytes_eq name (codes "check") then without_options (mapping_plan Check) said
     else (if bytes_eq name (codes "violations") then without_options (mapping_plan Violations) said
     else (if bytes_eq name (codes "emit") then without_options emit_plan said
@@ -331,3 +332,4 @@ HasShape (Bench turns) inputs outputs = (inputs ≡ 3) × (outputs ≡ 1) × (tu
 HasShape Image inputs outputs = (inputs ≡ 1) × (outputs ≡ 1)
 HasShape Words inputs outputs = (inputs ≡ 1) × (outputs ≡ 0)
 HasShape Violations inputs outputs = (inputs ≡ 3) × (outputs ≡ 0)
+HasShape Why inputs outputs = (inputs ≡ 2) × (outputs ≡ 0)

@@ -53,6 +53,8 @@ pub enum Command {
     Words,
     /// `violations ARCH KERNEL MAPPING`: all places at which the mapping violates the rules of legal mappings.
     Violations,
+    /// `why ARCH KERNEL`: the least interval that no reason excludes, and what excludes those below it.
+    Why,
 }
 
 /// A command with the names of its files: the inputs in the order of reading, the outputs in
@@ -125,7 +127,7 @@ fn command_plan(alloc: Global, name: &str, said: &Arguments) -> Result<Option<Pl
         "turns" if has_no_options(said) => turns_plan(alloc, said.words.as_slice()),
         "flat" if has_no_options(said) => file_plan(alloc, Command::Flat, said.words.as_slice()),
         "run" if takes_only(said, &["netlist"]) => run_plan(alloc, said),
-        "bound" if has_no_options(said) => bound_plan(alloc, said.words.as_slice()),
+        "bound" if has_no_options(said) => pair_plan(alloc, Command::Bound, said.words.as_slice()),
         "check" if has_no_options(said) => mapping_plan(
             alloc,
             Command::Check,
@@ -170,6 +172,7 @@ fn further_plan(alloc: Global, name: &str, said: &Arguments) -> Result<Option<Pl
         "bench" if has_no_options(said) => bench_plan(alloc, said.words.as_slice()),
         "image" if has_no_options(said) => file_plan(alloc, Command::Image, said.words.as_slice()),
         "words" if has_no_options(said) => words_plan(alloc, said.words.as_slice()),
+        "why" if has_no_options(said) => pair_plan(alloc, Command::Why, said.words.as_slice()),
         _ => Ok(None),
     }
 }
@@ -285,14 +288,17 @@ fn run_plan_with_files(
     }
 }
 
-fn bound_plan(alloc: Global, words: &[&str]) -> Result<Option<Plan>, AllocError>
+/// Returns the plan of `command`, which reads an architecture and a kernel and writes nothing, with the files that `words`
+/// name.
+fn pair_plan(alloc: Global, command: Command, words: &[&str]) -> Result<Option<Plan>, AllocError>
+    requires { HasShape command 2 0 }
     ensures plan { IfOk result
-        (λ p. option_map spec.planned p ≡ spec.bound_plan (map (λ word. word.now) words.now)) }
+        (λ p. option_map spec.planned p ≡ spec.pair_plan command (map (λ word. word.now) words.now)) }
     ensures shape { IfOk result (λ p. IfSome p
         (λ plan. HasShape plan.command (vec_len plan.inputs) (vec_len plan.outputs))) }
 {
     match words {
-        [arch, kernel] => plan_with(alloc, Command::Bound, &[*arch, *kernel], &[]),
+        [arch, kernel] => plan_with(alloc, command, &[*arch, *kernel], &[]),
         _ => Ok(None),
     }
 }

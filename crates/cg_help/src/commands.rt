@@ -20,5 +20,6 @@ turns KERNEL TURNS              runs the turns of a kernel without memory
 turns KERNEL TURNS IN OUT       runs the turns of a kernel from an image to an image
 verilog ARCH OUT                writes the netlist of an array as structural Verilog
 violations ARCH KERNEL MAPPING  puts all places at which a mapping isn't legal
+why ARCH KERNEL                 finds the least interval that no reason excludes, and what excludes those below it
 words IMAGE                     puts an image as a text
 ";

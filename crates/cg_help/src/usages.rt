@@ -66,7 +66,7 @@ const RUNNING: [Choice; 1] = [Choice {
 }];
 
 /// The commands in the order of their names.
-pub(crate) static USAGES: [Usage; 18] = [
+pub(crate) static USAGES: [Usage; 19] = [
     Usage {
         name: "bench",
         forms: &["ARCH BITS TURNS IN OUT"],
@@ -150,6 +150,11 @@ pub(crate) static USAGES: [Usage; 18] = [
     Usage {
         name: "violations",
         forms: &["ARCH KERNEL MAPPING"],
+        options: &[],
+    },
+    Usage {
+        name: "why",
+        forms: &["ARCH KERNEL"],
         options: &[],
     },
     Usage {

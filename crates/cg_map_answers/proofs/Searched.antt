@@ -10,9 +10,7 @@ use Rattle.cg_check.specs.Legal.{Mapped}
 use Rattle.cg_task.specs.declared.answering.FoundBy.{FoundBy}
 use Rattle.cg_task.specs.declared.answering.Answer.{Answer}
 use Rattle.cg_task.specs.declared.answering.Answer.TheVariants as answer
-use Rattle.cg_task.specs.Intervals.{IsFirst}
 use Rattle.cg_task.specs.Answers.{IsMapping}
-use Rattle.cg_map.specs.Tried.{AreAllLeft}
 use Rattle.cg_map.specs.Laws.{AreAlike}
 use Rattle.cg_map.proofs.Alike.{alike, legal, by_hub}
 use Rattle.cg_map.proofs.Always.{some_answer}
@@ -42,9 +40,9 @@ searcher = record {
     found = found;
     only = λ other by is_other. alike p.arch p.kernel valid good s.ii s.seed s.moves (answer.Mapped other by) (answer.Mapped m found_by) is_other found;
   };
-  open_left = λ s p first left found. (found.free, subst (λ n. IsFirst p.arch p.kernel s.ii n) (sym found.tried.0) found.is_first);
-  left = λ s p first left found. subst (λ z. AreAllLeft p.arch p.kernel s.ii s.seed s.moves z left.items) (sym found.tried.0) found.tried.1;
-  all = λ s p first left is. is.all;
+  open_left = λ s p first left found. found.free;
+  left = λ s p first left found. subst (λ z. AreCosts s p z left.items) (sym found.tried.0) (found.is_first, found.tried.1);
+  all = λ s p first left is. is.1.all;
   by_hub = λ s p valid good is enough a found. by_hub p.arch p.kernel valid good s.ii s.seed s.moves is enough a found;
   some = λ s p valid good is. (let (a, found) = some_answer p.arch p.kernel valid good s.ii s.seed s.moves is in (a, found, reported p a));
 }

@@ -7,7 +7,7 @@ use Rattle.cg_hub.specs.Hub.{HubEnough}
 use Rattle.cg_task.specs.declared.answering.FoundBy.{FoundBy}
 use Rattle.cg_task.specs.declared.answering.Answer.{Answer}
 use Rattle.cg_task.specs.declared.answering.Answer.TheVariants as answer
-use Rattle.cg_task.specs.Intervals.{last_tried}
+use Rattle.cg_task.specs.Intervals.{last_tried, IsFirst}
 use Rattle.cg_map.specs.Tried.{AreAllLeft, IsAnswer}
 use Rattle.cg_model.specs.declared.request.Request.{Request}
 use Rattle.cg_inputs.specs.Sources.{Pair, GivesPair}
@@ -55,9 +55,10 @@ pub record IsOnlyMapping (s : Request) (p : Pair) (m : Mapped) (found_by : Found
 abbrev pub IsMapRun : Request → Name → Name → List Name → Moment → Moment → Type 0
 IsMapRun s arch kernel outs before after = IsFoundRun word (IsOnlyMapping s) s arch kernel outs before after
 
--- these costs are left
+-- these costs are left from the first interval on
 abbrev pub AreCosts : Request → Pair → ℕ → List ℕ → Type 0
-AreCosts s p first costs = AreAllLeft p.arch p.kernel s.ii s.seed s.moves first costs
+AreCosts s p first costs =
+    IsFirst p.arch p.kernel s.ii first × AreAllLeft p.arch p.kernel s.ii s.seed s.moves first costs
 
 -- BudgetSpent: those costs
 abbrev pub IsSpentRun : Request → Name → Name → Moment → Moment → Type 0

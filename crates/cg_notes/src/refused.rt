@@ -6,9 +6,9 @@ use crate::slips::{Noted, slips_in};
 use crate::values::find_value;
 use cg_ending::File;
 use cg_notes_elements::{find_hub, find_limit, find_loop};
-use cg_notes_texts::{
-    Finding, find_in_json, find_in_netlist, find_in_text, find_in_toml, find_token,
-};
+use cg_notes_loops::find_token;
+use cg_notes_netlists::find_in_netlist;
+use cg_notes_texts::{Finding, find_in_json, find_in_text, find_in_toml};
 use std::alloc::{AllocError, Global};
 
 /// The most places of one fault that are noted, and the most of further ones.

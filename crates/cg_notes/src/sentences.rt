@@ -54,7 +54,8 @@ fn of_architecture(code: &str) -> Option<&'static str> {
         "A2" => "a name is a letter or _ and then letters, digits or _, at most 40 in all",
         "A3" => "an earlier element has one of its names",
         "A4" => "no resource is called so",
-        "A5" => "a port drives nothing",
+        "A5" =>
+            "a port drives nothing: name a wire, a register or the out of a unit, which ends with _o",
         "A7" =>
             "a latency is 1 to 4, and a unit has operations and as many ports as these take, at most three",
         "A8" => "the contexts are 1 to 64",
@@ -84,7 +85,7 @@ fn of_pair(code: &str) -> Option<&'static str> {
 /// Returns what is wrong at the fault `code` of an image.
 fn of_image(code: &str) -> Option<&'static str> {
     let sentence = match code {
-        "I1" => "this is no image, which begins CGI1",
+        "I1" => "this is no image, which begins CGI1: image TEXT OUT makes one of a text of words",
         "I2" => "the image ends early",
         "I3" => "more words than an image may have",
         "I4" => "something follows the last stream",
@@ -97,7 +98,7 @@ fn of_image(code: &str) -> Option<&'static str> {
 fn of_bits(code: &str) -> Option<&'static str> {
     let sentence = match code {
         "B1" =>
-            "these are no bits, which begin CGB2; migrate turns those that begin CGB1 into them",
+            "these are no bits, which begin CGB2: emit makes them of a mapping, and search or map of a kernel",
         "C1" => "these are no bits of the first format, which begin CGB1",
         "B2" | "C2" => "the bits are shorter than their header says",
         "B10" | "C10" => "the bits are longer than their header says",

@@ -1,7 +1,7 @@
 //! Faults of values, which their reports give the place of an item, an element or a key.
 
 use cg_notes_elements::{find_element, find_key, find_letter, find_tile_part};
-use cg_notes_heads::find_in_file;
+use cg_notes_heads::{find_in_file, find_row};
 use cg_notes_texts::{Finding, Place};
 use cg_places::{Step, json_value_at};
 use std::alloc::{AllocError, Global};
@@ -20,7 +20,7 @@ pub(crate) fn find_value(
         None if place == "architecture" => find_key(alloc, bytes, "name", sentence),
         None => Ok(None),
         Some(("row", cell)) if code == "M4" => find_letter(alloc, bytes, cell),
-        Some(("row", _)) => find_key(alloc, bytes, "grid", sentence),
+        Some(("row", row)) => find_row(alloc, bytes, row, sentence),
         Some(("contexts", _)) => find_key(alloc, bytes, "contexts", sentence),
         Some(("element", rest)) => find_element(alloc, bytes, code, rest, sentence),
         Some(("tile", rest)) => find_tile_part(alloc, bytes, rest, sentence),

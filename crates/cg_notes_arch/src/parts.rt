@@ -131,6 +131,17 @@ pub(crate) fn note_missing(
     here: Here<'_>,
     key: &str,
 ) -> Result<(), AllocError> {
-    let text = format!(in alloc; "the key \"{key}\" is missing")?;
+    let example = example_of(key);
+    let text = format!(in alloc; "the key \"{key}\" is missing, as {example}")?;
     slips.add(alloc, "M2", here, here.at, text.as_str())
+}
+
+/// Returns a line that sets the key `key` of a part.
+fn example_of(key: &str) -> &'static str {
+    match key {
+        "ops" => "ops = [\"add\", \"sub\"]",
+        "latency" => "latency = 1",
+        "ports" => "ports = [[\"x\", \"y\"], [\"x\"]], a list for each port",
+        _ => "from = [\"x\", \"N.x\"]",
+    }
 }

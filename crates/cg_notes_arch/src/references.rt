@@ -10,7 +10,8 @@ use toml::Value;
 const MOST_PORTS: usize = 3;
 
 /// What is wrong with ports that aren't lists.
-const WRONG_PORTS: &str = "\"ports\" has to be a list of lists of references";
+const WRONG_PORTS: &str =
+    "\"ports\" has to be a list of lists of references, one for each port, as [[\"x\", \"y\"], [\"x\"]]";
 
 /// Adds to `slips` what is wrong with the drivers of `value`, the wire or register `here`.
 pub(crate) fn note_from(
@@ -30,7 +31,7 @@ pub(crate) fn note_from(
             "M2",
             here,
             at,
-            "\"from\" has to be a list of references",
+            "\"from\" has to be a list of references, as [\"x\", \"N.x\"]",
         ),
     }
 }

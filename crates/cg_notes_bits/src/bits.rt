@@ -3,6 +3,7 @@
 use crate::fields::{HEADER_BITS, Owner, fields_at, slot_bits};
 use crate::numbers::number;
 use crate::parts::Part;
+use crate::signs::text_for_bits;
 use cg_arch::Arch;
 use cg_bits::{CGB1, CGB2, Format};
 use cg_model::{Resource, Unit};
@@ -41,7 +42,7 @@ pub fn bits_note(
         return Ok(None);
     };
     match code {
-        "B1" | "C1" => sign_note(alloc, bytes),
+        "B1" | "C1" => sign_note(alloc, code, bytes),
         "B2" | "C2" | "B10" | "C10" => length_note(alloc, &arch, format, bytes),
         "B4" | "C4" => header_note(alloc, &arch, bytes),
         "B5" | "C5" | "B6" | "C6" | "B7" | "C7" | "B8" | "C8" | "B11" | "C11" => {
@@ -65,13 +66,21 @@ fn format_of(code: &str) -> Option<Format> {
     }
 }
 
-/// Returns what `bytes` are, where they begin as an image does.
-fn sign_note(alloc: Global, bytes: &[u8]) -> Result<Option<String>, AllocError> {
-    if bytes.starts_with(b"CGI1") {
-        let note = String::from_str(alloc, "this is an image, and bits are asked")?;
-        return Ok(Some(note));
-    }
-    Ok(None)
+/// Returns what `bytes` are, which the fault `code` says are no bits of its format, where that can be told.
+fn sign_note(alloc: Global, code: &str, bytes: &[u8]) -> Result<Option<String>, AllocError> {
+    let note = if bytes.starts_with(b"CGI1") {
+        "this is an image, and bits are asked"
+    } else if code == "B1" && bytes.starts_with(b"CGB1") {
+        "these are bits of the first format: migrate ARCH BITS OUT turns them into those of today"
+    } else if code == "C1" && bytes.starts_with(b"CGB2") {
+        "these are bits of today's format, and need no migration"
+    } else {
+        match text_for_bits(bytes) {
+            Some(note) => note,
+            None => return Ok(None),
+        }
+    };
+    Ok(Some(String::from_str(alloc, note)?))
 }
 
 /// Returns the bit that `place` says, `bit N`.

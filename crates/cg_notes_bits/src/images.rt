@@ -1,5 +1,6 @@
 //! What is wrong with images.
 
+use crate::signs::text_for_image;
 use cg_model::{MOST_MEMORY, MOST_STREAM, PORTS};
 use std::alloc::{AllocError, Global};
 
@@ -44,20 +45,18 @@ pub fn image_note(
     }
 }
 
-/// Returns what `bytes` are, where they look like bits or like a text of words.
+/// Returns what `bytes` are, where they look like bits or like a text.
 fn sign_note(alloc: Global, bytes: &[u8]) -> Result<Option<String>, AllocError> {
-    if bytes.starts_with(b"CGB") {
-        let note = String::from_str(alloc, "these are bits, and an image is asked")?;
-        return Ok(Some(note));
-    }
-    if bytes.starts_with(b"memory") || bytes.starts_with(b"stream") || bytes.starts_with(b"#") {
-        let note = String::from_str(
-            alloc,
-            "this is a text of words: the command image makes an image of it",
-        )?;
-        return Ok(Some(note));
-    }
-    Ok(None)
+    let note = if bytes.starts_with(b"CGB") {
+        "these are bits, and an image is asked"
+    } else if let Some(note) = text_for_image(bytes) {
+        note
+    } else if bytes.starts_with(b"stream") || bytes.starts_with(b"#") {
+        "this is a text of words: image TEXT OUT makes an image of it"
+    } else {
+        return Ok(None);
+    };
+    Ok(Some(String::from_str(alloc, note)?))
 }
 
 /// Returns the number that the first four bytes of `rest` are, and the bytes behind them.

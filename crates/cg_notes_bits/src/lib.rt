@@ -6,6 +6,7 @@ mod fields;
 mod images;
 mod numbers;
 mod parts;
+mod signs;
 
 pub use bits::bits_note;
 pub use fields::{slot_from, unit_bits, unit_from};

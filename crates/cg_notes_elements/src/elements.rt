@@ -10,6 +10,9 @@ use cg_toml::toml_table;
 use std::alloc::{AllocError, Global};
 use toml::Value;
 
+/// The bit by which a capital and its small letter differ.
+const CASE_BIT: u8 = 0x20;
+
 /// Returns what is wrong with the part that `rest` says, `TILE part NUMBER`, in the architecture file `bytes`, of which
 /// `sentence` says it in general.
 pub fn find_tile_part(
@@ -173,10 +176,25 @@ pub fn find_letter(alloc: Global, bytes: &[u8], cell: &str) -> Result<Option<Fin
     let Some(letter) = letter_of(&table, cell) else {
         return Ok(None);
     };
-    let text = format!(in alloc;
-        "there is no tile {letter}: its parts begin with [[tiles.{letter}]]"
-    )?;
+    let text = match other_case(&table, letter) {
+        Some(other) => format!(in alloc; "there is no tile {letter}, did you mean {other}?")?,
+        None => format!(in alloc;
+            "there is no tile {letter}: its parts begin with [[tiles.{letter}]]"
+        )?,
+    };
     find_key(alloc, bytes, "grid", text.as_str())
+}
+
+/// Returns the tile of `table`, an architecture, that is called by `letter` as a capital or as a small letter.
+fn other_case<'a>(table: &'a Value, letter: &str) -> Option<&'a str> {
+    for (tile, _) in table.get("tiles")?.as_table()?.iter() {
+        let tile = tile.as_str();
+        match (tile.as_bytes(), letter.as_bytes()) {
+            ([one], [other]) if *one ^ *other == CASE_BIT => return Some(tile),
+            _ => {}
+        }
+    }
+    None
 }
 
 /// Returns the letter of the cell `ROW column COLUMN` of the grid of `table`, an architecture.

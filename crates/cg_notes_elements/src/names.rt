@@ -1,6 +1,7 @@
 //! Names of the elements of a cell: those of a tile's parts, and of the ports and outs of its units.
 
 use cg_help::nearest_name;
+use cg_notes_texts::short_list;
 use std::alloc::{AllocError, Global};
 use toml::Value;
 
@@ -69,6 +70,32 @@ pub(crate) fn add_names(
         names.push(format!(in alloc; "{unit}_{letter}")?)?;
     }
     Ok(())
+}
+
+/// Adds to `names` that of the resource of `part` that may drive others: a wire, a register or the out of a unit.
+pub(crate) fn add_driver(
+    alloc: Global,
+    part: &Value,
+    names: &mut Vec<String>,
+) -> Result<(), AllocError> {
+    for key in &NETS {
+        if let Some(name) = said(part, key) {
+            names.push(String::from_str(alloc, name)?)?;
+        }
+    }
+    if let Some(unit) = said(part, "unit") {
+        names.push(format!(in alloc; "{unit}_o")?)?;
+    }
+    Ok(())
+}
+
+/// Returns the first of `names`, a comma between two.
+pub(crate) fn list_of(alloc: Global, names: &[String]) -> Result<String, AllocError> {
+    let mut known: Vec<&str> = Vec::new(alloc);
+    for name in names {
+        known.push(name.as_str())?;
+    }
+    short_list(alloc, known.as_slice())
 }
 
 /// Returns how many ports `part`, a unit, has.

@@ -2,7 +2,7 @@
 
 use crate::elements::{drivers_at, find_key};
 use crate::names::{cell_of, has_resource, parts_of, tile_at};
-use cg_notes_texts::{Finding, MOST_PARSED, Place, short_list};
+use cg_notes_texts::{Finding, MOST_PARSED, Place};
 use cg_toml::toml_table;
 use std::alloc::{AllocError, Global};
 use toml::Value;
@@ -44,27 +44,71 @@ pub fn find_limit(alloc: Global, bytes: &[u8], place: &str) -> Result<Option<Fin
     }
 }
 
-/// Returns where in the architecture file `bytes` the loop of wires begins that `names` gives, from its first one on.
+/// The most wires of a loop that are named.
+const MOST_NAMED: usize = 8;
+
+/// Returns where in the architecture file `bytes` the loop of wires begins that `names` gives, from its first one on, with the line of
+/// each.
 pub fn find_loop(alloc: Global, bytes: &[u8], names: &str) -> Result<Option<Finding>, AllocError> {
-    let mut wires: Vec<&str> = Vec::new(alloc);
-    for name in names.split(' ') {
-        wires.push(name)?;
+    let Some(first) = names.split(' ').next() else {
+        return Ok(None);
+    };
+    if bytes.len() > MOST_PARSED {
+        return Ok(None);
     }
-    let list = short_list(alloc, wires.as_slice())?;
+    let Ok(table) = toml_table(alloc, bytes) else {
+        return Ok(None);
+    };
+    let list = wires_with_lines(alloc, bytes, &table, names)?;
     let list = list.as_str();
     let what = format!(in alloc;
-        "these wires drive one another in a ring, and a register has to be between: {list}"
+        "these wires drive one another in a ring, and a register has to be between, so that one of them is a reg: {list}"
     )?;
-    match wires.first() {
-        Some(first) => find_drivers(alloc, bytes, first, what.as_str()),
-        None => Ok(None),
+    find_drivers(alloc, bytes, first, what.as_str())
+}
+
+/// Returns the first of `names`, those of wires of `table`, which the architecture file `bytes` stands for, each with the line at which
+/// its drivers stand.
+fn wires_with_lines(
+    alloc: Global,
+    bytes: &[u8],
+    table: &Value,
+    names: &str,
+) -> Result<String, AllocError> {
+    let mut list = String::new(alloc);
+    for (number, name) in names.split(' ').enumerate() {
+        if number >= MOST_NAMED {
+            list.push_str(" ..")?;
+            return Ok(list);
+        }
+        if number > 0 {
+            list.push_str(", ")?;
+        }
+        list.push_str(name)?;
+        if let Some(at) = drivers_of(bytes, table, name) {
+            let Place { line, .. } = Place::at(bytes, at);
+            let text = format!(in alloc; " (line {line})")?;
+            list.push_str(text.as_str())?;
+        }
     }
+    Ok(list)
+}
+
+/// Returns the byte of the architecture file `bytes`, which stands for `table`, at which the drivers of the resource `name` stand.
+fn drivers_of(bytes: &[u8], table: &Value, name: &str) -> Option<usize> {
+    let (tile, part) = part_of_name(table, name)?;
+    drivers_at(bytes, tile, part)
 }
 
 /// Returns what the hub of the architecture file `bytes` lacks by `place`, `hub NAME` or `link FROM TO`.
 pub fn find_hub(alloc: Global, bytes: &[u8], place: &str) -> Result<Option<Finding>, AllocError> {
     if let Some(name) = place.strip_prefix("hub ") {
-        let what = format!(in alloc; "the hub's {name} is no register, or is named twice")?;
+        let what = match cell_of(name) {
+            Some(_) => format!(in alloc; "the hub's {name} is no register, or is named twice")?,
+            None => format!(in alloc;
+                "the hub's {name} is no register: a flat name begins with its cell, as r0c0_{name}"
+            )?,
+        };
         return find_key(alloc, bytes, "hub", what.as_str());
     }
     let Some((from, to)) = place

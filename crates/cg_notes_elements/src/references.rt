@@ -1,7 +1,7 @@
 //! What is wrong with drivers, by the references that parts write.
 
 use crate::elements::Origin;
-use crate::names::{add_names, cell_of, near_name, parts_of, said, tile_at};
+use crate::names::{add_driver, cell_of, list_of, near_name, parts_of, said, tile_at};
 use cg_grid::{Cell, Grid, Side, neighbour};
 use cg_toml::{flag_or, items_at, items_in};
 use std::alloc::{AllocError, Global};
@@ -52,7 +52,7 @@ fn unknown_driver(
     }
     let mut names = Vec::new(alloc);
     for part in parts {
-        add_names(alloc, part, false, &mut names)?;
+        add_driver(alloc, part, &mut names)?;
     }
     match near_name(alloc, name, names.as_slice())? {
         Some(near) => {
@@ -60,7 +60,13 @@ fn unknown_driver(
             let near = near.as_str();
             format!(in alloc; "no resource is called {reference}, did you mean {front}{near}?")
         }
-        None => format!(in alloc; "no resource is called {reference}: tile {tile} has no {name}"),
+        None => {
+            let known = list_of(alloc, names.as_slice())?;
+            let known = known.as_str();
+            format!(in alloc;
+                "no resource is called {reference}: tile {tile} has no {name}, and what drives there is {known}"
+            )
+        }
     }
 }
 

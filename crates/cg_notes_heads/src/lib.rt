@@ -2,6 +2,8 @@
 #![tactic(auto)]
 
 mod heads;
+mod rows;
 mod wholes;
 
+pub use rows::find_row;
 pub use wholes::find_in_file;

@@ -169,7 +169,13 @@ fn missing_in_json(
 ) -> Result<Option<Finding>, AllocError> {
     for key in format.needed {
         if json_value_at(bytes, &[Step::Key(key)]).is_none() {
-            return Ok(Some(missing(alloc, key)?));
+            let name = format.names.last().copied().unwrap_or("");
+            let example = match *key {
+                "format" => format!(in alloc; "\"format\":\"{name}\"")?,
+                "ii" => String::from_str(alloc, "\"ii\":2")?,
+                key => format!(in alloc; "\"{key}\":[]")?,
+            };
+            return Ok(Some(missing_as(alloc, key, example.as_str())?));
         }
     }
     Ok(None)
@@ -185,13 +191,28 @@ fn wrong_toml(alloc: Global, bytes: &[u8]) -> Result<Option<Finding>, AllocError
     wrong_kind_in_toml(alloc, bytes)
 }
 
-/// Returns that the key `key` is missing.
+/// Returns that the key `key` of an architecture is missing.
 pub(crate) fn missing(alloc: Global, key: &str) -> Result<Finding, AllocError> {
-    let text = format!(in alloc; "the key \"{key}\" is missing")?;
+    missing_as(alloc, key, example_of(key))
+}
+
+/// Returns that the key `key` is missing, which `example` sets.
+fn missing_as(alloc: Global, key: &str, example: &str) -> Result<Finding, AllocError> {
+    let text = format!(in alloc; "the key \"{key}\" is missing, as {example}")?;
     Ok(Finding {
         place: Place::START,
         text,
     })
+}
+
+/// Returns a line that sets the key `key` of an architecture.
+fn example_of(key: &str) -> &'static str {
+    match key {
+        "format" => "format = \"cga1\"",
+        "name" => "name = \"mine\"",
+        "contexts" => "contexts = 4",
+        _ => "grid = [\"A\"]",
+    }
 }
 
 /// Returns the text between the quotes that begin at byte `at`, where it is a short one without escapes.

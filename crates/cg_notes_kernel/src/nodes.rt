@@ -154,7 +154,9 @@ fn note_constants(
     let Some((place, _)) = second else {
         return Ok(());
     };
-    let text = format!(in alloc; "{prefix}more than one argument is a number")?;
+    let text = format!(in alloc;
+        "{prefix}more than one argument is a number: a node with \"op\":\"const\" gives the other"
+    )?;
     slips.add("K14", "nodes", number, Spot::Element("args", place), text)
 }
 

@@ -29,7 +29,7 @@ const NODE: Shape = Shape {
         },
         Field {
             name: "port",
-            kind: Kind::Number,
+            kind: Kind::Port,
             is_needed: false,
         },
     ],
@@ -52,7 +52,7 @@ const EDGE: Shape = Shape {
         },
         Field {
             name: "distance",
-            kind: Kind::Number,
+            kind: Kind::Distance,
             is_needed: false,
         },
     ],

@@ -21,7 +21,7 @@ const PLACE: Shape = Shape {
         },
         Field {
             name: "time",
-            kind: Kind::Number,
+            kind: Kind::Time,
             is_needed: true,
         },
         Field {

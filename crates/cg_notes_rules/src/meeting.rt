@@ -1,7 +1,8 @@
 //! Violations of L6 and L7: routes that meet on a resource in a slot.
 
 use crate::names::Mapped;
-use cg_check::{Rule, delay, edge_into, leaves};
+use crate::places::MappingFile;
+use cg_check::{Rule, RulePlace, delay, edge_into, leaves};
 use cg_model::Route;
 use std::alloc::{AllocError, Global};
 
@@ -22,6 +23,10 @@ struct Stay {
     time: u64,
     /// The resource that it comes from; None where its route begins.
     from: Option<u32>,
+    /// The node at which its route ends.
+    node: u32,
+    /// The argument of that node.
+    arg: u32,
 }
 
 impl Stay {
@@ -34,9 +39,10 @@ impl Stay {
     }
 }
 
-/// Returns what meets on resource number `resource` of `mapped` in `slot`, which `rule` forbids.
+/// Returns what meets on resource number `resource` of `mapped`, the mapping of `file`, in `slot`, which `rule` forbids.
 pub(crate) fn meeting_note(
     alloc: Global,
+    file: &MappingFile<'_>,
     mapped: Mapped<'_>,
     rule: Rule,
     resource: usize,
@@ -54,8 +60,8 @@ pub(crate) fn meeting_note(
         return Ok(None);
     };
     let note = match rule {
-        Rule::L6 => values_note(alloc, mapped, spot, first, second)?,
-        _ => ways_note(alloc, mapped, spot, first, second)?,
+        Rule::L6 => values_note(alloc, file, mapped, spot, first, second)?,
+        _ => ways_note(alloc, file, mapped, spot, first, second)?,
     };
     Ok(Some(note))
 }
@@ -63,6 +69,7 @@ pub(crate) fn meeting_note(
 /// Returns that the values of two stays are on one resource in one cycle.
 fn values_note(
     alloc: Global,
+    file: &MappingFile<'_>,
     mapped: Mapped<'_>,
     spot: Spot,
     first: Stay,
@@ -75,8 +82,10 @@ fn values_note(
     let other = mapped.node_name(second.source as usize);
     let one_turn = turn_in(first, cycle, spot.ii);
     let other_turn = turn_in(second, cycle, spot.ii);
+    let routes = routes_of(alloc, file, mapped, spot, first, second)?;
+    let routes = routes.as_str();
     format!(in alloc;
-        "L6: {name} in slot {slot} holds {one} of turn {one_turn} and {other} of turn {other_turn}"
+        "L6: {name} in slot {slot} holds {one} of turn {one_turn} and {other} of turn {other_turn}, {routes}"
     )
 }
 
@@ -91,6 +100,7 @@ fn turn_in(stay: Stay, cycle: u64, ii: u64) -> u64 {
 /// Returns that two stays come to one resource by different ways.
 fn ways_note(
     alloc: Global,
+    file: &MappingFile<'_>,
     mapped: Mapped<'_>,
     spot: Spot,
     first: Stay,
@@ -100,7 +110,50 @@ fn ways_note(
     let slot = spot.slot;
     let one = way_name(mapped, first);
     let other = way_name(mapped, second);
-    format!(in alloc; "L7: {name} in slot {slot} takes its value from {one} and from {other}")
+    let routes = routes_of(alloc, file, mapped, spot, first, second)?;
+    let routes = routes.as_str();
+    format!(in alloc;
+        "L7: {name} in slot {slot} takes its value from {one} and from {other}, {routes}"
+    )
+}
+
+/// Returns by which routes of `mapped`, the mapping of `file`, two stays are at `spot`, and what mends it.
+fn routes_of(
+    alloc: Global,
+    file: &MappingFile<'_>,
+    mapped: Mapped<'_>,
+    spot: Spot,
+    first: Stay,
+    second: Stay,
+) -> Result<String, AllocError> {
+    let one = route_name(alloc, file, mapped, first)?;
+    let one = one.as_str();
+    if first.node == second.node && first.arg == second.arg {
+        let ii = spot.ii;
+        return format!(in alloc;
+            "both on the way to {one}: after the interval, {ii} cycles, the value of the next turn comes there; other registers on the way, or a greater interval, mend it"
+        );
+    }
+    let other = route_name(alloc, file, mapped, second)?;
+    let other = other.as_str();
+    format!(in alloc;
+        "on the ways to {one} and {other}; another way or time for one of them mends it"
+    )
+}
+
+/// Returns the route of `mapped` that has `stay`, by the argument at which it ends and where it stands in `file`.
+fn route_name(
+    alloc: Global,
+    file: &MappingFile<'_>,
+    mapped: Mapped<'_>,
+    stay: Stay,
+) -> Result<String, AllocError> {
+    let Stay { node, arg, .. } = stay;
+    let name = mapped.node_name(node as usize);
+    match file.place_of(mapped, RulePlace::Arg { node, arg }) {
+        Some(place) => format!(in alloc; "{name}.{arg} ({place})"),
+        None => format!(in alloc; "{name}.{arg}"),
+    }
 }
 
 /// Returns the name of the resource that `stay` comes from.
@@ -140,6 +193,8 @@ fn stay_on(
             source: edge.source,
             time,
             from,
+            node: route.node,
+            arg: route.arg,
         };
         if *resource as usize == spot.resource && is_met(stay, spot, rule, other) {
             return Some(stay);

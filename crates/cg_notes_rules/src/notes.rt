@@ -46,7 +46,7 @@ pub fn rule_notes(
         mapping: &mapping,
     };
     for violation in found.iter().take(MOST_NOTED) {
-        if let Some(text) = violation_note(alloc, mapped, *violation)? {
+        if let Some(text) = violation_note(alloc, &file, mapped, *violation)? {
             let place = file.place_of(mapped, violation.place);
             notes.push(placed_note(alloc, name, place, text.as_str())?)?;
         }
@@ -67,22 +67,23 @@ fn placed_note(
     }
 }
 
-/// Returns what `violation` of `mapped` is.
+/// Returns what `violation` of `mapped`, the mapping of `file`, is.
 fn violation_note(
     alloc: Global,
+    file: &MappingFile<'_>,
     mapped: Mapped<'_>,
     violation: Violation,
 ) -> Result<Option<String>, AllocError> {
     match violation.place {
         RulePlace::Mapping => interval_note(alloc, mapped),
         RulePlace::Node(node) => match violation.rule {
-            Rule::L3 => shared_note(alloc, mapped, node),
+            Rule::L3 => shared_note(alloc, file, mapped, node),
             _ => unit_note(alloc, mapped, node),
         },
         RulePlace::Order(edge) => order_note(alloc, mapped, edge),
         RulePlace::Arg { node, arg } => route_note(alloc, mapped, node, arg),
         RulePlace::Resource { resource, slot } => {
-            meeting_note(alloc, mapped, violation.rule, resource, slot)
+            meeting_note(alloc, file, mapped, violation.rule, resource, slot)
         }
     }
 }

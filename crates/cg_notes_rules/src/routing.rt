@@ -43,8 +43,7 @@ fn reason(
 ) -> Result<Option<String>, AllocError> {
     let path = route.path.as_slice();
     let (Some(first), Some(last)) = (path.first(), path.last()) else {
-        let note = String::from_str(alloc, "has no resources")?;
-        return Ok(Some(note));
+        return empty_reason(alloc, mapped, route, edge);
     };
     if let Some(note) = start_reason(alloc, mapped, edge, *first)? {
         return Ok(Some(note));
@@ -56,6 +55,27 @@ fn reason(
         return Ok(Some(note));
     }
     let note = time_reason(alloc, mapped, route, edge)?;
+    Ok(Some(note))
+}
+
+/// Returns that `route` of `mapped`, which brings the value of `edge`, has no resources, and between which it has to lead.
+fn empty_reason(
+    alloc: Global,
+    mapped: Mapped<'_>,
+    route: &Route,
+    edge: DataEdge,
+) -> Result<Option<String>, AllocError> {
+    let from = mapped.unit(edge.source as usize);
+    let to = mapped.unit(route.node as usize);
+    let port = to.and_then(|unit| unit.ports.as_slice().get(route.arg as usize).copied());
+    let note = match (from, port) {
+        (Some(from), Some(port)) => {
+            let out = mapped.resource_name(from.out as usize);
+            let port = mapped.resource_name(port as usize);
+            format!(in alloc; "has no resources: it begins at {out} and ends at {port}")?
+        }
+        _ => String::from_str(alloc, "has no resources")?,
+    };
     Ok(Some(note))
 }
 

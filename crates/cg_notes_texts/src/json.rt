@@ -1,6 +1,7 @@
 //! Faults of texts that are no JSON.
 
 use crate::finding::{Finding, Place};
+use crate::quotes::missing_quote;
 use serde_json::Value;
 use std::alloc::{AllocError, Global};
 
@@ -29,10 +30,43 @@ fn of_json_error(
         line: line.max(1),
         column: column.max(1),
     };
+    let at = offset_of(bytes, place);
+    if let Some(text) = missing_quote(alloc, bytes, at, false)? {
+        return Ok(Finding { place, text });
+    }
+    let place = match wrong_bracket(alloc, bytes, at)? {
+        Some(at) => Place::at(bytes, at),
+        None => place,
+    };
     let hint = json_hint(alloc, bytes, place, message)?;
     let hint = hint.as_str();
     let text = format!(in alloc; "{message}{hint}")?;
     Ok(Finding { place, text })
+}
+
+/// Returns the byte before byte `at` of `bytes` where that is a bracket which closes one of the other kind, or which stands in the place of
+/// a key: the parser says the place behind it. Returns None otherwise.
+fn wrong_bracket(alloc: Global, bytes: &[u8], at: usize) -> Result<Option<usize>, AllocError> {
+    let Some(back) = at.checked_sub(1) else {
+        return Ok(None);
+    };
+    let Some(bracket) = bytes.get(back) else {
+        return Ok(None);
+    };
+    let before = bytes.get(..back).unwrap_or(&[]);
+    let Some(Open { byte, .. }) = open_bracket(alloc, before)? else {
+        return Ok(None);
+    };
+    let last = before.iter().rev().find(|byte| !byte.is_ascii_whitespace());
+    let is_wrong = match (byte, *bracket) {
+        (b'{', b']') | (b'[', b'}') => true,
+        (b'{', b'{' | b'[') => matches!(last, Some(b'{' | b',')),
+        _ => false,
+    };
+    if is_wrong {
+        return Ok(Some(back));
+    }
+    Ok(None)
 }
 
 /// Returns what may be wrong at `place` of `bytes`, which are no JSON text there by `message`; empty where that can't be said.
@@ -46,7 +80,11 @@ fn json_hint(
     if message == "invalid JSON" {
         let before = bytes.get(..at).unwrap_or(&[]);
         let last = before.iter().rev().find(|byte| !byte.is_ascii_whitespace());
-        let hint = byte_hint(last.copied(), bytes.get(at..).unwrap_or(&[]));
+        let rest = bytes.get(at..).unwrap_or(&[]);
+        if let Some(hint) = missing_mark(alloc, before, last.copied(), rest)? {
+            return Ok(hint);
+        }
+        let hint = byte_hint(last.copied(), rest);
         return String::from_str(alloc, hint);
     }
     if at < before_last(bytes) {
@@ -66,6 +104,63 @@ pub(crate) fn within(alloc: Global, bytes: &[u8], is: &str) -> Result<String, Al
     }
 }
 
+/// Returns which mark or bracket is missing in the last bracket of `before` that is open, where `rest` follows that, behind a value or a
+/// key whose last byte is `last`. Returns None where none is.
+fn missing_mark(
+    alloc: Global,
+    before: &[u8],
+    last: Option<u8>,
+    rest: &[u8],
+) -> Result<Option<String>, AllocError> {
+    let Some(Open { byte, place }) = open_bracket(alloc, before)? else {
+        return Ok(None);
+    };
+    let is_value = matches!(last, Some(b'"' | b']' | b'}' | b'0'..=b'9' | b'e' | b'l'));
+    let begins_next = matches!(rest, [b'"' | b'[' | b'{' | b'0'..=b'9', ..]);
+    let bracket = char::from(byte);
+    let text = match (byte, rest) {
+        (b'{', [b']', ..]) | (b'[', [b'}', ..]) if is_value => {
+            let close = if byte == b'{' { '}' } else { ']' };
+            format!(in alloc; ": a {close} is missing before it, for the {bracket} of {place}")?
+        }
+        (b'{', [b'{' | b'[', ..]) if matches!(last, Some(b'{' | b',')) => String::from_str(
+            alloc,
+            ": a key stands here, in double quotes; is a bracket before it closed too early?",
+        )?,
+        (b'[', [b':', ..]) if is_value => String::from_str(
+            alloc,
+            ": a key and its value stand in braces, as {\"from\":\"s\"}",
+        )?,
+        _ if !(is_value && begins_next) => return Ok(None),
+        (b'[', _) => String::from_str(alloc, ": a comma or ] is missing before it")?,
+        _ if last == Some(b'"') && is_behind_key(before) => String::from_str(
+            alloc,
+            ": a colon is missing before it",
+        )?,
+        _ => String::from_str(alloc, ": a comma or } is missing before it")?,
+    };
+    Ok(Some(text))
+}
+
+/// Checks whether the text that `before` ends with is a key: an opening brace or a comma is the last mark outside texts.
+fn is_behind_key(before: &[u8]) -> bool {
+    let mut mark = 0u8;
+    let mut is_text = false;
+    let mut is_escaped = false;
+    for byte in before {
+        if is_escaped {
+            is_escaped = false;
+        } else if is_text && *byte == b'\\' {
+            is_escaped = true;
+        } else if *byte == b'"' {
+            is_text = !is_text;
+        } else if !is_text && !byte.is_ascii_whitespace() {
+            mark = *byte;
+        }
+    }
+    mark == b'{' || mark == b','
+}
+
 /// Returns what may be wrong where `rest` follows the byte `last`.
 fn byte_hint(last: Option<u8>, rest: &[u8]) -> &'static str {
     match (last, rest) {
@@ -79,7 +174,8 @@ fn byte_hint(last: Option<u8>, rest: &[u8]) -> &'static str {
         (Some(b','), [b']' | b'}', ..]) => ": a comma stands before it",
         (Some(b']' | b'}'), [b']' | b'}', ..]) => ": no bracket of this kind is open",
         (Some(b'"' | b']' | b'}' | b'0'..=b'9'), [b'"' | b'[' | b'{' | b'0'..=b'9', ..]) =>
-            ": a comma or a colon is missing before it",
+            ": a comma is missing before it",
+        (_, [b'=', ..]) => ": a colon stands between a key and its value",
         (Some(b'{' | b','), [b'a'..=b'z' | b'A'..=b'Z' | b'_', ..]) =>
             ": a key stands in double quotes",
         (Some(b':' | b'['), [b'a'..=b'z' | b'A'..=b'Z' | b'_', ..]) =>

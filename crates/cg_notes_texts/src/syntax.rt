@@ -3,6 +3,7 @@
 use crate::finding::{Finding, Place};
 use crate::headers::{header_tile, table_line};
 use crate::json::{json_error, within};
+use crate::quotes::missing_quote;
 use cg_json::{JsonFault, json_value};
 use cg_slips::shown;
 use cg_toml::{TomlFault, toml_table};
@@ -70,7 +71,7 @@ pub fn find_in_toml(alloc: Global, bytes: &[u8]) -> Result<Option<Finding>, Allo
 /// Returns what `bytes` are where they begin as a text of another format that isn't JSON.
 fn other_text(bytes: &[u8]) -> Option<&'static str> {
     if bytes.starts_with(b"module ") {
-        Some("this is Verilog")
+        Some("this is Verilog, which only run reads, behind --netlist")
     } else if bytes.starts_with(b"cgaflat1") {
         Some(
             "this is the flat text of an architecture, as flat writes it from the file of the architecture",
@@ -129,6 +130,10 @@ fn toml_error(alloc: Global, bytes: &[u8]) -> Result<Option<Finding>, AllocError
                     return Ok(Some(finding));
                 }
             }
+            if let Some(text) = toml_quote(alloc, bytes, span.start)? {
+                let place = Place::at(bytes, span.start);
+                return Ok(Some(Finding { place, text }));
+            }
             let hint = toml_hint(alloc, bytes, span.start, message)?;
             let hint = hint.as_str();
             let text = format!(in alloc; "{message}{hint}")?;
@@ -153,6 +158,18 @@ fn table_for_list(alloc: Global, bytes: &[u8], at: usize) -> Result<Option<Findi
     )?;
     let place = Place::at(bytes, begins);
     Ok(Some(Finding { place, text }))
+}
+
+/// Returns that a double quote is missing in the line of `bytes` around byte `at`; None where none is, or where texts have other quotes.
+fn toml_quote(alloc: Global, bytes: &[u8], at: usize) -> Result<Option<String>, AllocError> {
+    let has_others = match std::str::from_utf8(bytes) {
+        Ok(text) => text.contains("\"\"\"") || text.contains('\''),
+        Err(_) => true,
+    };
+    if has_others {
+        return Ok(None);
+    }
+    missing_quote(alloc, bytes, at, true)
 }
 
 /// Returns what may be wrong at byte `at` of `bytes`, which are no TOML there by `message`; empty where that can't be said.

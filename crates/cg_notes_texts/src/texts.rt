@@ -26,6 +26,9 @@ pub fn find_in_text(
         let text = "this is an image already: words prints its text";
         return Ok(Some(Finding::new(alloc, Place::START, text)?));
     }
+    if let Some(text) = other_file(bytes) {
+        return Ok(Some(Finding::new(alloc, Place::START, text)?));
+    }
     let field = field_at(bytes, place);
     let name = shown(alloc, field)?;
     let name = name.as_str();
@@ -35,7 +38,9 @@ pub fn find_in_text(
             let why = why.as_str();
             format!(in alloc; "\"{name}\" is no word: {why}")?
         }
-        "T2" => format!(in alloc; "\"{name}\" stands before memory or stream P")?,
+        "T2" => format!(in alloc;
+            "\"{name}\" stands before memory or stream P: write memory before it, or stream 0"
+        )?,
         "T3" if field == "stream" => String::from_str(
             alloc,
             "behind stream stands the number of a port, 0 to 15",
@@ -52,6 +57,19 @@ pub fn find_in_text(
     Ok(Some(Finding { place, text }))
 }
 
+/// Returns what `bytes` are, which should be a text of words, where they look like another text.
+fn other_file(bytes: &[u8]) -> Option<&'static str> {
+    if bytes.starts_with(b"{") {
+        Some("this is JSON, and a text of words is asked, as memory 1 2 3")
+    } else if bytes.starts_with(b"cgl1") {
+        Some("this is a loop body, and a text of words is asked: loop makes a kernel of it")
+    } else if bytes.starts_with(b"CGB") {
+        Some("these are bits, and a text of words is asked, as memory 1 2 3")
+    } else {
+        None
+    }
+}
+
 /// Returns what may be wrong with `field`, which is no word and begins no section.
 fn unknown_field(alloc: Global, field: &str) -> Result<String, AllocError> {
     if let Some(near) = nearest_name(alloc, field, &WORDS)? {
@@ -59,6 +77,10 @@ fn unknown_field(alloc: Global, field: &str) -> Result<String, AllocError> {
     }
     let why = if field.contains(',') {
         "fields are parted by blanks, not by commas"
+    } else if field.starts_with("//") || field.starts_with("/*") || field.starts_with("--") {
+        "a comment begins with #"
+    } else if field.strip_prefix('-').unwrap_or(field).contains('-') {
+        "a range of words is written A..B, as 1..5"
     } else if field.starts_with("stream") {
         "the number of a port stands behind stream and a blank"
     } else {

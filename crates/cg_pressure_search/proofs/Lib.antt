@@ -1,3 +1,4 @@
+pub mod Chained
 pub mod Logs
 pub mod Lifts
 pub mod Pushes

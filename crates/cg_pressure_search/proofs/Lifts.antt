@@ -1,18 +1,37 @@
 -- Places that rise together keep the links.
-use Rattle.std.proofs.Common.{◌≡◌, ℕ, zero, suc, ◌+◌, ◌-◌, ◌*◌, ◌^◌, ◌<◌, ◌≤◌, List, length, refl, sym, ap, ◌∙◌, subst, arith, ⊎_elim}
+use Rattle.std.proofs.Common.{◌≡◌, ℕ, zero, suc, ◌+◌, ◌-◌, ◌*◌, ◌^◌, ◌<◌, ◌≤◌, List, length, sym, ap, ◌∙◌, subst, arith, ⊎_elim}
 use Rattle.std.specs.Prelude.{◌⊎◌, slice_index}
-use Rattle.std.proofs.lemmas.Bool.{cases_lt}
+use Rattle.std.proofs.lemmas.Bool.{cases_eq, cases_lt}
 use Rattle.cg_pressure_search.specs.declared.network.Link.{Link}
 use Rattle.cg_pressure_search.specs.declared.reach.Step.{Step}
 use Rattle.cg_pressure_search.specs.declared.reach.Reached.{Reached}
-use Rattle.cg_pressure_search.specs.Network.{link, IsGraph, IsKept, IsTight, AreKept}
-use Rattle.cg_pressure_search.specs.Reach.{step, IsMove, IsLog, IsClosed, IsReached}
+use Rattle.cg_pressure_search.specs.declared.chains.Chain.{Chain}
+use Rattle.cg_pressure_search.specs.Chains.{IsChain, begin_of}
+use Rattle.cg_pressure_search.specs.Network.{link, IsGraph, IsTight, AreKept}
+use Rattle.cg_pressure_search.specs.Reach.{step, IsLog, IsClosed, IsReached}
 use Rattle.cg_pressure_search.specs.Lift.{LetsRise, IsRisen, IsLifting}
 use Rattle.cg_pressure_search.proofs.Logs.{few_steps}
 
 -- a place is reached or not
 is_reached : (order : List ℕ) (x : ℕ) → (0 < slice_index order x) ⊎ (slice_index order x ≤ 0)
 is_reached order x = cases_lt 0 (slice_index order x)
+
+pub rises_less : (links : List Link) (at order : List ℕ) (by by' k : ℕ) → LetsRise links at order by k → by' ≤ by → LetsRise links at order by' k
+rises_less links at order by by' k h l = λ f t. let a = h f t in omega arith
+
+-- the room over one link of a place more
+pub room_more : (links : List Link) (at order : List ℕ) (n place count more k more' by by' : ℕ) (c : Chain) → IsChain (begin_of links) n (length links) c → more ≤ length links → more ≡ k + 1 → (link links k).from ≡ place → more' ≡ slice_index c.earlier.items k → by' ≤ by →
+    ((j : ℕ) → more ≤ j → j < count → j < length links → (link links j).from ≡ place → LetsRise links at order by j) → (k < count → LetsRise links at order by' k) →
+    (j : ℕ) → more' ≤ j → j < count → j < length links → (link links j).from ≡ place → LetsRise links at order by' j
+room_more links at order n place count more k more' by by' c chain within e here q less old new j l m inside p =
+    ⊎_elim
+    (λ (below : j < more).
+    ⊎_elim
+    (λ (same : j ≡ k). subst (λ (i : ℕ). LetsRise links at order by' i) (sym same) (new (omega arith)))
+    (λ ne. let h = chain.between k j (omega arith) (omega (arith, ne)) (p ∙ sym here) in absurd (omega arith))
+    (cases_eq j k))
+    (λ (above : more ≤ j). rises_less links at order by by' j (old j above m inside p) less)
+    (cases_lt j more)
 
 module _ (links : List Link) (flow at : List ℕ) (graph : IsGraph (length at) links) where
   -- a step rises by at most 2^32
@@ -32,8 +51,8 @@ module _ (links : List Link) (flow at : List ℕ) (graph : IsGraph (length at) l
       v.ends
 
   -- so a place that is reached is at most 2^44 above the start
-  pub near_start : (start count : ℕ) (r : Reached) → IsReached links count flow at start r → (x : ℕ) → 0 < slice_index r.order.items x → slice_index at x ≤ slice_index at start + 2 ^ 44
-  near_start start count r reached x h =
+  pub near_start : (start goal count : ℕ) (r : Reached) → IsReached links count flow at start goal r → (x : ℕ) → 0 < slice_index r.order.items x → slice_index at x ≤ slice_index at start + 2 ^ 44
+  near_start start goal count r reached x h =
       let (i, l, m, p) = reached.log.marked x h in
       let c = climbs r.steps.items r.order.items reached.log (suc i) i (omega arith) l in
       let f = few_steps links flow at r.steps.items r.order.items reached.log in
@@ -79,18 +98,18 @@ module _ (links : List Link) (count : ℕ) (flow at : List ℕ) (start goal need
   pub graph_now : IsGraph (length at') links
   graph_now = subst (λ n. IsGraph n links) (sym now.each) graph
 
-  pub low : (most : ℕ) → ((x : ℕ) → slice_index at x ≤ most) → (r : Reached) (by : ℕ) → IsReached links count flow at' start r → by ≤ left → (x : ℕ) → 0 < slice_index r.order.items x → slice_index at' x + by ≤ most + 2 ^ 45
+  pub low : (most : ℕ) → ((x : ℕ) → slice_index at x ≤ most) → (r : Reached) (by : ℕ) → IsReached links count flow at' start goal r → by ≤ left → (x : ℕ) → 0 < slice_index r.order.items x → slice_index at' x + by ≤ most + 2 ^ 45
   low most h r by reached l x o =
-      let a = near_start links flow at' graph_now start count r reached x o in
+      let a = near_start links flow at' graph_now start goal count r reached x o in
       let b = now.rest in
       let c = h goal in
       omega (arith, near)
 
-  pub lifted_more : (r : Reached) (by : ℕ) (at'' : List ℕ) (left' : ℕ) → IsReached links count flow at' start r → slice_index r.order.items goal ≡ 0 → by ≤ left → ((k : ℕ) → k < count → LetsRise links at' r.order.items by k) →
+  pub lifted_more : (r : Reached) (by : ℕ) (at'' : List ℕ) (left' : ℕ) → IsReached links count flow at' start goal r → slice_index r.order.items goal ≡ 0 → by ≤ left → ((k : ℕ) → k < count → LetsRise links at' r.order.items by k) →
       IsRisen r.order.items at' by at'' → length at'' ≡ length at' → left' ≡ left - by → IsLifting links count flow at start goal need at'' left'
   lifted_more r by at'' left' reached none l rises risen each e =
       record {
-        kept = kept_risen links flow at' graph_now count by r.order.items at'' now.kept reached.closed rises risen;
+        kept = kept_risen links flow at' graph_now count by r.order.items at'' now.kept (reached.closed none) rises risen;
         each = each ∙ now.each;
         near = λ most h x. ⊎_elim
             (λ (o : 0 < slice_index r.order.items x). let a = low most h r by reached l x o in let b = risen.risen x o in omega arith)

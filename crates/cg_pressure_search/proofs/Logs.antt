@@ -1,6 +1,6 @@
 -- Steps that are added to a log.
-use Rattle.std.proofs.Common.{◌≡◌, ℕ, suc, ◌+◌, ◌-◌, ◌<◌, ◌≤◌, List, [], ◌∷◌, ◌++◌, length, get_or, set, true, false, refl, sym, ap, ◌∙◌, subst, arith, inl, inr, ⊎_elim, below_more}
-use Rattle.std.specs.Prelude.{◌⊎◌, slice_index, map}
+use Rattle.std.proofs.Common.{◌≡◌, ℕ, ◌+◌, ◌-◌, ◌<◌, ◌≤◌, List, [], ◌∷◌, ◌++◌, length, get_or, set, true, false, refl, sym, ap, ◌∙◌, subst, arith, inl, inr, ⊎_elim}
+use Rattle.std.specs.Prelude.{slice_index, map}
 use Rattle.std.proofs.Math.ListN.{length-map, get_or-append}
 use Rattle.std.proofs.Math.Seq.{get_or-append_seam}
 use Rattle.std.proofs.lemmas.List.{get_or_default, get_or-set_same, get_or-set_other, length-set, get_or-map, get_or_past}
@@ -9,7 +9,10 @@ use Rattle.cg_model.proofs.Ranges.{pigeons}
 use Rattle.cg_pressure_search.specs.declared.network.Link.{Link}
 use Rattle.cg_pressure_search.specs.declared.reach.Step.{Step}
 use Rattle.cg_pressure_search.specs.Network.{link, IsTight}
-use Rattle.cg_pressure_search.specs.Reach.{step, no_step, IsMove, IsLog, IsDone, IsClosed, IsVisited, IsSwept}
+use Rattle.cg_pressure_search.specs.declared.chains.Chain.{Chain}
+use Rattle.cg_pressure_search.specs.declared.chains.Incidence.{Incidence}
+use Rattle.cg_pressure_search.specs.Chains.{IsLinked, IsIncidence, begin_of, end_of}
+use Rattle.cg_pressure_search.specs.Reach.{step, no_step, IsMove, IsLog, IsDone, IsClosed, IsLonger, IsCrossed, IsVisited, IsFollowed, IsWorked, IsSpread}
 
 -- what a place of a vector reads
 pub read : {X : Type 0} (xs : List X) (i : ℕ) (v d : X) → i < length xs → v ≡ get_or xs i v → v ≡ get_or xs i d
@@ -34,6 +37,14 @@ module _ (links : List Link) (flow at : List ℕ) where
     where
       inside : (order : List ℕ) (x y i n : ℕ) → y ≡ x → slice_index order x ≡ i + 1 → length order ≡ n → y < n
       inside order x y i n a m e = ⊎_elim (λ (l : x < length order). omega arith) (λ (l : length order ≤ x). let z = get_or_past order x 0 l in absurd (omega arith)) (cases_lt x (length order))
+
+  -- the places of steps are places
+  pub placed : (steps : List Step) (order : List ℕ) (i : ℕ) (s : Step) → IsLog links flow at steps order → i < length steps → s ≡ step steps i → s.place < length at
+  placed steps order i s good l e =
+      let m = good.marks i l in
+      let q = ap (λ (z : Step). slice_index order z.place) e in
+      let b = good.each in
+      ⊎_elim (λ (h : s.place < length order). omega arith) (λ (h : length order ≤ s.place). let z = get_or_past order s.place 0 h in absurd (omega arith)) (cases_lt s.place (length order))
 
   -- one step more
   pub extended : (steps : List Step) (order : List ℕ) (s : Step) → IsLog links flow at steps order → IsMove links flow at steps (length steps) s → slice_index order s.place ≡ 0 → s.place < length order →
@@ -107,47 +118,126 @@ module _ (links : List Link) (flow at : List ℕ) where
           (i, omega (arith, length-one steps s), o ∙ m, ap (λ (z : Step). z.place) (old i l) ∙ p))
           (cases_eq x s.place)
 
-  finish : (steps : List Step) (order : List ℕ) (s : Step) (steps' : List Step) (k count : ℕ) → IsLog links flow at (steps ++ (s ∷ [])) (set order s.place (length steps + 1)) → 0 < length steps → count ≡ length steps →
-      steps' ≡ steps ++ (s ∷ []) → IsVisited links flow at steps order steps' (set order s.place (count + 1)) k
-  finish steps order s steps' k count good some c e =
-      subst (λ (z : List Step). IsVisited links flow at steps order z (set order s.place (count + 1)) k) (sym e)
-      (subst (λ j. IsVisited links flow at steps order (steps ++ (s ∷ [])) (set order s.place (j + 1)) k) (sym c)
-      (record { log = good; first = get_or-append steps (s ∷ []) no_step 0 some; longer = inl (length-one steps s) }))
+  -- steps and marks that were added
+  pub longer_none : (steps : List Step) (order : List ℕ) → IsLonger steps order steps order
+  longer_none steps order = record { longer = omega arith; same = λ i l. refl; wider = λ x h. h }
 
-  pub visited_forth : (steps : List Step) (order : List ℕ) (k count v w : ℕ) (steps' : List Step) → IsLog links flow at steps order → 0 < length steps → k < length links → IsTight at (link links k) →
-      v ≡ slice_index order (link links k).from → w ≡ slice_index order (link links k).to → 0 < v → w ≡ 0 → (link links k).to < length order → count ≡ length steps →
+  pub longer_both : (steps : List Step) (order : List ℕ) (steps1 : List Step) (order1 : List ℕ) (steps2 : List Step) (order2 : List ℕ) → IsLonger steps order steps1 order1 → IsLonger steps1 order1 steps2 order2 → IsLonger steps order steps2 order2
+  longer_both steps order steps1 order1 steps2 order2 a b =
+      record {
+        longer = (let m = a.longer in let n = b.longer in omega arith);
+        same = λ i l. b.same i (let m = a.longer in omega arith) ∙ a.same i l;
+        wider = λ x h. b.wider x (a.wider x h);
+      }
+
+  longer_one : (steps : List Step) (order : List ℕ) (s : Step) → s.place < length order → IsLonger steps order (steps ++ (s ∷ [])) (set order s.place (length steps + 1))
+  longer_one steps order s inside =
+      record {
+        longer = omega (arith, length-one steps s);
+        same = λ i l. get_or-append steps (s ∷ []) no_step i l;
+        wider = λ x h.
+            ⊎_elim
+            (λ (e : x ≡ s.place). let a = ap (slice_index (set order s.place (length steps + 1))) e in let b = get_or-set_same order s.place (length steps + 1) 0 inside in omega arith)
+            (λ ne. let o = get_or-set_other order s.place x (length steps + 1) 0 ne in omega arith)
+            (cases_eq x s.place);
+      }
+
+  finish : (steps : List Step) (order : List ℕ) (s : Step) (steps' : List Step) (k m count : ℕ) → IsLog links flow at (steps ++ (s ∷ [])) (set order s.place (length steps + 1)) → s.place < length order → m ≡ length steps →
+      steps' ≡ steps ++ (s ∷ []) → (0 < slice_index (set order s.place (length steps + 1)) s.place → IsCrossed links flow at order (set order s.place (length steps + 1)) k) →
+      IsVisited links count flow at steps order steps' (set order s.place (m + 1)) k
+  finish steps order s steps' k m count good inside c e crossed =
+      subst (λ (z : List Step). IsVisited links count flow at steps order z (set order s.place (m + 1)) k) (sym e)
+      (subst (λ j. IsVisited links count flow at steps order (steps ++ (s ∷ [])) (set order s.place (j + 1)) k) (sym c)
+      (record { log = good; longer = longer_one steps order s inside; crossed = λ l. crossed (let b = get_or-set_same order s.place (length steps + 1) 0 inside in omega arith) }))
+
+  pub visited_forth : (steps : List Step) (order : List ℕ) (k m count v w : ℕ) (steps' : List Step) → IsLog links flow at steps order → k < length links → IsTight at (link links k) →
+      v ≡ slice_index order (link links k).from → w ≡ slice_index order (link links k).to → 0 < v → w ≡ 0 → (link links k).to < length order → m ≡ length steps →
       steps' ≡ steps ++ (record { place = (link links k).to; link = k; back = false; before = v - 1 } ∷ []) →
-      IsVisited links flow at steps order steps' (set order (link links k).to (count + 1)) k
-  visited_forth steps order k count v w steps' good some known tight vs ws from to inside c e =
+      IsVisited links count flow at steps order steps' (set order (link links k).to (m + 1)) k
+  visited_forth steps order k m count v w steps' good known tight vs ws from to inside c e =
       let s : Step = record { place = (link links k).to; link = k; back = false; before = v - 1 } in
-      let (i, l, m, p) = good.marked (link links k).from (omega arith) in
+      let (i, l, q, p) = good.marked (link links k).from (omega arith) in
       let b : v - 1 ≡ i = omega arith in
       let move : IsMove links flow at steps (length steps) s =
       record { earlier = omega arith; known = known; tight = tight; ends = inl (refl, sym (ap (λ j. (step steps j).place) b ∙ p), refl) } in
-      finish steps order s steps' k count (extended steps order s good move (omega arith) inside) some c e
+      finish steps order s steps' k m count (extended steps order s good move (omega arith) inside) inside c e (λ h t. (λ f. h, λ f g. absurd (omega arith)))
 
-  pub visited_back : (steps : List Step) (order : List ℕ) (k count v w : ℕ) (steps' : List Step) → IsLog links flow at steps order → 0 < length steps → k < length links → IsTight at (link links k) →
-      v ≡ slice_index order (link links k).from → w ≡ slice_index order (link links k).to → 0 < w → v ≡ 0 → (link links k).from < length order → 0 < slice_index flow k → count ≡ length steps →
+  pub visited_back : (steps : List Step) (order : List ℕ) (k m count v w : ℕ) (steps' : List Step) → IsLog links flow at steps order → k < length links → IsTight at (link links k) →
+      v ≡ slice_index order (link links k).from → w ≡ slice_index order (link links k).to → 0 < w → v ≡ 0 → (link links k).from < length order → 0 < slice_index flow k → m ≡ length steps →
       steps' ≡ steps ++ (record { place = (link links k).from; link = k; back = true; before = w - 1 } ∷ []) →
-      IsVisited links flow at steps order steps' (set order (link links k).from (count + 1)) k
-  visited_back steps order k count v w steps' good some known tight vs ws to from inside flows c e =
+      IsVisited links count flow at steps order steps' (set order (link links k).from (m + 1)) k
+  visited_back steps order k m count v w steps' good known tight vs ws to from inside flows c e =
       let s : Step = record { place = (link links k).from; link = k; back = true; before = w - 1 } in
-      let (i, l, m, p) = good.marked (link links k).to (omega arith) in
+      let (i, l, q, p) = good.marked (link links k).to (omega arith) in
       let b : w - 1 ≡ i = omega arith in
       let move : IsMove links flow at steps (length steps) s =
       record { earlier = omega arith; known = known; tight = tight; ends = inr (refl, sym (ap (λ j. (step steps j).place) b ∙ p), refl, flows) } in
-      finish steps order s steps' k count (extended steps order s good move (omega arith) inside) some c e
+      finish steps order s steps' k m count (extended steps order s good move (omega arith) inside) inside c e (λ h t. (λ f. absurd (omega arith), λ f g. h))
 
-  -- ---- a sweep
+  pub visited_none : (steps : List Step) (order : List ℕ) (k count : ℕ) → IsLog links flow at steps order → (k < count → IsDone links flow at order k) → IsVisited links count flow at steps order steps order k
+  visited_none steps order k count good done = record { log = good; longer = longer_none steps order; crossed = done }
 
-  pub swept_more : (k : ℕ) (steps0 steps : List Step) (order : List ℕ) (steps' : List Step) (order' : List ℕ) → IsSwept links k flow at steps0 steps order → IsVisited links flow at steps order steps' order' k →
-      IsSwept links (k + 1) flow at steps0 steps' order'
-  swept_more k steps0 steps order steps' order' s v =
+  -- ---- the links of a place
+
+  pub follow_begins : (count place more : ℕ) (chain : Chain) (steps : List Step) (order : List ℕ) → IsLog links flow at steps order → IsLinked (length at) (length links) chain → more ≡ slice_index chain.last.items place →
+      IsFollowed links count flow at chain place steps order steps order more
+  follow_begins count place more chain steps order good linked e =
+      record {
+        log = good;
+        longer = longer_none steps order;
+        within = (let h = linked.within place in omega arith);
+        here = λ end c k q. c.first place k (sym e ∙ q);
+        crossed = λ end c k l m n q. let h = c.none place k n q in absurd (omega arith);
+      }
+
+  pub follow_more : (count place more k more' : ℕ) (chain : Chain) (steps : List Step) (order : List ℕ) (steps1 : List Step) (order1 : List ℕ) (steps2 : List Step) (order2 : List ℕ) → IsLinked (length at) (length links) chain →
+      IsFollowed links count flow at chain place steps order steps1 order1 more → more ≡ k + 1 → IsVisited links count flow at steps1 order1 steps2 order2 k → more' ≡ slice_index chain.earlier.items k →
+      IsFollowed links count flow at chain place steps order steps2 order2 more'
+  follow_more count place more k more' chain steps order steps1 order1 steps2 order2 linked f e v q =
       record {
         log = v.log;
-        first = v.first ∙ s.first;
-        longer = (let a = s.longer in ⊎_elim (λ (l : length steps' ≡ length steps + 1). omega arith) (λ (e, f, d). let e' : length steps' ≡ length steps = e in omega arith) v.longer);
-        closed = λ q. ⊎_elim (λ (l : length steps' ≡ length steps + 1). let a = s.longer in absurd (omega arith))
-            (λ (e, f, d). let e' : length steps' ≡ length steps = e in
-            subst (λ o. IsClosed links (k + 1) flow at o) (sym f) (below_more (λ j. IsDone links flow at order j) k (s.closed (omega arith)) d)) v.longer;
+        longer = longer_both steps order steps1 order1 steps2 order2 f.longer v.longer;
+        within = (let h = linked.before k in let l = f.within in omega arith);
+        here = λ end c j p. c.next k j (let l = f.within in omega arith) (sym q ∙ p) ∙ f.here end c k e;
+        crossed = λ end c j l m n p.
+            ⊎_elim
+            (λ (below : j < more).
+            ⊎_elim
+            (λ (same : j ≡ k). λ t. let a = v.crossed (omega arith) in
+            subst (λ (i : ℕ). IsCrossed links flow at order order2 i) (sym same) (λ t. let (x, y) = a t in (λ g. x (f.longer.wider (link links k).from g), λ s g. y s (f.longer.wider (link links k).to g))) t)
+            (λ ne. let h = c.between k j (let w = f.within in omega arith) (omega (arith, ne)) (p ∙ sym (f.here end c k e)) in absurd (omega arith))
+            (cases_eq j k))
+            (λ (above : more ≤ j). λ t. let (x, y) = f.crossed end c j above m n p t in (λ g. v.longer.wider (link links j).to (x g), λ s g. v.longer.wider (link links j).from (y s g)))
+            (cases_lt j more);
       }
+
+  -- ---- the places one after another
+
+  pub worked_both : (count place : ℕ) (incidence : Incidence) (steps : List Step) (order : List ℕ) (steps1 : List Step) (order1 : List ℕ) (steps2 : List Step) (order2 : List ℕ) → IsIncidence links (length at) incidence →
+      0 < slice_index order place → IsFollowed links count flow at incidence.begins place steps order steps1 order1 0 → IsFollowed links count flow at incidence.ends place steps1 order1 steps2 order2 0 → IsWorked links count flow at order2 place
+  worked_both count place incidence steps order steps1 order1 steps2 order2 good h a b k l m t = (
+    λ e. b.longer.wider (link links k).to ((a.crossed (begin_of links) good.begins k (omega arith) l m e t).0 (let q = ap (slice_index order) e in omega arith)),
+    λ e s. (b.crossed (end_of links) good.ends k (omega arith) l m e t).1 s (let w = a.longer.wider place h in let q = ap (slice_index order1) e in omega arith),
+  )
+
+  pub spread_more : (count start done : ℕ) (steps : List Step) (order : List ℕ) (steps' : List Step) (order' : List ℕ) → IsSpread links count flow at start steps order done → done < length steps → IsLog links flow at steps' order' →
+      IsLonger steps order steps' order' → IsWorked links count flow at order' (step steps done).place → IsSpread links count flow at start steps' order' (done + 1)
+  spread_more count start done steps order steps' order' s inside good more worked =
+      record {
+        log = good;
+        some = (let l = more.longer in omega arith);
+        first = ap (λ (z : Step). z.place) (more.same 0 (omega arith)) ∙ s.first;
+        within = (let l = more.longer in omega arith);
+        worked = λ i l. ⊎_elim
+            (λ (e : i ≡ done). subst (λ (x : ℕ). IsWorked links count flow at order' x) (sym (ap (λ j. (step steps' j).place) e ∙ ap (λ (z : Step). z.place) (more.same done inside))) worked)
+            (λ ne. let b : i < done = omega (arith, ne) in
+            subst (λ (x : ℕ). IsWorked links count flow at order' x) (sym (ap (λ (z : Step). z.place) (more.same i (omega arith))))
+            (λ k c m t. let (x, y) = s.worked i b k c m t in (λ e. more.wider (link links k).to (x e), λ e g. more.wider (link links k).from (y e g))))
+            (cases_eq i done);
+      }
+
+  pub spread_closed : (count start done : ℕ) (steps : List Step) (order : List ℕ) → IsSpread links count flow at start steps order done → length steps ≤ done → count ≤ length links → IsClosed links count flow at order
+  spread_closed count start done steps order s all known k l t = (
+    λ f. let (i, m, q, p) = s.log.marked (link links k).from f in (s.worked i (omega arith) k l (omega arith) t).0 (sym p),
+    λ g f. let (i, m, q, p) = s.log.marked (link links k).to f in (s.worked i (omega arith) k l (omega arith) t).1 (sym p) g,
+  )

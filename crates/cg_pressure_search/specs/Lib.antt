@@ -1,5 +1,6 @@
 pub mod Finish
 pub mod Network
+pub mod Chains
 pub mod Reach
 pub mod Lift
 pub mod Push

@@ -20,7 +20,7 @@ pub record IsRisen (order at : List ℕ) (by : ℕ) (at' : List ℕ) : Type 0 wh
 abbrev pub IsEnd : List Link → ℕ → List ℕ → List ℕ → List ℕ → ℕ → ℕ → ℕ → Option Reached → Type 0
 IsEnd links count flow at at' start goal need None = slice_index at' start ≡ slice_index at start + need
 IsEnd links count flow at at' start goal need (Some r) =
-    IsReached links count flow at' start r × (0 < slice_index r.order.items goal) × (slice_index at' start < slice_index at start + need)
+    IsReached links count flow at' start goal r × (0 < slice_index r.order.items goal) × (slice_index at' start < slice_index at start + need)
 
 -- `start` was lifted, and the links stay kept
 pub record IsLifted (links : List Link) (count : ℕ) (flow at : List ℕ) (start goal need : ℕ) (at' : List ℕ) (end : Option Reached) : Type 0 where

@@ -3,7 +3,9 @@ use Rattle.std.specs.Prelude.{◌≡◌, ℕ, ◌+◌, ◌<◌, ◌≤◌, ◌�
 use Rattle.cg_pressure_search.specs.declared.network.Link.{Link}
 use Rattle.cg_pressure_search.specs.declared.reach.Step.{Step}
 use Rattle.cg_pressure_search.specs.declared.reach.Reached.{Reached}
+use Rattle.cg_pressure_search.specs.declared.chains.Chain.{Chain}
 use Rattle.cg_pressure_search.specs.Network.{link, IsTight}
+use Rattle.cg_pressure_search.specs.Chains.{IsChain}
 
 -- past the last step
 abbrev pub no_step : Step
@@ -41,30 +43,50 @@ IsDone links flow at order k =
 abbrev pub IsClosed : List Link → ℕ → List ℕ → List ℕ → List ℕ → Type 0
 IsClosed links count flow at order = (k : ℕ) → k < count → IsDone links flow at order k
 
--- all places that are reached from `start`
-pub record IsReached (links : List Link) (count : ℕ) (flow at : List ℕ) (start : ℕ) (r : Reached) : Type 0 where
+-- places that are reached from `start`: all of them, unless `goal` is one
+pub record IsReached (links : List Link) (count : ℕ) (flow at : List ℕ) (start goal : ℕ) (r : Reached) : Type 0 where
   pub log : IsLog links flow at r.steps.items r.order.items
   pub some : 0 < length r.steps.items
   pub first : (step r.steps.items 0).place ≡ start
-  pub closed : IsClosed links count flow at r.order.items
+  pub closed : slice_index r.order.items goal ≡ 0 → IsClosed links count flow at r.order.items
 
--- one link more was looked at
-pub record IsVisited (links : List Link) (flow at : List ℕ) (steps : List Step) (order : List ℕ) (steps' : List Step) (order' : List ℕ) (k : ℕ) : Type 0 where
-  pub log : IsLog links flow at steps' order'
-  pub first : step steps' 0 ≡ step steps 0
-  pub longer : (length steps' ≡ length steps + 1) ⊎ ((length steps' ≡ length steps) × (order' ≡ order) × IsDone links flow at order k)
-
--- the first `count` links were looked at once
-pub record IsSwept (links : List Link) (count : ℕ) (flow at : List ℕ) (steps steps' : List Step) (order' : List ℕ) : Type 0 where
-  pub log : IsLog links flow at steps' order'
-  pub first : step steps' 0 ≡ step steps 0
+-- steps and marks were added
+pub record IsLonger (steps : List Step) (order : List ℕ) (steps' : List Step) (order' : List ℕ) : Type 0 where
   pub longer : length steps ≤ length steps'
-  pub closed : length steps' ≡ length steps → IsClosed links count flow at order'
+  pub same : (i : ℕ) → i < length steps → step steps' i ≡ step steps i
+  pub wider : (x : ℕ) → 0 < slice_index order x → 0 < slice_index order' x
 
--- places are reached from `start`, and all of them once `done` is their number
+-- from a place in `order` link k leads to no place out of `order'`
+abbrev pub IsCrossed : List Link → List ℕ → List ℕ → List ℕ → List ℕ → ℕ → Type 0
+IsCrossed links flow at order order' k =
+    IsTight at (link links k) →
+    (0 < slice_index order (link links k).from → 0 < slice_index order' (link links k).to)
+    × (0 < slice_index flow k → 0 < slice_index order (link links k).to → 0 < slice_index order' (link links k).from)
+
+-- link k was looked at
+pub record IsVisited (links : List Link) (count : ℕ) (flow at : List ℕ) (steps : List Step) (order : List ℕ) (steps' : List Step) (order' : List ℕ) (k : ℕ) : Type 0 where
+  pub log : IsLog links flow at steps' order'
+  pub longer : IsLonger steps order steps' order'
+  pub crossed : k < count → IsCrossed links flow at order order' k
+
+-- the links of a place were looked at, as far as the one before number `more`
+pub record IsFollowed (links : List Link) (count : ℕ) (flow at : List ℕ) (chain : Chain) (place : ℕ) (steps : List Step) (order : List ℕ) (steps' : List Step) (order' : List ℕ) (more : ℕ) : Type 0 where
+  pub log : IsLog links flow at steps' order'
+  pub longer : IsLonger steps order steps' order'
+  pub within : more ≤ length links
+  pub here : (end : ℕ → ℕ) → IsChain end (length at) (length links) chain → (k : ℕ) → more ≡ k + 1 → end k ≡ place
+  pub crossed : (end : ℕ → ℕ) → IsChain end (length at) (length links) chain → (k : ℕ) → more ≤ k → k < count → k < length links → end k ≡ place → IsCrossed links flow at order order' k
+
+-- the links of the first `count` lead from place x to no other place
+abbrev pub IsWorked : List Link → ℕ → List ℕ → List ℕ → List ℕ → ℕ → Type 0
+IsWorked links count flow at order x = (k : ℕ) → k < count → k < length links → IsTight at (link links k) →
+    ((link links k).from ≡ x → 0 < slice_index order (link links k).to)
+    × ((link links k).to ≡ x → 0 < slice_index flow k → 0 < slice_index order (link links k).from)
+
+-- places are reached from `start`, and the links of the first `done` lead to no other place
 pub record IsSpread (links : List Link) (count : ℕ) (flow at : List ℕ) (start : ℕ) (steps : List Step) (order : List ℕ) (done : ℕ) : Type 0 where
   pub log : IsLog links flow at steps order
   pub some : 0 < length steps
   pub first : (step steps 0).place ≡ start
   pub within : done ≤ length steps
-  pub closed : done ≡ length steps → IsClosed links count flow at order
+  pub worked : (i : ℕ) → i < done → IsWorked links count flow at order (step steps i).place

@@ -18,7 +18,7 @@ pub record IsSettling (links : List Link) (flow : List ℕ) (n count : ℕ) (at 
 abbrev pub IsSettled : List Link → List ℕ → ℕ → List ℕ → Option Blocked → Type 0
 IsSettled links flow n at None = IsSettling links flow n (length links) at
 IsSettled links flow n at (Some b) =
-    (b.link < length links) × (length at ≡ n) × IsReached links b.link flow at (link links b.link).to b.reached
+    (b.link < length links) × (length at ≡ n) × IsReached links b.link flow at (link links b.link).to (link links b.link).from b.reached
     × (0 < slice_index b.reached.order.items (link links b.link).from)
     × (slice_index at (link links b.link).to + (link links b.link).loss < slice_index at (link links b.link).from + (link links b.link).gain)
 

@@ -11,6 +11,7 @@ ghost use Rattle.cg_pressure_search.specs.Parts.{IsNetwork};
 ghost use Rattle.cg_pressure_search.specs.Route.{IsSettled, IsRouting, AreRouted, HasSpans};
 ghost use Rattle.cg_pressure_search.specs.Finish.{IsSchedule, IsFound, IsSound};
 
+use crate::chains::incidence_of;
 use crate::extract::certificate;
 use crate::network::{Link, network};
 use crate::push::push;
@@ -150,15 +151,16 @@ pub fn find_pressure(
     let n = kernel.nodes().len();
     let list = whole_network(alloc, arch, kernel, far, ii)?;
     let links = list.as_slice();
+    let incidence = incidence_of(alloc, links, n + n + n)?;
     let mut at = vec![in alloc; 0u64; n + n + n]?;
     let mut flow = vec![in alloc; 0u32; links.len()]?;
-    if let Some(blocked) = keep_all(alloc, links, &flow, &mut at)? {
+    if let Some(blocked) = keep_all(alloc, links, &incidence, &flow, &mut at)? {
         let found = recurrence(
             alloc, arch, kernel, far, ii, links, &mut flow, &at, &blocked,
         )?;
         return Ok(Outcome::Excluded(found));
     }
     let mut routed = vec![in alloc; false; n]?;
-    route_all(alloc, links, n, &mut flow, &mut at, &mut routed)?;
+    route_all(alloc, links, &incidence, n, &mut flow, &mut at, &mut routed)?;
     decide(alloc, arch, kernel, far, ii, links, &flow, &at, &routed)
 }

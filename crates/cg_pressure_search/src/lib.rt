@@ -1,6 +1,7 @@
 //! The search for a certificate of register pressure, or for times that show that there is none.
 #![tactic(auto)]
 
+mod chains;
 mod extract;
 mod find;
 mod lift;

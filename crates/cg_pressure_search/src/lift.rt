@@ -1,33 +1,101 @@
 //! Places that are lifted together, as far as links let them.
-ghost use Rattle.std.specs.Prelude.{◌≡◌, ℕ, ◌+◌, ◌^◌, ◌<◌, ◌≤◌, IfOk, length, slice_index};
+ghost use Rattle.std.specs.Prelude.{◌≡◌, ℕ, ◌+◌, ◌^◌, ◌<◌, ◌≤◌, IfOk, List, length, slice_index};
 ghost use Rattle.cg_pressure_search.specs.Network.{IsGraph, AreKept, link};
+ghost use Rattle.cg_pressure_search.specs.Chains.{begin_of, IsChain, IsIncidence};
+ghost use Rattle.cg_pressure_search.specs.Reach.{IsLog};
 ghost use Rattle.cg_pressure_search.specs.Lift.{LetsRise, IsRisen, IsLifted};
 
+use crate::chains::{Chain, Incidence};
 use crate::network::Link;
 use crate::reach::{Reached, reach};
 use std::alloc::{AllocError, Global};
 
-/// Returns by how many cycles, up to `need`, the first `count` links let the places of `order` rise.
-fn room(links: &[Link], count: usize, at: &[u64], order: &[usize], need: u64) -> u64
+/// Returns by how many cycles, up to `most`, link `k` lets the places of `order` rise, if it is one of the first `count`.
+fn room_over(links: &[Link], count: usize, at: &[u64], order: &[usize], k: usize, most: u64) -> u64
     requires graph { IsGraph (length at.now) links.now }
+    requires times { (x : ℕ) → slice_index at.now x ≤ 2 ^ 62 }
+    requires each { length order.now ≡ length at.now }
+    requires open { k < count → LetsRise links.now at.now order.now 1 k }
+    requires known { k < length links.now }
+    requires some { 0 < most }
+    ensures positive { 0 < result }
+    ensures most { result ≤ most }
+    ensures rises { k < count → LetsRise links.now at.now order.now result k }
+{
+    let link = links[k];
+    if k < count && order[link.from] != 0 && order[link.to] == 0 {
+        let gap = (at[link.to] + link.loss) - (at[link.from] + link.gain);
+        if gap < most {
+            return gap;
+        }
+    }
+    most
+}
+
+/// Returns by how many cycles, up to `most`, the links that begin at `place` let the places of `order` rise.
+fn room_at(
+    links: &[Link],
+    begins: &Chain,
+    count: usize,
+    at: &[u64],
+    order: &[usize],
+    place: usize,
+    most: u64,
+) -> u64
+    requires graph { IsGraph (length at.now) links.now }
+    requires chain { IsChain (begin_of links.now) (length at.now) (length links.now) begins.now }
     requires times { (x : ℕ) → slice_index at.now x ≤ 2 ^ 62 }
     requires known { count ≤ length links.now }
     requires each { length order.now ≡ length at.now }
     requires open { (k : ℕ) → k < count → LetsRise links.now at.now order.now 1 k }
+    requires place { place < length at.now }
+    requires some { 0 < most }
+    ensures positive { 0 < result }
+    ensures most { result ≤ most }
+    ensures rises { (k : ℕ) → k < count → (link links.now k).from ≡ place → LetsRise links.now at.now order.now result k }
+{
+    let mut by = most;
+    let mut more = begins.last[place];
+    while more > 0 {
+        let k = more - 1;
+        by = room_over(links, count, at, order, k, by);
+        more = begins.earlier[k];
+    }
+    by
+}
+
+/// Returns by how many cycles, up to `need`, the first `count` links let the places that are reached rise.
+fn room(
+    links: &[Link],
+    incidence: &Incidence,
+    count: usize,
+    at: &[u64],
+    reached: &Reached,
+    need: u64,
+) -> u64
+    requires graph { IsGraph (length at.now) links.now }
+    requires incidence { IsIncidence links.now (length at.now) incidence.now }
+    requires times { (x : ℕ) → slice_index at.now x ≤ 2 ^ 62 }
+    requires known { count ≤ length links.now }
+    requires log { (flow : List ℕ) × IsLog links.now flow at.now reached.now.steps.items reached.now.order.items }
+    requires open { (k : ℕ) → k < count → LetsRise links.now at.now reached.now.order.items 1 k }
     requires some { 0 < need }
     ensures positive { 0 < result }
     ensures most { result ≤ need }
-    ensures rises { (k : ℕ) → k < count → LetsRise links.now at.now order.now result k }
+    ensures rises { (k : ℕ) → k < count → LetsRise links.now at.now reached.now.order.items result k }
 {
     let mut by = need;
-    for k in 0..count {
-        let link = links[k];
-        if order[link.from] != 0 && order[link.to] == 0 {
-            let gap = (at[link.to] + link.loss) - (at[link.from] + link.gain);
-            if gap < by {
-                by = gap;
-            }
-        }
+    for i in 0..reached.steps.len() {
+        let place = reached.steps[i].place;
+        by = room_at(
+            links,
+            &incidence.begins,
+            count,
+            at,
+            &reached.order,
+            place,
+            by,
+        );
     }
     by
 }
@@ -51,6 +119,7 @@ fn rise(at: &mut Vec<u64>, order: &[usize], by: u64)
 pub(crate) fn lift(
     alloc: Global,
     links: &[Link],
+    incidence: &Incidence,
     count: usize,
     flow: &[u32],
     at: &mut Vec<u64>,
@@ -59,6 +128,7 @@ pub(crate) fn lift(
     need: u64,
 ) -> Result<Option<Reached>, AllocError>
     requires graph { IsGraph (length at.old.items) links.now }
+    requires incidence { IsIncidence links.now (length at.old.items) incidence.now }
     requires flows { length flow.now ≡ length links.now }
     requires known { count ≤ length links.now }
     requires kept { AreKept links.now count flow.now at.old.items }
@@ -70,11 +140,11 @@ pub(crate) fn lift(
 {
     let mut left = need;
     while left > 0 {
-        let reached = reach(alloc, links, count, flow, at, start)?;
+        let reached = reach(alloc, links, incidence, count, flow, at, start, goal)?;
         if reached.order[goal] != 0 {
             return Ok(Some(reached));
         }
-        let by = room(links, count, at, &reached.order, left);
+        let by = room(links, incidence, count, at, &reached, left);
         rise(at, &reached.order, by);
         left -= by;
     }

@@ -1,8 +1,10 @@
 //! Values that are routed one after another.
 ghost use Rattle.std.specs.Prelude.{◌≡◌, ℕ, ◌+◌, ◌^◌, ◌<◌, ◌≤◌, IfOk, OnOk, List, length, slice_index};
 ghost use Rattle.cg_pressure_search.specs.Network.{IsGraph, AreKept};
+ghost use Rattle.cg_pressure_search.specs.Chains.{IsIncidence};
 ghost use Rattle.cg_pressure_search.specs.Route.{IsRouted, IsRouting, IsRoutedToo, IsSpan, HasSpans, AreRouted};
 
+use crate::chains::Incidence;
 use crate::lift::lift;
 use crate::network::{Link, Part};
 use crate::push::push;
@@ -12,12 +14,14 @@ use std::alloc::{AllocError, Global};
 fn route(
     alloc: Global,
     links: &[Link],
+    incidence: &Incidence,
     flow: &mut Vec<u32>,
     at: &mut Vec<u64>,
     start: usize,
     goal: usize,
 ) -> Result<(), AllocError>
     requires graph { IsGraph (length at.old.items) links.now }
+    requires incidence { IsIncidence links.now (length at.old.items) incidence.now }
     requires flows { length flow.old.items ≡ length links.now }
     requires kept { AreKept links.now (length links.now) flow.old.items at.old.items }
     requires start { start < length at.old.items }
@@ -28,7 +32,17 @@ fn route(
     ensures { OnOk result (IsRouted links.now flow.old.items at.old.items start goal flow.new.items at.new.items) }
 {
     let need = at[goal] - at[start] + 1;
-    match lift(alloc, links, links.len(), flow, at, start, goal, need)? {
+    match lift(
+        alloc,
+        links,
+        incidence,
+        links.len(),
+        flow,
+        at,
+        start,
+        goal,
+        need,
+    )? {
         None => unreachable!(),
         Some(reached) => push(links, at, flow, &reached, goal, 1),
     }
@@ -39,6 +53,7 @@ fn route(
 fn route_node(
     alloc: Global,
     links: &[Link],
+    incidence: &Incidence,
     n: usize,
     flow: &mut Vec<u32>,
     at: &mut Vec<u64>,
@@ -47,13 +62,14 @@ fn route_node(
     count: usize,
 ) -> Result<(), AllocError>
     requires graph { IsGraph (n + n + n) links.now }
+    requires incidence { IsIncidence links.now (n + n + n) incidence.now }
     requires routing { IsRouting n links.now count flow.old.items at.old.items routed.old.items }
     requires few { count < 2 ^ 14 }
     requires span { IsSpan n links.now u }
     ensures { OnOk result (IsRoutedToo n links.now count u flow.new.items at.new.items routed.old.items routed.new.items) }
 {
     if !routed[u] {
-        route(alloc, links, flow, at, n + u, n + n + u)?;
+        route(alloc, links, incidence, flow, at, n + u, n + n + u)?;
         routed[u] = true;
     }
     Ok(())
@@ -63,12 +79,14 @@ fn route_node(
 pub(crate) fn route_all(
     alloc: Global,
     links: &[Link],
+    incidence: &Incidence,
     n: usize,
     flow: &mut Vec<u32>,
     at: &mut Vec<u64>,
     routed: &mut Vec<bool>,
 ) -> Result<(), AllocError>
     requires graph { IsGraph (n + n + n) links.now }
+    requires incidence { IsIncidence links.now (n + n + n) incidence.now }
     requires routing { IsRouting n links.now 0 flow.old.items at.old.items routed.old.items }
     requires spans { HasSpans n links.now }
     ensures routing { OnOk result (IsRouting n links.now (length links.now) flow.new.items at.new.items routed.new.items) }
@@ -77,7 +95,7 @@ pub(crate) fn route_all(
     for k in 0..links.len() {
         if let Part::Stay(_, _) = links[k].part {
             let u = links[k].to - (n + n);
-            route_node(alloc, links, n, flow, at, routed, u, k)?;
+            route_node(alloc, links, incidence, n, flow, at, routed, u, k)?;
         }
     }
     Ok(())

@@ -1,8 +1,10 @@
 //! Links that are kept one after another.
 ghost use Rattle.std.specs.Prelude.{◌≡◌, ℕ, ◌≤◌, IfOk, length, slice_index};
 ghost use Rattle.cg_pressure_search.specs.Network.{IsGraph};
+ghost use Rattle.cg_pressure_search.specs.Chains.{IsIncidence};
 ghost use Rattle.cg_pressure_search.specs.Route.{IsSettled};
 
+use crate::chains::Incidence;
 use crate::lift::lift;
 use crate::network::Link;
 use crate::reach::Reached;
@@ -19,10 +21,12 @@ pub(crate) struct Blocked {
 pub(crate) fn keep_all(
     alloc: Global,
     links: &[Link],
+    incidence: &Incidence,
     flow: &[u32],
     at: &mut Vec<u64>,
 ) -> Result<Option<Blocked>, AllocError>
     requires graph { IsGraph (length at.old.items) links.now }
+    requires incidence { IsIncidence links.now (length at.old.items) incidence.now }
     requires flows { length flow.now ≡ length links.now }
     requires idle { (k : ℕ) → slice_index flow.now k ≡ 0 }
     requires times { (x : ℕ) → slice_index at.old.items x ≡ 0 }
@@ -36,6 +40,7 @@ pub(crate) fn keep_all(
             if let Some(reached) = lift(
                 alloc,
                 links,
+                incidence,
                 k,
                 flow,
                 at,

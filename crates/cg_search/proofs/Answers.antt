@@ -2,28 +2,63 @@
 use Rattle.std.proofs.Common.{◌≡◌, ℕ, ◌+◌, ◌-◌, ◌<◌, ◌≤◌, List, length, Option, refl, sym, subst, arith, inl, inr, ⊎_elim}
 use Rattle.std.specs.Prelude.{replicate}
 use Rattle.std.proofs.lemmas.Bool.{cases_lt}
+use Rattle.std.proofs.lemmas.List.{length-replicate}
+use Rattle.std.proofs.lemmas.List.Elements.{All-replicate}
 use Rattle.cg_model.specs.Kernel.{Kernel, IsKernel}
 use Rattle.cg_model.specs.Array.{Arch, IsArch}
-use Rattle.cg_bound.specs.Bound.{IsOpen}
+use Rattle.cg_bound.specs.declared.interval.Certificate.{Certificate}
+use Rattle.cg_bound.specs.declared.interval.IntervalVerdict.{IntervalVerdict}
+use Rattle.cg_bound.specs.declared.interval.IntervalVerdict.TheVariants as verdict
+use Rattle.cg_bound.specs.Bound.{IsOpen, IsVerdict, Shows}
 use Rattle.cg_bound.proofs.Legal.{excluded}
+use Rattle.cg_bound.proofs.Always.{some_verdict}
 use Rattle.cg_hub.specs.Hub.{HubEnough, hub_map}
 use Rattle.cg_hub.proofs.Legal.{hub_legal}
-use Rattle.cg_distance.proofs.Searches.{Decided, IsFirst as IsFirstOf, first_below}
+use Rattle.cg_distance.proofs.Searches.{Decided, IsFirst as IsFirstOf, first_below, both_decided}
 use Rattle.cg_hub.proofs.Hubs.{hub_interval, enough_or_not}
-use Rattle.cg_task.specs.Intervals.{IsAsked, last_tried, IsFirst}
+use Rattle.cg_task.specs.Intervals.{IsAsked, last_tried}
 use Rattle.cg_task.specs.Answers.{IsMapping}
-use Rattle.cg_task.proofs.Answers.{held, some_answer}
-use Rattle.cg_task.proofs.Intervals.{shown_forbids, first_within, last_positive}
+use Rattle.cg_task.proofs.Answers.{held, IsCertified}
+use Rattle.cg_task.proofs.Intervals.{not_both, shown_forbids, last_positive}
 use Rattle.cg_task.specs.declared.answering.FoundBy.TheVariants.{Hub}
 use Rattle.cg_task.specs.declared.answering.Answer.{Answer}
 use Rattle.cg_task.specs.declared.answering.Answer.TheVariants.{Impossible, Mapped, Spent}
-use Rattle.cg_search.specs.Search.{HasNoHub, IsFound, IsTried, IsAnswer}
-use Rattle.std.proofs.lemmas.List.{length-replicate}
-use Rattle.std.proofs.lemmas.List.Elements.{All-replicate}
-use Rattle.cg_distance.proofs.Searches.{both_decided}
+use Rattle.cg_search.specs.declared.begin.Exclusion.{Exclusion}
+use Rattle.cg_search.specs.Begin.{first_asked, IsBegin, ExcludesAt}
+use Rattle.cg_search.specs.Search.{HasNoHub, IsFound, IsTried, IsBegun, IsAnswer}
+use Rattle.cg_search.proofs.Begins.{asked_positive, asked_within, none_legal, some_begin}
+
+-- the program's answer where no interval is tried
+pub left_none : (A : Arch) (K : Kernel) (first last : ℕ) (left : List ℕ) (x : Exclusion) → first ≡ last + 1 → length left ≡ 0 → ExcludesAt A K last x → (length left ≡ 0) × ExcludesAt A K (first - 1) x
+left_none A K first last left x e none is = let same : last ≡ first - 1 = omega (arith, e) in (none, subst (λ ii. ExcludesAt A K ii x) same is)
+
+module _ (A : Arch) (K : Kernel) (asked : Option ℕ) (moves : ℕ) where
+  -- what comes of the intervals from the first one on is an answer
+  pub answered : (first : ℕ) (a : Answer) → IsOpen A K (last_tried A asked) → IsBegin A K asked first → IsTried A K asked moves first a → IsAnswer A K asked moves a
+  answered first (Impossible c) free begin tried = absurd tried
+  answered first (Mapped m found_by) free begin tried = record { free = free; first = first; is_first = begin; tried = tried }
+  answered first (Spent f left) free begin tried = record { free = free; first = first; is_first = begin; tried = tried }
+
+  -- an interval that is searched isn't impossible
+  not_impossible : (a : Answer) → IsBegun A K asked moves a → (c : Certificate) → Shows A K (last_tried A asked) c → ⊥
+  not_impossible a p c q = not_both A K (last_tried A asked) p.free (shown_forbids A K (last_tried A asked) c q)
+
+  -- either all answers say that the last interval is impossible, or none does
+  pub certified_alike : (a b : Answer) → IsAnswer A K asked moves a → IsAnswer A K asked moves b → IsCertified a → IsCertified b
+  certified_alike (Impossible c) (Impossible d) p q is = tt
+  certified_alike (Impossible c) (Mapped m found_by) p q is = absurd (not_impossible (Mapped m found_by) q c p)
+  certified_alike (Impossible c) (Spent first left) p q is = absurd (not_impossible (Spent first left) q c p)
+  certified_alike (Mapped m found_by) b p q is = absurd is
+  certified_alike (Spent first left) b p q is = absurd is
 
 module _ (A : Arch) (K : Kernel) (arch : IsArch A) (kernel : IsKernel K) (asked : Option ℕ) (moves : ℕ) where
   module _ (is : IsAsked A asked) where
+    -- the hub suffices at no interval that a reason excludes
+    no_hub_excluded : (first ii : ℕ) → IsBegin A K asked first → first_asked asked ≤ ii → ii < first → HubEnough A K ii → ⊥
+    no_hub_excluded first ii begin from below enough =
+        let some = asked_positive A K asked is in
+        none_legal A K begin.fars ii kernel (omega (arith, some, from)) begin.numbers (begin.excluded ii from below) (hub_map A K ii) (hub_interval A K ii) (hub_legal A K ii arch kernel enough)
+
     -- where the hub suffices at the last interval a mapping is answered
     pub by_hub : HubEnough A K (last_tried A asked) → (a : Answer) → IsAnswer A K asked moves a → IsMapping a
     by_hub enough (Mapped m found_by) p = tt
@@ -31,8 +66,9 @@ module _ (A : Arch) (K : Kernel) (arch : IsArch A) (kernel : IsKernel K) (asked 
         let ii = last_tried A asked in
         excluded A K ii kernel (shown_forbids A K ii c p) (hub_map A K ii) (hub_interval A K ii) (hub_legal A K ii arch kernel enough)
     by_hub enough (Spent f faults) p =
-        let (positive, within) = first_within A K asked p.first arch is p.free p.is_first in
-        p.tried.1.no_hub (last_tried A asked) within (omega arith) enough
+        ⊎_elim {C = ⊥} (λ (none : last_tried A asked < p.first). no_hub_excluded p.first (last_tried A asked) p.is_first (asked_within A K asked arch) none enough)
+        (λ (some : p.first ≤ last_tried A asked). p.tried.1.no_hub (last_tried A asked) some (omega arith) enough)
+        (cases_lt (last_tried A asked) p.first)
 
     -- ---- there is an answer
 
@@ -58,9 +94,9 @@ module _ (A : Arch) (K : Kernel) (arch : IsArch A) (kernel : IsKernel K) (asked 
           by = (subst (HubEnough A K) same f.holds.1, subst (HasNoHub A K asked moves first) same before, subst (λ z. hub_map A K ii ≡ hub_map A K z) same refl);
         }
 
-    some_tried : (first : ℕ) → IsOpen A K (last_tried A asked) → IsFirst A K asked first → (a : Answer) × IsAnswer A K asked moves a
-    some_tried first free is_first =
-        let (positive, within) = first_within A K asked first arch is free is_first in
+    some_tried : (first : ℕ) → IsOpen A K (last_tried A asked) → IsBegin A K asked first → (a : Answer) × IsAnswer A K asked moves a
+    some_tried first free begin =
+        let within = begin.within in
         let (some, most) = last_positive A K asked arch is in
         let few = arch.small.contexts.1 in
         let n = last_tried A asked + 1 - first in
@@ -68,13 +104,13 @@ module _ (A : Arch) (K : Kernel) (arch : IsArch A) (kernel : IsKernel K) (asked 
         let ones : List ℕ = replicate n one in
         let long : length ones ≡ n = length-replicate n one in
         ⊎_elim {C = (a : Answer) × IsAnswer A K asked moves a}
-        (λ (ii, f). (Mapped (record { arch = A; kernel = K; mapping = hub_map A K ii }) Hub, record { free = free; first = first; is_first = is_first; tried = found_over_hub first ii f }))
+        (λ (ii, f). (Mapped (record { arch = A; kernel = K; mapping = hub_map A K ii }) Hub, record { free = free; first = first; is_first = begin; tried = found_over_hub first ii f }))
         (λ none. (
           Spent first (held ones (omega (arith, long, most, few))),
           record {
             free = free;
             first = first;
-            is_first = is_first;
+            is_first = begin;
             tried = (
               refl,
               record {
@@ -87,5 +123,9 @@ module _ (A : Arch) (K : Kernel) (arch : IsArch A) (kernel : IsKernel K) (asked 
         ))
         (first_below (Enough first) (last_tried A asked + 1) (λ ii l. enough_decided first ii))
 
+    by_verdict : (v : IntervalVerdict) → IsVerdict A K (last_tried A asked) v → (a : Answer) × IsAnswer A K asked moves a
+    by_verdict (verdict.Impossible c) shown = (Impossible c, shown)
+    by_verdict verdict.Allowed free = let (first, begin) = some_begin A K arch kernel asked is in some_tried first free begin
+
     pub some_search : (a : Answer) × IsAnswer A K asked moves a
-    some_search = some_answer A K asked (IsTried A K asked moves) arch kernel some_tried
+    some_search = let (v, is_verdict) = some_verdict A K (last_tried A asked) arch kernel in by_verdict v is_verdict

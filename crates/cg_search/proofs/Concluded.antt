@@ -1,6 +1,7 @@
 -- There always is a conclusion: where an answer leaves faults, there are mappings that aren't legal.
-use Rattle.std.proofs.Common.{◌≡◌, ℕ, zero, suc, ◌+◌, ◌<◌, ◌≤◌, List, [], ◌∷◌, length, map, Option, refl, sym, ap, subst, arith, ⊎_elim}
+use Rattle.std.proofs.Common.{◌≡◌, ℕ, zero, suc, ◌+◌, ◌<◌, ◌≤◌, List, [], ◌∷◌, length, map, Option, Some, None, refl, sym, ap, ◌∙◌, subst, arith, ⊎_elim}
 use Rattle.std.specs.Prelude.{replicate}
+use Rattle.std.specs.Global.{Vec}
 use Rattle.std.proofs.lemmas.Bool.{cases_lt}
 use Rattle.std.proofs.lemmas.List.{length-replicate, get_or-replicate}
 use Rattle.cg_model.specs.Kernel.{Kernel, IsKernel, size}
@@ -10,13 +11,16 @@ use Rattle.cg_model.specs.declared.mapping.Place.{Place}
 use Rattle.cg_model.specs.declared.mapping.Route.{Route}
 use Rattle.cg_model.specs.Mapping.{Mapping, End, IsLegal, positions, end_of, ends_from}
 use Rattle.cg_task.specs.Intervals.{IsAsked, last_tried}
-use Rattle.cg_task.proofs.Intervals.{first_within, last_positive}
+use Rattle.cg_task.proofs.Intervals.{last_positive}
 use Rattle.cg_task.specs.declared.answering.FoundBy.TheVariants.{Moves}
 use Rattle.cg_task.specs.declared.answering.Answer.{Answer}
 use Rattle.cg_task.specs.declared.answering.Answer.TheVariants.{Impossible, Mapped, Spent}
 use Rattle.cg_respond.specs.Responded.{IsMissed}
-use Rattle.cg_search.specs.Search.{IsFound, IsAnswer, AreMissed, AreMissedBy}
-use Rattle.cg_search.proofs.Answers.{some_search}
+use Rattle.cg_search.specs.declared.begin.Exclusion.{Exclusion}
+use Rattle.cg_search.specs.Begin.{IsBegin}
+use Rattle.cg_search.specs.Search.{IsFound, IsBegun, IsAnswer, AreMissed, AreMissedBy, IsExcludedBy}
+use Rattle.cg_search.proofs.Begins.{asked_positive, some_exclusion}
+use Rattle.cg_search.proofs.Answers.{left_none, some_search}
 
 -- ---- mappings of which no node stands anywhere
 
@@ -92,16 +96,38 @@ module _ (A : Arch) (K : Kernel) (arch : IsArch A) (kernel : IsKernel K) (asked 
         by = omega arith;
       }
 
-  concluded : (a : Answer) → IsAnswer A K asked moves a → (b : Answer) × (missed : List Mapping) × IsAnswer A K asked moves b × AreMissedBy A K b missed
-  concluded (Impossible c) p = (Impossible c, [], p, refl)
-  concluded (Mapped m found_by) p = (Mapped m found_by, [], p, refl)
-  concluded (Spent f left) p =
-      ⊎_elim {C = (b : Answer) × (missed : List Mapping) × IsAnswer A K asked moves b × AreMissedBy A K b missed}
-      (λ some. let (missed, are) = some_missed A K some f (length left.items) in (Spent f left, missed, p, are))
+  -- a conclusion: an answer with mappings that were missed, and what excludes the last interval
+  abbrev HasConclusion : Type 0
+  HasConclusion = (a : Answer) × (missed : List Mapping) × (x : Option Exclusion) × IsAnswer A K asked moves a × AreMissedBy A K a missed × IsExcludedBy A K a x
+
+  -- no interval was tried
+  none_tried : (f : ℕ) (left : Vec ℕ) (p : IsBegun A K asked moves (Spent f left)) → last_tried A asked < p.first → HasConclusion
+  none_tried f left p after =
+      let within = p.is_first.within in
+      let all = p.tried.1.all in
+      let same : p.first ≡ last_tried A asked + 1 = omega (arith, after, within) in
+      let none : length left.items ≡ 0 = omega (arith, same, all) in
+      let (x, excludes) = some_exclusion A K arch kernel asked is (subst (IsBegin A K asked) same p.is_first) in
+      (Spent f left, [], Some x, p, record { each = tt; all = sym none }, left_none A K f (last_tried A asked) left.items x (p.tried.0 ∙ same) none excludes)
+
+  -- some were
+  some_tried : (f : ℕ) (left : Vec ℕ) (p : IsBegun A K asked moves (Spent f left)) → p.first ≤ last_tried A asked → HasConclusion
+  some_tried f left p within =
+      let all = p.tried.1.all in
+      let some : 0 < length left.items = omega (arith, all, within) in
+      ⊎_elim {C = HasConclusion}
+      (λ nodes. let (missed, are) = some_missed A K nodes f (length left.items) in (Spent f left, missed, None, p, are, some))
       (λ none.
-      let (positive, within) = first_within A K asked p.first arch is p.free p.is_first in
-      (Mapped (record { arch = A; kernel = K; mapping = empty p.first }) (Moves 0), [], record { free = p.free; first = p.first; is_first = p.is_first; tried = found_empty none p.first positive within }, refl))
+      let low = asked_positive A K asked is in
+      let from = p.is_first.from in
+      let positive : 0 < p.first = omega (arith, low, from) in
+      (Mapped (record { arch = A; kernel = K; mapping = empty p.first }) (Moves 0), [], None, record { free = p.free; first = p.first; is_first = p.is_first; tried = found_empty none p.first positive within }, refl, refl))
       (cases_lt 0 (size K))
 
-  pub some_conclusion : (a : Answer) × (missed : List Mapping) × IsAnswer A K asked moves a × AreMissedBy A K a missed
+  concluded : (a : Answer) → IsAnswer A K asked moves a → HasConclusion
+  concluded (Impossible c) p = (Impossible c, [], None, p, refl, refl)
+  concluded (Mapped m found_by) p = (Mapped m found_by, [], None, p, refl, refl)
+  concluded (Spent f left) p = ⊎_elim {C = HasConclusion} (λ after. none_tried f left p after) (λ within. some_tried f left p within) (cases_lt (last_tried A asked) p.first)
+
+  pub some_conclusion : (a : Answer) × (missed : List Mapping) × (x : Option Exclusion) × IsAnswer A K asked moves a × AreMissedBy A K a missed × IsExcludedBy A K a x
   some_conclusion = let (a, found) = some_search A K arch kernel asked moves is in concluded a found

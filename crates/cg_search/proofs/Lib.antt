@@ -1,3 +1,4 @@
 pub mod Missed
+pub mod Begins
 pub mod Answers
 pub mod Concluded

@@ -1,9 +1,9 @@
 -- What the searches of a call stand on, and what comes of them.
-use Rattle.std.specs.Prelude.{◌≡◌, ℕ, ◌+◌, ◌<◌, length, All, Option}
+use Rattle.std.specs.Prelude.{◌≡◌, ℕ, ◌+◌, ◌<◌, ◌≤◌, length, All, Option}
 use Rattle.cg_model.specs.Kernel.{Kernel}
 use Rattle.cg_model.specs.Array.{Arch}
 use Rattle.cg_bound.specs.Bound.{IsOpen}
-use Rattle.cg_task.specs.Intervals.{IsAsked, last_tried, IsFirst}
+use Rattle.cg_task.specs.Intervals.{IsAsked, last_tried}
 use Rattle.cg_task.specs.declared.answering.FoundBy.TheVariants as found_by
 use Rattle.cg_respond.specs.declared.responding.Responded.{Responded}
 use Rattle.cg_respond.specs.declared.responding.Responded.TheVariants as responded
@@ -12,13 +12,15 @@ use Rattle.cg_search.specs.declared.trying.Found.{Found as FoundMapping}
 use Rattle.cg_search.specs.declared.misses.Misses.{Misses}
 use Rattle.cg_search.specs.declared.trying.Outcome.{Outcome}
 use Rattle.cg_search.specs.declared.trying.Outcome.TheVariants.{Found, Left}
+use Rattle.cg_search.specs.Begin.{IsBegin}
 use Rattle.cg_search.specs.Search.{IsFound, AreMissed}
 
--- an interval may be asked, nothing forbids the last one that is tried, and this is the first one
+-- an interval may be asked, nothing forbids the last one that is tried, and the first one that no reason excludes is among them
 pub record IsPosed (A : Arch) (K : Kernel) (asked : Option ℕ) (first : ℕ) : Type 0 where
   pub within : IsAsked A asked
   pub free : IsOpen A K (last_tried A asked)
-  pub is_first : IsFirst A K asked first
+  pub begin : IsBegin A K asked first
+  pub some : first ≤ last_tried A asked
 
 -- some faults at each interval from the first one on, and at each a mapping that isn't legal
 pub record AreMisses (A : Arch) (K : Kernel) (first : ℕ) (left : Misses) : Type 0 where

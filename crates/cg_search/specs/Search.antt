@@ -1,17 +1,19 @@
 -- What a search by best responses answers. How it finds a mapping is left to it: whatever it finds is legal.
-use Rattle.std.specs.Prelude.{◌≡◌, ℕ, ◌+◌, ◌<◌, ◌≤◌, List, [], ◌∷◌, length, All, Option}
+use Rattle.std.specs.Prelude.{◌≡◌, ℕ, ◌+◌, ◌-◌, ◌<◌, ◌≤◌, List, [], ◌∷◌, length, All, Option, Some, None}
 use Rattle.cg_model.specs.Kernel.{Kernel}
 use Rattle.cg_model.specs.Array.{Arch}
 use Rattle.cg_model.specs.Mapping.{Mapping, IsLegal}
 use Rattle.cg_check.specs.Legal.{Mapped as MappedValue}
+use Rattle.cg_bound.specs.Bound.{IsOpen, Shows}
 use Rattle.cg_hub.specs.Hub.{HubEnough, hub_map}
 use Rattle.cg_task.specs.Intervals.{last_tried}
-use Rattle.cg_task.specs.Answers as answers
 use Rattle.cg_task.specs.declared.answering.FoundBy.{FoundBy}
 use Rattle.cg_task.specs.declared.answering.FoundBy.TheVariants.{Hub, Moves}
 use Rattle.cg_task.specs.declared.answering.Answer.{Answer}
 use Rattle.cg_task.specs.declared.answering.Answer.TheVariants.{Impossible, Mapped, Spent}
 use Rattle.cg_respond.specs.Responded.{IsMissed}
+use Rattle.cg_search.specs.declared.begin.Exclusion.{Exclusion}
+use Rattle.cg_search.specs.Begin.{IsBegin, ExcludesAt}
 
 module _ (A : Arch) (K : Kernel) (asked : Option ℕ) (moves : ℕ) where
   -- the hub suffices at no interval from the first one on that is less than this one
@@ -44,9 +46,18 @@ module _ (A : Arch) (K : Kernel) (asked : Option ℕ) (moves : ℕ) where
   IsTried first (Mapped m found_by) = IsFound first m found_by
   IsTried first (Spent f left) = (f ≡ first) × AreAllFaulty first left.items
 
+  -- nothing forbids the last interval, and this comes of those from the first on that no reason excludes
+  pub record IsBegun (answer : Answer) : Type 0 where
+    pub free : IsOpen A K (last_tried A asked)
+    pub first : ℕ
+    pub is_first : IsBegin A K asked first
+    pub tried : IsTried first answer
+
   -- why the last interval is impossible, where a recurrence or an overfull set forbids it; what comes of the intervals else
   abbrev pub IsAnswer : Answer → Type 0
-  IsAnswer = answers.IsAnswer A K asked IsTried
+  IsAnswer (Impossible certificate) = Shows A K (last_tried A asked) certificate
+  IsAnswer (Mapped m found_by) = IsBegun (Mapped m found_by)
+  IsAnswer (Spent first left) = IsBegun (Spent first left)
 
 module _ (A : Arch) (K : Kernel) where
   -- one mapping at each interval from that one on, in order: of the kernel's shape, and not legal
@@ -64,3 +75,14 @@ module _ (A : Arch) (K : Kernel) where
   AreMissedBy (Impossible certificate) missed = missed ≡ []
   AreMissedBy (Mapped m found_by) missed = missed ≡ []
   AreMissedBy (Spent first left) missed = AreMissed first (length left.items) missed
+
+  -- where no interval is tried, what excludes the last one, which is the one before the first; None where some are tried
+  abbrev pub IsExcludedFrom : ℕ → List ℕ → Option Exclusion → Type 0
+  IsExcludedFrom first left (Some x) = (length left ≡ 0) × ExcludesAt A K (first - 1) x
+  IsExcludedFrom first left None = 0 < length left
+
+  -- so for what is left; None where the answer is another one
+  abbrev pub IsExcludedBy : Answer → Option Exclusion → Type 0
+  IsExcludedBy (Impossible certificate) excluded = excluded ≡ None
+  IsExcludedBy (Mapped m found_by) excluded = excluded ≡ None
+  IsExcludedBy (Spent first left) excluded = IsExcludedFrom first left.items excluded

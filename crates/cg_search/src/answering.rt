@@ -1,13 +1,15 @@
-//! The answer: why an interval is impossible, a mapping, or how many faults are left at each interval.
-ghost use Rattle.std.specs.Prelude.{◌≡◌, ◌+◌, ◌≤◌, [], IfOk, length};
+//! The answer: why an interval is impossible, a mapping, how many faults are left at each interval, or what excludes all.
+ghost use Rattle.std.specs.Prelude.{◌≡◌, ◌+◌, ◌≤◌, [], None, IfOk, length};
 ghost use Rattle.cg_model.specs.Limits.{most_moves};
 ghost use Rattle.cg_bound.specs.Bound.{IsOpen};
 ghost use Rattle.cg_task.specs.Intervals as spec;
-ghost use Rattle.cg_task.specs.Intervals.{IsAsked, IsFirst};
-ghost use Rattle.cg_search.specs.Course.{AreMisses};
-ghost use Rattle.cg_search.specs.Search.{IsAnswer, IsTried, AreMissedBy};
+ghost use Rattle.cg_task.specs.Intervals.{IsAsked};
+ghost use Rattle.cg_search.specs.Begin.{IsBegin, ExcludesAt};
+ghost use Rattle.cg_search.specs.Course.{IsPosed, AreMisses};
+ghost use Rattle.cg_search.specs.Search.{IsAnswer, IsTried, AreMissedBy, IsExcludedBy};
 ghost use Rattle.cg_task.specs.declared.answering.Answer.TheVariants as answer;
 
+use crate::begin::{Begin, Exclusion, find_begin};
 use crate::course::outcome;
 use crate::misses::Misses;
 use crate::trying::{Call, Outcome};
@@ -17,7 +19,7 @@ use cg_bound::{Certificate, IntervalVerdict, verdict};
 use cg_hub::{hub_enough, hub_mapping};
 use cg_model::{Kernel, Mapping, Request};
 use cg_respond::Wiring;
-use cg_task::{Answer, FoundBy, first_tried, last_tried};
+use cg_task::{Answer, FoundBy, last_tried};
 use std::alloc::{AllocError, Global};
 
 /// An answer, with what was met on the way to it.
@@ -28,10 +30,12 @@ pub struct Conclusion<'a> {
     /// Where that is how many faults are left at each interval, the mappings with so few: one an interval, in order. None
     /// of them is legal. Empty for each other answer.
     pub missed: Vec<Mapping>,
+    /// Where no interval was tried, since each that would be is excluded: what excludes the last. None for each other answer.
+    pub excluded: Option<Exclusion>,
 }
 
 /// Searches a mapping of `kernel` on `arch`, at the interval that `request` asks for, or at those from the least one
-/// that nothing forbids to as many cycles as the architecture has contexts; and then over the hub. `aside` takes the progress.
+/// that no reason excludes to as many cycles as the architecture has contexts; and then over the hub. `aside` takes the progress.
 pub fn search_answer<'a>(
     alloc: Global,
     arch: &'a Arch,
@@ -43,13 +47,11 @@ pub fn search_answer<'a>(
     requires few { request.moves ≤ most_moves }
     ensures answer { IfOk result (λ c. IsAnswer arch.now kernel.now request.ii request.moves c.answer) }
     ensures missed { IfOk result (λ c. AreMissedBy arch.now kernel.now c.answer c.missed.items) }
+    ensures excluded { IfOk result (λ c. IsExcludedBy arch.now kernel.now c.answer c.excluded) }
 {
     match verdict(alloc, arch, kernel, last_tried(arch, request.ii))? {
         IntervalVerdict::Impossible(certificate) => Ok(impossible(alloc, certificate)),
-        IntervalVerdict::Allowed => {
-            let first = first_tried(alloc, arch, kernel, request.ii)?;
-            searched(alloc, arch, kernel, first, request, aside)
-        }
+        IntervalVerdict::Allowed => begun(alloc, arch, kernel, request, aside),
     }
 }
 
@@ -57,10 +59,60 @@ pub fn search_answer<'a>(
 fn impossible<'a>(alloc: Global, certificate: Certificate) -> Conclusion<'a>
     ensures answer { result.answer ≡ answer.Impossible certificate }
     ensures missed { result.missed.items ≡ [] }
+    ensures excluded { result.excluded ≡ None }
 {
     Conclusion {
         answer: Answer::Impossible(certificate),
         missed: Vec::new(alloc),
+        excluded: None,
+    }
+}
+
+/// Searches at the intervals from the least one that no reason excludes to the last one. `aside` takes the progress.
+fn begun<'a>(
+    alloc: Global,
+    arch: &'a Arch,
+    kernel: &'a Kernel,
+    request: Request,
+    aside: &mut dyn Aside,
+) -> Result<Conclusion<'a>, AllocError>
+    requires within { IsAsked arch.now request.ii }
+    requires few { request.moves ≤ most_moves }
+    requires free { IsOpen arch.now kernel.now (spec.last_tried arch.now request.ii) }
+    ensures answer { IfOk result (λ c. IsAnswer arch.now kernel.now request.ii request.moves c.answer) }
+    ensures missed { IfOk result (λ c. AreMissedBy arch.now kernel.now c.answer c.missed.items) }
+    ensures excluded { IfOk result (λ c. IsExcludedBy arch.now kernel.now c.answer c.excluded) }
+{
+    match find_begin(alloc, arch, kernel, request.ii)? {
+        Begin::At(first) => searched(alloc, arch, kernel, first, request, aside),
+        Begin::Nowhere(exclusion) => Ok(all_excluded(alloc, arch, kernel, request, exclusion)),
+    }
+}
+
+/// Returns the conclusion that no interval is tried, where each is excluded, and `exclusion` excludes the last.
+fn all_excluded<'a>(
+    alloc: Global,
+    arch: &'a Arch,
+    kernel: &'a Kernel,
+    request: Request,
+    exclusion: Exclusion,
+) -> Conclusion<'a>
+    requires within { IsAsked arch.now request.ii }
+    requires free { IsOpen arch.now kernel.now (spec.last_tried arch.now request.ii) }
+    requires first { IsBegin arch.now kernel.now request.ii (spec.last_tried arch.now request.ii + 1) }
+    requires last { ExcludesAt arch.now kernel.now (spec.last_tried arch.now request.ii) exclusion }
+    ensures answer { IsAnswer arch.now kernel.now request.ii request.moves result.answer }
+    ensures missed { AreMissedBy arch.now kernel.now result.answer result.missed.items }
+    ensures excluded { IsExcludedBy arch.now kernel.now result.answer result.excluded }
+{
+    arch.contexts();
+    Conclusion {
+        answer: Answer::Spent {
+            first: last_tried(arch, request.ii) + 1,
+            left: Vec::new(alloc),
+        },
+        missed: Vec::new(alloc),
+        excluded: Some(exclusion),
     }
 }
 
@@ -73,12 +125,11 @@ fn searched<'a>(
     request: Request,
     aside: &mut dyn Aside,
 ) -> Result<Conclusion<'a>, AllocError>
-    requires within { IsAsked arch.now request.ii }
+    requires posed { IsPosed arch.now kernel.now request.ii first }
     requires few { request.moves ≤ most_moves }
-    requires first { IsFirst arch.now kernel.now request.ii first }
-    requires free { IsOpen arch.now kernel.now (spec.last_tried arch.now request.ii) }
     ensures tried { IfOk result (λ c. IsTried arch.now kernel.now request.ii request.moves first c.answer) }
     ensures missed { IfOk result (λ c. AreMissedBy arch.now kernel.now c.answer c.missed.items) }
+    ensures excluded { IfOk result (λ c. IsExcludedBy arch.now kernel.now c.answer c.excluded) }
 {
     let wiring = Wiring::new(alloc, arch)?;
     let call = Call {
@@ -92,6 +143,7 @@ fn searched<'a>(
         Outcome::Found(found) => Ok(Conclusion {
             answer: Answer::Mapped(found.mapping, FoundBy::Moves(found.moves)),
             missed: Vec::new(alloc),
+            excluded: None,
         }),
         Outcome::Left(left) => over_hub(alloc, arch, kernel, first, request, left),
     }
@@ -107,13 +159,12 @@ fn over_hub<'a>(
     request: Request,
     left: Misses,
 ) -> Result<Conclusion<'a>, AllocError>
-    requires within { IsAsked arch.now request.ii }
-    requires first { IsFirst arch.now kernel.now request.ii first }
-    requires free { IsOpen arch.now kernel.now (spec.last_tried arch.now request.ii) }
+    requires posed { IsPosed arch.now kernel.now request.ii first }
     requires misses { AreMisses arch.now kernel.now first left }
     requires all { first + length left.faults.items ≡ spec.last_tried arch.now request.ii + 1 }
     ensures tried { IfOk result (λ c. IsTried arch.now kernel.now request.ii request.moves first c.answer) }
     ensures missed { IfOk result (λ c. AreMissedBy arch.now kernel.now c.answer c.missed.items) }
+    ensures excluded { IfOk result (λ c. IsExcludedBy arch.now kernel.now c.answer c.excluded) }
 {
     arch.contexts();
     for ii in first..last_tried(arch, request.ii) + 1 {
@@ -123,6 +174,7 @@ fn over_hub<'a>(
             return Ok(Conclusion {
                 answer: Answer::Mapped(mapping, FoundBy::Hub),
                 missed: Vec::new(alloc),
+                excluded: None,
             });
         }
     }
@@ -133,5 +185,6 @@ fn over_hub<'a>(
             left: faults,
         },
         missed,
+        excluded: None,
     })
 }

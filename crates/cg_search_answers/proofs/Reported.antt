@@ -1,5 +1,5 @@
 -- The report of faults: what an interval adds to it.
-use Rattle.std.proofs.Common.{◌≡◌, ℕ, ◌+◌, ◌<◌, ◌≤◌, List, [], ◌∷◌, ◌++◌, length, drop, get_or, sym, ap, subst, ◌∙◌, append_assoc, arith}
+use Rattle.std.proofs.Common.{◌≡◌, ℕ, ◌+◌, ◌-◌, ◌<◌, ◌≤◌, List, [], ◌∷◌, ◌++◌, length, drop, get_or, Option, sym, ap, subst, ◌∙◌, append_assoc, arith}
 use Rattle.std.proofs.lemmas.List.{drop_more, drop_all, append-nil}
 use Rattle.std.specs.Global.{Vec}
 use Rattle.cg_ending.specs.Outcome.{Bytes}
@@ -9,9 +9,10 @@ use Rattle.cg_model.specs.Mapping.{Mapping, IsShaped}
 use Rattle.cg_inputs.specs.Sources.{Pair}
 use Rattle.cg_task.specs.declared.answering.Answer.{Answer}
 use Rattle.cg_task.specs.declared.answering.Answer.TheVariants.{Spent}
-use Rattle.cg_search.specs.Search.{AreMissed, AreMissedBy}
+use Rattle.cg_search.specs.declared.begin.Exclusion.{Exclusion}
+use Rattle.cg_search.specs.Search.{AreMissed, AreMissedBy, IsExcludedFrom, IsExcludedBy}
 use Rattle.cg_search.proofs.Missed.{missed_at}
-use Rattle.cg_search_answers.specs.Search.{interval_report, faults_report}
+use Rattle.cg_search_answers.specs.Search.{interval_report, faults_report, IsFaultsReport, IsExcludedReport, IsLeftReport}
 
 -- the first of the intervals that are left
 next_interval : (p : Pair) (ii i : ℕ) (faults : List ℕ) (missed : List Mapping) (n : ℕ) (M : Mapping) → i < length faults → i < length missed
@@ -52,3 +53,17 @@ missed_by A K a first left missed are is = subst (λ z. AreMissedBy A K z missed
 pub missed_same : (A : Arch) (K : Kernel) (first : ℕ) (faults others : List ℕ) (missed met : List Mapping) → AreMissed A K first (length faults) missed → others ≡ faults → met ≡ missed → AreMissed A K first (length others) met
 missed_same A K first faults others missed met are e f =
     subst (λ (z : List ℕ). AreMissed A K first (length z) met) (sym e) (subst (λ (z : List Mapping). AreMissed A K first (length faults) z) (sym f) are)
+
+-- ---- the report of what is left
+
+pub faults_are : (p : Pair) (first : ℕ) (faults : List ℕ) (report : Bytes) → 0 < length faults → IsFaultsReport p first faults report → IsLeftReport p first faults report
+faults_are p first [] report some is = absurd (omega (arith, some))
+faults_are p first (n ∷ faults) report some is = is
+
+pub exclusion_is : (p : Pair) (first : ℕ) (faults : List ℕ) (report : Bytes) → length faults ≡ 0 → IsExcludedReport p (first - 1) report → IsLeftReport p first faults report
+exclusion_is p first [] report none is = is
+exclusion_is p first (n ∷ faults) report none is = absurd (omega (arith, none))
+
+-- what excludes the last interval, by the answer
+pub excluded_by : (A : Arch) (K : Kernel) (a : Answer) (first : ℕ) (left : Vec ℕ) (x : Option Exclusion) → IsExcludedBy A K a x → a ≡ Spent first left → IsExcludedFrom A K first left.items x
+excluded_by A K a first left x by e = subst (λ z. IsExcludedBy A K z x) e by

@@ -1,5 +1,5 @@
 -- `search ARCH KERNEL OUT [--ii N] [--seed N] [--moves N] [--mapping FILE]`.
-use Rattle.std.specs.Prelude.{◌≡◌, ◌⊎◌, ℕ, ◌+◌, false, List, [], ◌∷◌, ◌++◌, length, codes}
+use Rattle.std.specs.Prelude.{◌≡◌, ◌⊎◌, ℕ, ◌+◌, ◌-◌, false, List, [], ◌∷◌, ◌++◌, length, codes}
 use Rattle.cg_ending.specs.declared.outcome.Status.{Status}
 use Rattle.cg_ending.specs.declared.outcome.Status.TheVariants as status
 use Rattle.cg_ending.specs.Outcome.{Name, Bytes, File, Outcome}
@@ -11,7 +11,10 @@ use Rattle.cg_violations.specs.Faults.{fault_lines}
 use Rattle.cg_hub.specs.Hub.{HubEnough}
 use Rattle.cg_task.specs.declared.answering.FoundBy.{FoundBy}
 use Rattle.cg_task.specs.declared.answering.Answer.{Answer}
-use Rattle.cg_task.specs.Intervals.{last_tried, IsFirst}
+use Rattle.cg_task.specs.Intervals.{last_tried}
+use Rattle.cg_why_text.specs.Text.{excluded_line}
+use Rattle.cg_search.specs.declared.begin.Exclusion.{Exclusion}
+use Rattle.cg_search.specs.Begin.{IsBegin, ExcludesAt}
 use Rattle.cg_search.specs.Search.{IsFound, AreAllFaulty, AreMissed, IsAnswer}
 use Rattle.cg_model.specs.declared.request.Request.{Request}
 use Rattle.cg_inputs.specs.Sources.{Pair, GivesPair}
@@ -23,7 +26,7 @@ use Rattle.cg_task_answers.specs.Runs.{IsFoundRun, IsLeftRun}
 abbrev pub word : Bytes
 word = codes "search"
 
--- ---- the report of faults
+-- ---- the report of faults, or of what excludes all intervals
 
 -- the lines of what is wrong in a mapping: as many at the most
 abbrev pub most_lines : ℕ
@@ -44,12 +47,22 @@ abbrev pub IsFaultsReport : Pair → ℕ → List ℕ → Bytes → Type 0
 IsFaultsReport p first faults report =
     (missed : List Mapping) × AreMissed p.arch p.kernel first (length faults) missed × (report ≡ faults_report p first faults missed)
 
+-- the report of a reason that excludes the interval
+abbrev pub IsExcludedReport : Pair → ℕ → Bytes → Type 0
+IsExcludedReport p ii report =
+    (x : Exclusion) × ExcludesAt p.arch p.kernel ii x × (report ≡ excluded_line p.arch p.kernel x.fars ii x.reason)
+
+-- the report of these faults; where there are none, since no interval was tried, of what excludes the last, the one before the first
+abbrev pub IsLeftReport : Pair → ℕ → List ℕ → Bytes → Type 0
+IsLeftReport p first [] report = IsExcludedReport p (first - 1) report
+IsLeftReport p first (n ∷ faults) report = IsFaultsReport p first (n ∷ faults) report
+
 -- ---- outcomes
 
--- nothing was found, and these faults are reported
-abbrev pub IsFaultsOutcome : Pair → ℕ → List ℕ → Outcome → Type 0
-IsFaultsOutcome p first faults o =
-    (report : Bytes) × IsFaultsReport p first faults report × (o ≡ reports status.BudgetSpent report)
+-- nothing was found, and these faults are reported, or what excludes the last interval
+abbrev pub IsLeftOutcome : Pair → ℕ → List ℕ → Outcome → Type 0
+IsLeftOutcome p first faults o =
+    (report : Bytes) × IsLeftReport p first faults report × (o ≡ reports status.BudgetSpent report)
 
 -- an answer of the search for a pair
 abbrev pub IsAnswerOf : Request → Pair → Answer → Type 0
@@ -57,7 +70,7 @@ IsAnswerOf s p a = IsAnswer p.arch p.kernel s.ii s.moves a
 
 -- the search has an answer; which mapping it finds, and whether it finds one, is left open
 abbrev pub IsSearched : Request → List Name → Pair → Outcome → Type 0
-IsSearched s outs p o = IsAnswered word IsFaultsReport s outs p (IsAnswerOf s p) o
+IsSearched s outs p o = IsAnswered word IsLeftReport s outs p (IsAnswerOf s p) o
 
 -- by what the files give
 abbrev pub IsSearch : Request → File → File → List Name → Outcome → Type 0
@@ -82,20 +95,21 @@ pub record IsSearchable (s : Request) (arch kernel : File) : Type 0 where
   pub within : is_above s.ii pair.arch ≡ false
   pub enough : HubEnough pair.arch pair.kernel (last_tried pair.arch s.ii)
 
--- the mapping was found at an interval that is tried
+-- the mapping was found at an interval that is tried, from the first one on that no reason excludes
 pub record IsFoundWithin (s : Request) (p : Pair) (m : Mapped) (found_by : FoundBy) : Type 0 where
   pub first : ℕ
-  pub is_first : IsFirst p.arch p.kernel s.ii first
+  pub is_first : IsBegin p.arch p.kernel s.ii first
   pub found : IsFound p.arch p.kernel s.ii s.moves first m found_by
 
 -- Done: such a mapping
 abbrev pub IsSearchRun : Request → Name → Name → List Name → Moment → Moment → Type 0
 IsSearchRun s arch kernel outs before after = IsFoundRun word (IsFoundWithin s) s arch kernel outs before after
 
--- these faults are left
+-- these faults are left from the first interval on that no reason excludes; none where each is excluded
 abbrev pub AreFaults : Request → Pair → ℕ → List ℕ → Type 0
-AreFaults s p first faults = AreAllFaulty p.arch p.kernel s.ii s.moves first faults
+AreFaults s p first faults =
+    IsBegin p.arch p.kernel s.ii first × AreAllFaulty p.arch p.kernel s.ii s.moves first faults
 
--- BudgetSpent: those faults, reported
+-- BudgetSpent: those faults, reported, or what excludes the last interval
 abbrev pub IsSearchSpentRun : Request → Name → Name → Moment → Moment → Type 0
-IsSearchSpentRun s arch kernel before after = IsLeftRun IsFaultsReport (AreFaults s) s arch kernel before after
+IsSearchSpentRun s arch kernel before after = IsLeftRun IsLeftReport (AreFaults s) s arch kernel before after

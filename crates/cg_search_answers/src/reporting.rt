@@ -1,40 +1,54 @@
 //! The report of a search that found nothing: the faults that are left at each interval, and what is wrong in the mapping
-//! that was met with so few.
+//! that was met with so few; or what excludes the last interval.
 ghost use Rattle.std.specs.Prelude.{◌≡◌, ◌+◌, ◌<◌, ◌^◌, ◌++◌, length, IfOk, OnOk};
 ghost use Rattle.cg_ending.specs.Outcome.{outcome_of};
 ghost use Rattle.cg_model.specs.Mapping.{IsShaped};
-ghost use Rattle.cg_search.specs.Search.{AreMissed};
+ghost use Rattle.cg_search.specs.Search.{AreMissed, IsExcludedFrom};
 ghost use Rattle.cg_search_answers.specs.Search as spec;
 
 use cg_arch::Arch;
 use cg_ending::Outcome;
 use cg_model::{Kernel, Mapping};
+use cg_search::Exclusion;
 use cg_task_answers::{add_left, spent};
 use cg_violations::{fault_lines, violations};
+use cg_why_text::excluded_line;
 use std::alloc::{AllocError, Global};
 
 /// How many lines of what is wrong are reported of a mapping at the most.
 const MOST_LINES: usize = 8;
 
 /// Returns the outcome of a search that found nothing: at the intervals from `first` on these `faults` are left, and the
-/// mappings `missed`, one an interval, were met with so few.
-pub(crate) fn faults_left(
+/// mappings `missed`, one an interval, were met with so few; or each interval is `excluded`, and none is left.
+pub(crate) fn left_over(
     alloc: Global,
     arch: &Arch,
     kernel: &Kernel,
     first: u32,
     faults: Vec<u64>,
     missed: Vec<Mapping>,
+    excluded: Option<Exclusion>,
 ) -> Result<Outcome, AllocError>
+    requires positive { 0 < first }
     requires few { first + length faults.items < 2 ^ 32 }
     requires missed { AreMissed arch.now kernel.now first (length faults.items) missed.items }
-    ensures { IfOk result (λ o. spec.IsFaultsOutcome (record { arch = arch.now; kernel = kernel.now })
+    requires excluded { IsExcludedFrom arch.now kernel.now first faults.items excluded }
+    ensures { IfOk result (λ o. spec.IsLeftOutcome (record { arch = arch.now; kernel = kernel.now })
         first faults.items (outcome_of o)) }
 {
-    let left = faults.as_slice();
-    let met = missed.as_slice();
-    let report = faults_report(alloc, arch, kernel, first, left, met)?;
-    Ok(spent(alloc, report))
+    match excluded {
+        Some(exclusion) => {
+            let Exclusion { fars, reason } = exclusion;
+            let line = excluded_line(alloc, arch, kernel, &fars, first - 1, &reason)?;
+            Ok(spent(alloc, line))
+        }
+        None => {
+            let left = faults.as_slice();
+            let met = missed.as_slice();
+            let report = faults_report(alloc, arch, kernel, first, left, met)?;
+            Ok(spent(alloc, report))
+        }
+    }
 }
 
 /// Returns the report of the `faults` that are left at the intervals from `first` on, and of what is wrong in the

@@ -6,7 +6,7 @@ ghost use Rattle.cg_model.specs.Request.{IsInRange};
 ghost use Rattle.cg_search_answers.specs.Search.{IsSearch, IsSearched};
 ghost use Rattle.cg_task_answers.specs.Searches.{IsWithin, is_above};
 
-use crate::reporting::faults_left;
+use crate::reporting::left_over;
 use cg_arch::Arch;
 use cg_aside::Aside;
 use cg_ending::{File, Outcome, Stop};
@@ -57,10 +57,16 @@ fn searched(
         return above(alloc, name, arch);
     }
     let _valid_arch = arch.units();
-    let Conclusion { answer, missed } = search_answer(alloc, arch, kernel, request, aside)?;
+    let Conclusion {
+        answer,
+        missed,
+        excluded,
+    } = search_answer(alloc, arch, kernel, request, aside)?;
     match answer {
         Answer::Impossible(certificate) => impossible(alloc, request, arch, kernel, &certificate),
         Answer::Mapped(mapping, found_by) => found(alloc, "search", &mapping, found_by, outputs),
-        Answer::Spent { first, left } => faults_left(alloc, arch, kernel, first, left, missed),
+        Answer::Spent { first, left } => {
+            left_over(alloc, arch, kernel, first, left, missed, excluded)
+        }
     }
 }

@@ -1,11 +1,15 @@
 //! Names in sentences.
 
+use crate::words::{form_meant, key_meant, operation_meant};
 use cg_help::nearest_name;
 use cg_word::Op;
 use std::alloc::{AllocError, Global};
 
 /// The most characters of a name that are shown.
 const MOST_SHOWN: usize = 40;
+
+/// The most names that are listed where none is near.
+const MOST_LISTED: usize = 8;
 
 /// Returns `name` as a note shows it: its first characters, and control characters as in a literal.
 pub fn shown(alloc: Global, name: &str) -> Result<String, AllocError> {
@@ -24,9 +28,13 @@ pub fn shown(alloc: Global, name: &str) -> Result<String, AllocError> {
     Ok(text)
 }
 
-/// Returns that there is no key `key`, and which of `keys` may be meant: the nearest, or any where none is near.
+/// Returns that there is no key `key`, and which of `keys` may be meant: by the words of other formats, then the nearest, or any where none
+/// is near.
 pub fn unknown_key(alloc: Global, key: &str, keys: &[&'static str]) -> Result<String, AllocError> {
-    let near = nearest_name(alloc, key, keys)?;
+    let near = match key_meant(alloc, key, keys)? {
+        Some(meant) => Some(meant),
+        None => nearest_name(alloc, key, keys)?,
+    };
     let key = shown(alloc, key)?;
     let key = key.as_str();
     match near {
@@ -51,17 +59,20 @@ fn list_of(alloc: Global, names: &[&str]) -> Result<String, AllocError> {
     Ok(list)
 }
 
-/// Returns that there is no operation `name`, and which may be meant: the nearest, or any where none is near.
+/// Returns that there is no operation `name`, and which may be meant, or how to write what it means: by the words of other languages
+/// and tools, then the nearest name, or any where none is near.
 pub fn unknown_operation(alloc: Global, name: &str) -> Result<String, AllocError> {
+    if let Some(form) = form_meant(alloc, name)? {
+        let name = shown(alloc, name)?;
+        let name = name.as_str();
+        return format!(in alloc; "no operation is called \"{name}\": {form}");
+    }
     let mut names = Vec::new(alloc);
     for op in &Op::ALL {
         names.push(op.name())?;
     }
     let names = names.as_slice();
-    let near = match nearest_name(alloc, name, names)? {
-        Some(near) => Some(near),
-        None => first_of(name, names),
-    };
+    let near = operation_near(alloc, name, names)?;
     let name = shown(alloc, name)?;
     let name = name.as_str();
     match near {
@@ -76,6 +87,21 @@ pub fn unknown_operation(alloc: Global, name: &str) -> Result<String, AllocError
     }
 }
 
+/// Returns the one of `names`, those of all operations, that may be meant by `name`.
+fn operation_near(
+    alloc: Global,
+    name: &str,
+    names: &[&'static str],
+) -> Result<Option<&'static str>, AllocError> {
+    if let Some(meant) = operation_meant(alloc, name)? {
+        return Ok(Some(meant));
+    }
+    match nearest_name(alloc, name, names)? {
+        Some(near) => Ok(Some(near)),
+        None => Ok(first_of(name, names)),
+    }
+}
+
 /// Returns the first of `names`, of three letters or more, that `word` begins with, as `multiply` does with `mul`.
 fn first_of(word: &str, names: &[&'static str]) -> Option<&'static str> {
     for name in names {
@@ -86,7 +112,7 @@ fn first_of(word: &str, names: &[&'static str]) -> Option<&'static str> {
     None
 }
 
-/// Returns that no `noun` is called `name`, and which of `names` may be meant.
+/// Returns that no `noun` is called `name`, and which of `names` may be meant: the nearest, or the first where none is near.
 pub fn no_name(
     alloc: Global,
     noun: &str,
@@ -98,6 +124,27 @@ pub fn no_name(
     let name = name.as_str();
     match near {
         Some(near) => format!(in alloc; "no {noun} is called \"{name}\", did you mean \"{near}\"?"),
-        None => format!(in alloc; "no {noun} is called \"{name}\""),
+        None if names.is_empty() => format!(in alloc; "no {noun} is called \"{name}\""),
+        None => {
+            let first = first_shown(alloc, names)?;
+            let first = first.as_str();
+            format!(in alloc; "no {noun} is called \"{name}\", the {noun}s are {first}")
+        }
     }
+}
+
+/// Returns the first of `names`, as notes show them, with a comma between two, and two points where there are more.
+fn first_shown(alloc: Global, names: &[&str]) -> Result<String, AllocError> {
+    let mut list = String::new(alloc);
+    for (index, name) in names.iter().take(MOST_LISTED).enumerate() {
+        if index > 0 {
+            list.push_str(", ")?;
+        }
+        let name = shown(alloc, name)?;
+        list.push_str(name.as_str())?;
+    }
+    if names.len() > MOST_LISTED {
+        list.push_str(" ..")?;
+    }
+    Ok(list)
 }

@@ -13,6 +13,12 @@ pub enum Kind {
     Text,
     /// A whole number of 32 bits.
     Number,
+    /// Such a number, of which only those up to 15 are ports.
+    Port,
+    /// Such a number, of which only those up to 255 are distances.
+    Distance,
+    /// Such a number, of which only those up to 65,534 are times.
+    Time,
     /// A list.
     List,
     /// A list of such numbers.
@@ -26,7 +32,7 @@ impl Kind {
     fn has(self, value: &Value) -> bool {
         match self {
             Kind::Text => value.is_string(),
-            Kind::Number => word_in(value).is_some(),
+            Kind::Number | Kind::Port | Kind::Distance | Kind::Time => word_in(value).is_some(),
             Kind::List => value.is_array(),
             Kind::Numbers => items_of(value).iter().all(|item| word_in(item).is_some())
                 && value.is_array(),
@@ -39,6 +45,9 @@ impl Kind {
         match self {
             Kind::Text => "a text",
             Kind::Number => "a whole number from 0 to 4294967295",
+            Kind::Port => "a whole number from 0 to 15",
+            Kind::Distance => "a whole number from 0 to 255",
+            Kind::Time => "a whole number from 0 to 65534",
             Kind::List => "a list",
             Kind::Numbers => "a list of whole numbers from 0 to 4294967295",
             Kind::Texts => "a list of texts",

@@ -18,7 +18,7 @@ use Rattle.cg_hub.specs.Hub.{HubEnough}
 use Rattle.cg_task.specs.declared.answering.FoundBy.{FoundBy}
 use Rattle.cg_task.specs.declared.answering.Answer.{Answer}
 use Rattle.cg_task.specs.declared.answering.Answer.TheVariants as answer
-use Rattle.cg_task.specs.Intervals.{IsAsked, last_tried, IsFirst}
+use Rattle.cg_task.specs.Intervals.{IsAsked, last_tried}
 use Rattle.cg_task.specs.Answers.{IsMapping}
 use Rattle.cg_task.proofs.Intervals.{last_positive, not_both}
 use Rattle.cg_model.specs.declared.request.Request.{Request}
@@ -48,7 +48,7 @@ pub record IsSearcher (Report : Pair → ℕ → List ℕ → Bytes → Type 0) 
   pub legal : (s : Request) (p : Pair) (m : Mapped) (found_by : FoundBy) → IsArch p.arch → IsKernel p.kernel → IsAsked p.arch s.ii → Answers s p (answer.Mapped m found_by)
       → (m.arch ≡ p.arch) × (m.kernel ≡ p.kernel) × IsLegal p.arch p.kernel m.mapping
   pub found : (s : Request) (p : Pair) (m : Mapped) (found_by : FoundBy) → IsArch p.arch → IsKernel p.kernel → Answers s p (answer.Mapped m found_by) → Found s p m found_by
-  pub open_left : (s : Request) (p : Pair) (first : ℕ) (left : Vec ℕ) → Answers s p (answer.Spent first left) → IsOpen p.arch p.kernel (last_tried p.arch s.ii) × IsFirst p.arch p.kernel s.ii first
+  pub open_left : (s : Request) (p : Pair) (first : ℕ) (left : Vec ℕ) → Answers s p (answer.Spent first left) → IsOpen p.arch p.kernel (last_tried p.arch s.ii)
   pub left : (s : Request) (p : Pair) (first : ℕ) (left : Vec ℕ) → Answers s p (answer.Spent first left) → Left s p first left.items
   pub all : (s : Request) (p : Pair) (first : ℕ) (left : List ℕ) → Left s p first left → first + length left ≡ last_tried p.arch s.ii + 1
   pub by_hub : (s : Request) (p : Pair) → IsArch p.arch → IsKernel p.kernel → IsAsked p.arch s.ii → HubEnough p.arch p.kernel (last_tried p.arch s.ii) → (a : Answer) → Answers s p a → IsMapping a
@@ -151,7 +151,7 @@ module _ (word : Bytes) (Report : Pair → ℕ → List ℕ → Bytes → Type 0
     forbidden_by : (s : Request) (outs : List Name) (p : Pair) → IsForbidden p.arch p.kernel (last_tried p.arch s.ii) → (a : Answer) (o : Outcome) → Answers s p a → IsOutcomeOf word Report s outs p a o → SaysImpossible o
     forbidden_by s outs p forbidden (answer.Impossible c) o found e = (ap (λ x. x.status) e, ap (λ x. x.writes) e)
     forbidden_by s outs p forbidden (answer.Mapped m found_by) o found e = absurd (not_both p.arch p.kernel (last_tried p.arch s.ii) (is_searcher.free s p m found_by found) forbidden)
-    forbidden_by s outs p forbidden (answer.Spent first left) o found e = absurd (not_both p.arch p.kernel (last_tried p.arch s.ii) (is_searcher.open_left s p first left found).0 forbidden)
+    forbidden_by s outs p forbidden (answer.Spent first left) o found e = absurd (not_both p.arch p.kernel (last_tried p.arch s.ii) (is_searcher.open_left s p first left found) forbidden)
 
     pub forbidden : (s : Request) (arch kernel : File) (outs : List Name) → IsForbiddenInput s arch kernel → (o : Outcome) → IsOver s arch kernel outs o → SaysImpossible o
     forbidden s arch kernel outs input o f =
@@ -175,14 +175,12 @@ module _ (word : Bytes) (Report : Pair → ℕ → List ℕ → Bytes → Type 0
 
         spent_of : (a : Answer) (o : Outcome) → Answers s p a → IsOutcomeOf word Report s outs p a o → o.status ≡ BudgetSpent → Completed o before after BudgetSpent → IsLeftRun Report (Left s) s arch kernel before after
         spent_of (answer.Spent first left) o found e status done =
-            let (free, is_first) = is_searcher.open_left s p first left found in
             let reported = reports BudgetSpent e.0 in
             record {
               pair = p;
               read = hold_pair s arch kernel f g before after arch_held kernel_held p given;
-              free = free;
+              free = is_searcher.open_left s p first left found;
               first = first;
-              is_first = is_first;
               left = left.items;
               is_left = is_searcher.left s p first left found;
               no_hub = λ enough. is_searcher.by_hub s p valid good is enough (answer.Spent first left) found;

@@ -9,7 +9,7 @@ use Rattle.cg_check.specs.Legal.{Mapped}
 use Rattle.cg_bound.specs.Bound.{IsOpen}
 use Rattle.cg_hub.specs.Hub.{HubEnough}
 use Rattle.cg_task.specs.declared.answering.FoundBy.{FoundBy}
-use Rattle.cg_task.specs.Intervals.{last_tried, IsFirst}
+use Rattle.cg_task.specs.Intervals.{last_tried}
 use Rattle.cg_model.specs.declared.request.Request.{Request}
 use Rattle.cg_inputs.specs.Sources.{Pair, HoldPair}
 use Rattle.cg_mapping_answers.specs.Emit.{RunsMapping}
@@ -48,14 +48,13 @@ pub record IsFoundRun (by : Bytes) (Found : Pair → Mapped → FoundBy → Type
   pub written : HoldsMapped outs (mapped_on pair mapping) bytes after
   pub put : Appends before.taken (found_report by (mapped_on pair mapping) found_by) after.taken
 
--- BudgetSpent: nothing forbids the last interval, and at none that was tried a mapping was found: `Left` holds of what is left at
--- each, and `Report` of what was put, in part where the put failed. No write was made
+-- BudgetSpent: nothing forbids the last interval, and at none that was tried a mapping was found: `Left` says which is the first
+-- of them and what is left at each, and `Report` holds of what was put, in part where the put failed. No write was made
 pub record IsLeftRun (Report : Pair → ℕ → List ℕ → Bytes → Type 0) (Left : Pair → ℕ → List ℕ → Type 0) (s : Request) (arch kernel : Name) (before after : Moment) : Type 0 where
   pub pair : Pair
   pub read : HoldPair arch kernel before pair
   pub free : IsOpen pair.arch pair.kernel (last_tried pair.arch s.ii)
   pub first : ℕ
-  pub is_first : IsFirst pair.arch pair.kernel s.ii first
   pub left : List ℕ
   pub is_left : Left pair first left
   -- the hub doesn't suffice there

@@ -9,7 +9,7 @@ use Rattle.cg_ending.specs.Ends.{Moment, Finished}
 use Rattle.cg_ending.proofs.Reading.{Reading, all, missing, longer, reading, reads_all, stops}
 use Rattle.cg_command.specs.Words.{Plan, plan_of}
 use Rattle.cg_command.specs.declared.plans.Command.{Command}
-use Rattle.cg_command.specs.declared.plans.Command.TheVariants.{Turns, TurnsOnImage, Flat, Run, Bound, Check, Emit, Map, Search, Show, Trial, Verilog, Loop, Depend, Migrate, Bench, Image, Words, Violations}
+use Rattle.cg_command.specs.declared.plans.Command.TheVariants.{Turns, TurnsOnImage, Flat, Run, Bound, Check, Emit, Map, Search, Show, Trial, Verilog, Loop, Depend, Migrate, Bench, Image, Words, Violations, Why}
 use Rattle.cg_answers.specs.Commands.{IsAnswer, AgreeIn}
 use Rattle.cg_top.proofs.Planned.{is_outcome}
 use Rattle.cg_top.specs.TopCall.{IsPlanned, Ends, Agrees, IsExact}
@@ -42,6 +42,7 @@ equal (Bench n) a b e = e
 equal Image a b e = e
 equal Words a b e = e
 equal Violations a b e = e
+equal Why a b e = e
 
 agree_of : (plan : Plan) (r : Reading) (a b : Outcome) → IsOf plan r a → IsOf plan r b → AgreeIn plan.command a.status b.status
 agree_of plan (all fs) a b p q = agree_in plan.command fs plan.outputs a b p q

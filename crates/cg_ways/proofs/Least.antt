@@ -34,7 +34,7 @@ small_lesser most (Some x) (Some y) f g =
     ⊎_elim {C = IsSmall most (lesser (Some x) (Some y))} (λ t. subst (IsSmall most) (sym (cond-true (nat_lt y x) (Some y) (Some x) t)) g)
     (λ t. subst (IsSmall most) (sym (cond-false (nat_lt y x) (Some y) (Some x) t)) f) (cases_Bool (nat_lt y x))
 
--- the same of what searches find
+-- what searches find: of a property that is another one, of one that no number has, and of one or the other of two
 module _ (A : Arch) where
   pub found_same : (P Q : ℕ → Type 0) → ((n : ℕ) → P n → Q n) → ((n : ℕ) → Q n → P n) → (o : Option ℕ) → IsFound A P o → IsFound A Q o
   found_same P Q f g o h = record { least = least_same P Q f g o h.least; small = h.small }

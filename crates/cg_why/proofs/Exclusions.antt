@@ -18,11 +18,12 @@ use Rattle.cg_why.specs.declared.reason.Reason.{Reason}
 use Rattle.cg_why.specs.declared.reason.Reason.TheVariants.{Recurrence, Class, NoWay, Ways, Registers}
 use Rattle.cg_why.specs.declared.numbers.Numbers.{Numbers}
 use Rattle.cg_why.specs.declared.numbers.Fars.{Fars}
-use Rattle.cg_why.specs.declared.first.Verdict.{Verdict}
-use Rattle.cg_why.specs.declared.first.Verdict.TheVariants.{Excluded, Open}
-use Rattle.cg_why.specs.Why.{HasNoWay, IsMissing, AreNumbers, AreAllNumbers, numbers_at, IsExcluded, IsFound, IsVerdict}
+use Rattle.cg_why.specs.declared.least.Verdict.{Verdict}
+use Rattle.cg_why.specs.declared.least.Verdict.TheVariants.{Excluded, Open}
+use Rattle.cg_why.specs.Why.{HasNoWay, IsMissing, AreNumbers, AreAllNumbers, numbers_at, IsExcluded}
+use Rattle.cg_why.specs.Scan.{IsFound, IsVerdict}
 use Rattle.cg_why.proofs.Reasons.{no_registers, numbers_for}
-use Rattle.cg_why.proofs.Owns.{open_verdict}
+use Rattle.cg_why.proofs.Scans.{open_verdict}
 use Rattle.cg_why.proofs.Tables.{held}
 
 module _ (A : Arch) (K : Kernel) (arch : IsArch A) (valid : IsKernel K) where
@@ -48,7 +49,7 @@ module _ (A : Arch) (K : Kernel) (arch : IsArch A) (valid : IsKernel K) where
 
     by_class : HasFound kinds.Class
     by_class =
-        ⊎_elim {C = HasFound kinds.Class} (λ (set, over, own). (Some (Class set), (over, refl))) (λ none. (None, λ (set, over). none set over)) (overfull_or_none A K ii)
+        ⊎_elim {C = HasFound kinds.Class} (λ (set, over, bound). (Some (Class set), (over, refl))) (λ none. (None, λ (set, over). none set over)) (overfull_or_none A K ii)
 
     long_ways : ((v p : ℕ) → HasNoWay A K ii v p → ⊥) → HasFound kinds.Ways
     long_ways each =

@@ -1,5 +1,6 @@
 pub mod Reasons
-pub mod Owns
-mod Tables
-mod Exclusions
+pub mod Scans
+mod Halves
+pub mod Tables
+pub mod Exclusions
 pub mod Always

@@ -38,7 +38,8 @@ use Rattle.cg_why.specs.declared.reason.Reason.{Reason}
 use Rattle.cg_why.specs.declared.reason.Reason.TheVariants.{Recurrence, Class, NoWay, Ways, Registers}
 use Rattle.cg_why.specs.declared.numbers.Numbers.{Numbers}
 use Rattle.cg_why.specs.declared.numbers.Fars.{Fars}
-use Rattle.cg_why.specs.Why.{AreFars, HasNoWay, IsMissing, AreNumbers, AreAllNumbers, numbers_at, IsExcluded, Shows, kind_of, IsFound}
+use Rattle.cg_why.specs.Why.{AreFars, HasNoWay, IsMissing, AreNumbers, AreAllNumbers, numbers_at, IsExcluded, Shows, kind_of}
+use Rattle.cg_why.specs.Scan.{IsFound}
 
 -- ---- the registers on ways
 

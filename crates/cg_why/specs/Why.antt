@@ -22,10 +22,8 @@ use Rattle.cg_why.specs.declared.reason.Reason.{Reason}
 use Rattle.cg_why.specs.declared.reason.Reason.TheVariants.{Recurrence, Class, NoWay, Ways, Registers}
 use Rattle.cg_why.specs.declared.numbers.Numbers.{Numbers}
 use Rattle.cg_why.specs.declared.numbers.Fars.{Fars}
-use Rattle.cg_why.specs.declared.own.Own.{Own}
-use Rattle.cg_why.specs.declared.first.First.{First}
-use Rattle.cg_why.specs.declared.first.Verdict.{Verdict}
-use Rattle.cg_why.specs.declared.first.Verdict.TheVariants.{Excluded, Open}
+use Rattle.cg_why.specs.declared.bounds.Bound.{Bound}
+use Rattle.cg_why.specs.declared.least.Least.{Least}
 use Rattle.cg_why.specs.declared.why.Why.{Why}
 
 -- ---- the registers on ways
@@ -95,17 +93,6 @@ kind_of (NoWay m) = kinds.Ways
 kind_of (Ways ids) = kinds.Ways
 kind_of (Registers P) = kinds.Registers
 
--- a reason of that kind, or None where none excludes the interval
-abbrev pub IsFound : Arch → Kernel → (ℕ → ℕ → ℕ) → ℕ → Kind → Option Reason → Type 0
-IsFound A K far ii kind (Some r) = Shows A K far ii r × (kind_of r ≡ kind)
-IsFound A K far ii kind None = IsExcluded A K far ii kind → ⊥
-
--- a reason, or None where no recurrence, no set of operations and no ways exclude the interval
-abbrev pub IsOther : Arch → Kernel → (ℕ → ℕ → ℕ) → ℕ → Option Reason → Type 0
-IsOther A K far ii (Some r) = Shows A K far ii r
-IsOther A K far ii None =
-    (IsExcluded A K far ii kinds.Recurrence → ⊥) × (IsExcluded A K far ii kinds.Class → ⊥) × (IsExcluded A K far ii kinds.Ways → ⊥)
-
 -- ---- least intervals
 
 -- the least number from 1 to `most` without a property; None where each has it
@@ -121,6 +108,11 @@ Excludes A K f kind ii = IsExcluded A K (far_at f ii) ii kind
 abbrev pub IsImpossible : Arch → Kernel → Fars → ℕ → Type 0
 IsImpossible A K f ii = (kind : Kind) × Excludes A K f kind ii
 
+-- a reason that excludes interval ii, or None where none does
+abbrev pub IsExclusion : Arch → Kernel → Fars → ℕ → Option Reason → Type 0
+IsExclusion A K f ii (Some r) = Shows A K (far_at f ii) ii r
+IsExclusion A K f ii None = IsImpossible A K f ii → ⊥
+
 -- the interval below a least one, from 1 to `most`
 abbrev pub below_of : ℕ → Option ℕ → ℕ
 below_of most (Some l) = l - 1
@@ -132,44 +124,18 @@ IsShown A K f kind ii (Some r) = Shows A K (far_at f ii) ii r × (kind_of r ≡ 
 IsShown A K f kind ii None = ii ≡ 0
 
 -- the least interval that no reason of its kind excludes, and a reason that excludes the one below it
-pub record IsOwn (A : Arch) (K : Kernel) (f : Fars) (own : Own) : Type 0 where
-  pub least : IsLeastWithout (Excludes A K f own.kind) A.contexts own.least
-  pub below : IsShown A K f own.kind (below_of A.contexts own.least) own.below
-
--- each interval below ii is excluded by a reason of that kind, and one for the greatest of them is given
-pub record IsOwnTo (A : Arch) (K : Kernel) (f : Fars) (kind : Kind) (ii : ℕ) (below : Option Reason) : Type 0 where
-  pub excluded : (i : ℕ) → 1 ≤ i → i < ii → Excludes A K f kind i
-  pub shown : IsShown A K f kind (ii - 1) below
+pub record IsBound (A : Arch) (K : Kernel) (f : Fars) (bound : Bound) : Type 0 where
+  pub least : IsLeastWithout (Excludes A K f bound.kind) A.contexts bound.least
+  pub below : IsShown A K f bound.kind (below_of A.contexts bound.least) bound.below
 
 -- the kinds, in order
 abbrev pub all_kinds : List Kind
 all_kinds = kinds.Recurrence ∷ kinds.Ways ∷ kinds.Class ∷ kinds.Registers ∷ []
 
 -- the least intervals of the first k kinds
-pub record AreOwn (A : Arch) (K : Kernel) (f : Fars) (k : ℕ) (owns : List Own) : Type 0 where
-  pub each : map (λ (own : Own). own.kind) owns ≡ take k all_kinds
-  pub right : (own : Own) → Contains owns own → IsOwn A K f own
-
--- a reason that excludes interval ii, where one is given
-abbrev pub IsAlso : Arch → Kernel → Fars → ℕ → Option Reason → Type 0
-IsAlso A K f ii (Some r) = Shows A K (far_at f ii) ii r
-IsAlso A K f ii None = ⊤
-
--- each interval below that one is impossible
-pub record MayBegin (A : Arch) (K : Kernel) (f : Fars) (l : ℕ) : Type 0 where
-  pub some : 1 ≤ l
-  pub within : l ≤ A.contexts + 1
-  pub below : (i : ℕ) → 1 ≤ i → i < l → IsImpossible A K f i
-
--- so is each from there on up to ii, where a reason that excludes the interval below ii is given
-pub record IsFirstTo (A : Arch) (K : Kernel) (f : Fars) (ii : ℕ) (also : Option Reason) : Type 0 where
-  pub below : (i : ℕ) → 1 ≤ i → i < ii → IsImpossible A K f i
-  pub shown : IsAlso A K f (ii - 1) also
-
--- a reason that excludes interval ii; or times that show that no registers exclude it, where no reason does
-abbrev pub IsVerdict : Arch → Kernel → Fars → ℕ → Verdict → Type 0
-IsVerdict A K f ii (Excluded r) = Shows A K (far_at f ii) ii r
-IsVerdict A K f ii (Open t) = (IsImpossible A K f ii → ⊥) × AreLoose A K (far_at f ii) ii t
+pub record AreBounds (A : Arch) (K : Kernel) (f : Fars) (k : ℕ) (bounds : List Bound) : Type 0 where
+  pub each : map (λ (bound : Bound). bound.kind) bounds ≡ take k all_kinds
+  pub right : (bound : Bound) → Contains bounds bound → IsBound A K f bound
 
 -- times that show that no registers exclude the least interval; none where there is no such interval
 abbrev pub AreFree : Arch → Kernel → Fars → Option ℕ → Option Times → Type 0
@@ -178,14 +144,20 @@ AreFree A K f None None = ⊤
 AreFree A K f (Some l) None = ⊥
 AreFree A K f None (Some t) = ⊥
 
--- the least interval that no reason excludes
-pub record IsFirst (A : Arch) (K : Kernel) (f : Fars) (first : First) : Type 0 where
-  pub least : IsLeastWithout (IsImpossible A K f) A.contexts first.least
-  pub free : AreFree A K f first.least first.times
-  pub also : IsAlso A K f (below_of A.contexts first.least) first.also
+-- a reason that excludes interval ii, where one is given; where none is, ii is 0, or below the least interval of a kind, whose
+-- reason excludes it
+abbrev pub IsSaid : Arch → Kernel → Fars → List Bound → ℕ → Option Reason → Type 0
+IsSaid A K f bounds ii (Some r) = Shows A K (far_at f ii) ii r
+IsSaid A K f bounds ii None = (ii ≡ 0) ⊎ ((bound : Bound) × Contains bounds bound × (below_of A.contexts bound.least ≡ ii))
+
+-- the least interval that no reason excludes, and what excludes the one below it
+pub record IsLeast (A : Arch) (K : Kernel) (f : Fars) (bounds : List Bound) (l : Least) : Type 0 where
+  pub least : IsLeastWithout (IsImpossible A K f) A.contexts l.interval
+  pub free : AreFree A K f l.interval l.times
+  pub said : IsSaid A K f bounds (below_of A.contexts l.interval) l.below
 
 -- it, and the least intervals of each kind
 pub record IsWhy (A : Arch) (K : Kernel) (w : Why) : Type 0 where
   pub fars : AreAllNumbers A K w.fars
-  pub owns : AreOwn A K w.fars 4 w.owns.items
-  pub first : IsFirst A K w.fars w.first
+  pub bounds : AreBounds A K w.fars 4 w.bounds.items
+  pub least : IsLeast A K w.fars w.bounds.items w.least

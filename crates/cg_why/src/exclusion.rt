@@ -2,7 +2,8 @@
 ghost use Rattle.std.specs.Prelude.{◌≤◌, IfOk, Some};
 ghost use Rattle.cg_pressure.specs.Sums.{table};
 ghost use Rattle.cg_why.specs.declared.reason.Kind.TheVariants as kinds;
-ghost use Rattle.cg_why.specs.Why.{AreNumbers, IsFound};
+ghost use Rattle.cg_why.specs.Why.{AreNumbers};
+ghost use Rattle.cg_why.specs.Scan.{IsFound};
 
 use crate::numbers::Numbers;
 use crate::reason::{Kind, Reason};

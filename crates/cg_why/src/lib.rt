@@ -2,18 +2,18 @@
 //! long, and too few registers; and the least interval that none of them excludes.
 #![tactic(auto)]
 
+mod bounds;
 mod exclusion;
-mod first;
 mod laws;
+mod least;
 mod numbers;
-mod own;
 mod reason;
 mod why;
 
+pub use bounds::Bound;
 pub use cg_edges::{Arch, EdgeId, Kernel};
-pub use first::First;
 pub use laws::{always_explained, excludes};
-pub use numbers::{Fars, Numbers};
-pub use own::Own;
+pub use least::{Least, find_exclusion};
+pub use numbers::{Fars, Numbers, find_fars};
 pub use reason::{Kind, Reason};
 pub use why::{Why, explain};

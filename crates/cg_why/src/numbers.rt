@@ -36,8 +36,8 @@ fn find_numbers(alloc: Global, arch: &Arch, kernel: &Kernel, ii: u32) -> Result<
     Ok(Numbers { far, missing })
 }
 
-/// Finds the numbers for all intervals.
-pub(crate) fn find_fars(alloc: Global, arch: &Arch, kernel: &Kernel) -> Result<Fars, AllocError>
+/// Finds the least numbers of registers on the ways of the data edges of `kernel` on `arch`, for all intervals.
+pub fn find_fars(alloc: Global, arch: &Arch, kernel: &Kernel) -> Result<Fars, AllocError>
     ensures { IfOk result (AreAllNumbers arch.now kernel.now) }
 {
     let first = find_numbers(alloc, arch, kernel, 1)?;

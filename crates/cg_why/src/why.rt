@@ -2,9 +2,9 @@
 ghost use Rattle.std.specs.Prelude.{IfOk};
 ghost use Rattle.cg_why.specs.Why.{IsWhy};
 
-use crate::first::{First, find_first};
+use crate::bounds::{Bound, find_bounds};
+use crate::least::{Least, find_least};
 use crate::numbers::{Fars, find_fars};
-use crate::own::{Own, find_owns};
 use cg_edges::{Arch, Kernel};
 use std::alloc::{AllocError, Global};
 
@@ -14,9 +14,9 @@ pub struct Why {
     /// The registers on the ways of the data edges, on which reasons stand.
     pub fars: Fars,
     /// The least interval that no reason of a kind excludes, for each kind.
-    pub owns: Vec<Own>,
+    pub bounds: Vec<Bound>,
     /// The least interval that no reason excludes.
-    pub first: First,
+    pub least: Least,
 }
 
 /// Finds the least interval that no recurrence, no overfull set of operations, no ways and no registers exclude, with what
@@ -25,7 +25,11 @@ pub fn explain(alloc: Global, arch: &Arch, kernel: &Kernel) -> Result<Why, Alloc
     ensures { IfOk result (IsWhy arch.now kernel.now) }
 {
     let fars = find_fars(alloc, arch, kernel)?;
-    let owns = find_owns(alloc, arch, kernel, &fars)?;
-    let first = find_first(alloc, arch, kernel, &fars, &owns)?;
-    Ok(Why { fars, owns, first })
+    let bounds = find_bounds(alloc, arch, kernel, &fars)?;
+    let least = find_least(alloc, arch, kernel, &fars, &bounds)?;
+    Ok(Why {
+        fars,
+        bounds,
+        least,
+    })
 }

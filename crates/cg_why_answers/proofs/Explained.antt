@@ -88,10 +88,10 @@ module _ (A : Arch) (K : Kernel) (M : Mapping) (good : IsKernel K) (legal : IsLe
   not_impossible : (f : Fars) → AreAllNumbers A K f → IsImpossible A K f M.ii → ⊥
   not_impossible f all (kind, h) = none_excludes A K M (far_at f M.ii) good legal (numbers_for A K f M.ii (let a = legal.interval in omega arith) all).fars kind h
 
-  not_below : (w : Why) → IsWhy A K w → IsBelow w.first.least M.ii → ⊥
+  not_below : (w : Why) → IsWhy A K w → IsBelow w.least.interval M.ii → ⊥
   not_below w is below =
       not_impossible w.fars is.fars
-      (below_impossible (IsImpossible A K w.fars) A.contexts w.first.least is.first.least M.ii (let a = legal.interval in omega arith) legal.contexts below)
+      (below_impossible (IsImpossible A K w.fars) A.contexts w.least.interval is.least.least M.ii (let a = legal.interval in omega arith) legal.contexts below)
 
 module _ (arch kernel : Name) (f g : File) (before after : Moment) (arch_held : Holds before.held arch f.bytes) (kernel_held : Holds before.held kernel g.bytes) where
   left_by : (pair : Result Pair Outcome) (o : Outcome) → ArePaired f g pair → IsExplaining pair o → o.status ≡ Done → Completed o before after Done → IsWhyRun arch kernel before after

@@ -35,5 +35,5 @@ pub record IsWhyRun (arch kernel : Name) (before after : Moment) : Type 0 where
   pub read : HoldPair arch kernel before pair
   pub why : Why
   pub is_why : IsWhy pair.arch pair.kernel why
-  pub excludes : (M : Mapping) → IsBelow why.first.least M.ii → IsLegal pair.arch pair.kernel M → ⊥
+  pub excludes : (M : Mapping) → IsBelow why.least.interval M.ii → IsLegal pair.arch pair.kernel M → ⊥
   pub put : Appends before.taken (why_text pair.arch pair.kernel why) after.taken

@@ -21,8 +21,8 @@ use Rattle.cg_why.specs.declared.reason.Kind.TheVariants as kinds
 use Rattle.cg_why.specs.declared.reason.Reason.{Reason}
 use Rattle.cg_why.specs.declared.reason.Reason.TheVariants.{Recurrence, Class, NoWay, Ways, Registers}
 use Rattle.cg_why.specs.declared.numbers.Fars.{Fars}
-use Rattle.cg_why.specs.declared.own.Own.{Own}
-use Rattle.cg_why.specs.declared.first.First.{First}
+use Rattle.cg_why.specs.declared.bounds.Bound.{Bound}
+use Rattle.cg_why.specs.declared.least.Least.{Least}
 use Rattle.cg_why.specs.declared.why.Why.{Why}
 use Rattle.cg_why.specs.Why.{far_at, below_of, HasShortLists}
 
@@ -81,6 +81,10 @@ impossible_words ii = codes ": impossible at ii " ++ (decimal ii ++ codes ": ")
 abbrev pub impossible_text : Arch → Kernel → Fars → ℕ → Reason → List ℕ
 impossible_text A K f ii r = impossible_words ii ++ reason_text A K (far_at f ii) ii r
 
+-- a reason that excludes an interval, as a line of its own
+abbrev pub excluded_line : Arch → Kernel → Fars → ℕ → Reason → List ℕ
+excluded_line A K f ii r = codes "ii " ++ (decimal ii ++ (codes " impossible: " ++ (reason_text A K (far_at f ii) ii r ++ codes "\n")))
+
 -- the lists of a reason are short, where there is one
 abbrev pub HasShortBelow : Option Reason → Type 0
 HasShortBelow (Some r) = HasShortLists r
@@ -103,23 +107,23 @@ abbrev pub below_text : Arch → Kernel → Fars → ℕ → Option Reason → L
 below_text A K f ii (Some r) = impossible_text A K f ii r
 below_text A K f ii None = []
 
-abbrev pub own_line : Arch → Kernel → Fars → Own → List ℕ
-own_line A K f own =
-    kind_word own.kind ++ (least_word own.least ++ (below_text A K f (below_of A.contexts own.least) own.below ++ codes "\n"))
+abbrev pub bound_line : Arch → Kernel → Fars → Bound → List ℕ
+bound_line A K f bound =
+    kind_word bound.kind ++ (least_word bound.least ++ (below_text A K f (below_of A.contexts bound.least) bound.below ++ codes "\n"))
 
 -- the lines of those whose least interval is one more than `below`
-abbrev pub lines_above : Arch → Kernel → Fars → List Own → ℕ → List ℕ
-lines_above A K f owns below = flat_map (λ own. if eqb (below_of A.contexts own.least) below then own_line A K f own else []) owns
+abbrev pub lines_above : Arch → Kernel → Fars → List Bound → ℕ → List ℕ
+lines_above A K f bounds below = flat_map (λ bound. if eqb (below_of A.contexts bound.least) below then bound_line A K f bound else []) bounds
 
 -- the lines of those whose least interval is at most n, the greatest first
-abbrev pub lines_to : Arch → Kernel → Fars → List Own → ℕ → List ℕ
-lines_to A K f owns zero = []
-lines_to A K f owns (suc n) = lines_above A K f owns n ++ lines_to A K f owns n
+abbrev pub lines_to : Arch → Kernel → Fars → List Bound → ℕ → List ℕ
+lines_to A K f bounds zero = []
+lines_to A K f bounds (suc n) = lines_above A K f bounds n ++ lines_to A K f bounds n
 
 -- the least interval that no reason excludes, and what excludes the one below it where the lines of the kinds don't say it
-abbrev pub first_line : Arch → Kernel → Fars → First → List ℕ
-first_line A K f first =
-    codes "least " ++ (least_word first.least ++ (below_text A K f (below_of A.contexts first.least) first.also ++ codes "\n"))
+abbrev pub least_line : Arch → Kernel → Fars → Least → List ℕ
+least_line A K f least =
+    codes "least " ++ (least_word least.interval ++ (below_text A K f (below_of A.contexts least.interval) least.below ++ codes "\n"))
 
 -- how many register slots are enough at the least interval, of how many
 abbrev pub free_line : Arch → Kernel → Option ℕ → Option Times → List ℕ
@@ -131,5 +135,5 @@ free_line A K l t = []
 -- the whole report
 abbrev pub why_text : Arch → Kernel → Why → List ℕ
 why_text A K w =
-    first_line A K w.fars w.first
-    ++ (lines_to A K w.fars w.owns.items (A.contexts + 1) ++ free_line A K w.first.least w.first.times)
+    least_line A K w.fars w.least
+    ++ (lines_to A K w.fars w.bounds.items (A.contexts + 1) ++ free_line A K w.least.interval w.least.times)

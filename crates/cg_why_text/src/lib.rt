@@ -7,4 +7,4 @@ mod report;
 
 pub use lines::push_lines;
 pub use reasons::push_reason;
-pub use report::why_report;
+pub use report::{excluded_line, why_report};

@@ -1,12 +1,12 @@
 //! The lines of the least intervals of the kinds.
 ghost use Rattle.std.specs.Prelude.{◌≡◌, ◌+◌, ◌++◌, Contains, OnOk, IfOk, codes, string_bytes};
-ghost use Rattle.cg_why.specs.declared.own.Own as declared;
+ghost use Rattle.cg_why.specs.declared.bounds.Bound as declared;
 ghost use Rattle.cg_why.specs.Why.{HasShortLists, below_of as below_least};
 ghost use Rattle.cg_why_text.specs.Text.{impossible_words as impossible_words_of, impossible_text, least_word as word_of_least, kind_word as word_of_kind, below_text, lines_above, lines_to, HasShortBelow};
 
 use crate::reasons::push_reason;
 use cg_edges::{Arch, Kernel};
-use cg_why::{Fars, Kind, Own, Reason};
+use cg_why::{Bound, Fars, Kind, Reason};
 use std::alloc::{AllocError, Global};
 
 /// Returns the word for a kind, with a blank after it.
@@ -125,45 +125,45 @@ fn push_lines_above(
     arch: &Arch,
     kernel: &Kernel,
     fars: &Fars,
-    owns: &[Own],
+    bounds: &[Bound],
     below: u32,
 ) -> Result<(), AllocError>
-    requires short { (own : declared.Own) → Contains owns.now own → HasShortBelow own.below }
-    ensures { OnOk result (text.new.items ≡ text.old.items ++ lines_above arch.now kernel.now fars.now owns.now below) }
+    requires short { (bound : declared.Bound) → Contains bounds.now bound → HasShortBelow bound.below }
+    ensures { OnOk result (text.new.items ≡ text.old.items ++ lines_above arch.now kernel.now fars.now bounds.now below) }
 {
-    for own in owns {
-        if below_of(arch, own.least) == below {
+    for bound in bounds {
+        if below_of(arch, bound.least) == below {
             push_line(
                 alloc,
                 text,
                 arch,
                 kernel,
                 fars,
-                kind_word(own.kind),
-                own.least,
-                &own.below,
+                kind_word(bound.kind),
+                bound.least,
+                &bound.below,
             )?;
         }
     }
     Ok(())
 }
 
-/// Adds the lines of the least intervals `owns` of the kinds to `text`, the greatest first.
+/// Adds the lines of the least intervals `bounds` of the kinds to `text`, the greatest first.
 pub fn push_lines(
     alloc: Global,
     text: &mut Vec<u8>,
     arch: &Arch,
     kernel: &Kernel,
     fars: &Fars,
-    owns: &[Own],
+    bounds: &[Bound],
 ) -> Result<(), AllocError>
-    requires short { (own : declared.Own) → Contains owns.now own → HasShortBelow own.below }
-    ensures { OnOk result (text.new.items ≡ text.old.items ++ lines_to arch.now kernel.now fars.now owns.now (arch.now.contexts + 1)) }
+    requires short { (bound : declared.Bound) → Contains bounds.now bound → HasShortBelow bound.below }
+    ensures { OnOk result (text.new.items ≡ text.old.items ++ lines_to arch.now kernel.now fars.now bounds.now (arch.now.contexts + 1)) }
 {
     let mut end = arch.contexts() + 1;
     while end > 0 {
         end -= 1;
-        push_lines_above(alloc, text, arch, kernel, fars, owns, end)?;
+        push_lines_above(alloc, text, arch, kernel, fars, bounds, end)?;
     }
     Ok(())
 }

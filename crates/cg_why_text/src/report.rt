@@ -1,12 +1,13 @@
 //! The whole report.
 ghost use Rattle.std.specs.Prelude.{◌≡◌, ◌++◌, IfOk, OnOk};
-ghost use Rattle.cg_why.specs.Why.{IsWhy};
-ghost use Rattle.cg_why_text.specs.Text.{free_line, why_text};
+ghost use Rattle.cg_why.specs.Why.{far_at, Shows, IsWhy};
+ghost use Rattle.cg_why_text.specs.Text.{free_line, why_text, excluded_line as line_of_excluded};
 
 use crate::lines::{push_line, push_lines};
+use crate::reasons::push_reason;
 use cg_edges::{Arch, Kernel};
 use cg_pressure::{Times, all_stays, count_registers};
-use cg_why::Why;
+use cg_why::{Fars, Reason, Why};
 use std::alloc::{AllocError, Global};
 
 /// Adds how many register slots are enough at the least interval.
@@ -30,6 +31,27 @@ fn push_free(
     Ok(())
 }
 
+/// Returns the line that says that interval `ii` is impossible by `reason`, which excludes it by the numbers `fars`.
+pub fn excluded_line(
+    alloc: Global,
+    arch: &Arch,
+    kernel: &Kernel,
+    fars: &Fars,
+    ii: u32,
+    reason: &Reason,
+) -> Result<Vec<u8>, AllocError>
+    requires { Shows arch.now kernel.now (far_at fars.now ii) ii reason.now }
+    ensures { IfOk result (λ line. line.items ≡ line_of_excluded arch.now kernel.now fars.now ii reason.now) }
+{
+    let begin = format!(in alloc; "ii {ii} impossible: ")?;
+    let numbers = fars.at(ii);
+    let mut line = Vec::new(alloc);
+    line.extend_from_slice(begin.as_bytes())?;
+    push_reason(alloc, &mut line, arch, kernel, &numbers.far, ii, reason)?;
+    line.push(b'\n')?;
+    Ok(line)
+}
+
 /// Returns the report on `why`, a line each: the least interval that no reason excludes; those of the kinds of reasons, the
 /// greatest first, each with what excludes the interval below it; and how many register slots are enough at the least one.
 pub fn why_report(
@@ -41,7 +63,7 @@ pub fn why_report(
     requires { IsWhy arch.now kernel.now why.now }
     ensures { IfOk result (λ text. text.items ≡ why_text arch.now kernel.now why.now) }
 {
-    let first = &why.first;
+    let least = &why.least;
     let mut text = Vec::new(alloc);
     push_line(
         alloc,
@@ -50,10 +72,10 @@ pub fn why_report(
         kernel,
         &why.fars,
         "least ",
-        first.least,
-        &first.also,
+        least.interval,
+        &least.below,
     )?;
-    push_lines(alloc, &mut text, arch, kernel, &why.fars, &why.owns)?;
-    push_free(alloc, &mut text, arch, kernel, first.least, &first.times)?;
+    push_lines(alloc, &mut text, arch, kernel, &why.fars, &why.bounds)?;
+    push_free(alloc, &mut text, arch, kernel, least.interval, &least.times)?;
     Ok(text)
 }

@@ -1,4 +1,4 @@
-use Rattle.std.proofs.Common.{◌≡◌, ℕ, ◌+◌, ◌-◌, ◌^◌, ◌<◌, ◌≤◌, List, length, refl, sym, ap, ◌∙◌, subst, arith}
+use Rattle.std.proofs.Common.{◌≡◌, ℕ, ◌-◌, ◌^◌, ◌<◌, List, length, refl, sym, ap, ◌∙◌, subst, arith}
 use Rattle.std.specs.Prelude.{slice_index}
 use Rattle.cg_pressure_search.specs.Reach.{IsReached}
 use Rattle.cg_pressure_search.specs.Lift.{LetsRise, IsRisen}
@@ -15,9 +15,9 @@ room-by-requires-clause-times c = λ x. let h = c.loop-left.invariant.near (2 ^ 
 pub rise-requires-clause-small : goal.rise-requires-clause-small
 rise-requires-clause-small c = λ x o.
     let r = c.in_ok-reached.reached in
-    let reached : IsReached c.args.links.now c.args.count c.args.flow.now c.loop-left.at.items c.args.start r =
-    subst (λ (z : List ℕ). IsReached c.args.links.now c.args.count c.args.flow.now z c.args.start r) c.deref.ensures.value c.in_ok-reached.ensures in
-    let e = ap (λ (z : List ℕ). slice_index z x) c.deref-in-loop-left-3.ensures.value in
+    let reached : IsReached c.args.links.now c.args.count c.args.flow.now c.loop-left.at.items c.args.start c.args.goal r =
+    subst (λ (z : List ℕ). IsReached c.args.links.now c.args.count c.args.flow.now z c.args.start c.args.goal r) c.deref.ensures.value c.in_ok-reached.ensures in
+    let e = ap (λ (z : List ℕ). slice_index z x) c.deref-in-loop-left-2.ensures.value in
     let h = low c.args.links.now c.args.count c.args.flow.now c.args.at.now.items c.args.start c.args.goal c.args.need c.requires.graph c.requires.near c.loop-left.at.items c.loop-left.left c.loop-left.invariant
     (2 ^ 61) c.requires.times r c.room-by.result reached c.room-by.ensures.most x (omega arith) in
     omega arith
@@ -27,12 +27,11 @@ loop-left-preserved c =
     let r = c.in_ok-reached.reached in
     let at = c.loop-left.at.items in
     let by = c.room-by.result in
-    let reached : IsReached c.args.links.now c.args.count c.args.flow.now at c.args.start r =
-    subst (λ (z : List ℕ). IsReached c.args.links.now c.args.count c.args.flow.now z c.args.start r) c.deref.ensures.value c.in_ok-reached.ensures in
+    let reached : IsReached c.args.links.now c.args.count c.args.flow.now at c.args.start c.args.goal r =
+    subst (λ (z : List ℕ). IsReached c.args.links.now c.args.count c.args.flow.now z c.args.start c.args.goal r) c.deref.ensures.value c.in_ok-reached.ensures in
     let rises : (k : ℕ) → k < c.args.count → LetsRise c.args.links.now at r.order.items by k =
-    λ k l. subst (λ (z : List ℕ). LetsRise c.args.links.now z r.order.items by k) c.deref-in-loop-left.ensures.value
-    (subst (λ (z : List ℕ). LetsRise c.args.links.now c.deref-in-loop-left.result.now z by k) c.deref-in-loop-left-2.ensures.value (c.room-by.ensures.rises k l)) in
-    let risen = subst (λ (z : List ℕ). IsRisen z at by c.rise.new.at.items) c.deref-in-loop-left-3.ensures.value c.rise.ensures.risen in
+    λ k l. subst (λ (z : List ℕ). LetsRise c.args.links.now z r.order.items by k) c.deref-in-loop-left.ensures.value (c.room-by.ensures.rises k l) in
+    let risen = subst (λ (z : List ℕ). IsRisen z at by c.rise.new.at.items) c.deref-in-loop-left-2.ensures.value c.rise.ensures.risen in
     let e = reached.log.each in
     let f = c.loop-left.invariant.each in
     let inside : c.args.goal < length r.order.items = let g = c.requires.goal in omega arith in

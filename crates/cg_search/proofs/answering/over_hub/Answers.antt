@@ -1,4 +1,5 @@
-use Rattle.std.proofs.Common.{rules, ◌≡◌, ◌≤◌, refl, sym, subst, arith}
+use Rattle.std.proofs.Common.{rules, ◌≡◌, ◌<◌, ◌≤◌, refl, sym, subst, arith, ⊎_elim}
+use Rattle.std.proofs.lemmas.Bool.{cases_lt}
 use Rattle.cg_model.specs.Mapping.{IsLegal}
 use Rattle.cg_hub.specs.Hub.{HubEnough, hub_map}
 use Rattle.cg_task.specs.Intervals.{last_tried}
@@ -28,6 +29,18 @@ returns-then-hub_enough-clause-tried c =
       to = subst (λ z. z ≤ last_tried A asked) same (omega (arith, c.loop-ii-test.true, c.last_tried-ii-end.ensures));
       by = (subst (HubEnough A K) same enough, subst (HasNoHub A K asked moves first) same c.loop-ii.invariant, subst (λ z. hub_map A K ii ≡ hub_map A K z) same refl);
     })
+
+pub loop-ii-preserved : goal.loop-ii-preserved
+loop-ii-preserved c =
+    let ii = c.loop-ii.ii in
+    λ j from less enough.
+    ⊎_elim {C = ⊥} (λ (l : j < ii). c.loop-ii.invariant j from l enough)
+    (λ (l : ii ≤ j).
+    let same : j ≡ ii = omega (arith, l, less) in
+    let yes = c.hub_enough.ensures.1 (subst (HubEnough c.args.arch.now c.args.kernel.now) same enough) in
+    let no = c.if-hub_enough.false in
+    absurd (cc))
+    (cases_lt j ii)
 
 pub returns-clause-tried : goal.returns-clause-tried
 returns-clause-tried c = (

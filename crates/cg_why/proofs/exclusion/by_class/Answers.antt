@@ -1,7 +1,7 @@
 use Rattle.std.proofs.Common.{IfOk, sym, subst}
 use Rattle.cg_pressure.specs.Sums.{table}
 use Rattle.cg_why.specs.declared.reason.Kind.TheVariants as kinds
-use Rattle.cg_why.specs.Why.{IsFound}
+use Rattle.cg_why.specs.Scan.{IsFound}
 use Rattle.cg_why.proofs.Reasons.{class_found, no_class}
 use Rattle.cg_why.proofs.exclusion.by_class.Goals as goal
 use Rattle.cg_why.proofs.exclusion.by_class.Goals.{in-Overfull, in-Units}

@@ -4,7 +4,7 @@ use Rattle.cg_why_text.proofs.lines.push_lines.Given as goal
 
 abbrev pub invariant-loop-end : goal.invariant-loop-end
 invariant-loop-end l =
-    l.text.items ++ lines_to l.arch l.kernel l.fars l.owns l.end ≡ l.fn.text.items ++ lines_to l.arch l.kernel l.fars l.owns (l.arch.contexts + 1)
+    l.text.items ++ lines_to l.arch l.kernel l.fars l.bounds l.end ≡ l.fn.text.items ++ lines_to l.arch l.kernel l.fars l.bounds (l.arch.contexts + 1)
 
 abbrev pub decreases-loop-end : goal.decreases-loop-end
 decreases-loop-end l = l.end

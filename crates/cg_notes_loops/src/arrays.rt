@@ -1,0 +1,95 @@
+//! Arrays of loop bodies.
+
+use cg_model::MOST_MEMORY;
+use cg_notes_texts::{MOST_PARSED, words_of};
+use std::alloc::{AllocError, Global};
+
+/// The words of an array.
+#[derive(Clone, Copy, Drop)]
+struct Extent {
+    /// The address of the first.
+    first: u64,
+    /// How many there are.
+    length: u64,
+}
+
+impl Extent {
+    /// Returns the address behind the last word.
+    fn end(self) -> u64 {
+        self.first.saturating_add(self.length)
+    }
+
+    /// Checks whether it has a word that `other` has.
+    fn meets(self, other: Extent) -> bool {
+        self.first < other.end() && other.first < self.end()
+    }
+}
+
+/// Returns what is wrong with the array `name`, declared at byte `offset` of the loop body `bytes`.
+pub(crate) fn describe_array(
+    alloc: Global,
+    bytes: &[u8],
+    offset: usize,
+    name: &str,
+) -> Result<String, AllocError> {
+    let words = words_of(alloc, bytes.get(offset..).unwrap_or(&[]), 5)?;
+    let Some(extent) = extent_of(words.as_slice()) else {
+        return format!(in alloc; "the array {name} has no words, or lies past the memory");
+    };
+    let Extent { first, length } = extent;
+    if length == 0 {
+        return format!(in alloc; "the array {name} has no words: its len is 0");
+    }
+    let end = extent.end();
+    if end > u64::from(MOST_MEMORY) {
+        return format!(in alloc;
+            "the array {name} lies past the memory: it has {length} words from {first} on, and addresses are below 1048576"
+        );
+    }
+    let last = end.saturating_sub(1);
+    match met_array(alloc, bytes.get(..offset).unwrap_or(&[]), extent)? {
+        Some(other) => {
+            let other = other.as_str();
+            format!(in alloc; "the array {name}, the words {first} to {last}, meets {other}")
+        }
+        None => format!(in alloc;
+            "the array {name}, the words {first} to {last}, meets another array"
+        ),
+    }
+}
+
+/// Returns the extent that `words`, `NAME at FIRST len LENGTH`, give.
+fn extent_of(words: &[&str]) -> Option<Extent> {
+    match words {
+        [_, "at", first, "len", length, ..] => Some(Extent {
+            first: first.parse().ok()?,
+            length: length.parse().ok()?,
+        }),
+        _ => None,
+    }
+}
+
+/// Returns the first array declared in `before` that meets `extent`, with its words; None in a long text.
+fn met_array(alloc: Global, before: &[u8], extent: Extent) -> Result<Option<String>, AllocError> {
+    let most = if before.len() > MOST_PARSED {
+        0
+    } else {
+        before.len()
+    };
+    let words = words_of(alloc, before, most)?;
+    for (number, word) in words.iter().enumerate() {
+        let rest = words.get(number.saturating_add(1)..).unwrap_or(&[]);
+        if *word != "array" {
+            continue;
+        }
+        if let (Some(other), Some(name)) = (extent_of(rest), rest.first()) {
+            if extent.meets(other) {
+                let first = other.first;
+                let last = other.end().saturating_sub(1);
+                let text = format!(in alloc; "{name}, the words {first} to {last}")?;
+                return Ok(Some(text));
+            }
+        }
+    }
+    Ok(None)
+}

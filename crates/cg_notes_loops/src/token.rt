@@ -1,0 +1,74 @@
+//! Tokens of loop bodies and netlists, and the words around a place of them.
+
+use cg_notes_texts::is_word_byte;
+use std::fmt;
+
+/// The most bytes of a word that are shown.
+const MOST_SHOWN: usize = 40;
+
+/// What begins at a place of a text.
+#[derive(Clone, Copy, Drop)]
+pub(crate) enum Token<'a> {
+    /// Letters, digits and `_`, of which `MOST_SHOWN` bytes at most are kept.
+    Word(&'a str),
+    /// Another byte.
+    Byte(u8),
+}
+
+impl Token<'_> {
+    /// Returns the token that `rest` begins with, and `None` where it is empty.
+    pub(crate) fn at_start(rest: &[u8]) -> Option<Token<'_>> {
+        let first = *rest.first()?;
+        let shown = &rest[..rest.len().min(MOST_SHOWN)];
+        let length = shown.iter().take_while(|byte| is_word_byte(**byte)).count();
+        match std::str::from_utf8(&shown[..length]) {
+            Ok(word) if length > 0 => Some(Token::Word(word)),
+            _ => Some(Token::Byte(first)),
+        }
+    }
+
+    /// Checks whether it is the number of a port.
+    pub(crate) fn is_port(self) -> bool {
+        match self {
+            Token::Word(word) => matches!(word.parse::<u32>(), Ok(0..=15)),
+            Token::Byte(_) => false,
+        }
+    }
+}
+
+impl fmt::Display for Token<'_> {
+    fn fmt<W: fmt::Write>(&self, f: &mut fmt::Formatter<W>) -> fmt::Result {
+        match *self {
+            Token::Word(word) => f.write_str(word),
+            Token::Byte(byte) if byte.is_ascii_graphic() => f.write_char(char::from(byte)),
+            Token::Byte(byte) => write!(f, "byte 0x{byte:02X}"),
+        }
+    }
+}
+
+/// Returns the last byte of `bytes` that is no blank and no line end.
+pub(crate) fn last_byte(bytes: &[u8]) -> Option<u8> {
+    bytes
+        .iter()
+        .rev()
+        .find(|byte| !byte.is_ascii_whitespace())
+        .copied()
+}
+
+/// Checks whether `rest` begins as comments do elsewhere.
+pub(crate) fn begins_comment(rest: &[u8]) -> bool {
+    rest.starts_with(b"//") || rest.starts_with(b"/*") || rest.starts_with(b"#")
+}
+
+/// Checks whether `before` ends with a line end, and a word or a bracket before it.
+pub(crate) fn ends_without_semicolon(before: &[u8]) -> bool {
+    let ends_line = before
+        .iter()
+        .rev()
+        .take_while(|byte| byte.is_ascii_whitespace())
+        .any(|byte| *byte == b'\n');
+    match last_byte(before) {
+        Some(last) => ends_line && (is_word_byte(last) || last == b')' || last == b']'),
+        None => false,
+    }
+}

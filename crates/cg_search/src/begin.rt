@@ -1,0 +1,81 @@
+//! Where a search begins.
+ghost use Rattle.std.specs.Prelude.{ℕ, ◌≤◌, IfOk, Some, None};
+ghost use Rattle.cg_task.specs.Intervals.{IsAsked};
+ghost use Rattle.cg_why.specs.Why.{AreAllNumbers, IsImpossible};
+ghost use Rattle.cg_search.specs.Begin.{Begins};
+
+use cg_arch::Arch;
+use cg_model::Kernel;
+use cg_why::{Fars, Reason, explain, find_exclusion, find_fars};
+use std::alloc::{AllocError, Global};
+
+/// What excludes an interval.
+#[derive(Drop)]
+pub struct Exclusion {
+    /// The registers on the ways of the data edges, on which the reason stands.
+    pub fars: Fars,
+    /// The reason.
+    pub reason: Reason,
+}
+
+/// Where a search begins.
+#[derive(Drop)]
+pub(crate) enum Begin {
+    /// At this interval, in cycles.
+    At(u32),
+    /// Nowhere: each interval that may be tried is excluded, and this excludes the last.
+    Nowhere(Exclusion),
+}
+
+/// Finds the first interval that no reason excludes: `asked`, where one is asked for, or one from 1 to the contexts of `arch`.
+pub(crate) fn find_begin(
+    alloc: Global,
+    arch: &Arch,
+    kernel: &Kernel,
+    asked: Option<u32>,
+) -> Result<Begin, AllocError>
+    requires { IsAsked arch.now asked }
+    ensures { IfOk result (Begins arch.now kernel.now asked) }
+{
+    match asked {
+        Some(ii) => begin_at(alloc, arch, kernel, ii),
+        None => begin_at_least(alloc, arch, kernel),
+    }
+}
+
+/// Begins at the interval `ii`, where no reason excludes it.
+fn begin_at(alloc: Global, arch: &Arch, kernel: &Kernel, ii: u32) -> Result<Begin, AllocError>
+    requires some { 1 ≤ ii }
+    requires interval { ii ≤ arch.now.contexts }
+    ensures { IfOk result (Begins arch.now kernel.now (Some ii)) }
+{
+    let fars = find_fars(alloc, arch, kernel)?;
+    match find_exclusion(alloc, arch, kernel, &fars, ii)? {
+        Some(reason) => Ok(Begin::Nowhere(Exclusion { fars, reason })),
+        None => Ok(Begin::At(ii)),
+    }
+}
+
+/// Begins at the least interval that no reason excludes.
+fn begin_at_least(alloc: Global, arch: &Arch, kernel: &Kernel) -> Result<Begin, AllocError>
+    ensures { IfOk result (Begins arch.now kernel.now None) }
+{
+    let why = explain(alloc, arch, kernel)?;
+    match why.least.interval {
+        Some(least) => Ok(Begin::At(least)),
+        None => nowhere(alloc, arch, kernel, why.fars),
+    }
+}
+
+/// Begins nowhere: by the numbers `fars` each interval is excluded.
+fn nowhere(alloc: Global, arch: &Arch, kernel: &Kernel, fars: Fars) -> Result<Begin, AllocError>
+    requires numbers { AreAllNumbers arch.now kernel.now fars }
+    requires each { (ii : ℕ) → 1 ≤ ii → ii ≤ arch.now.contexts → IsImpossible arch.now kernel.now fars ii }
+    ensures { IfOk result (Begins arch.now kernel.now None) }
+{
+    let last = arch.contexts();
+    match find_exclusion(alloc, arch, kernel, &fars, last)? {
+        Some(reason) => Ok(Begin::Nowhere(Exclusion { fars, reason })),
+        None => unreachable!(),
+    }
+}

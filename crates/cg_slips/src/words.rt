@@ -1,0 +1,338 @@
+//! Words of other languages and tools for operations.
+
+use std::alloc::{AllocError, Global};
+
+/// Words for one operation.
+#[derive(Clone, Copy, Drop)]
+struct Synonym {
+    words: &'static [&'static str],
+    op: &'static str,
+}
+
+/// Words for one key.
+#[derive(Clone, Copy, Drop)]
+struct KeyWords {
+    words: &'static [&'static str],
+    key: &'static str,
+}
+
+/// Words that other formats have for keys. A word may stand at several, for objects of several kinds.
+static KEY_WORDS: [KeyWords; 24] = [
+    KeyWords {
+        words: &["operation", "opcode", "type", "kind", "function"],
+        key: "op",
+    },
+    KeyWords {
+        words: &["id", "label", "title"],
+        key: "name",
+    },
+    KeyWords {
+        words: &[
+            "input",
+            "operand",
+            "inputs",
+            "operands",
+            "arguments",
+            "sources",
+            "value",
+            "imm",
+            "const",
+        ],
+        key: "args",
+    },
+    KeyWords {
+        words: &["source", "src", "input", "inputs", "drivers", "sources"],
+        key: "from",
+    },
+    KeyWords {
+        words: &["target", "dst", "dest", "destination", "sink"],
+        key: "to",
+    },
+    KeyWords {
+        words: &["dist", "delay", "lag", "iterations"],
+        key: "distance",
+    },
+    KeyWords {
+        words: &["initial", "default", "start", "initial_value"],
+        key: "init",
+    },
+    KeyWords {
+        words: &["cycle", "start"],
+        key: "time",
+    },
+    KeyWords {
+        words: &["pe", "fu", "tile", "cell", "resource"],
+        key: "unit",
+    },
+    KeyWords {
+        words: &["interval", "initiation_interval"],
+        key: "ii",
+    },
+    KeyWords {
+        words: &["placement", "placements", "schedule"],
+        key: "places",
+    },
+    KeyWords {
+        words: &["routing", "edges", "connections"],
+        key: "routes",
+    },
+    KeyWords {
+        words: &["edges", "dependences", "dependencies"],
+        key: "order",
+    },
+    KeyWords {
+        words: &["operations", "instructions", "body"],
+        key: "nodes",
+    },
+    KeyWords {
+        words: &["index", "operand", "argument"],
+        key: "arg",
+    },
+    KeyWords {
+        words: &["route", "hops", "way"],
+        key: "path",
+    },
+    KeyWords {
+        words: &["register", "registers"],
+        key: "reg",
+    },
+    KeyWords {
+        words: &["operations", "functions"],
+        key: "ops",
+    },
+    KeyWords {
+        words: &["delay", "cycles"],
+        key: "latency",
+    },
+    KeyWords {
+        words: &["rows", "layout", "array"],
+        key: "grid",
+    },
+    KeyWords {
+        words: &["slots", "configurations", "depth"],
+        key: "contexts",
+    },
+    KeyWords {
+        words: &["stream", "channel"],
+        key: "port",
+    },
+    KeyWords {
+        words: &["mem", "words", "memory_size", "scratchpad"],
+        key: "memory",
+    },
+    KeyWords {
+        words: &["version", "schema"],
+        key: "format",
+    },
+];
+
+/// Words for what takes another form.
+#[derive(Clone, Copy, Drop)]
+struct OtherForm {
+    words: &'static [&'static str],
+    form: &'static str,
+}
+
+/// Words for operations that there are.
+static SYNONYMS: [Synonym; 22] = [
+    Synonym {
+        words: &["plus", "sum", "+", "addi", "iadd", "addition"],
+        op: "add",
+    },
+    Synonym {
+        words: &["minus", "subtract", "-", "subi", "isub", "difference"],
+        op: "sub",
+    },
+    Synonym {
+        words: &["times", "multiply", "mult", "*", "muli", "imul", "product"],
+        op: "mul",
+    },
+    Synonym {
+        words: &["&", "band", "bitand", "andi"],
+        op: "and",
+    },
+    Synonym {
+        words: &["|", "bor", "bitor", "ori"],
+        op: "or",
+    },
+    Synonym {
+        words: &["^", "eor", "bxor", "bitxor", "xori"],
+        op: "xor",
+    },
+    Synonym {
+        words: &["sll", "<<", "lsl", "lshift", "slli"],
+        op: "shl",
+    },
+    Synonym {
+        words: &["srl", ">>>", "lsr", "lshr", "srli"],
+        op: "shr",
+    },
+    Synonym {
+        words: &["sra", "asr", "ashr", "srai"],
+        op: "sar",
+    },
+    Synonym {
+        words: &["==", "equal", "equals", "seq"],
+        op: "eq",
+    },
+    Synonym {
+        words: &["!=", "neq", "<>", "noteq"],
+        op: "ne",
+    },
+    Synonym {
+        words: &["lt", "slt", "<", "less"],
+        op: "lts",
+    },
+    Synonym {
+        words: &["ult", "sltu"],
+        op: "ltu",
+    },
+    Synonym {
+        words: &["min", "smin", "minimum"],
+        op: "mins",
+    },
+    Synonym {
+        words: &["max", "smax", "maximum"],
+        op: "maxs",
+    },
+    Synonym {
+        words: &["mux", "sel", "ternary", "phi", "?:", "cmov", "ite", "if"],
+        op: "select",
+    },
+    Synonym {
+        words: &[
+            "constant",
+            "literal",
+            "imm",
+            "immediate",
+            "number",
+            "copy",
+            "move",
+            "mov",
+            "route",
+            "pass",
+        ],
+        op: "const",
+    },
+    Synonym {
+        words: &["in", "recv", "receive", "pop"],
+        op: "input",
+    },
+    Synonym {
+        words: &["out", "send", "push", "print"],
+        op: "output",
+    },
+    Synonym {
+        words: &["read", "ld", "lw", "fetch"],
+        op: "load",
+    },
+    Synonym {
+        words: &["write", "st", "sw"],
+        op: "store",
+    },
+    Synonym {
+        words: &["index", "i", "idx", "turn", "counter", "iteration", "loop"],
+        op: "iter",
+    },
+];
+
+/// Words for what other operations do, in another form.
+static FORMS: [OtherForm; 14] = [
+    OtherForm {
+        words: &["gt", "sgt", ">", "greater"],
+        form: "a > b is \"lts\" with its arguments exchanged, b before a (\"ltu\" where words have no sign)",
+    },
+    OtherForm {
+        words: &["ge", "gte", "sge", ">="],
+        form: "a >= b is \"lts\" of a and b, and then \"eq\" of that and 0",
+    },
+    OtherForm {
+        words: &["le", "lte", "sle", "<="],
+        form: "a <= b is \"lts\" of b and a, and then \"eq\" of that and 0",
+    },
+    OtherForm {
+        words: &[">>", "rshift"],
+        form: "it is \"sar\", or \"shr\" where words have no sign",
+    },
+    OtherForm {
+        words: &["neg", "negate"],
+        form: "it is \"sub\" with the number 0 as its first argument",
+    },
+    OtherForm {
+        words: &["not", "inv", "!", "~"],
+        form: "it is \"eq\" with the number 0, or bit by bit \"xor\" with the number 4294967295",
+    },
+    OtherForm {
+        words: &["div", "divide", "/", "mod", "rem", "%", "modulo"],
+        form: "nothing divides; \"shr\" by 1 halves, and \"and\" with 7 is the rest by 8",
+    },
+    OtherForm {
+        words: &["abs"],
+        form: "it is \"maxs\" of a and of \"sub\" with the arguments 0 and a",
+    },
+    OtherForm {
+        words: &["mac", "fma", "madd"],
+        form: "it is \"mul\" and then \"add\"",
+    },
+    OtherForm {
+        words: &["inc", "++"],
+        form: "it is \"add\" with the number 1",
+    },
+    OtherForm {
+        words: &["dec", "--"],
+        form: "it is \"sub\" with the number 1",
+    },
+    OtherForm {
+        words: &["cmp", "compare"],
+        form: "there are \"eq\", \"ne\", \"lts\" and \"ltu\"",
+    },
+    OtherForm {
+        words: &["minu", "umin", "maxu", "umax"],
+        form: "it is \"select\" by \"ltu\"",
+    },
+    OtherForm {
+        words: &["fadd", "fsub", "fmul", "fdiv", "sqrt"],
+        form: "words are whole numbers, and no operation has fractions",
+    },
+];
+
+/// Returns the operation that `word` means in other languages and tools, where it is one word for one. Capitals count as small
+/// letters.
+pub fn operation_meant(alloc: Global, word: &str) -> Result<Option<&'static str>, AllocError> {
+    let word = word.to_ascii_lowercase(alloc)?;
+    let word = word.as_str();
+    for synonym in &SYNONYMS {
+        if synonym.words.contains(&word) {
+            return Ok(Some(synonym.op));
+        }
+    }
+    Ok(None)
+}
+
+/// Returns how to write what `word` means in other languages and tools, where no operation does just that.
+pub(crate) fn form_meant(alloc: Global, word: &str) -> Result<Option<&'static str>, AllocError> {
+    let word = word.to_ascii_lowercase(alloc)?;
+    let word = word.as_str();
+    for other in &FORMS {
+        if other.words.contains(&word) {
+            return Ok(Some(other.form));
+        }
+    }
+    Ok(None)
+}
+
+/// Returns the one of `keys` that `word` means in other formats. Capitals count as small letters.
+pub(crate) fn key_meant(
+    alloc: Global,
+    word: &str,
+    keys: &[&'static str],
+) -> Result<Option<&'static str>, AllocError> {
+    let word = word.to_ascii_lowercase(alloc)?;
+    let word = word.as_str();
+    for known in &KEY_WORDS {
+        if keys.contains(&known.key) && known.words.contains(&word) {
+            return Ok(Some(known.key));
+        }
+    }
+    Ok(None)
+}
