@@ -1,0 +1,178 @@
+"""What the calls return."""
+
+from __future__ import annotations
+
+from dataclasses import dataclass, field
+from typing import Dict, List, Optional, Tuple
+
+from ._image import Image
+from ._kernel import Kernel
+
+
+@dataclass(frozen=True)
+class Bound:
+    """The least interval that no recurrence and no class forbids; None where an operation isn't offered.
+
+    `certificate` is the line that shows why the interval below is impossible, or every one; empty at interval 1.
+    """
+
+    interval: Optional[int]
+    certificate: str
+
+
+@dataclass(frozen=True)
+class Reason:
+    """The least interval that no reason of a kind excludes, None where each is excluded, and what excludes the one below."""
+
+    kind: str
+    interval: Optional[int]
+    certificate: str
+
+
+@dataclass(frozen=True)
+class Why:
+    """The least interval that no reason excludes, None where none is possible; by kind of reason its own.
+
+    `certificate` says what excludes the interval below where no kind does; `slots` are the register slots that are enough at
+    the least interval, of how many.
+    """
+
+    interval: Optional[int]
+    certificate: str
+    reasons: Dict[str, Reason]
+    slots: Optional[Tuple[int, int]]
+    report: str
+
+
+@dataclass(frozen=True)
+class Found:
+    """A mapping that was found: its interval and stages, how (`search`, `walk` or `hub`) and after how many moves.
+
+    `bits` is the file of its configuration, `mapping` its text; no unit, wire or register carries two values in a cycle, and
+    the array under these bits does what the turns of the kernel do.
+    """
+
+    interval: int
+    stages: int
+    by: str
+    moves: int
+    bits: bytes
+    mapping: str
+    notes: List[str] = field(default_factory=list)
+
+
+@dataclass(frozen=True)
+class Checked:
+    """Whether a mapping is legal, and else the lowest rule that it breaks, at its first place."""
+
+    legal: bool
+    rule: str
+    place: str
+    notes: List[str] = field(default_factory=list)
+
+    def __bool__(self) -> bool:
+        return self.legal
+
+
+@dataclass(frozen=True)
+class Emitted:
+    """The bits of a legal mapping, with its interval and stages."""
+
+    interval: int
+    stages: int
+    bits: bytes
+
+
+@dataclass(frozen=True)
+class Ran:
+    """A run of the array: its cycles, the accesses outside the memory, and the image that it leaves."""
+
+    cycles: int
+    outside: int
+    image: Image
+    notes: List[str] = field(default_factory=list)
+
+
+@dataclass(frozen=True)
+class Turned:
+    """Turns of a kernel: the accesses outside, whether all that matter are ordered, and the image that is left.
+
+    `unordered` names two accesses that the edges leave open: node and turn of the earlier, then of the later.
+    """
+
+    outside: int
+    ordered: bool
+    unordered: Optional[Tuple[str, int, str, int]]
+    image: Image
+    notes: List[str] = field(default_factory=list)
+
+
+@dataclass(frozen=True)
+class Depended:
+    """A kernel with the order edges that its accesses need: how many were added, and the kernel."""
+
+    added: int
+    order: int
+    kernel: Kernel
+
+
+@dataclass(frozen=True)
+class Looped:
+    """The kernel of a loop: its numbers of nodes and order edges, and the kernel."""
+
+    nodes: int
+    order: int
+    kernel: Kernel
+
+
+@dataclass(frozen=True)
+class Flat:
+    """An architecture by number: its resources, units and links, its digest, and its flat text."""
+
+    resources: int
+    units: int
+    links: int
+    digest: str
+    text: str
+
+
+@dataclass(frozen=True)
+class Verilog:
+    """An architecture as structural Verilog: its nets and cells, and the text."""
+
+    nets: int
+    cells: int
+    text: str
+
+
+@dataclass(frozen=True)
+class Bench:
+    """A test bench for simulators of Verilog: the cycles and accesses outside of its run, and the text."""
+
+    cycles: int
+    outside: int
+    text: str
+
+
+@dataclass(frozen=True)
+class Migrated:
+    """Bits of today's format out of those of the first one."""
+
+    interval: int
+    stages: int
+    bits: bytes
+
+
+@dataclass(frozen=True)
+class Shown:
+    """A legal mapping as a table, and as a picture in SVG."""
+
+    report: str
+    picture: str
+
+
+@dataclass(frozen=True)
+class Trial:
+    """The numbers of a trial's report, by their words."""
+
+    numbers: Dict[str, str]
