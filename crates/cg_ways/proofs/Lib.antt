@@ -8,6 +8,7 @@ pub mod Searches
 pub mod Looks
 pub mod Offering
 pub mod Questions
+pub mod Shared
 pub mod Rows
 pub mod Tables
 pub mod Always

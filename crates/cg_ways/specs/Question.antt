@@ -27,6 +27,10 @@ IsAskedWay A q n =
 abbrev pub IsAnswer : Arch → Question → Option ℕ → Type 0
 IsAnswer A q far = IsFound A (IsAskedWay A q) far
 
+-- the same units offer operations a and b
+abbrev pub AreAlike : Arch → Op → Op → Type 0
+AreAlike A a b = (x : ℕ) → (Offers A x a → Offers A x b) × (Offers A x b → Offers A x a)
+
 -- each answer that is kept is right
 abbrev pub AreAnswers : Arch → List Answer → Type 0
 AreAnswers A answers = (a : Answer) → Contains answers a → IsAnswer A a.question a.far

@@ -3,6 +3,7 @@ ghost use Rattle.std.specs.Prelude.{◌≡◌, ◌<◌, IfOk, OnOk, IfSome, leng
 ghost use Rattle.cg_ways.specs.Question.{IsAnswer, AreAnswers};
 ghost use Rattle.cg_ways.specs.declared.answers.Answer as answers_kept;
 
+use crate::alike::shared;
 use crate::question::{Question, is_same};
 use crate::units::work_out;
 use cg_arch::Arch;
@@ -28,7 +29,7 @@ fn find(answers: &[Answer], question: Question) -> Option<usize>
 }
 
 /// Answers a question by what is kept, or anew, and keeps the answer.
-pub(crate) fn ask(
+fn ask(
     alloc: Global,
     arch: &Arch,
     answers: &mut Vec<Answer>,
@@ -44,4 +45,18 @@ pub(crate) fn ask(
     let far = work_out(alloc, arch, question)?;
     answers.push(Answer { question, far })?;
     Ok(far)
+}
+
+/// Answers a question, once for all operations that the same units offer.
+pub(crate) fn ask_shared(
+    alloc: Global,
+    arch: &Arch,
+    answers: &mut Vec<Answer>,
+    question: Question,
+) -> Result<Option<u32>, AllocError>
+    requires { AreAnswers arch.now answers.old.items }
+    ensures answer { IfOk result (IsAnswer arch.now question) }
+    ensures kept { OnOk result (AreAnswers arch.now answers.new.items) }
+{
+    ask(alloc, arch, answers, shared(arch, question))
 }

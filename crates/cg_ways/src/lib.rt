@@ -1,6 +1,7 @@
 //! The least numbers of registers on the ways of a kernel's data edges through an architecture.
 #![tactic(auto)]
 
+mod alike;
 mod answers;
 mod laws;
 mod missing;

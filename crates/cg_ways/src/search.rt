@@ -1,5 +1,5 @@
 //! The search backward along links: the least number of registers on a way between resources.
-ghost use Rattle.std.specs.Prelude.{◌≡◌, ℕ, ◌+◌, ◌<◌, ◌≤◌, List, IfOk, OnOk, IfSome, IfNone, None, length, replicate};
+ghost use Rattle.std.specs.Prelude.{◌≡◌, ℕ, ◌+◌, ◌<◌, ◌≤◌, List, IfOk, OnOk, IfSome, IfNone, length};
 ghost use Rattle.cg_model.specs.Array as arrays;
 ghost use Rattle.cg_ways.specs.Search.{AreBelow, IsNext, AreMarks, IsBegun, IsSkipped, IsRisen, IsSearch, IsOpen, IsOver, IsSettled, Joins, IsFound};
 
@@ -20,17 +20,6 @@ struct Search {
     at: usize,
     /// The resources that wait for the next number.
     later: Vec<u32>,
-}
-
-/// Returns a list of `count` resources without a number.
-fn no_numbers(alloc: Global, count: usize) -> Result<Vec<Option<u32>>, AllocError>
-    ensures { IfOk result (λ list. list.items ≡ replicate count None) }
-{
-    let mut numbers = Vec::new(alloc);
-    for _ in 0..count {
-        numbers.push(None)?;
-    }
-    Ok(numbers)
 }
 
 /// Marks the resources of a list among `count` resources.
@@ -63,7 +52,7 @@ impl Search {
     fn new(alloc: Global, count: usize, ends: &[u32]) -> Result<Search, AllocError>
         ensures { IfOk result (IsBegun ends.now count) }
     {
-        let numbers = no_numbers(alloc, count)?;
+        let numbers = vec![in alloc; None; count]?;
         let front = ends.to_vec(alloc)?;
         Ok(Search {
             numbers,

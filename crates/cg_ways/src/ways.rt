@@ -4,7 +4,7 @@ ghost use Rattle.cg_model.specs.Kernel as kernels;
 ghost use Rattle.cg_ways.specs.Ways.{AreWays, AreSmall};
 ghost use Rattle.cg_ways.specs.Question.{AreEnds, MayBeEnds, AreAnswers, IsQuestionOf, IsNoEdge, IsFoundFar, IsRow};
 
-use crate::answers::{Answer, ask};
+use crate::answers::{Answer, ask_shared};
 use crate::question::{Ends, Question};
 use crate::table::Ways;
 use cg_arch::Arch;
@@ -66,7 +66,7 @@ fn far_at(
     ensures kept { OnOk result (AreAnswers arch.now answers.new.items) }
 {
     match question_at(kernel, ii, node, arg) {
-        Some(question) => ask(alloc, arch, answers, question),
+        Some(question) => ask_shared(alloc, arch, answers, question),
         None => Ok(None),
     }
 }
