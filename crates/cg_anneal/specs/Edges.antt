@@ -10,7 +10,7 @@ abbrev pub operand_edge : ℕ → ℕ → Operand → List EdgeOperand
 operand_edge v p (Constant w) = []
 operand_edge v p (Edge u d init) = record { node = v; arg = p; source = u; distance = d } ∷ []
 
--- edge operand i of a list is one of node v, or has v for its source
+-- edge operand i of a list is one of node v, or has v as its source
 abbrev pub touches_in : List EdgeOperand → ℕ → ℕ → Bool
 touches_in es v i =
     let e = slice_index_or es i (record { node = 0; arg = 0; source = 0; distance = 0 }) in eqb e.node v || eqb e.source v

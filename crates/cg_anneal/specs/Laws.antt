@@ -22,7 +22,7 @@ IsOneAnswer =
     (A : Arch) (K : Kernel) (ii seed moves : ℕ) (f g : Found) → IsWalked A K ii seed moves f →
     IsWalked A K ii seed moves g → f ≡ g
 
--- what the walk of a task finds is a legal mapping at its interval, after no more moves than there are
+-- what the walk of a task finds is a legal mapping at its interval, after no more moves than `moves`
 abbrev pub IsLegalEnd : Type 0
 IsLegalEnd =
     (T : Posed) (seed moves k : ℕ) (m : checks.Mapped) → IsTask T → IsWalked T.arch T.kernel T.ii seed moves (Mapped m k) →

@@ -1,4 +1,4 @@
--- What a step of the walk is made of.
+-- The parts of a step of the walk.
 use Rattle.std.specs.Prelude.{◌≡◌, ℕ, if◌then◌else◌, List, [], ◌∷◌, Option, Some, None}
 use Rattle.cg_model.specs.declared.mapping.Route.{Route}
 use Rattle.cg_walk.specs.declared.edge.EdgeOperand.{EdgeOperand}
@@ -14,7 +14,7 @@ put_back [] routes S = S
 put_back (i ∷ is) [] S = S
 put_back (i ∷ is) (route ∷ routes) S = put_back is routes (with_route S i route)
 
--- a move was tried, and stands or not, by a word
+-- a move was tried, and accepted or rejected by a word
 pub record IsAttempt (W : Walking) (m : Move) (moves k word : ℕ) (V : Walking) : Type 0 where
   pub tried : State
   pub is_tried : IsTried W.arch W.kernel W.ii m W.state tried
@@ -25,7 +25,7 @@ pub record IsStep (W : Walking) (moves k : ℕ) (g : Lcg) (V : Walking) : Type 0
   pub same : V ≡ at_state W V.state
   pub move : IsMove W.arch W.kernel W.ii W.early moves k g W.state V.state
 
--- the route of an edge operand, where there is one
+-- the route of an edge operand, if it has one
 abbrev pub route_of : EdgeOperand → Option (List ℕ) → List Route
 route_of e None = []
 route_of e (Some path) = record { node = e.node; arg = e.arg; path = path } ∷ []

@@ -1,4 +1,4 @@
--- The walk as it stands, and what is kept of it.
+-- The current state of the walk, and the data that is kept of it.
 use Rattle.std.specs.Prelude.{◌≡◌, ◌≢◌, ℕ, ◌<◌, ◌≤◌, true, List, Contains, length, Some, slice_get}
 use Rattle.cg_model.specs.Kernel.{Kernel, IsKernel, size, node}
 use Rattle.cg_model.specs.Array.{Arch, IsArch, unit}
@@ -27,15 +27,15 @@ pub record Walking : Type 0 where
 abbrev pub at_state : Walking → State → Walking
 at_state W S = record W { state = S }
 
--- what holds of it all along
+-- the invariant of the walk
 pub record IsWalking (W : Walking) : Type 0 where
   pub arch : IsArch W.arch
   pub kernel : IsKernel W.kernel
   pub ready : IsReady W.arch W.kernel W.ii W.early
   pub good : IsGood W.arch W.kernel W.ii W.state
 
--- what is kept: the graph, the edge operands, a placement, a use table with the uses of the state, and the number of
--- edge operands without a route
+-- the data that is kept: the graph, the edge operands, a placement, a use table with the uses of the state, and the
+-- number of edge operands without a route
 pub record IsKept (W : Walking) (graph : Graph) (es : List EdgeOperand) (P : Placed) (T : Table) (lost : ℕ) : Type 0 where
   pub walking : IsWalking W
   pub by_graph : graph ≡ record { arch = W.arch; interval = W.ii }
@@ -45,7 +45,7 @@ pub record IsKept (W : Walking) (graph : Graph) (es : List EdgeOperand) (P : Pla
   pub count : length T.positions ≡ length (state_positions W.arch W.kernel W.ii W.state)
   pub missing : lost ≡ missing W.state
 
--- the ends that a route has
+-- the ends of a route
 abbrev pub ends_are : RouteEnds → Ends
 ends_are e = record { from = e.from; start = e.start; to = e.to; end = e.end }
 
@@ -53,7 +53,7 @@ ends_are e = record { from = e.from; start = e.start; to = e.to; end = e.end }
 abbrev pub ends_at : Walking → ℕ → Ends
 ends_at W i = ends_of W.arch W.ii W.state.places (edge W.kernel i)
 
--- a node may be placed there
+-- the move may place its node there
 pub record MayPlace (W : Walking) (m : Move) : Type 0 where
   pub known : m.node < size W.kernel
   pub within : m.place.unit < length W.arch.units
@@ -65,7 +65,7 @@ abbrev pub IsAlone : Walking → ℕ → Type 0
 IsAlone W v =
     (i : ℕ) (path : List ℕ) → i < length (edges W.kernel) → touches W.kernel v i ≡ true → slice_get W.state.routes i ≢ Some (Some path)
 
--- these edge operands were routed, and no more
+-- these edge operands were routed, and no others
 pub record IsRoutedBy (is : List ℕ) (W V : Walking) : Type 0 where
   pub same : V ≡ at_state W V.state
   pub routed : IsRouted W.arch W.kernel W.ii is W.state V.state

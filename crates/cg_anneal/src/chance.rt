@@ -1,4 +1,4 @@
-//! Whether a move stands.
+//! Whether a move is accepted.
 ghost use Rattle.std.specs.Prelude.{◌≡◌, ◌<◌, ◌≤◌};
 ghost use Rattle.cg_walk.specs.Walk as spec;
 
@@ -14,8 +14,7 @@ fn heat(moves: u32, k: u32) -> u64
     1 + HOTTEST * u64::from(moves - k) / u64::from(moves)
 }
 
-/// Checks whether a move that takes the cost from `before` to `after` stands, by the drawn `word`. It is move `k` of
-/// `moves`.
+/// Checks whether move `k` of `moves`, which takes the cost from `before` to `after`, is accepted by the random `word`.
 pub(crate) fn is_taken(moves: u32, k: u32, before: u64, after: u64, word: u32) -> bool
     requires { k < moves }
     ensures { result ≡ spec.is_taken moves k before after word }

@@ -61,7 +61,7 @@ fn add_operand(
     }
 }
 
-/// Checks whether `edge` is an operand of `node`, or has it for its source.
+/// Checks whether `edge` is an operand of `node` or has `node` as its source.
 fn touches(edge: EdgeOperand, node: u32) -> bool
     ensures { result ≡ (eqb edge.node node || eqb edge.source node) }
 {
@@ -78,7 +78,7 @@ fn add_if(numbers: &mut Vec<u32>, number: u32, wanted: bool) -> Result<(), Alloc
     Ok(())
 }
 
-/// Returns the numbers of the `edges` that are operands of `node` or have it for their source, ascending.
+/// Returns the numbers of the `edges` that are operands of `node` or have it as their source, ascending.
 pub(crate) fn touching(
     alloc: Global,
     edges: &[EdgeOperand],

@@ -17,7 +17,7 @@ pub(crate) struct RouteEnds {
     pub(crate) end: u32,
 }
 
-/// Returns the ends of the route of `edge` at interval `ii`, where its source stands at `from` and its node at `to`.
+/// Returns the ends of the route of `edge` at interval `ii`, where its source is placed at `from` and its node at `to`.
 pub(crate) fn ends_between(
     arch: &Arch,
     ii: u32,

@@ -21,22 +21,22 @@ use std::alloc::{AllocError, Global};
 /// How a walk ends.
 #[derive(Drop)]
 pub enum Found<'a> {
-    /// At a legal mapping, after that number of moves.
+    /// With a legal mapping, after that number of moves.
     Mapped(LegalMapping<'a>, u32),
-    /// At that cost, after all moves.
+    /// With that cost, after all moves.
     Spent(u64),
 }
 
-/// Where a walk stands after its moves.
+/// The result of a walk's moves.
 #[derive(Clone, Copy, Drop)]
 pub(crate) enum Reached {
-    /// At a state of cost 0, after that number of moves.
+    /// A state of cost 0, after that number of moves.
     Zero(u32),
-    /// At that cost, after all moves.
+    /// That cost, after all moves.
     Cost(u64),
 }
 
-/// Makes the walk of `task` with the seed of `request` and at most its moves. `aside` takes the progress.
+/// Makes the walk of `task` with the seed of `request` and at most its number of moves. `aside` takes the progress.
 pub fn search<'a>(
     alloc: Global,
     task: &Task<'a>,
@@ -104,7 +104,7 @@ fn end_of<'g, 'a>(
     }
 }
 
-/// Returns the walk of `task` over `graph` at its start, with all edge operands routed that find a way.
+/// Returns the walk of `task` over `graph` at its start, with all edge operands routed for which a path is found.
 fn begin<'g, 'a>(
     alloc: Global,
     graph: &'g Mrrg<'a>,
@@ -128,7 +128,7 @@ fn route_first(alloc: Global, walk: &mut Walk) -> Result<(), AllocError>
     walk.route_all(alloc, &list)
 }
 
-/// Makes moves until a state of `walk` has cost 0, and else all moves of `request`. `aside` takes the progress.
+/// Makes moves until a state of `walk` has cost 0, or else all moves of `request`. `aside` takes the progress.
 fn make_moves(
     alloc: Global,
     counting: Counting,

@@ -5,8 +5,8 @@ mod plain;
 
 pub use plain::plain_search;
 
-/// States that the walk has one end: a kernel has one list of earliest times at an interval, and with these the walk
-/// ends in one way. So `search` gives one answer.
+/// States that the walk has one end: a kernel has one list of earliest times at an interval, and these determine how
+/// the walk ends. So `search` gives one answer.
 pub fn one_answer()
     ensures times { IsOneTime }
     ensures answer { IsOneAnswer }

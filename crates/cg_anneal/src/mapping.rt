@@ -1,4 +1,4 @@
-//! The mapping that a state stands for.
+//! The mapping that a state represents.
 ghost use Rattle.std.specs.Prelude.{◌≡◌, ◌++◌, OnOk};
 ghost use Rattle.cg_anneal.specs.Steps.{route_of};
 
@@ -7,7 +7,7 @@ use cg_model::{Mapping, Route, Words};
 use cg_walk::EdgeOperand;
 use std::alloc::{AllocError, Global};
 
-/// Adds the route of `edge` to `routes`, where there is one.
+/// Adds the route of `edge` to `routes`, if it has one.
 fn add_route(
     routes: &mut Vec<Route>,
     edge: EdgeOperand,
@@ -46,7 +46,7 @@ impl<'g, 'a> Walk<'g, 'a> {
         Ok(routes)
     }
 
-    /// Takes the mapping that the state stands for out of the walk.
+    /// Takes the mapping that the state represents out of the walk.
     pub(crate) fn take_mapping(&mut self, alloc: Global) -> Result<Mapping, AllocError>
         ensures { IfOk result (λ m. m ≡ mapping_of self.old.kernel self.old.ii self.old.state) }
     {

@@ -1,4 +1,4 @@
-//! Moves that are tried, and stand or not.
+//! Moves that are tried, and accepted or rejected.
 ghost use Rattle.std.specs.Prelude.{◌≡◌};
 ghost use Rattle.rand_pcg.specs.Pcg.{pcg32};
 ghost use Rattle.cg_walk.specs.Words as words;
@@ -14,7 +14,7 @@ use std::alloc::{AllocError, Global};
 /// The number of moves after which histories grow.
 const PERIOD: u32 = 64;
 
-/// Which move of a walk is made: its number, of how many; and how the costs of states are counted.
+/// The number of a move, the number of all moves, and how the costs of states are counted.
 #[derive(Clone, Copy, Drop)]
 pub(crate) struct Pace {
     pub(crate) counting: Counting,
@@ -67,8 +67,8 @@ impl<'g, 'a> Walk<'g, 'a> {
     ghost use Rattle.cg_anneal.specs.Walking as spec;
     ghost use Rattle.cg_anneal.specs.Steps.{IsAttempt, IsStep};
 
-    /// Tries the move `change`, with `list` the edge operands that touch its node. Where it doesn't stand by `word`,
-    /// the new routes are taken away, the node is placed as before, and the old routes are put back.
+    /// Tries the move `change`; `list` has the edge operands that touch its node. Where the move is rejected by `word`,
+    /// the new routes are removed, the node is placed as before, and the old routes are put back.
     fn attempt(
         &mut self,
         alloc: Global,

@@ -1,21 +1,21 @@
-//! What is reported of a walk while it goes on.
+//! The progress of a walk that is reported.
 
 use cg_aside::Aside;
 
 /// The number of moves from one report to the next.
 const REPORT_MOVES: u32 = 64;
 
-/// The costs that a walk met so far.
+/// The costs that a walk has had so far.
 #[derive(Drop)]
 pub(crate) struct Costs {
     /// The interval of the walk, in cycles.
     ii: u32,
-    /// The least cost; the greatest number where none was met yet.
+    /// The least cost; the greatest number where there is none yet.
     least: u64,
 }
 
 impl Costs {
-    /// Returns the costs of a walk at the interval `ii`, in cycles, that met none.
+    /// Returns the costs of a walk at the interval `ii`, in cycles, before its first state.
     pub(crate) fn new(ii: u32) -> Costs {
         Costs {
             ii,
@@ -23,7 +23,7 @@ impl Costs {
         }
     }
 
-    /// Meets `cost` after `k` moves, and reports to `aside` the least cost, where `k` is a multiple of `REPORT_MOVES`.
+    /// Notes `cost` after `k` moves, and reports the least cost to `aside` where `k` is a multiple of `REPORT_MOVES`.
     pub(crate) fn meet(&mut self, k: u32, cost: u64, aside: &mut dyn Aside) {
         self.least = self.least.min(cost);
         if k % REPORT_MOVES == 0 {

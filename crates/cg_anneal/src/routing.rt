@@ -1,4 +1,4 @@
-//! Edge operands that are routed, taken and put back one after another.
+//! Routing edge operands, and removing and restoring their routes.
 
 use crate::walk::Walk;
 use cg_model::Words;
@@ -13,7 +13,7 @@ impl<'g, 'a> Walk<'g, 'a> {
     ghost use Rattle.cg_anneal.specs.Steps.{put_back};
     ghost use Rattle.cg_anneal.specs.Walking as spec;
 
-    /// Routes edge operand `i`, which has no route, if a way is found.
+    /// Routes edge operand `i`, which has no route, if a path is found.
     fn route(&mut self, alloc: Global, i: u32) -> Result<(), AllocError>
         requires known { i < length (edges self.old.kernel) }
         requires none { slice_get self.old.state.routes i ≡ Some None }

@@ -1,4 +1,4 @@
-//! The walk as it stands.
+//! The current state of the walk.
 ghost use Rattle.std.specs.Prelude.{◌≡◌, IfOk, replicate, None};
 
 use crate::edges::{all, edges_of_kernel, touching};
@@ -15,8 +15,8 @@ use cg_walk::EdgeOperand;
 use std::alloc::{AllocError, Global};
 use std::marker::Model;
 
-/// What each edge operand without a route, each order edge that is broken and each node beyond one in a slot of a unit
-/// costs.
+/// The cost of each edge operand without a route, each order edge that is broken and each node beyond one in a slot of
+/// a unit.
 pub(crate) const WEIGHT: u64 = 1000;
 
 /// The state of a walk: places, routes and histories, with a use table that has the uses of the routes.
@@ -56,7 +56,7 @@ impl<'g, 'a> Walk<'g, 'a> {
     ghost use Rattle.cg_walk.specs.Ranges.{AreInRange};
     ghost use Rattle.cg_anneal.specs.Walking as spec;
 
-    /// Returns the source of edge operand `i`, and the ends of its route by the places as they stand.
+    /// Returns the source of edge operand `i`, and the ends of its route by the current places.
     fn ends(&self, i: u32) -> RouteEnds
         requires { i < length (edges self.now.kernel) }
         ensures source { result.source ≡ (edge self.now.kernel i).source }
@@ -141,7 +141,7 @@ impl<'g, 'a> Walk<'g, 'a> {
         self.routes.iter().filter(|route| route.is_none()).count() as u64
     }
 
-    /// Adds the claims of the route of edge operand `i` to `usage`, where there is one.
+    /// Adds the claims of the route of edge operand `i` to `usage`, if it has one.
     pub(crate) fn add_to(&self, usage: &mut PlainUsage, i: u32) -> Result<(), AllocError>
         requires known { i < length (edges self.now.kernel) }
         requires arch { usage.old.arch ≡ self.now.arch }
@@ -155,7 +155,7 @@ impl<'g, 'a> Walk<'g, 'a> {
         }
     }
 
-    /// Places a node of which no edge operand has a route, as `change` says, and returns the move that undoes it.
+    /// Places a node by `change`, where no edge operand of the node has a route, and returns the move that undoes it.
     pub(crate) fn place(&mut self, change: Move) -> Move
         requires may { spec.MayPlace self.old change }
         requires alone { spec.IsAlone self.old change.node }
@@ -259,7 +259,7 @@ impl<'g, 'a> Walk<'g, 'a> {
         Ok(places)
     }
 
-    /// States what holds of the walk; the call does nothing.
+    /// States the invariant of the walk; the call does nothing.
     pub(crate) fn holds(&self)
         ensures { spec.IsWalking self.now }
     {
@@ -280,7 +280,7 @@ impl<'g, 'a> Walk<'g, 'a> {
         all(alloc, &self.edges)
     }
 
-    /// Returns the move that the words `w1`, `w2` and `w3` draw: node, unit and time.
+    /// Returns the move that the random words `w1`, `w2` and `w3` determine: node, unit and time.
     pub(crate) fn propose(&self, w1: u32, w2: u32, w3: u32) -> Move
         requires { 0 < size self.now.kernel }
         ensures value { result ≡ drawn_move self.now.arch self.now.kernel self.now.ii self.now.early w1 w2 w3 }
@@ -298,7 +298,7 @@ impl<'g, 'a> Walk<'g, 'a> {
     }
 }
 
-/// Returns a list of `count` routes that aren't there.
+/// Returns a list of `count` missing routes.
 fn no_routes(alloc: Global, count: usize) -> Result<Vec<Option<Words>>, AllocError>
     ensures { IfOk result (λ v. v.items ≡ replicate count None) }
 {

@@ -1,4 +1,4 @@
--- What each command answers for its input files. A command is a case of each definition.
+-- The answer of each command for its input files. Each definition has a case for each command.
 use Rattle.std.specs.Prelude.{◌≡◌, ℕ, Bool, true, false, List, [], ◌∷◌, Ok}
 use Rattle.cg_model.specs.Kernel.{Kernel}
 use Rattle.cg_ending.specs.declared.outcome.Status.{Status}
@@ -62,17 +62,17 @@ IsAnswer Violations (arch ∷ kernel ∷ mapping ∷ []) [] o = IsViolations arc
 IsAnswer Why (arch ∷ kernel ∷ []) [] o = IsWhyOf arch kernel o
 IsAnswer _ _ _ o = ⊥
 
--- how the statuses of two outcomes that the command allows for the same files agree: they are equal; but whether `search` finds
--- a mapping is left open
+-- how the statuses of two outcomes that the command allows for the same files agree: they are equal, except that
+-- whether `search` finds a mapping is left open
 abbrev pub AgreeIn : Command → Status → Status → Type 0
 AgreeIn (Search s) a b = AreAgreed a b
 AgreeIn _ a b = a ≡ b
 
--- the bytes spell a kernel
+-- the bytes describe a kernel
 abbrev pub SpellsKernel : File → Type 0
 SpellsKernel file = (K : Kernel) × (answer_of file.bytes ≡ Ok K)
 
--- kernel and image are spelled, and of the n turns all accesses that matter are ordered
+-- the files contain a kernel and an image, and in the n iterations all accesses that matter are ordered
 pub record IsUnaliasedRun (n : ℕ) (file input : File) : Type 0 where
   pub kernel : Kernel
   pub image : works.Image
@@ -80,11 +80,11 @@ pub record IsUnaliasedRun (n : ℕ) (file input : File) : Type 0 where
   pub image_is : images.answer_of input.bytes ≡ Ok image
   pub unaliased : IsUnaliased kernel n image
 
--- the bytes give an architecture
+-- the bytes describe an architecture
 abbrev pub GivesArch : File → Type 0
 GivesArch file = (A : Arch) × AreValidBytes file.bytes A
 
--- the input files that the command takes to its end
+-- the input files for which the command completes
 abbrev pub Accepts : Command → List File → Type 0
 Accepts (Turns n) (file ∷ []) = SpellsKernel file
 Accepts (TurnsOnImage n) (file ∷ input ∷ []) = IsUnaliasedRun n file input
@@ -109,14 +109,14 @@ Accepts Violations (arch ∷ kernel ∷ mapping ∷ []) = IsLegalInput arch kern
 Accepts Why (arch ∷ kernel ∷ []) = IsPairInput arch kernel
 Accepts _ _ = ⊥
 
--- the input files for which the command says that an interval is impossible
+-- the input files for which the command reports that an interval is impossible
 abbrev pub Forbids : Command → List File → Type 0
 Forbids (Map s) (arch ∷ kernel ∷ []) = IsForbiddenInput s arch kernel
 Forbids (Search s) (arch ∷ kernel ∷ []) = IsForbiddenInput s arch kernel
 Forbids _ _ = ⊥
 
--- the first of the files that `map`, `search` and `emit` write runs a mapping of what was read under these names: whether it was
--- written, and how the call ended, is said apart
+-- the first of the files that `map`, `search` and `emit` write runs a mapping of what was read under these names;
+-- whether it was written, and how the call ended, is stated separately
 abbrev pub RunWrites : List File → Command → List Name → Moment → Type 0
 RunWrites [] command inputs before = Unit {0}
 RunWrites (file ∷ files) (Map s) (arch ∷ kernel ∷ []) before = RunsOfPair arch kernel before file.bytes
@@ -124,7 +124,8 @@ RunWrites (file ∷ files) (Search s) (arch ∷ kernel ∷ []) before = RunsOfPa
 RunWrites (file ∷ files) Emit (arch ∷ kernel ∷ mapping ∷ []) before = RunsRead arch kernel mapping before file.bytes
 RunWrites (file ∷ files) _ _ before = Unit {0}
 
--- what a command whose input and output files have these names leaves where it ends with Done: what is held, and what was put
+-- what a command whose input and output files have these names leaves where it ends with Done: what is held, and what
+-- was reported
 abbrev pub LeavesDone : Command → List Name → List Name → Moment → Moment → Type 0
 LeavesDone (Turns n) (file ∷ []) [] before after = IsTurned n file before after
 LeavesDone (TurnsOnImage n) (file ∷ input ∷ []) (out ∷ []) before after = IsOrderedRun n file input out before after
@@ -157,7 +158,7 @@ judges Show = true
 judges Violations = true
 judges _ = false
 
--- what it leaves where it ends with No
+-- what the command leaves where it ends with No
 abbrev pub LeavesNo : Command → List Name → List Name → Moment → Moment → Type 0
 LeavesNo (TurnsOnImage n) (file ∷ input ∷ []) (out ∷ []) before after = IsUnorderedRun n file input out before after
 LeavesNo Check (arch ∷ kernel ∷ mapping ∷ []) [] before after = IsIllegalCheck arch kernel mapping before after
@@ -166,20 +167,20 @@ LeavesNo Show (arch ∷ kernel ∷ mapping ∷ []) outs before after = IsIllegal
 LeavesNo Violations (arch ∷ kernel ∷ mapping ∷ []) [] before after = IsViolatedRun arch kernel mapping before after
 LeavesNo _ _ _ before after = ⊥
 
--- what it leaves where it ends with Impossible
+-- what the command leaves where it ends with Impossible
 abbrev pub LeavesImpossible : Command → List Name → Moment → Moment → Type 0
 LeavesImpossible (Map s) (arch ∷ kernel ∷ []) before after = IsImpossibleRun s arch kernel before after
 LeavesImpossible (Search s) (arch ∷ kernel ∷ []) before after = IsImpossibleRun s arch kernel before after
 LeavesImpossible _ _ before after = ⊥
 
--- what it leaves where it ends with BudgetSpent
+-- what the command leaves where it ends with BudgetSpent
 abbrev pub LeavesSpent : Command → List Name → Moment → Moment → Type 0
 LeavesSpent (Map s) (arch ∷ kernel ∷ []) before after = IsSpentRun s arch kernel before after
 LeavesSpent (Search s) (arch ∷ kernel ∷ []) before after = IsSearchSpentRun s arch kernel before after
 LeavesSpent _ _ before after = ⊥
 
--- what it leaves by its status: where the status can't come, nothing does. Of faults, running out of memory and the refusal of
--- a file the table of statuses speaks
+-- what the command leaves, by its status; nothing where it can't end with the status. Faults, running out of memory and
+-- the refusal of a file are covered by the table of statuses
 abbrev pub Leaves : Command → List Name → List Name → Status → Moment → Moment → Type 0
 Leaves command inputs outputs Done before after = LeavesDone command inputs outputs before after
 Leaves command inputs outputs No before after = LeavesNo command inputs outputs before after

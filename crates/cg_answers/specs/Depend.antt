@@ -23,7 +23,7 @@ use Rattle.cg_depend.specs.Texts.{depend_fault_text}
 abbrev pub depend_report : ℕ → ℕ → Bytes
 depend_report added all = line_then (codes "added " ∷ decimal added ∷ []) (line_of (codes "order " ∷ decimal all ∷ []))
 
--- how many order edges K has with es
+-- the number of order edges of K together with es
 abbrev pub order_with : Kernel → List OrderEdge → ℕ
 order_with K es = length K.order + length es
 
@@ -31,7 +31,7 @@ order_with K es = length K.order + length es
 abbrev pub written_of : ℕ → Kernel → Name → Outcome
 written_of added K out = writes_one Done (depend_report added (length K.order)) out (kernel_text K)
 
--- the same for K with the order edges es after its own
+-- Done: the text of K with the order edges es after its own is written under the name `out`
 abbrev pub depended : Kernel → List OrderEdge → Name → Outcome
 depended K es out = written_of (length es) (with_order K es) out
 
@@ -39,7 +39,7 @@ depended K es out = written_of (length es) (with_order K es) out
 abbrev pub too_many : Name → Kernel → List OrderEdge → Outcome
 too_many file K es = malformed_of file (depend_fault_text (TooManyEdges (order_with K es)))
 
--- one or the other, by how many there would be
+-- `too_many` or `depended`, by the number of order edges
 abbrev pub depend_by_edges : Name → Name → Kernel → List OrderEdge → Outcome
 depend_by_edges file out K es = if nat_lt most_order_edges (order_with K es) then too_many file K es else depended K es out
 
@@ -47,7 +47,7 @@ depend_by_edges file out K es = if nat_lt most_order_edges (order_with K es) the
 abbrev pub DependOf : Name → Name → Kernel → Outcome → Type 0
 DependOf file out K o = (es : List OrderEdge) × AreNeeded K es × (o ≡ depend_by_edges file out K es)
 
--- by what the file spells: a kernel, or a fault
+-- given the result of parsing the file: a kernel, or a fault
 abbrev pub DependBy : File → Name → Outcome → Result Kernel KernelFault → Type 0
 DependBy file out o (Ok K) = DependOf file.name out K o
 DependBy file out o (Err f) = o ≡ malformed_of file.name (kernel_fault_text f)
@@ -55,7 +55,7 @@ DependBy file out o (Err f) = o ≡ malformed_of file.name (kernel_fault_text f)
 abbrev pub IsDependOf : File → Name → Outcome → Type 0
 IsDependOf file out o = DependBy file out o (answer_of file.bytes)
 
--- the bytes spell a kernel that has few enough order edges with those that its accesses need
+-- the bytes describe a kernel whose order edges, with those that its accesses need, are within the limit
 pub record IsDependable (file : File) : Type 0 where
   pub kernel : Kernel
   pub kernel_is : answer_of file.bytes ≡ Ok kernel
@@ -63,9 +63,10 @@ pub record IsDependable (file : File) : Type 0 where
   pub needed : AreNeeded kernel edges
   pub few : order_with kernel edges ≤ most_order_edges
 
--- Done: a kernel was read; the text of the kernel with the edges that its accesses need is held under the other name, and
--- their numbers were put. It does the same turns, and no run of it of at most 1,000,000 turns leaves accesses unordered
--- that matter, whatever the image: so what holds of its mappings needs no premise on the image
+-- Done: a kernel was read; the text of the kernel with the edges that its accesses need is held under the other name,
+-- and the numbers of the edges were reported. The new kernel has the same iterations, and no run of it of at most
+-- 1,000,000 iterations leaves accesses unordered that matter, whatever the image: so what holds of its mappings needs
+-- no premise on the image
 pub record IsDepended (file out : Name) (before after : Moment) : Type 0 where
   pub bytes : Bytes
   pub held : Holds before.held file bytes

@@ -25,52 +25,53 @@ use Rattle.cg_bits.specs.Texts.{first_fault_text}
 use Rattle.cg_sim.specs.FirstMachine.{first_left}
 use Rattle.cg_mapping_answers.specs.Emit.{RunsMapping}
 
--- the interval and the stages of a configuration, and how many bytes are written
+-- the interval and the stages of a configuration, and the number of bytes that are written
 abbrev pub migrate_report : Config → Bytes → Bytes
 migrate_report C bytes =
     line_then (codes "ii " ∷ decimal C.ii ∷ [])
     (line_then (codes "stages " ∷ decimal C.stages ∷ []) (line_of (codes "bytes " ∷ decimal (length bytes) ∷ [])))
 
--- Done: bytes are written that spell the configuration in the format of today
+-- Done: bytes that encode the configuration in the current format are written
 pub record IsRewritten (A : Arch) (C : Config) (out : Name) (o : Outcome) : Type 0 where
   pub bytes : Bytes
   pub spelled : AreBits A C bytes
   pub outcome : o ≡ record { status = Done; report = migrate_report C bytes; writes = record { name = out; bytes = bytes } ∷ [] }
 
--- by what the file of bits spells in the first format: a configuration, or a fault
+-- given the result of parsing the file of bits in the first format: a configuration, or a fault
 abbrev pub MigrateBits : Arch → Name → Name → Outcome → Result Config BitsFault → Type 0
 MigrateBits A file out o (Ok C) = IsRewritten A C out o
 MigrateBits A file out o (Err f) = o ≡ malformed_of file (first_fault_text f)
 
--- by what is read first: an architecture, or a fault
+-- given the result of parsing the architecture, which is read first: an architecture, or a fault
 abbrev pub MigrateBy : File → File → Name → Outcome → Result Arch TilesFault → Type 0
 MigrateBy arch file out o (Ok A) = MigrateBits A file.name out o (answer_in cgb1 A file.bytes)
 MigrateBy arch file out o (Err f) = o ≡ malformed_of arch.name (tiles_fault_text f)
 
--- by what the first file gives, of which only the loop may be chosen
+-- the result of parsing the first file: an architecture, or a fault, of which only the loop may be chosen
 pub record IsMigrate (arch file : File) (out : Name) (o : Outcome) : Type 0 where
   pub given : Result Arch TilesFault
   pub is_given : tiles.IsAnswer arch.bytes given
   pub no_memory : given ≢ Err fault.Memory
   pub outcome : MigrateBy arch file out o given
 
--- the files give an architecture and a configuration of it in the first format
+-- the files contain an architecture and a configuration of it in the first format
 pub record IsMigratable (arch file : File) : Type 0 where
   pub array : Arch
   pub given : AreValidBytes arch.bytes array
   pub config : Config
   pub config_is : answer_in cgb1 array file.bytes ≡ Ok config
 
--- the bytes run each legal mapping of a valid kernel whose configuration this is
+-- the bytes run each legal mapping of a valid kernel that has this configuration
 abbrev pub RunMappingsOf : Arch → Config → Bytes → Type 0
 RunMappingsOf A C bytes =
     (K : Kernel) (M : Mapping) → IsKernel K → IsLegal A K M → C ≡ configuration_of A K M →
     RunsMapping (record { arch = A; kernel = K; mapping = M }) bytes
 
--- Done: an architecture and a configuration of it, which the bytes `old` spell in the first format, were read; under the last
--- name bytes `new` are held that spell the same configuration in the format of today, and its interval, its stages and their
--- number were put. Under it the array of the first format's time and that of today leave the same memory, streams and count, for
--- every number of turns and from every image; and where it is the configuration of a legal mapping, `new` runs that mapping
+-- Done: an architecture and a configuration of it, which the bytes `old` encode in the first format, were read; bytes
+-- `new` that encode the same configuration in the current format are held under the last name, and its interval, its
+-- stages and the number of these bytes were reported. Under it the array at the time of the first format and the
+-- current one leave the same memory, streams and count, for every number of iterations and from every image; and where
+-- it is the configuration of a legal mapping, `new` runs that mapping
 pub record IsMigrated (arch file out : Name) (before after : Moment) : Type 0 where
   pub arch_bytes : Bytes
   pub arch_held : Holds before.held arch arch_bytes

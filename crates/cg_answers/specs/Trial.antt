@@ -15,7 +15,8 @@ pub record IsTrialOf (seed : ℕ) (o : Outcome) : Type 0 where
   pub is_trial : IsTrial seed report
   pub outcome : o ≡ reports Done report
 
--- Done: the bits run the mapping of the seed's kernel over the hub, both runs leave one image, and that was put
+-- Done: the bits run the mapping of the seed's kernel over the hub, both runs leave the same image, and that was
+-- reported
 pub record IsTrialRun (seed : ℕ) (before after : Moment) : Type 0 where
   pub bits : Bytes
   pub runs : RunsMapping (trial_mapped seed) bits

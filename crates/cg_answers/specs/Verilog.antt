@@ -15,7 +15,7 @@ use Rattle.cg_verilog.specs.Printed.{module_text}
 use Rattle.cg_netlist.specs.Netlist.{NetGraph, netlist_of}
 use Rattle.cg_netlist.specs.Text.{module_of}
 
--- how many nets and cells there are
+-- the numbers of nets and cells
 abbrev pub verilog_report : NetGraph → Bytes
 verilog_report G =
     line_then (codes "nets " ∷ decimal (length G.nets) ∷ []) (line_of (codes "cells " ∷ decimal (length G.cells) ∷ []))
@@ -36,14 +36,14 @@ abbrev pub verilog_by : File → Name → Result Arch TilesFault → Outcome
 verilog_by file out (Ok A) = netlisted A out
 verilog_by file out (Err f) = malformed_of file.name (tiles_fault_text f)
 
--- by what the file gives: an architecture, or a fault, of which only the loop may be chosen
+-- the result of parsing the file: an architecture, or a fault, of which only the loop may be chosen
 pub record IsVerilog (file : File) (out : Name) (o : Outcome) : Type 0 where
   pub given : Result Arch TilesFault
   pub is_given : tiles.IsAnswer file.bytes given
   pub no_memory : given ≢ Err fault.Memory
   pub outcome : o ≡ verilog_by file out given
 
--- Done: an architecture was read, the text of its netlist is held under the other name, and its counts were put
+-- Done: an architecture was read, the text of its netlist is held under the other name, and its counts were reported
 pub record IsNetlisted (file out : Name) (before after : Moment) : Type 0 where
   pub bytes : Bytes
   pub held : Holds before.held file bytes

@@ -1,4 +1,4 @@
-//! What the planned command answers.
+//! The answer of a planned command.
 ghost use Rattle.std.specs.Prelude.{length, map, string_bytes};
 ghost use Rattle.cg_ending.specs.Allowed.{Allows};
 ghost use Rattle.cg_ending.specs.Outcome.{file_of};
@@ -11,7 +11,7 @@ use cg_command::{Command, Plan};
 use cg_ending::{File, Outcome, Stop};
 use std::alloc::Global;
 
-/// Returns the outcome of the command of `plan` over `files`, its input files in the order of reading. `aside` takes
+/// Returns the outcome of the command of `plan` for `files`, its input files in the order of reading. `aside` receives
 /// the progress of a search.
 pub fn answer(
     alloc: Global,

@@ -11,8 +11,8 @@ use cg_kernel_text::print_kernel;
 use cg_model::Kernel;
 use std::alloc::{AllocError, Global};
 
-/// Returns the outcome of `depend`: the kernel that `file` spells with the order edges that its accesses need, to be
-/// written under the name `out`.
+/// Returns the outcome of `depend`: the kernel in `file` with the order edges that its accesses need, to be written
+/// under the name `out`.
 pub(crate) fn depend(alloc: Global, file: &File, out: &str) -> Result<Outcome, Stop>
     ensures { Allows (IsDependOf (file_of file.now) out.now) result }
 {
@@ -20,7 +20,7 @@ pub(crate) fn depend(alloc: Global, file: &File, out: &str) -> Result<Outcome, S
     depended(alloc, file, &kernel, out)
 }
 
-/// Returns the outcome for `kernel`, which `file` spells.
+/// Returns the outcome for `kernel`, which was read from `file`.
 fn depended(alloc: Global, file: &File, kernel: &Kernel, out: &str) -> Result<Outcome, Stop>
     ensures { Allows (DependOf (file_of file.now).name out.now kernel.now) result }
 {
@@ -34,7 +34,8 @@ fn depended(alloc: Global, file: &File, kernel: &Kernel, out: &str) -> Result<Ou
     }
 }
 
-/// Returns the outcome that writes the kernel of `done` under the name `out`, and reports its numbers.
+/// Returns the outcome that writes the kernel of `done` under the name `out`, and reports the numbers of its order
+/// edges.
 fn written(alloc: Global, done: &DependDone, out: &str) -> Result<Outcome, Stop>
     ensures { Allows (λ o. o ≡ written_of done.now.added done.now.kernel out.now) result }
 {
@@ -43,7 +44,7 @@ fn written(alloc: Global, done: &DependDone, out: &str) -> Result<Outcome, Stop>
     Ok(Outcome::with_file(alloc, Status::Done, report, out, text)?)
 }
 
-/// Returns the report: `added` edges were added, and there are `all` of them.
+/// Returns the report: `added` order edges were added, and the kernel now has `all`.
 fn depend_report(alloc: Global, added: u32, all: usize) -> Result<Vec<u8>, AllocError>
     ensures { IfOk result (λ v. v.items ≡ depend_report added all) }
 {

@@ -1,4 +1,5 @@
-//! What commands answer: from a plan and the bytes of its input files to an outcome. No store and no sink is known here.
+//! The answers of all commands: from a plan and the bytes of its input files to an outcome, independent of any store or
+//! sink.
 #![tactic(auto)]
 
 mod answering;

@@ -13,8 +13,8 @@ use cg_ending::{File, Outcome, Status, Stop, refusal};
 use cg_inputs::arch_in;
 use std::alloc::{AllocError, Global};
 
-/// Returns the outcome of `migrate`: the configuration that `file` spells in the first format for the architecture that
-/// `arch` gives, to be written in the format of today under the name `out`.
+/// Returns the outcome of `migrate`: the configuration in `file`, which is encoded in the first format for the
+/// architecture in `arch`, to be written in the current format under the name `out`.
 pub(crate) fn migrate(alloc: Global, arch: &File, file: &File, out: &str) -> Result<Outcome, Stop>
     ensures { Allows (IsMigrate (file_of arch.now) (file_of file.now) out.now) result }
 {
@@ -22,7 +22,7 @@ pub(crate) fn migrate(alloc: Global, arch: &File, file: &File, out: &str) -> Res
     migrated(alloc, &array, file, out)
 }
 
-/// Returns the outcome for `array`: the configuration that `file` spells for it, to be written under `out`.
+/// Returns the outcome for `array`: the configuration of it in `file`, to be written under `out`.
 fn migrated(alloc: Global, array: &Arch, file: &File, out: &str) -> Result<Outcome, Stop>
     ensures { Allows (λ o. MigrateBits array.now (file_of file.now).name out.now o
         (answer_in cgb1 array.now (file_of file.now).bytes)) result }
@@ -48,8 +48,8 @@ fn rewritten(alloc: Global, array: &Arch, config: &Config, out: &str) -> Result<
     Ok(Outcome::with_file(alloc, Status::Done, report, out, bits)?)
 }
 
-/// Returns the report on `config` and its bits: its interval in cycles, its number of stages, and how many bytes `bits`
-/// are.
+/// Returns the report on `config` and its bits: its interval in cycles, its number of stages, and the number of bytes
+/// of `bits`.
 fn migrate_report(alloc: Global, config: &Config, bits: &[u8]) -> Result<Vec<u8>, AllocError>
     ensures { IfOk result (λ v. v.items ≡ migrate_report config.now bits.now) }
 {

@@ -10,8 +10,7 @@ use cg_inputs::arch_in;
 use cg_netlist::{NetGraph, netlist, verilog as text_of};
 use std::alloc::{AllocError, Global};
 
-/// Returns the outcome of `verilog`: the netlist of the architecture that `file` gives, to be written under the name
-/// `out`.
+/// Returns the outcome of `verilog`: the netlist of the architecture in `file`, to be written under the name `out`.
 pub(crate) fn verilog(alloc: Global, file: &File, out: &str) -> Result<Outcome, Stop>
     ensures { Allows (IsVerilog (file_of file.now) out.now) result }
 {
@@ -29,7 +28,7 @@ fn netlisted(alloc: Global, arch: &Arch, out: &str) -> Result<Outcome, Stop>
     Ok(Outcome::with_file(alloc, Status::Done, report, out, text)?)
 }
 
-/// Returns the report on `graph`: how many nets and cells it has.
+/// Returns the report on `graph`: the numbers of its nets and cells.
 fn verilog_report(alloc: Global, graph: &NetGraph) -> Result<Vec<u8>, AllocError>
     ensures { IfOk result (λ v. v.items ≡ verilog_report graph.now) }
 {

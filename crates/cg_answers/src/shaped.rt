@@ -1,4 +1,4 @@
-//! The commands, each over the files and the names that its shape gives it.
+//! The commands, each with the files and the names that its shape requires.
 ghost use Rattle.std.specs.Prelude.{length, map, string_bytes};
 ghost use Rattle.cg_ending.specs.Allowed.{Allows};
 ghost use Rattle.cg_ending.specs.Outcome.{file_of};
@@ -12,7 +12,7 @@ use cg_ending::{File, Outcome, Status, Stop};
 use cg_model::Request;
 use std::alloc::Global;
 
-/// Answers `turns KERNEL TURNS` over `files`.
+/// Answers `turns KERNEL TURNS` for `files`.
 pub(crate) fn turns(
     alloc: Global,
     turns: u32,
@@ -25,7 +25,7 @@ pub(crate) fn turns(
     cg_run_answers::turns(alloc, turns, &files[0])
 }
 
-/// Answers `turns KERNEL TURNS IN OUT` over `files`; `outputs` is the name of the result image.
+/// Answers `turns KERNEL TURNS IN OUT` for `files`; `outputs` contains the name of the result image.
 pub(crate) fn turns_on_image(
     alloc: Global,
     turns: u32,
@@ -38,7 +38,7 @@ pub(crate) fn turns_on_image(
     cg_run_answers::turns_on_image(alloc, turns, &files[0], &files[1], outputs[0].as_str())
 }
 
-/// Answers `flat ARCH OUT` over `files`; `outputs` is the name of the flat text.
+/// Answers `flat ARCH OUT` for `files`; `outputs` contains the name of the flat text.
 pub(crate) fn flat(alloc: Global, files: &[File], outputs: &[String]) -> Result<Outcome, Stop>
     requires { HasShape (Command.Flat) (length files.now) (length outputs.now) }
     ensures { Allows (IsAnswer (Command.Flat) (map file_of files.now) (map string_bytes outputs.now)) result }
@@ -46,8 +46,8 @@ pub(crate) fn flat(alloc: Global, files: &[File], outputs: &[String]) -> Result<
     cg_run_answers::flat(alloc, &files[0], outputs[0].as_str())
 }
 
-/// Answers `run ARCH BITS TURNS IN OUT [--netlist FILE]` over `files`, of which a fourth is that of the netlist; `outputs` is
-/// the name of the result image.
+/// Answers `run ARCH BITS TURNS IN OUT [--netlist FILE]` for `files`, of which the fourth, if given, contains the
+/// netlist; `outputs` contains the name of the result image.
 pub(crate) fn run(
     alloc: Global,
     turns: u32,
@@ -74,7 +74,7 @@ pub(crate) fn run(
     }
 }
 
-/// Answers `bound ARCH KERNEL` over `files`.
+/// Answers `bound ARCH KERNEL` for `files`.
 pub(crate) fn bound(alloc: Global, files: &[File], outputs: &[String]) -> Result<Outcome, Stop>
     requires { HasShape (Command.Bound) (length files.now) (length outputs.now) }
     ensures { Allows (IsAnswer (Command.Bound) (map file_of files.now) (map string_bytes outputs.now)) result }
@@ -82,7 +82,7 @@ pub(crate) fn bound(alloc: Global, files: &[File], outputs: &[String]) -> Result
     cg_mapping_answers::bound(alloc, &files[0], &files[1])
 }
 
-/// Answers `check ARCH KERNEL MAPPING` over `files`.
+/// Answers `check ARCH KERNEL MAPPING` for `files`.
 pub(crate) fn check(alloc: Global, files: &[File], outputs: &[String]) -> Result<Outcome, Stop>
     requires { HasShape (Command.Check) (length files.now) (length outputs.now) }
     ensures { Allows (IsAnswer (Command.Check) (map file_of files.now) (map string_bytes outputs.now)) result }
@@ -90,7 +90,7 @@ pub(crate) fn check(alloc: Global, files: &[File], outputs: &[String]) -> Result
     cg_mapping_answers::check(alloc, &files[0], &files[1], &files[2])
 }
 
-/// Answers `emit ARCH KERNEL MAPPING OUT` over `files`; `outputs` is the name of the bits.
+/// Answers `emit ARCH KERNEL MAPPING OUT` for `files`; `outputs` contains the name of the bits.
 pub(crate) fn emit(alloc: Global, files: &[File], outputs: &[String]) -> Result<Outcome, Stop>
     requires { HasShape (Command.Emit) (length files.now) (length outputs.now) }
     ensures { Allows (IsAnswer (Command.Emit) (map file_of files.now) (map string_bytes outputs.now)) result }
@@ -98,8 +98,8 @@ pub(crate) fn emit(alloc: Global, files: &[File], outputs: &[String]) -> Result<
     cg_mapping_answers::emit(alloc, &files[0], &files[1], &files[2], outputs[0].as_str())
 }
 
-/// Answers `map ARCH KERNEL OUT` over `files`; `outputs` are the name of the bits and, where it is given, that of the
-/// mapping. `aside` takes the progress.
+/// Answers `map ARCH KERNEL OUT` for `files`; `outputs` contains the name of the bits and, if given, that of the
+/// mapping. `aside` receives the progress.
 pub(crate) fn map(
     alloc: Global,
     request: Request,
@@ -113,8 +113,8 @@ pub(crate) fn map(
     cg_map_answers::map(alloc, request, &files[0], &files[1], outputs, aside)
 }
 
-/// Answers `search ARCH KERNEL OUT` over `files`; `outputs` are the name of the bits and, where it is given, that of
-/// the mapping. `aside` takes the progress.
+/// Answers `search ARCH KERNEL OUT` for `files`; `outputs` contains the name of the bits and, if given, that of the
+/// mapping. `aside` receives the progress.
 pub(crate) fn search(
     alloc: Global,
     request: Request,
@@ -128,7 +128,7 @@ pub(crate) fn search(
     cg_search_answers::search(alloc, request, &files[0], &files[1], outputs, aside)
 }
 
-/// Answers `show ARCH KERNEL MAPPING [OUT]` over `files`; `outputs` is the name of the picture, where it is given.
+/// Answers `show ARCH KERNEL MAPPING [OUT]` for `files`; `outputs` contains the name of the picture, if given.
 pub(crate) fn show(alloc: Global, files: &[File], outputs: &[String]) -> Result<Outcome, Stop>
     requires { HasShape (Command.Show) (length files.now) (length outputs.now) }
     ensures { Allows (IsAnswer (Command.Show) (map file_of files.now) (map string_bytes outputs.now)) result }
@@ -150,7 +150,7 @@ pub(crate) fn trial(
     Ok(Outcome::new(alloc, Status::Done, report))
 }
 
-/// Answers `verilog ARCH OUT` over `files`; `outputs` is the name of the netlist.
+/// Answers `verilog ARCH OUT` for `files`; `outputs` contains the name of the netlist.
 pub(crate) fn verilog(alloc: Global, files: &[File], outputs: &[String]) -> Result<Outcome, Stop>
     requires { HasShape (Command.Verilog) (length files.now) (length outputs.now) }
     ensures { Allows (IsAnswer (Command.Verilog) (map file_of files.now) (map string_bytes outputs.now)) result }
@@ -158,7 +158,7 @@ pub(crate) fn verilog(alloc: Global, files: &[File], outputs: &[String]) -> Resu
     netlisting::verilog(alloc, &files[0], outputs[0].as_str())
 }
 
-/// Answers `loop SOURCE OUT` over `files`; `outputs` is the name of the kernel.
+/// Answers `loop SOURCE OUT` for `files`; `outputs` contains the name of the kernel.
 pub(crate) fn loop_kernel(
     alloc: Global,
     files: &[File],
@@ -170,7 +170,7 @@ pub(crate) fn loop_kernel(
     cg_loop_answers::loop_answer(alloc, &files[0], outputs[0].as_str())
 }
 
-/// Answers `depend KERNEL OUT` over `files`; `outputs` is the name of the new kernel.
+/// Answers `depend KERNEL OUT` for `files`; `outputs` contains the name of the new kernel.
 pub(crate) fn depend(alloc: Global, files: &[File], outputs: &[String]) -> Result<Outcome, Stop>
     requires { HasShape (Command.Depend) (length files.now) (length outputs.now) }
     ensures { Allows (IsAnswer (Command.Depend) (map file_of files.now) (map string_bytes outputs.now)) result }
@@ -178,7 +178,7 @@ pub(crate) fn depend(alloc: Global, files: &[File], outputs: &[String]) -> Resul
     depending::depend(alloc, &files[0], outputs[0].as_str())
 }
 
-/// Answers `migrate ARCH BITS OUT` over `files`; `outputs` is the name of the new bits.
+/// Answers `migrate ARCH BITS OUT` for `files`; `outputs` contains the name of the new bits.
 pub(crate) fn migrate(alloc: Global, files: &[File], outputs: &[String]) -> Result<Outcome, Stop>
     requires { HasShape (Command.Migrate) (length files.now) (length outputs.now) }
     ensures { Allows (IsAnswer (Command.Migrate) (map file_of files.now) (map string_bytes outputs.now)) result }
@@ -186,7 +186,7 @@ pub(crate) fn migrate(alloc: Global, files: &[File], outputs: &[String]) -> Resu
     migrating::migrate(alloc, &files[0], &files[1], outputs[0].as_str())
 }
 
-/// Answers `bench ARCH BITS TURNS IN OUT` over `files`; `outputs` is the name of the bench.
+/// Answers `bench ARCH BITS TURNS IN OUT` for `files`; `outputs` contains the name of the test bench.
 pub(crate) fn bench(
     alloc: Global,
     turns: u32,
@@ -206,7 +206,7 @@ pub(crate) fn bench(
     )
 }
 
-/// Answers `image TEXT OUT` over `files`; `outputs` is the name of the image.
+/// Answers `image TEXT OUT` for `files`; `outputs` contains the name of the image.
 pub(crate) fn image(alloc: Global, files: &[File], outputs: &[String]) -> Result<Outcome, Stop>
     requires { HasShape (Command.Image) (length files.now) (length outputs.now) }
     ensures { Allows (IsAnswer (Command.Image) (map file_of files.now) (map string_bytes outputs.now)) result }
@@ -214,7 +214,7 @@ pub(crate) fn image(alloc: Global, files: &[File], outputs: &[String]) -> Result
     cg_image_answers::image(alloc, &files[0], outputs[0].as_str())
 }
 
-/// Answers `words IMAGE` over `files`.
+/// Answers `words IMAGE` for `files`.
 pub(crate) fn words(alloc: Global, files: &[File], outputs: &[String]) -> Result<Outcome, Stop>
     requires { HasShape (Command.Words) (length files.now) (length outputs.now) }
     ensures { Allows (IsAnswer (Command.Words) (map file_of files.now) (map string_bytes outputs.now)) result }
@@ -222,7 +222,7 @@ pub(crate) fn words(alloc: Global, files: &[File], outputs: &[String]) -> Result
     cg_image_answers::words(alloc, &files[0])
 }
 
-/// Answers `violations ARCH KERNEL MAPPING` over `files`.
+/// Answers `violations ARCH KERNEL MAPPING` for `files`.
 pub(crate) fn violations(alloc: Global, files: &[File], outputs: &[String]) -> Result<Outcome, Stop>
     requires { HasShape (Command.Violations) (length files.now) (length outputs.now) }
     ensures { Allows (IsAnswer (Command.Violations) (map file_of files.now) (map string_bytes outputs.now)) result }
@@ -230,7 +230,7 @@ pub(crate) fn violations(alloc: Global, files: &[File], outputs: &[String]) -> R
     cg_violations_answers::violations(alloc, &files[0], &files[1], &files[2])
 }
 
-/// Answers `why ARCH KERNEL` over `files`.
+/// Answers `why ARCH KERNEL` for `files`.
 pub(crate) fn why(alloc: Global, files: &[File], outputs: &[String]) -> Result<Outcome, Stop>
     requires { HasShape (Command.Why) (length files.now) (length outputs.now) }
     ensures { Allows (IsAnswer (Command.Why) (map file_of files.now) (map string_bytes outputs.now)) result }

@@ -1,4 +1,4 @@
--- What is kept with a valid architecture.
+-- The data kept with a valid architecture.
 use Rattle.std.specs.Prelude.{◌≡◌, ℕ, List}
 use Rattle.sha2.specs.Sha256.{sha256}
 use Rattle.cg_model.specs.Array.{Arch, IsArch}
@@ -10,8 +10,8 @@ use Rattle.cg_flat.specs.Slots.{all_select_at, all_unit_at}
 unfoldable pub digest_of : Arch → List ℕ
 digest_of A = sha256 (text_of A)
 
--- its digest, an order in which each resource stands after those that it takes its word from in the same cycle, and where
--- selects and units begin in a slot
+-- its digest, an order in which each resource comes after those from which it takes its word in the same cycle, and the
+-- positions of selects and units in a slot
 pub record IsKept (A : Arch) (digest order selects units : List ℕ) : Type 0 where
   pub valid : IsArch A
   pub digest_is : digest ≡ digest_of A

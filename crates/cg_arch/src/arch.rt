@@ -36,7 +36,7 @@ impl Arch {
     ghost use Rattle.cg_flat.specs.Slots as slots;
     ghost use Rattle.cg_arch.specs.Kept.{IsKept, digest_of};
 
-    /// An architecture with what is kept of it.
+    /// Returns an architecture with its derived data.
     pub(crate) fn new(
         flat: Flat,
         digest: [u8; 32],
@@ -56,7 +56,7 @@ impl Arch {
         }
     }
 
-    /// Its name.
+    /// Returns its name.
     pub fn name(&self) -> &Name
         ensures name { result.now ≡ self.now.name }
         ensures valid { arrays.IsArch self.now }
@@ -64,7 +64,7 @@ impl Arch {
         self.flat.name()
     }
 
-    /// The slots that a configuration may have at most, 1 to 64.
+    /// Returns the greatest number of slots of a configuration, 1 to 64.
     pub fn contexts(&self) -> u32
         ensures contexts { result ≡ self.now.contexts }
         ensures valid { arrays.IsArch self.now }
@@ -72,7 +72,7 @@ impl Arch {
         self.flat.contexts()
     }
 
-    /// The words of the scratchpad.
+    /// Returns the number of words of the scratchpad.
     pub fn memory(&self) -> u32
         ensures memory { result ≡ self.now.memory }
         ensures valid { arrays.IsArch self.now }
@@ -80,7 +80,7 @@ impl Arch {
         self.flat.memory()
     }
 
-    /// The resources by number.
+    /// Returns the resources by number.
     pub fn resources(&self) -> &[Resource]
         ensures resources { result.now ≡ self.now.resources }
         ensures valid { arrays.IsArch self.now }
@@ -88,7 +88,7 @@ impl Arch {
         self.flat.resources()
     }
 
-    /// The units by number.
+    /// Returns the units by number.
     pub fn units(&self) -> &[Unit]
         ensures units { result.now ≡ self.now.units }
         ensures valid { arrays.IsArch self.now }
@@ -96,7 +96,7 @@ impl Arch {
         self.flat.units()
     }
 
-    /// The numbers of the hub's registers; empty where there is no hub.
+    /// Returns the numbers of the hub's registers; empty where there is no hub.
     pub fn hub(&self) -> &[u32]
         ensures hub { result.now ≡ self.now.hub }
         ensures valid { arrays.IsArch self.now }
@@ -104,21 +104,21 @@ impl Arch {
         self.flat.hub()
     }
 
-    /// The SHA-256 of its text.
+    /// Returns the SHA-256 of its text.
     pub fn digest(&self) -> [u8; 32]
         ensures { result ≡ digest_of self.now }
     {
         self.digest
     }
 
-    /// The numbers of all resources, each after those from which it takes its word in the same cycle.
+    /// Returns the numbers of all resources, each after those from which it takes its word in the same cycle.
     pub fn order(&self) -> &[u32]
         ensures { IsTopological self.now.resources result.now }
     {
         self.order.as_slice()
     }
 
-    /// The width of a resource's select, in bits; 0 where it has no drivers.
+    /// Returns the width of the select of `resource`, in bits; 0 where it has no drivers.
     pub fn select_bits(&self, resource: u32) -> u32
         requires { resource < length self.now.resources }
         ensures value { result ≡ slots.select_bits self.now resource }
@@ -129,7 +129,7 @@ impl Arch {
         starts[place + 1] - starts[place]
     }
 
-    /// Where a resource's select begins in a slot, in bits.
+    /// Returns where the select of `resource` begins in a slot, in bits.
     pub fn select_at(&self, resource: u32) -> u32
         requires { resource < length self.now.resources }
         ensures { result ≡ slots.select_at self.now resource }
@@ -137,7 +137,7 @@ impl Arch {
         self.select_starts.as_slice()[resource as usize]
     }
 
-    /// Where a unit's fields begin in a slot, in bits.
+    /// Returns where the fields of `unit` begin in a slot, in bits.
     pub fn unit_at(&self, unit: u32) -> u32
         requires { unit < length self.now.units }
         ensures { result ≡ slots.unit_at self.now unit }
@@ -145,7 +145,7 @@ impl Arch {
         self.unit_starts.as_slice()[unit as usize]
     }
 
-    /// The bits of a slot.
+    /// Returns the number of bits of a slot.
     pub fn slot_bits(&self) -> u32
         ensures { result ≡ slots.slot_bits self.now }
     {
@@ -154,7 +154,7 @@ impl Arch {
     }
 }
 
-/// The text of an architecture, in lines that end with LF.
+/// Returns the text of `arch`, in lines that end with LF.
 pub fn flat_text(alloc: Global, arch: &Arch) -> Result<Vec<u8>, AllocError>
     ensures { IfOk result (λ text. text.items ≡ text_of arch.now) }
 {

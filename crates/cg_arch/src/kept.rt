@@ -1,4 +1,4 @@
-//! What is kept with a valid architecture.
+//! The data kept with a valid architecture.
 ghost use Rattle.std.specs.Prelude.{◌≡◌, IfOk};
 ghost use Rattle.cg_model.specs.Array.{IsArch};
 ghost use Rattle.cg_level.specs.Topological.{IsTopological};
@@ -10,8 +10,8 @@ use cg_model::Words;
 use sha2::{Digest, Sha256};
 use std::alloc::{AllocError, Global};
 
-/// Makes the valid architecture of `flat`, with its digest, the order of evaluation `order`, and where selects and units
-/// begin in a slot.
+/// Returns the valid architecture of `flat`, with its digest, the order of evaluation `order`, and the positions of
+/// selects and units in a slot.
 pub fn keep(alloc: Global, flat: Flat, order: Words) -> Result<Arch, AllocError>
     requires valid { IsArch flat }
     requires order { IsTopological flat.resources order }
@@ -24,7 +24,7 @@ pub fn keep(alloc: Global, flat: Flat, order: Words) -> Result<Arch, AllocError>
     Ok(Arch::new(flat, digest, order, selects, units))
 }
 
-/// The SHA-256 of an architecture's text.
+/// Returns the SHA-256 of an architecture's text.
 #[tactic(auto, unfolding(crate::specs::Kept::digest_of))]
 fn digest_of(alloc: Global, flat: &Flat) -> Result<[u8; 32], AllocError>
     ensures { IfOk result (λ digest. digest ≡ digest_of flat.now) }

@@ -1,4 +1,4 @@
-//! Valid flat architectures, with what is kept of them: their digest, an order of evaluation, and where fields begin.
+//! Valid flat architectures, with derived data: their digest, an order of evaluation, and the layout of a slot.
 #![tactic(auto)]
 
 mod arch;

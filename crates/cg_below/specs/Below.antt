@@ -1,7 +1,7 @@
--- What is gathered over the numbers below another one, from 0 on.
+-- Lists, sums, counts and maxima over the numbers below a bound, from 0 on.
 use Rattle.std.specs.Prelude.{ℕ, zero, suc, ◌+◌, max, Bool, List, [], ◌++◌, if◌then◌else◌}
 
--- the lists of the numbers below n, one after another
+-- the concatenated lists of the numbers below n
 unfoldable pub lists_below : {T : Type 0} → (ℕ → List T) → ℕ → List T
 lists_below f zero = []
 lists_below f (suc n) = lists_below f n ++ f n
@@ -11,7 +11,7 @@ unfoldable pub sum_below : (ℕ → ℕ) → ℕ → ℕ
 sum_below f zero = 0
 sum_below f (suc n) = sum_below f n + f n
 
--- how many numbers below n pass the test
+-- the number of the numbers below n that pass the test
 abbrev pub count_below : (ℕ → Bool) → ℕ → ℕ
 count_below test n = sum_below (λ k. if test k then 1 else 0) n
 

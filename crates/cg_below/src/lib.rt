@@ -1,2 +1,2 @@
-//! What is gathered over the numbers below another one, as loops gather it: lists, sums, counts and greatest numbers.
+//! Lists, sums, counts and maxima over the numbers below a bound, as loops accumulate them.
 #![tactic(auto)]

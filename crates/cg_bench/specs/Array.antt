@@ -1,5 +1,5 @@
--- What a bench says of the array: the modules of its cells, the words that a line of the trace shows, and which units are looked at
--- when a cycle ends.
+-- The parts of a bench that depend on the array: the modules of its cells, the words that a line of the trace shows,
+-- and the units that are examined when a cycle ends.
 use Rattle.std.specs.Prelude.{ℕ, Bool, ◌||◌, List, [], ◌++◌, length, take, slice_get, codes, bytes_eq, Option, Some, None, if◌then◌else◌}
 use Rattle.std.specs.List.{list_any}
 use Rattle.cg_word.specs.declared.op.Op.{Op}
@@ -21,7 +21,7 @@ abbrev pub text_by : List ℕ → Option Form → List ℕ
 text_by name None = []
 text_by name (Some form) = cell_text name form
 
--- the module of cell k of these, unless an earlier one has it too
+-- the module of cell k of these, unless an earlier cell has the same module
 abbrev pub first_use : List Cell → ℕ → Option Cell → List ℕ
 first_use cells k None = []
 first_use cells k (Some c) = if list_any (is_called c.«module») (take k cells) then [] else text_by c.«module» (form_of c.«module»)
@@ -47,7 +47,7 @@ trace_lines A = lists_below (trace_line A) (length A.resources)
 
 -- ---- the end of a cycle
 
--- a unit with these operations may reach the memory, or send a word
+-- a unit with these operations may access the memory, or send a word
 abbrev pub may_access : List Op → Bool
 may_access ops = among ops Load || (among ops Store || (among ops LoadIf || among ops StoreIf))
 

@@ -1,5 +1,5 @@
--- A test bench of an array under a configuration, in Verilog (IEEE 1364-2005): behavioural cells, and a module that runs n turns
--- from an image and compares what they leave with what is to be left.
+-- A test bench of an array under a configuration, in Verilog (IEEE 1364-2005): behavioural cells, and a module that
+-- runs n iterations from an image and compares the result with the expected one.
 use Rattle.std.specs.Prelude.{ℕ, ◌-◌, ◌*◌, List, ◌++◌, length, max, codes, decimal}
 use Rattle.cg_model.specs.Work.{Image, Left}
 use Rattle.cg_model.specs.Array.{Arch}
@@ -26,7 +26,7 @@ time_text ii n =
     codes "module cgra_bench;\n  // cycle C has slot C % " ++ (decimal ii ++ (codes " and round C / " ++ (decimal ii ++ (TIME.now
     ++ (decimal (ii - 1) ++ (codes " ? 0 : slot + 1;\n  wire [31:0] turns = " ++ (decimal n ++ codes ";\n\n")))))))
 
--- the memory of w words, and streams with room for so many words each
+-- the memory of w words, and input and output streams with `depth` and `room` words each
 abbrev pub memory_text : ℕ → List ℕ
 memory_text w =
     codes "  // the memory, and sixteen streams each way, one after another\n  wire [31:0] words = " ++ (decimal w
@@ -38,7 +38,7 @@ streams_text depth room =
     ++ (codes "];\n  wire [31:0] room = " ++ (decimal room ++ (codes ";\n  reg [31:0] outputs [0:" ++ (decimal (16 * room - 1)
     ++ codes "];\n  reg [31:0] sent [0:15];\n  reg [63:0] outside;\n\n")))))))
 
--- what is to be left of them
+-- the expected memory and streams
 abbrev pub left_text : ℕ → ℕ → List ℕ
 left_text w room =
     codes "  // what is to be left of them\n  reg [31:0] left_memory [0:" ++ (decimal (max w 1 - 1)
@@ -50,16 +50,17 @@ declarations C n image left =
     time_text C.ii n
     ++ (memory_text (length image.memory) ++ (streams_text (depth n image) (room left) ++ left_text (length image.memory) (room left)))
 
--- what happens when a cycle ends: a line of the trace, and what the units do to the memory and the streams, one after another
+-- the actions when a cycle ends: a line of the trace, and the effects of the units on the memory and the streams, one
+-- after another
 abbrev pub edge_text : Arch → List ℕ
 edge_text A = TASKS.now ++ (trace_lines A ++ (EDGE.now ++ (units_text A ++ NEXT.now)))
 
--- what is set before the run
+-- the assignments before the run
 abbrev pub setup_text : Arch → Config → ℕ → Image → Left → List ℕ
 setup_text A C n image left =
     START.now ++ (configuration_lines A C ++ (IMAGE.now ++ (image_lines n image ++ (LEFT.now ++ left_lines image left))))
 
--- the run of so many cycles, and the comparison
+-- the run of that number of cycles, and the comparison
 abbrev pub run_text : ℕ → List ℕ
 run_text cycles = RUN.now ++ (codes "    repeat (" ++ (decimal cycles ++ (codes ") begin\n" ++ CHECKS.now)))
 

@@ -1,4 +1,4 @@
--- What a bench sets before the run: the configuration in the cells, the image, and what is to be left.
+-- The assignments of a bench before the run: the configuration in the cells, the image, and the expected result.
 use Rattle.std.specs.Prelude.{ℕ, ◌+◌, ◌*◌, Bool, List, [], ◌++◌, length, slice_index, codes, decimal, eqb, Option, Some, None, if◌then◌else◌}
 use Rattle.cg_word.specs.declared.op.Op.{Op}
 use Rattle.cg_word.specs.Word.{code, name_of}
@@ -17,7 +17,7 @@ use Rattle.cg_bench.specs.Lines.{number_line, word_line, memory_line, left_memor
 
 -- ---- the configuration
 
--- how the cell is called that gives the select of a resource
+-- the prefix of the name of the cell that drives the select of a resource
 abbrev pub select_prefix : Kind → List ℕ
 select_prefix Wire = codes "c_"
 select_prefix Port = codes "c_"
@@ -55,7 +55,7 @@ argument_lines cell slot f i =
     ++ (number_line cell (codes "count_" ++ port_letter i) slot (arg f i).count
     ++ lists_below (first_line cell slot i (arg f i)) 4)
 
--- what a unit's cell has for a slot
+-- the configuration of a unit's cell for a slot
 abbrev pub fields_lines : List ℕ → ℕ → UnitFields → List ℕ
 fields_lines cell slot f =
     op_line cell slot f.op
@@ -67,7 +67,7 @@ fields_lines cell slot f =
 abbrev pub unit_lines : Arch → Config → ℕ → ℕ → List ℕ
 unit_lines A C slot x = fields_lines (unit_cell A x) slot (fields C x slot)
 
--- a slot: the selects of all resources, and then what all units have
+-- a slot: the selects of all resources, followed by the configuration of all units
 abbrev pub slot_lines : Arch → Config → ℕ → List ℕ
 slot_lines A C slot =
     lists_below (select_line A C slot) (length A.resources) ++ lists_below (unit_lines A C slot) (length A.units)
@@ -83,7 +83,7 @@ word_of_memory memory at = if eqb (slice_index memory at) 0 then [] else memory_
 abbrev pub word_of_input : List (List ℕ) → ℕ → ℕ → List ℕ
 word_of_input streams p k = input_line p k (slice_index (stream streams p) k)
 
--- the words of stream p that n turns can take
+-- the words of stream p that n iterations can take
 abbrev pub input_lines : ℕ → List (List ℕ) → ℕ → List ℕ
 input_lines n streams p = lists_below (word_of_input streams p) (taken n streams p)
 
@@ -93,7 +93,7 @@ image_lines n image =
 
 -- ---- what is to be left
 
--- a word of the memory that isn't as it was
+-- a word of the memory that differs from the one before
 abbrev pub changed_word : List ℕ → List ℕ → ℕ → List ℕ
 changed_word before after at =
     if eqb (slice_index after at) (slice_index before at) then [] else left_memory_line at (slice_index after at)

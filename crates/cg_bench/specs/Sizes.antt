@@ -1,4 +1,4 @@
--- How large the memory and the streams of a bench are.
+-- The sizes of the memory and the streams of a bench.
 use Rattle.std.specs.Prelude.{ℕ, max, min, List, [], length, slice_index_or}
 use Rattle.cg_model.specs.Limits.{port_count}
 use Rattle.cg_model.specs.Work.{Image, Left}
@@ -8,15 +8,15 @@ use Rattle.cg_below.specs.Below.{greatest_below}
 abbrev pub stream : List (List ℕ) → ℕ → List ℕ
 stream streams p = slice_index_or streams p []
 
--- how many of its words n turns can take
+-- the number of its words that n iterations can take
 abbrev pub taken : ℕ → List (List ℕ) → ℕ → ℕ
 taken n streams p = min (length (stream streams p)) n
 
--- how many words stream p has
+-- the number of words of stream p
 abbrev pub sent : List (List ℕ) → ℕ → ℕ
 sent streams p = length (stream streams p)
 
--- the words that the bench has room for in each input stream, and in each output stream
+-- the number of words for which the bench has room in each input stream, and in each output stream
 abbrev pub depth : ℕ → Image → ℕ
 depth n image = max (greatest_below (taken n image.streams) port_count) 1
 

@@ -1,5 +1,5 @@
-//! What a bench says of the array: the modules of its cells, the words that a line of the trace shows, and which units are
-//! looked at when a cycle ends.
+//! The parts of a bench that depend on the array: the modules of its cells, the words that a line of the trace shows,
+//! and the units that are examined when a cycle ends.
 ghost use Rattle.std.specs.Prelude.{◌≡◌, ◌++◌, ◌<◌, OnOk, [], length, if◌then◌else◌};
 ghost use Rattle.std.specs.List.{list_any};
 ghost use Rattle.cg_netlist.specs.Forms.{form_of};
@@ -11,14 +11,14 @@ use cg_netlist::{Cell, form_of};
 use cg_word::{Op, OpSet};
 use std::alloc::{AllocError, Global};
 
-/// Tells whether one of `cells` has the module `name`.
+/// Checks whether one of `cells` has the module `name`.
 fn is_any_called(cells: &[Cell], name: &str) -> bool
     ensures { result ≡ list_any (spec.is_called name.now) cells.now }
 {
     cells.iter().any(|cell| cell.module.as_str() == name)
 }
 
-/// Adds the module `name` to `text`, if a form is called so.
+/// Adds the module `name` to `text`, if a form has this name.
 fn push_named_module(alloc: Global, text: &mut Vec<u8>, name: &str) -> Result<(), AllocError>
     ensures { OnOk result (text.new.items ≡ text.old.items ++ spec.text_by name.now (form_of name.now)) }
 {
@@ -31,7 +31,7 @@ fn push_named_module(alloc: Global, text: &mut Vec<u8>, name: &str) -> Result<()
     }
 }
 
-/// Adds the module of cell `k` of `cells` to `text`, unless an earlier one has it too.
+/// Adds the module of cell `k` of `cells` to `text`, unless an earlier cell has the same module.
 fn push_module(
     alloc: Global,
     text: &mut Vec<u8>,
@@ -86,21 +86,21 @@ pub(crate) fn push_trace_lines(
     Ok(())
 }
 
-/// Tells whether a unit that offers `ops` may reach the memory.
+/// Checks whether a unit that offers `ops` may access the memory.
 fn may_access(ops: OpSet) -> bool
     ensures { result ≡ spec.may_access ops }
 {
     ops.has(Op::Load) || ops.has(Op::Store) || ops.has(Op::LoadIf) || ops.has(Op::StoreIf)
 }
 
-/// Tells whether a unit that offers `ops` may send a word.
+/// Checks whether a unit that offers `ops` may send a word.
 fn may_send(ops: OpSet) -> bool
     ensures { result ≡ spec.may_send ops }
 {
     ops.has(Op::Output) || ops.has(Op::OutputIf)
 }
 
-/// Adds the line for what the unit `name` does to the memory to `text`, if its operations `ops` may reach it.
+/// Adds the line for the memory accesses of the unit `name` to `text`, if its operations `ops` may access the memory.
 fn push_access_line(
     alloc: Global,
     text: &mut Vec<u8>,
@@ -118,7 +118,7 @@ fn push_access_line(
     text.extend_from_slice(line.as_bytes())
 }
 
-/// Adds the line for what the unit `name` sends to `text`, if its operations `ops` may send a word.
+/// Adds the line for the words that the unit `name` sends to `text`, if its operations `ops` may send a word.
 fn push_send_line(
     alloc: Global,
     text: &mut Vec<u8>,
@@ -136,7 +136,7 @@ fn push_send_line(
     text.extend_from_slice(line.as_bytes())
 }
 
-/// Adds what is looked at of the unit `name`, which offers `ops`, when a cycle ends to `text`.
+/// Adds to `text` the lines that examine the unit `name`, which offers `ops`, when a cycle ends.
 fn push_end_lines(
     alloc: Global,
     text: &mut Vec<u8>,
@@ -150,7 +150,7 @@ fn push_end_lines(
     Ok(())
 }
 
-/// Adds what is looked at of all units of `arch` when a cycle ends to `text`.
+/// Adds to `text` the lines that examine all units of `arch` when a cycle ends.
 pub(crate) fn push_units(alloc: Global, text: &mut Vec<u8>, arch: &Arch) -> Result<(), AllocError>
     ensures { OnOk result (text.new.items ≡ text.old.items ++ spec.units_text arch.now) }
 {

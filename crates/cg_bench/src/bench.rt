@@ -21,10 +21,10 @@ use cg_netlist::netlist;
 use cg_pad::Image;
 use std::alloc::{AllocError, Global};
 
-/// What a run of the array left.
+/// The result of a run of the array.
 #[derive(Drop)]
 pub struct RunEnd {
-    /// The number of its cycles.
+    /// The number of cycles of the run.
     pub cycles: u64,
     /// The memory and the output streams.
     pub image: Image,
@@ -39,15 +39,15 @@ struct Run<'r, C: Contexts> {
     arch: &'r Arch,
     /// The configuration.
     contexts: &'r C,
-    /// The number of turns.
+    /// The number of iterations.
     turns: u32,
-    /// What it starts from.
+    /// The image from which it starts.
     image: &'r Image,
-    /// What it is to leave.
+    /// The expected result.
     end: &'r RunEnd,
 }
 
-/// Adds the line that says what `run` is to `text`.
+/// Adds to `text` the line that describes `run`.
 fn push_head<C: Contexts>(
     alloc: Global,
     text: &mut Vec<u8>,
@@ -74,7 +74,7 @@ fn push_modules_of(alloc: Global, text: &mut Vec<u8>, arch: &Arch) -> Result<(),
     push_modules(alloc, text, graph.cells())
 }
 
-/// Adds the modules of the cells of `arch` to `text`, which are left out where others are given.
+/// Adds to `text` the modules of the cells of `arch`, which are left out where others are given.
 fn push_cells(alloc: Global, text: &mut Vec<u8>, arch: &Arch) -> Result<(), AllocError>
     ensures { OnOk result (text.new.items ≡ text.old.items ++ spec.cells_text arch.now) }
 {
@@ -84,7 +84,7 @@ fn push_cells(alloc: Global, text: &mut Vec<u8>, arch: &Arch) -> Result<(), Allo
     Ok(())
 }
 
-/// Adds the clock and the counters of `turns` turns at interval `ii` to `text`.
+/// Adds to `text` the clock and the counters of `turns` iterations at interval `ii`.
 fn push_time(alloc: Global, text: &mut Vec<u8>, ii: u32, turns: u32) -> Result<(), AllocError>
     requires { 0 < ii }
     ensures { OnOk result (text.new.items ≡ text.old.items ++ spec.time_text ii turns) }
@@ -135,7 +135,7 @@ fn push_streams(alloc: Global, text: &mut Vec<u8>, depth: u64, room: u64) -> Res
     text.extend_from_slice(streams.as_bytes())
 }
 
-/// Adds what is to be left of a memory of `words` words and of output streams of `room` words each to `text`.
+/// Adds to `text` the expected contents of a memory of `words` words and of output streams of `room` words each.
 fn push_expected(
     alloc: Global,
     text: &mut Vec<u8>,
@@ -159,7 +159,7 @@ fn push_expected(
     text.extend_from_slice(expected.as_bytes())
 }
 
-/// Adds what the bench of `run` declares to `text`.
+/// Adds the declarations of the bench of `run` to `text`.
 fn push_declarations<C: Contexts>(
     alloc: Global,
     text: &mut Vec<u8>,
@@ -179,7 +179,7 @@ fn push_declarations<C: Contexts>(
     Ok(())
 }
 
-/// Adds what happens in `arch` when a cycle ends to `text`.
+/// Adds to `text` the actions in `arch` when a cycle ends.
 fn push_edge(alloc: Global, text: &mut Vec<u8>, arch: &Arch) -> Result<(), AllocError>
     ensures { OnOk result (text.new.items ≡ text.old.items ++ spec.edge_text arch.now) }
 {
@@ -191,7 +191,7 @@ fn push_edge(alloc: Global, text: &mut Vec<u8>, arch: &Arch) -> Result<(), Alloc
     Ok(())
 }
 
-/// Adds what is set before `run` to `text`.
+/// Adds to `text` the assignments before `run`.
 fn push_setup<C: Contexts>(
     alloc: Global,
     text: &mut Vec<u8>,
@@ -238,7 +238,8 @@ fn push_bench<C: Contexts>(
     Ok(())
 }
 
-/// Returns the bench of `turns` turns of the array `arch` under `contexts` from `image`, which are to leave `end`.
+/// Returns the bench of `turns` iterations of the array `arch` under `contexts` from `image`, with the expected result
+/// `end`.
 pub fn bench_of<C: Contexts>(
     alloc: Global,
     arch: &Arch,

@@ -1,13 +1,13 @@
-//! What stands in every bench.
+//! The fixed parts of every bench.
 
-/// What stands before the modules of cells.
+/// The text before the modules of cells.
 pub(crate) const CELLS: &str =
     "// Beside it goes the array as structural Verilog. +vcd writes waves to cgra_bench.vcd, +trace prints a line a cycle.
 
 `ifndef CGRA_OWN_CELLS
 ";
 
-/// What stands behind them.
+/// The text after the modules of cells.
 pub(crate) const NO_MORE_CELLS: &str = "
 `endif
 
@@ -22,7 +22,7 @@ pub(crate) const TIME: &str = "
   reg [31:0] round;
   wire [5:0] next_slot = slot == ";
 
-/// The array, what units do to the memory and the streams, and the head of a line of the trace.
+/// The array, the effects of units on the memory and the streams, and the head of a line of the trace.
 pub(crate) const TASKS: &str = "  cgra_array array (.clk(clk), .rst(rst));
 
   task access(input store, input [31:0] address, input [31:0] word);
@@ -42,7 +42,7 @@ pub(crate) const TASKS: &str = "  cgra_array array (.clk(clk), .rst(rst));
       $write(\"cycle %0d\", cycle);
 ";
 
-/// What happens when a cycle ends, up to the units.
+/// The actions when a cycle ends, up to those of the units.
 pub(crate) const EDGE: &str = "      $write(\"\\n\");
     end
   endtask
@@ -61,7 +61,7 @@ pub(crate) const NEXT: &str = "    cycle <= cycle + 1;
 
 ";
 
-/// The start of the run, up to the configuration. It is set when each cell has emptied its tables.
+/// The start of the run, up to the configuration, which is set after each cell has cleared its tables.
 pub(crate) const START: &str = "  integer i;
   integer j;
   integer differences;
@@ -93,18 +93,18 @@ pub(crate) const START: &str = "  integer i;
     // the configuration
 ";
 
-/// What stands before the image.
+/// The text before the image.
 pub(crate) const IMAGE: &str = "
     // the image
 ";
 
-/// What stands before what is to be left.
+/// The text before the expected result.
 pub(crate) const LEFT: &str = "
     // what is to be left: the words that change, the streams, the accesses outside the memory
     for (i = 0; i < words; i = i + 1) left_memory[i] = memory[i];
 ";
 
-/// What stands before the run.
+/// The text before the run.
 pub(crate) const RUN: &str = "
     // an edge under reset, and then the run
     #4 clk = 1;
@@ -112,7 +112,7 @@ pub(crate) const RUN: &str = "
     rst = 0;
 ";
 
-/// A cycle, and the comparison of what is left.
+/// A cycle, and the comparison with the expected result.
 pub(crate) const CHECKS: &str = "      #5 clk = 1;
       #5 clk = 0;
     end

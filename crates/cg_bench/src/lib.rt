@@ -1,4 +1,4 @@
-//! Test benches of arrays in Verilog: behavioural cells, the configuration and the image, and what is to be left.
+//! Test benches of arrays in Verilog: behavioural cells, the configuration and the image, and the expected result.
 #![tactic(auto)]
 
 mod array;

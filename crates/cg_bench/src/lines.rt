@@ -11,11 +11,11 @@ pub(crate) struct Place<'p> {
     pub cell: &'p str,
     /// The name of the table.
     pub table: &'p str,
-    /// The number of the place.
+    /// The index of the place.
     pub at: u32,
 }
 
-/// Adds the line that sets `place` to the small number `value`, if it isn't 0, to `text`.
+/// Adds to `text` the line that sets `place` to the small number `value`, if it isn't 0.
 pub(crate) fn push_number_line(
     alloc: Global,
     text: &mut Vec<u8>,
@@ -32,7 +32,7 @@ pub(crate) fn push_number_line(
     text.extend_from_slice(line.as_bytes())
 }
 
-/// Adds the line that sets `place` to the word `value`, if it isn't 0, to `text`.
+/// Adds to `text` the line that sets `place` to the word `value`, if it isn't 0.
 pub(crate) fn push_word_line(
     alloc: Global,
     text: &mut Vec<u8>,
@@ -62,7 +62,7 @@ pub(crate) fn push_memory_line(
     text.extend_from_slice(line.as_bytes())
 }
 
-/// Adds the line that sets word `at` of what is to be left of the memory to `value` to `text`.
+/// Adds to `text` the line that sets word `at` of the expected memory to `value`.
 pub(crate) fn push_left_memory_line(
     alloc: Global,
     text: &mut Vec<u8>,
@@ -75,7 +75,7 @@ pub(crate) fn push_left_memory_line(
     text.extend_from_slice(line.as_bytes())
 }
 
-/// Adds the line that sets word `at` of input stream `port` to `value`, if it isn't 0, to `text`.
+/// Adds to `text` the line that sets word `at` of input stream `port` to `value`, if it isn't 0.
 pub(crate) fn push_input_line(
     alloc: Global,
     text: &mut Vec<u8>,
@@ -92,7 +92,7 @@ pub(crate) fn push_input_line(
     text.extend_from_slice(line.as_bytes())
 }
 
-/// Adds the line that sets word `at` of what is to be left in output stream `port` to `value`, if it isn't 0, to `text`.
+/// Adds to `text` the line that sets word `at` of the expected output stream `port` to `value`, if it isn't 0.
 pub(crate) fn push_left_output_line(
     alloc: Global,
     text: &mut Vec<u8>,
@@ -109,8 +109,7 @@ pub(crate) fn push_left_output_line(
     text.extend_from_slice(line.as_bytes())
 }
 
-/// Adds the line that sets the number of words that are to be left in output stream `port` to `count`, if it isn't 0, to
-/// `text`.
+/// Adds to `text` the line that sets the expected number of words in output stream `port` to `count`, if it isn't 0.
 pub(crate) fn push_length_line(
     alloc: Global,
     text: &mut Vec<u8>,

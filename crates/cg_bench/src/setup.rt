@@ -1,4 +1,4 @@
-//! What a bench sets before the run: the configuration in the cells, the image, and what is to be left.
+//! The assignments of a bench before the run: the configuration in the cells, the image, and the expected result.
 ghost use Rattle.std.specs.Prelude.{◌≡◌, ◌++◌, ◌<◌, ◌≤◌, IfOk, OnOk, length, slice_index, codes, string_bytes};
 ghost use Rattle.cg_model.specs.Canonical.{IsCanonical};
 ghost use Rattle.cg_model.specs.Config.{arg};
@@ -44,7 +44,7 @@ pub(crate) struct Argument<'a> {
     pub number: usize,
 }
 
-/// Returns how the name of the cell begins that gives the select of a resource of the kind `kind`.
+/// Returns the prefix of the name of the cell that drives the select of a resource of the kind `kind`.
 fn select_prefix(kind: Kind) -> &'static str
     ensures { result.now ≡ spec.select_prefix kind }
 {
@@ -54,7 +54,7 @@ fn select_prefix(kind: Kind) -> &'static str
     }
 }
 
-/// Returns the name of the cell that gives the select of `resource` of `arch`.
+/// Returns the name of the cell that drives the select of `resource` of `arch`.
 fn select_cell(alloc: Global, arch: &Arch, resource: u32) -> Result<String, AllocError>
     requires { resource < length arch.now.resources }
     ensures { IfOk result (λ text. string_bytes text ≡ spec.select_cell arch.now resource) }
@@ -85,7 +85,7 @@ fn port_letter(number: usize) -> &'static str
     }
 }
 
-/// Adds the line of the operation `op` that the unit of `cell` begins in `slot` to `text`.
+/// Adds to `text` the line of the operation `op` that the unit of `cell` begins in `slot`.
 fn push_op_line(
     alloc: Global,
     text: &mut Vec<u8>,
@@ -106,7 +106,7 @@ fn push_op_line(
     }
 }
 
-/// Adds the line of `argument` to `text`, where it is `fixed`: the immediate.
+/// Adds to `text` the line that marks `argument` as the immediate, where it is `fixed`.
 fn push_fixed_line(
     alloc: Global,
     text: &mut Vec<u8>,
@@ -124,7 +124,7 @@ fn push_fixed_line(
     text.extend_from_slice(line.as_bytes())
 }
 
-/// Adds the line of the number `count` of the initial words of `argument` to `text`.
+/// Adds to `text` the line of the number `count` of the initial words of `argument`.
 fn push_count_line(
     alloc: Global,
     text: &mut Vec<u8>,
@@ -144,7 +144,7 @@ fn push_count_line(
     push_number_line(alloc, text, place, count)
 }
 
-/// Adds the lines of the initial words of `argument`, of which `fields` has four, to `text`.
+/// Adds to `text` the lines of the four initial words of `argument` in `fields`.
 fn push_first_lines(
     alloc: Global,
     text: &mut Vec<u8>,
@@ -168,7 +168,7 @@ fn push_first_lines(
     Ok(())
 }
 
-/// Adds the lines of `argument` to `text`, of a unit that does what `fields` says.
+/// Adds to `text` the lines of `argument`, of a unit with the configuration `fields`.
 fn push_argument(
     alloc: Global,
     text: &mut Vec<u8>,
@@ -186,7 +186,7 @@ fn push_argument(
     Ok(())
 }
 
-/// Adds the lines of all arguments in `slot` of the unit of `cell`, which does what `fields` says, to `text`.
+/// Adds to `text` the lines of all arguments in `slot` of the unit of `cell`, with the configuration `fields`.
 fn push_arguments(
     alloc: Global,
     text: &mut Vec<u8>,
@@ -203,7 +203,7 @@ fn push_arguments(
     Ok(())
 }
 
-/// Adds the lines in `slot` of the unit of `cell`, which does what `fields` says, to `text`.
+/// Adds to `text` the lines in `slot` of the unit of `cell`, with the configuration `fields`.
 fn push_fields(
     alloc: Global,
     text: &mut Vec<u8>,
@@ -264,7 +264,7 @@ fn push_selects<C: Contexts>(
     Ok(())
 }
 
-/// Adds what `unit` has in `slot` to `text`.
+/// Adds the configuration of `unit` in `slot` to `text`.
 fn push_unit<C: Contexts>(
     alloc: Global,
     text: &mut Vec<u8>,
@@ -282,7 +282,7 @@ fn push_unit<C: Contexts>(
     push_fields(alloc, text, cell.as_str(), slot.number, &fields)
 }
 
-/// Adds what all units have in `slot` to `text`.
+/// Adds the configuration of all units in `slot` to `text`.
 fn push_units<C: Contexts>(
     alloc: Global,
     text: &mut Vec<u8>,
@@ -344,7 +344,7 @@ fn word_at(words: &[u32], at: usize) -> u32
     }
 }
 
-/// Adds word `at` of `memory`, if it isn't 0, to `text`.
+/// Adds to `text` word `at` of `memory`, if it isn't 0.
 fn push_memory_word(
     alloc: Global,
     text: &mut Vec<u8>,
@@ -370,7 +370,7 @@ fn push_memory(alloc: Global, text: &mut Vec<u8>, memory: &[u32]) -> Result<(), 
     Ok(())
 }
 
-/// Adds the words of input stream `port` of `image` that `turns` turns can take to `text`.
+/// Adds to `text` the words of input stream `port` of `image` that `turns` iterations can take.
 fn push_input(
     alloc: Global,
     text: &mut Vec<u8>,
@@ -387,7 +387,7 @@ fn push_input(
     Ok(())
 }
 
-/// Adds the words of all input streams of `image` that `turns` turns can take to `text`.
+/// Adds to `text` the words of all input streams of `image` that `turns` iterations can take.
 fn push_inputs(
     alloc: Global,
     text: &mut Vec<u8>,
@@ -402,7 +402,7 @@ fn push_inputs(
     Ok(())
 }
 
-/// Adds the words of `image` to `text`, those of streams as far as `turns` turns can take them.
+/// Adds to `text` the words of `image`, those of streams as far as `turns` iterations can take them.
 pub(crate) fn push_image(
     alloc: Global,
     text: &mut Vec<u8>,
@@ -416,7 +416,7 @@ pub(crate) fn push_image(
     Ok(())
 }
 
-/// Adds word `at` of the memory `after`, if it isn't that of the memory `before`, to `text`.
+/// Adds word `at` of the memory `after` to `text`, if it differs from that of the memory `before`.
 fn push_changed_word(
     alloc: Global,
     text: &mut Vec<u8>,
@@ -433,7 +433,7 @@ fn push_changed_word(
     push_left_memory_line(alloc, text, at, word)
 }
 
-/// Adds the words of the memory `after` that aren't those of the memory `before` to `text`.
+/// Adds to `text` the words of the memory `after` that differ from those of the memory `before`.
 fn push_changed_words(
     alloc: Global,
     text: &mut Vec<u8>,
@@ -496,7 +496,7 @@ fn push_outside(alloc: Global, text: &mut Vec<u8>, outside: u64) -> Result<(), A
     text.extend_from_slice(line.as_bytes())
 }
 
-/// Adds what `end` says is to be left of a run from `image` to `text`.
+/// Adds to `text` the result `end` that is expected of a run from `image`.
 pub(crate) fn push_left(
     alloc: Global,
     text: &mut Vec<u8>,

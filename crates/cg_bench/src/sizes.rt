@@ -1,4 +1,4 @@
-//! How large the memory and the streams of a bench are.
+//! The sizes of the memory and the streams of a bench.
 ghost use Rattle.std.specs.Prelude.{◌≡◌, ◌≤◌, ◌<◌};
 ghost use Rattle.cg_model.specs.Limits.{most_stream, most_turns};
 ghost use Rattle.cg_pad.specs.Bytes.{IsStorable};
@@ -17,7 +17,7 @@ pub(crate) fn stream(image: &Image, port: usize) -> &[u32]
     }
 }
 
-/// Returns how many words of stream `port` of `image` `turns` turns can take.
+/// Returns the number of words of stream `port` of `image` that `turns` iterations can take.
 pub(crate) fn taken(turns: u32, image: &Image, port: usize) -> usize
     ensures value { result ≡ spec.taken turns image.now.streams port }
     ensures few { result ≤ turns }
@@ -25,14 +25,14 @@ pub(crate) fn taken(turns: u32, image: &Image, port: usize) -> usize
     stream(image, port).len().min(turns as usize)
 }
 
-/// Returns how many words stream `port` of `image` has.
+/// Returns the number of words of stream `port` of `image`.
 pub(crate) fn sent(image: &Image, port: usize) -> usize
     ensures { result ≡ spec.sent image.now.streams port }
 {
     stream(image, port).len()
 }
 
-/// Returns the number of words that the bench of `turns` turns from `image` has room for in each input stream.
+/// Returns the number of words for which the bench of `turns` iterations from `image` has room in each input stream.
 pub(crate) fn depth(turns: u32, image: &Image) -> u64
     requires { turns ≤ most_turns }
     ensures value { result ≡ spec.depth turns image.now }
@@ -46,7 +46,7 @@ pub(crate) fn depth(turns: u32, image: &Image) -> u64
     most.max(1) as u64
 }
 
-/// Returns the number of words that the bench has room for in each output stream, where `end` is to be left.
+/// Returns the number of words for which the bench has room in each output stream, where `end` is the expected result.
 pub(crate) fn room(end: &RunEnd) -> u64
     requires { IsStorable end.now.image }
     ensures value { result ≡ spec.room (record { image = end.now.image; outside = end.now.outside }) }

@@ -15,8 +15,8 @@ use Rattle.cg_pad.specs.Bytes as images
 use Rattle.cg_run_answers.specs.Run.{IsArrayCommand, LeavesTurns, run_report}
 use Rattle.cg_bench.specs.Bench.{bench_text}
 
--- the bench of n turns of the array under the configuration from the image, with what the array leaves, is written; the report is
--- that of a run
+-- the test bench for n iterations of the array under the configuration from the image, with what the array leaves, is
+-- written; the report is that of a run
 abbrev pub benched : ℕ → Name → Arch → Config → Image → Outcome
 benched n out A C image = record {
   status = Done;
@@ -27,8 +27,9 @@ benched n out A C image = record {
 abbrev pub IsBench : ℕ → File → File → File → Name → Outcome → Type 0
 IsBench n arch file input out o = IsArrayCommand (benched n out) arch file input o
 
--- Done: an architecture, a canonical configuration of it, which the bytes spell, and an image that fits its memory were read; the
--- bench of these is held under the last name, and the cycles and the count of the array's run were put
+-- Done: an architecture, a canonical configuration of it, which the bytes encode, and an image that fits its memory
+-- were read; the test bench for these is held under the last name, and the numbers of cycles and of outside accesses of
+-- the array's run were reported
 pub record IsBenchRun (n : ℕ) (arch file input out : Name) (before after : Moment) : Type 0 where
   pub arch_bytes : Bytes
   pub arch_held : Holds before.held arch arch_bytes

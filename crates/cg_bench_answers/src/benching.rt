@@ -20,8 +20,8 @@ use cg_sim::{Sim, SimFault};
 use cg_view::ConfigView;
 use std::alloc::{AllocError, Global};
 
-/// Returns the outcome of `bench`: the bench of `turns` turns of the array that `arch` gives, under the configuration that
-/// `file` holds, from the image that `input` holds, to be written under the name `out`.
+/// Returns the outcome of `bench`: the test bench for `turns` iterations of the array in `arch`, configured by `file`,
+/// from the image in `input`, to be written under the name `out`.
 pub fn bench(
     alloc: Global,
     turns: u32,
@@ -38,7 +38,7 @@ pub fn bench(
     bench_on(alloc, turns, &array, &config, input, out)
 }
 
-/// Runs `turns` turns of `array` under `config` from the image that `input` holds, and returns the outcome.
+/// Runs `turns` iterations of `array` under `config` from the image in `input`, and returns the outcome.
 fn bench_on(
     alloc: Global,
     turns: u32,
@@ -59,7 +59,7 @@ fn bench_on(
     }
 }
 
-/// Runs `turns` turns of `array` under `config` from `image`, and returns what they leave.
+/// Runs `turns` iterations of `array` under `config` from `image`, and returns the end of the run.
 fn end_of(
     alloc: Global,
     turns: u32,
@@ -82,7 +82,7 @@ fn end_of(
     }
 }
 
-/// Runs all cycles of `sim`, and returns what they leave.
+/// Runs all cycles of `sim`, and returns the end of the run.
 fn run_end(sim: Sim<'_, ConfigView<'_>>) -> RunEnd
     requires { sim.done ≡ 0 }
     ensures cycles { result.cycles ≡ cycles sim.entry.config sim.entry.n }
@@ -101,8 +101,8 @@ fn run_end(sim: Sim<'_, ConfigView<'_>>) -> RunEnd
     }
 }
 
-/// Returns the outcome for `array` under `config`, whose `turns` turns from `image` ended with `end`: the bench, to be written
-/// under `out`.
+/// Returns the outcome for `array` under `config`, whose run of `turns` iterations from `image` ended with `end`: the
+/// test bench, to be written under `out`.
 fn benched(
     alloc: Global,
     turns: u32,

@@ -1,10 +1,10 @@
--- What modules of behavioural Verilog (IEEE 1364-2005) are made of: a module under its macro, and the ports and choices of cells
--- with many pins.
+-- The parts of modules of behavioural Verilog (IEEE 1364-2005): a module under its macro, and the ports and choices of
+-- cells with many pins.
 use Rattle.std.specs.Prelude.{ℕ, ◌+◌, ◌-◌, List, ◌++◌, codes, decimal, eqb, if◌then◌else◌}
 use Rattle.cg_below.specs.Below.{lists_below}
 use Rattle.cg_flat.specs.Slots.{width}
 
--- a module of that name, which is read where its macro isn't defined: after a note, its ports and its body
+-- a module of that name, which is read only where its macro isn't defined: after a note, its ports and its body
 abbrev pub module_text : List ℕ → List ℕ → List ℕ → List ℕ → List ℕ
 module_text name note ports body =
     codes "\n`ifndef OWN_" ++ (name ++ (codes "\n// " ++ (note ++ (codes "\nmodule " ++ (name ++ (codes " (" ++ (ports ++ (codes ");\n" ++ (body ++ codes "endmodule\n`endif\n")))))))))
@@ -20,7 +20,7 @@ driver_input j = codes "  input [31:0] d" ++ (decimal (j + 1) ++ codes ";\n")
 abbrev pub driver_choice : ℕ → List ℕ
 driver_choice j = codes "    s == " ++ (decimal (j + 1) ++ (codes " ? d" ++ (decimal (j + 1) ++ codes " :\n")))
 
--- the same for the first k drivers
+-- the ports, declarations and choices of the first k drivers
 abbrev pub driver_names : ℕ → List ℕ
 driver_names k = lists_below driver_name k
 

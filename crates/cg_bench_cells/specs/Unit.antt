@@ -1,4 +1,4 @@
--- The module of a unit's cell: what it keeps of the configuration, slot by slot, and what it does in a cycle.
+-- The module of a unit's cell: its tables of the configuration, slot by slot, and its behaviour in a cycle.
 use Rattle.std.specs.Prelude.{ℕ, ◌+◌, ◌/◌, ◌%◌, ◌^◌, Bool, ◌&&◌, ◌||◌, List, [], ◌++◌, flat_map, codes, decimal, eqb, nat_lt, if◌then◌else◌}
 use Rattle.cg_word.specs.declared.op.Op.{Op}
 use Rattle.cg_word.specs.declared.op.Op.TheVariants.{Const, Iter, Input, Add, Sub, Mul, And, Or, Xor, Shl, Shr, Sar, Eq, Ne, Lts, Ltu, Mins, Maxs, Select, Load, Store, Output, LoadIf, StoreIf, OutputIf}
@@ -7,7 +7,7 @@ use Rattle.cg_below.specs.Below.{lists_below}
 use Rattle.cg_bench_cells.specs.declared.unit.TheConstants.{FIELDS, WORK, TAKEN, EFFECTS, LOADED}
 use Rattle.cg_bench_cells.specs.Pieces.{port_letter, argument_letter, port_name, port_input}
 
--- the operations, bit k for the one of code k, have this one
+-- the operations, with bit k for the operation of code k, include this one
 abbrev pub offers : ℕ → Op → Bool
 offers operations op = eqb ((operations / 2 ^ code op) % 2) 1
 
@@ -20,7 +20,8 @@ op_words operations = flat_map (op_word operations) all_ops
 
 -- ---- what it keeps of the configuration
 
--- of argument i in each slot: whether it is the immediate, how many initial words it has, and these, four a slot
+-- the tables of argument i for each slot: whether it is the immediate, the number of its initial words, and these, four
+-- for each slot
 abbrev pub argument_tables : ℕ → List ℕ
 argument_tables i =
     codes "  reg fixed_" ++ (port_letter i ++ (codes " [0:63];\n  reg [2:0] count_" ++ (port_letter i ++ (codes " [0:63];\n  reg [31:0] first_" ++ (port_letter i ++ codes " [0:255];\n")))))
@@ -43,7 +44,7 @@ tables p =
 
 -- ---- what it does in a cycle
 
--- argument i: the immediate, or the initial word of the turn, or the word on its port
+-- argument i: the immediate, or the initial word of the iteration, or the word on its port
 abbrev pub argument_wire : ℕ → List ℕ
 argument_wire i =
     codes "  wire [31:0] " ++ (argument_letter i ++ (codes " = fixed_" ++ (port_letter i ++ (codes "[slot] ? immediate[slot] : turn < count_" ++ (port_letter i
@@ -56,11 +57,11 @@ no_argument_wire i = codes "  wire [31:0] " ++ (argument_letter i ++ codes " = 0
 abbrev pub argument_of : ℕ → ℕ → List ℕ
 argument_of p i = if nat_lt i p then argument_wire i else no_argument_wire i
 
--- of a unit with p ports
+-- the arguments of a unit with p ports
 abbrev pub arguments : ℕ → List ℕ
 arguments p = WORK.now ++ (lists_below (argument_of p) 3 ++ codes "\n")
 
--- it takes words of input streams, it reads the memory
+-- the unit takes words of input streams, or reads the memory
 abbrev pub taken : ℕ → List ℕ
 taken operations = if offers operations Input then TAKEN.now else []
 
@@ -77,7 +78,7 @@ word_line operations op =
     then codes "    code == " ++ (decimal (code op) ++ (codes " ? " ++ (argument_letter (last_arg op) ++ (codes " : // " ++ (name_of op ++ codes "\n")))))
     else []
 
--- what it does to the memory and the streams
+-- the effects of the unit on the memory and the streams
 abbrev pub effects : ℕ → List ℕ
 effects operations = taken operations ++ (EFFECTS.now ++ (flat_map (word_line operations) all_ops ++ (codes "    0;\n" ++ loaded operations)))
 
@@ -115,13 +116,13 @@ value_line operations op =
     then codes "    " ++ (decimal (code op) ++ (codes ": value = " ++ (value_of op ++ (codes "; // " ++ (name_of op ++ codes "\n")))))
     else []
 
--- the value of each operation that it offers
+-- the value of each operation that the unit offers
 abbrev pub values : ℕ → List ℕ
 values operations =
     codes "\n  // the value of each operation\n  reg [31:0] value;\n  always @* case (code)\n"
     ++ (flat_map (value_line operations) all_ops ++ codes "    default: value = 0;\n  endcase\n\n")
 
--- what was begun so many cycles ago, one more than k
+-- the work that was begun k + 1 cycles ago
 abbrev pub stage_register : ℕ → List ℕ
 stage_register k = codes "  reg [31:0] q" ++ (decimal (k + 1) ++ codes ";\n")
 
@@ -131,7 +132,7 @@ stage_step k =
     then codes "    q1 <= rst || !active ? 0 : value;\n"
     else codes "    q" ++ (decimal (k + 1) ++ (codes " <= rst ? 0 : q" ++ (decimal k ++ codes ";\n")))
 
--- the result on the out, that latency later
+-- the result on the out, after the latency
 abbrev pub results : ℕ → List ℕ
 results latency =
     codes "  // the result, a latency later\n"

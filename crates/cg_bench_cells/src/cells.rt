@@ -7,7 +7,8 @@ use crate::unit::{unit_body, unit_note, unit_ports};
 use cg_netlist::Form;
 use std::alloc::{AllocError, Global};
 
-/// Returns the body of a cell that keeps a select of `width` bits for each slot, and gives that of the slot `slot` of the bench.
+/// Returns the body of a cell that keeps a select of `width` bits for each slot, and outputs that of the slot `slot` of
+/// the bench.
 fn select_body(alloc: Global, slot: &str, width: u32) -> Result<String, AllocError>
     ensures { IfOk result (λ text. string_bytes text ≡ spec.select_body slot.now width) }
 {
@@ -29,7 +30,7 @@ fn mux_body(alloc: Global, drivers: u32) -> Result<String, AllocError>
     )
 }
 
-/// Returns the body of a cell that holds what it chose among `drivers` drivers a cycle ago.
+/// Returns the body of a cell that holds the word that it chose among `drivers` drivers a cycle ago.
 fn register_body(alloc: Global, drivers: u32) -> Result<String, AllocError>
     ensures { IfOk result (λ text. string_bytes text ≡ spec.register_body drivers) }
 {
@@ -41,7 +42,7 @@ fn register_body(alloc: Global, drivers: u32) -> Result<String, AllocError>
     )
 }
 
-/// Returns the module `name` of a select of `width` bits, that of the cycle.
+/// Returns the module `name` of a context cell with a select of `width` bits, for the current cycle.
 fn context_text(alloc: Global, name: &str, width: u32) -> Result<String, AllocError>
     ensures { IfOk result (λ text. string_bytes text ≡ spec.cell_text name.now (Form.Context width)) }
 {
@@ -50,7 +51,7 @@ fn context_text(alloc: Global, name: &str, width: u32) -> Result<String, AllocEr
     module_text(alloc, name, note, "clk, rst, q", body.as_str())
 }
 
-/// Returns the module `name` of a select of `width` bits, that of the next cycle.
+/// Returns the module `name` of a preselect cell with a select of `width` bits, for the next cycle.
 fn preselect_text(alloc: Global, name: &str, width: u32) -> Result<String, AllocError>
     ensures { IfOk result (λ text. string_bytes text ≡ spec.cell_text name.now (Form.Preselect width)) }
 {
@@ -59,7 +60,7 @@ fn preselect_text(alloc: Global, name: &str, width: u32) -> Result<String, Alloc
     module_text(alloc, name, note, "clk, rst, q", body.as_str())
 }
 
-/// Returns the module `name` of a choice among `drivers` drivers.
+/// Returns the module `name` of a mux of `drivers` drivers.
 fn mux_text(alloc: Global, name: &str, drivers: u32) -> Result<String, AllocError>
     ensures { IfOk result (λ text. string_bytes text ≡ spec.cell_text name.now (Form.Mux drivers)) }
 {
@@ -70,7 +71,7 @@ fn mux_text(alloc: Global, name: &str, drivers: u32) -> Result<String, AllocErro
     module_text(alloc, name, note, ports.as_str(), body.as_str())
 }
 
-/// Returns the module `name` of a register behind a choice among `drivers` drivers.
+/// Returns the module `name` of a register with a choice among `drivers` drivers.
 fn register_text(alloc: Global, name: &str, drivers: u32) -> Result<String, AllocError>
     ensures { IfOk result (λ text. string_bytes text ≡ spec.cell_text name.now (Form.Register drivers)) }
 {
@@ -81,7 +82,7 @@ fn register_text(alloc: Global, name: &str, drivers: u32) -> Result<String, Allo
     module_text(alloc, name, note, ports.as_str(), body.as_str())
 }
 
-/// Returns the module `name` of the word 0.
+/// Returns the module `name` of a cell with the word 0.
 fn zero_text(alloc: Global, name: &str) -> Result<String, AllocError>
     ensures { IfOk result (λ text. string_bytes text ≡ spec.cell_text name.now Form.Zero) }
 {

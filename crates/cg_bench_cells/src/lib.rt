@@ -1,4 +1,4 @@
-//! Behavioural cells: a module of Verilog for each form of cell of a netlist, for simulation beside the bench.
+//! Behavioural cells: a Verilog module for each form of cell of a netlist, for simulation with the bench.
 #![tactic(auto)]
 
 mod cells;

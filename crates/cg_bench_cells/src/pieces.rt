@@ -1,10 +1,11 @@
-//! What modules are made of.
+//! The parts of modules.
 ghost use Rattle.std.specs.Prelude.{◌≡◌, IfOk, string_bytes};
 ghost use Rattle.cg_bench_cells.specs.Pieces as spec;
 
 use std::alloc::{AllocError, Global};
 
-/// Returns the module `name` with the note `note`, the ports `ports` and the body `body`. It is read where its macro isn't defined.
+/// Returns the module `name` with the note `note`, the ports `ports` and the body `body`. It is read only where its
+/// macro isn't defined.
 pub(crate) fn module_text(
     alloc: Global,
     name: &str,
@@ -21,7 +22,7 @@ pub(crate) fn module_text(
 
 // ---- drivers, numbered from 1 on
 
-/// Returns the port of the driver behind the first `driver` ones, as a list of ports has it.
+/// Returns the port of driver number `driver` + 1, as written in a list of ports.
 fn driver_name(alloc: Global, driver: u32) -> Result<String, AllocError>
     ensures { IfOk result (λ text. string_bytes text ≡ spec.driver_name driver) }
 {
@@ -29,7 +30,7 @@ fn driver_name(alloc: Global, driver: u32) -> Result<String, AllocError>
     format!(in alloc; "d{number}, ")
 }
 
-/// Returns the declaration of the port of the driver behind the first `driver` ones.
+/// Returns the declaration of the port of driver number `driver` + 1.
 fn driver_input(alloc: Global, driver: u32) -> Result<String, AllocError>
     ensures { IfOk result (λ text. string_bytes text ≡ spec.driver_input driver) }
 {
@@ -37,7 +38,7 @@ fn driver_input(alloc: Global, driver: u32) -> Result<String, AllocError>
     format!(in alloc; "  input [31:0] d{number};\n")
 }
 
-/// Returns the choice of the driver behind the first `driver` ones.
+/// Returns the choice of driver number `driver` + 1.
 fn driver_choice(alloc: Global, driver: u32) -> Result<String, AllocError>
     ensures { IfOk result (λ text. string_bytes text ≡ spec.driver_choice driver) }
 {
@@ -45,7 +46,7 @@ fn driver_choice(alloc: Global, driver: u32) -> Result<String, AllocError>
     format!(in alloc; "    s == {number} ? d{number} :\n")
 }
 
-/// Returns the ports of `drivers` drivers, as a list of ports has them.
+/// Returns the ports of `drivers` drivers, as written in a list of ports.
 pub(crate) fn driver_names(alloc: Global, drivers: u32) -> Result<String, AllocError>
     ensures { IfOk result (λ text. string_bytes text ≡ spec.driver_names drivers) }
 {
@@ -113,7 +114,7 @@ pub(crate) fn argument_letter(argument: u32) -> &'static str
     }
 }
 
-/// Returns the port of argument `argument`, as a list of ports has it.
+/// Returns the port of argument `argument`, as written in a list of ports.
 pub(crate) fn port_name(alloc: Global, argument: u32) -> Result<String, AllocError>
     ensures { IfOk result (λ text. string_bytes text ≡ spec.port_name argument) }
 {

@@ -9,14 +9,14 @@ use crate::pieces::{argument_letter, port_input, port_letter, port_name};
 use cg_word::Op;
 use std::alloc::{AllocError, Global};
 
-/// What a unit does in each slot, apart from its arguments.
+/// The configuration of a unit in each slot, apart from its arguments.
 pub(crate) const FIELDS: &str = "  reg [5:0] op [0:63];
   reg [15:0] stage [0:63];
   reg [3:0] port [0:63];
   reg [31:0] immediate [0:63];
 ";
 
-/// What a unit works on in a cycle, apart from its arguments.
+/// The current work of a unit in a cycle, apart from its arguments.
 pub(crate) const WORK: &str =
     "  // the work of this cycle: from the round of its stage on, a turn a round
   wire [5:0] slot = cgra_bench.slot;
@@ -32,7 +32,7 @@ pub(crate) const TAKEN: &str = "  // the word of the turn in its stream, 0 past 
 
 ";
 
-/// What a unit does to the memory and the streams, but for the word that it stores or sends.
+/// The effects of a unit on the memory and the streams, except for the word that it stores or sends.
 pub(crate) const EFFECTS: &str =
     "  // guarded operations act only where their first argument isn't 0
   wire acts = active && (code < 23 || x != 0);
@@ -48,14 +48,14 @@ pub(crate) const LOADED: &str =
     "  wire [31:0] loaded = address < cgra_bench.words ? cgra_bench.memory[address] : 0;
 ";
 
-/// Checks whether `operations`, bit k for the one of code k, have `op`.
+/// Checks whether `operations`, with bit k for the operation of code k, include `op`.
 fn offers(operations: u32, op: Op) -> bool
     ensures { result ≡ spec.offers operations op }
 {
     (operations >> op.code()) & 1 == 1
 }
 
-/// Returns the name of `op` after a blank where `operations` have it, and else nothing.
+/// Returns the name of `op` after a blank where `operations` include it, and else nothing.
 fn op_word(alloc: Global, operations: u32, op: Op) -> Result<String, AllocError>
     ensures { IfOk result (λ text. string_bytes text ≡ spec.op_word operations op) }
 {
@@ -91,7 +91,7 @@ fn argument_tables(alloc: Global, argument: u32) -> Result<String, AllocError>
     )
 }
 
-/// Returns what sets a slot's entries for argument `argument` to 0.
+/// Returns the statements that set a slot's entries for argument `argument` to 0.
 fn argument_zeros(alloc: Global, argument: u32) -> Result<String, AllocError>
     ensures { IfOk result (λ text. string_bytes text ≡ spec.argument_zeros argument) }
 {
@@ -99,7 +99,7 @@ fn argument_zeros(alloc: Global, argument: u32) -> Result<String, AllocError>
     format!(in alloc; "      fixed_{letter}[i] = 0;\n      count_{letter}[i] = 0;\n")
 }
 
-/// Returns what sets the initial words of argument `argument` to 0.
+/// Returns the statements that set the initial words of argument `argument` to 0.
 fn word_zeros(alloc: Global, argument: u32) -> Result<String, AllocError>
     ensures { IfOk result (λ text. string_bytes text ≡ spec.word_zeros argument) }
 {
@@ -119,7 +119,7 @@ fn all_argument_tables(alloc: Global, ports: u32) -> Result<String, AllocError>
     Ok(text)
 }
 
-/// Returns what sets a slot's entries for the arguments of a unit with `ports` ports to 0.
+/// Returns the statements that set a slot's entries for the arguments of a unit with `ports` ports to 0.
 fn all_argument_zeros(alloc: Global, ports: u32) -> Result<String, AllocError>
     ensures { IfOk result (λ text. string_bytes text ≡ lists_below spec.argument_zeros ports) }
 {
@@ -131,7 +131,7 @@ fn all_argument_zeros(alloc: Global, ports: u32) -> Result<String, AllocError>
     Ok(text)
 }
 
-/// Returns what sets the initial words of the arguments of a unit with `ports` ports to 0.
+/// Returns the statements that set the initial words of the arguments of a unit with `ports` ports to 0.
 fn all_word_zeros(alloc: Global, ports: u32) -> Result<String, AllocError>
     ensures { IfOk result (λ text. string_bytes text ≡ lists_below spec.word_zeros ports) }
 {
@@ -158,8 +158,8 @@ fn tables(alloc: Global, ports: u32) -> Result<String, AllocError>
 
 // ---- what it does in a cycle
 
-/// Returns the word that a unit with a port for argument `argument` takes: the immediate, or the initial word of the turn, or the
-/// word on the port.
+/// Returns the word that a unit with a port for argument `argument` takes: the immediate, or the initial word of the
+/// iteration, or the word on the port.
 fn argument_wire(alloc: Global, argument: u32) -> Result<String, AllocError>
     ensures { IfOk result (λ text. string_bytes text ≡ spec.argument_wire argument) }
 {
@@ -201,7 +201,7 @@ fn three_arguments(alloc: Global, ports: u32) -> Result<String, AllocError>
     Ok(text)
 }
 
-/// Returns what a unit with `ports` ports works on in a cycle.
+/// Returns the operands of the work of a unit with `ports` ports in a cycle.
 fn arguments(alloc: Global, ports: u32) -> Result<String, AllocError>
     ensures { IfOk result (λ text. string_bytes text ≡ spec.arguments ports) }
 {
@@ -210,7 +210,7 @@ fn arguments(alloc: Global, ports: u32) -> Result<String, AllocError>
     format!(in alloc; "{work}{words}\n")
 }
 
-/// Returns the word that an input takes where `operations` have one, and else nothing.
+/// Returns the word that an input takes where `operations` include one, and else nothing.
 fn taken(operations: u32) -> &'static str
     ensures { result.now ≡ spec.taken operations }
 {
@@ -221,21 +221,21 @@ fn taken(operations: u32) -> &'static str
     }
 }
 
-/// Checks whether `operations` have one that reads the memory.
+/// Checks whether `operations` include one that reads the memory.
 fn loads(operations: u32) -> bool
     ensures { result ≡ spec.loads operations }
 {
     offers(operations, Op::Load) || offers(operations, Op::LoadIf)
 }
 
-/// Returns the word that a load takes where `operations` have one, and else nothing.
+/// Returns the word that a load takes where `operations` include one, and else nothing.
 fn loaded(operations: u32) -> &'static str
     ensures { result.now ≡ spec.loaded operations }
 {
     if loads(operations) { LOADED } else { "" }
 }
 
-/// Returns the word that `op` stores or sends where it does and `operations` have it, and else nothing.
+/// Returns the word that `op` stores or sends where it does so and `operations` include it, and else nothing.
 fn word_line(alloc: Global, operations: u32, op: Op) -> Result<String, AllocError>
     ensures { IfOk result (λ text. string_bytes text ≡ spec.word_line operations op) }
 {
@@ -261,7 +261,7 @@ fn word_lines(alloc: Global, operations: u32) -> Result<String, AllocError>
     Ok(text)
 }
 
-/// Returns what a unit with `operations` does to the memory and the streams.
+/// Returns the effects of a unit with `operations` on the memory and the streams.
 fn effects(alloc: Global, operations: u32) -> Result<String, AllocError>
     ensures { IfOk result (λ text. string_bytes text ≡ spec.effects operations) }
 {
@@ -302,7 +302,7 @@ fn value_of(op: Op) -> &'static str
     }
 }
 
-/// Returns the value of `op` where it has one and `operations` have it, and else nothing.
+/// Returns the value of `op` where it has one and `operations` include it, and else nothing.
 fn value_line(alloc: Global, operations: u32, op: Op) -> Result<String, AllocError>
     ensures { IfOk result (λ text. string_bytes text ≡ spec.value_line operations op) }
 {
@@ -338,7 +338,7 @@ fn values(alloc: Global, operations: u32) -> Result<String, AllocError>
     )
 }
 
-/// Returns the register of what was begun one cycle more than `cycles` ago.
+/// Returns the register of the work that was begun one cycle more than `cycles` ago.
 fn stage_register(alloc: Global, cycles: u32) -> Result<String, AllocError>
     ensures { IfOk result (λ text. string_bytes text ≡ spec.stage_register cycles) }
 {
@@ -346,7 +346,7 @@ fn stage_register(alloc: Global, cycles: u32) -> Result<String, AllocError>
     format!(in alloc; "  reg [31:0] q{next};\n")
 }
 
-/// Returns what the register of what was begun one cycle more than `cycles` ago takes at an edge.
+/// Returns the assignment to the register of the work that was begun one cycle more than `cycles` ago, at a clock edge.
 fn stage_step(alloc: Global, cycles: u32) -> Result<String, AllocError>
     ensures { IfOk result (λ text. string_bytes text ≡ spec.stage_step cycles) }
 {
@@ -370,7 +370,7 @@ fn all_stage_registers(alloc: Global, latency: u32) -> Result<String, AllocError
     Ok(text)
 }
 
-/// Returns what the registers of a unit with the latency `latency` take at an edge.
+/// Returns the assignments to the registers of a unit with the latency `latency`, at a clock edge.
 fn all_stage_steps(alloc: Global, latency: u32) -> Result<String, AllocError>
     ensures { IfOk result (λ text. string_bytes text ≡ lists_below spec.stage_step latency) }
 {
@@ -408,7 +408,7 @@ pub(crate) fn unit_note(
     format!(in alloc; "a unit with {ports} ports and a latency of {latency}:{words}")
 }
 
-/// Returns the ports of the arguments of a unit with `ports` ports, as a list of ports has them.
+/// Returns the ports of the arguments of a unit with `ports` ports, as written in a list of ports.
 fn all_port_names(alloc: Global, ports: u32) -> Result<String, AllocError>
     ensures { IfOk result (λ text. string_bytes text ≡ lists_below pieces.port_name ports) }
 {

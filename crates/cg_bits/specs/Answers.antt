@@ -1,4 +1,4 @@
--- What is answered of bytes: the configuration that they spell, or their first fault.
+-- The result of reading bytes: the configuration that they encode, or their first fault.
 use Rattle.std.specs.Prelude.{ℕ, List, [], ◌∷◌, Result, Ok, Err}
 use Rattle.cg_model.specs.Array.{Arch}
 use Rattle.cg_model.specs.Config.{Config}
@@ -18,7 +18,7 @@ abbrev pub unless_fault : {X : Type 0} → List BitsFault → X → Result X Bit
 unless_fault [] x = Ok x
 unless_fault (f ∷ fs) x = Err f
 
--- the configuration that bytes spell in a format, or the first of their faults
+-- the configuration that bytes encode in a format, or the first of their faults
 abbrev pub answer_in : Format → Arch → List ℕ → Result Config BitsFault
 answer_in F A bytes = unless_fault (faults_in F A bytes) (config_at F A bytes)
 
@@ -27,7 +27,7 @@ answer_in F A bytes = unless_fault (faults_in F A bytes) (config_at F A bytes)
 abbrev pub faults_of : Arch → List ℕ → List BitsFault
 faults_of A bytes = faults_in cgb2 A bytes
 
--- the configuration that bytes would spell
+-- the configuration that bytes would encode
 abbrev pub config_of : Arch → List ℕ → Config
 config_of A bytes = config_at cgb2 A bytes
 

@@ -19,19 +19,19 @@ use Rattle.cg_bits.specs.Reading.{unit_in, select_place, unit_place}
 use Rattle.cg_bits.specs.Faults.{first, unless, unit_breaches, wrong_magic, too_short, other_digest, bad_header}
 use Rattle.cg_bits.specs.Ranges.{IsFormat}
 
--- ---- an argument, where it is told whether the operation has it and whether one before it is fixed
+-- ---- an argument, given whether the operation has it and whether one before it is fixed
 
--- what is wrong with word k
+-- the faults of word k
 abbrev pub word_fault : ArgFields → Bool → ℕ → ℕ → List ℕ
 word_fault a used at k = unless (word_ok a used k) (at + 4 + k * 32)
 
--- what is wrong with the argument
+-- the faults of the argument
 abbrev pub arg_faults : ArgFields → Bool → Bool → ℕ → List ℕ
 arg_faults a used before at = unless (mode_ok a used before) at ++ (unless (count_ok a used) (at + 1) ++ joined (word_fault a used at) 4)
 
 -- ---- a unit, which begins at a place
 
--- what one check finds wrong with it, by the bits of the file
+-- the faults of the unit by one check, by the bits of the file
 abbrev pub unit_faults : UnitCheck → Format → Unit → List Bool → ℕ → List ℕ
 unit_faults Code F u bits at = unless (nat_le (number_at bits at F.op_bits) F.greatest) (320 + at)
 unit_faults Offer F u bits at = unless (offered u.ops (unit_in F (length u.ports) bits at).op) (320 + at)
@@ -58,12 +58,12 @@ module _ (F : Format) (A : Arch) (bits : List Bool) where
   abbrev pub fields_there : ℕ → ℕ → UnitFields
   fields_there slot x = unit_in F (ports A x) bits (unit_place F A x slot)
 
-  -- the selects that no driver has
+  -- the selects that are above the number of drivers
   abbrev pub select_faults : ℕ → List ℕ
   select_faults slot =
       joined (λ r. unless (nat_le (number_at bits (select_place F A r slot) (select_bits A r)) (length (resource A r).drivers)) (320 + select_place F A r slot)) (length A.resources)
 
-  -- what one check finds wrong with the units
+  -- the faults of the units by one check
   abbrev pub slot_faults : UnitCheck → ℕ → List ℕ
   slot_faults check slot = joined (λ x. unit_faults check F (unit A x) bits (unit_place F A x slot)) (length A.units)
 
@@ -89,7 +89,7 @@ module _ (F : Format) (A : Arch) (bits : List Bool) where
 
 -- ---- all slots
 
--- the body holds all slots' bits, of `len` bits each, and their number is small
+-- the body holds the bits of all slots, of `len` bits each, and their number is small
 pub record AreSlots (F : Format) (A : Arch) (body : List ℕ) (ii len : ℕ) : Type 0 where
   pub known : IsFormat F
   pub len_is : len ≡ slot_len F A
@@ -100,17 +100,17 @@ module _ (F : Format) (A : Arch) (body : List ℕ) (ii : ℕ) where
   abbrev pub bits : List Bool
   bits = bits_of_bytes body
 
-  -- how many bits follow the slots in the last byte
+  -- the number of bits after the slots in the last byte
   abbrev pub spare : ℕ
   spare = (ii * slot_len F A + 7) / 8 * 8 - ii * slot_len F A
 
-  -- those that are set
+  -- those of them that are set
   abbrev pub padding_faults : List ℕ
   padding_faults = joined (λ i. unless (not (slice_index_or bits (ii * slot_len F A + i) false)) (320 + (ii * slot_len F A + i))) spare
 
 -- ---- the list of faults, in three parts
 
--- B1 to B4: the header, and that the slots are there
+-- B1 to B4: the header, and whether the slots are all there
 abbrev pub start_faults : Format → Arch → List ℕ → List ℕ → List BitsFault
 start_faults F A digest bytes =
     wrong_magic F A digest bytes ++ (too_short F A digest bytes ++ (other_digest F A digest bytes ++ bad_header F A digest bytes))
@@ -130,7 +130,7 @@ end_faults F A body ii long =
     ++ (map Trailing (unless (nat_le long (40 + (ii * slot_len F A + 7) / 8)) (40 + (ii * slot_len F A + 7) / 8))
     ++ map RepeatedPort (repeated_faults F A (bits_of_bytes body) ii))
 
--- an answer about bytes: none of these faults, or their first
+-- a result about bytes: none of these faults, or the first of them
 abbrev pub Checks : {X : Type 0} → Result X BitsFault → List BitsFault → Type 0
 Checks (Ok x) faults = faults ≡ []
 Checks (Err f) faults = first faults ≡ Some f

@@ -1,4 +1,4 @@
--- What is wrong with bytes: all faults, by number and then by place. The first is the one that is answered.
+-- The faults of bytes, by number and then by place. The first one is reported.
 use Rattle.std.specs.Prelude.{ℕ, ◌+◌, ◌*◌, ◌/◌, ◌-◌, nat_lt, nat_le, eqb, Bool, false, not, ◌||◌, if◌then◌else◌, List, [], ◌∷◌, ◌++◌, length, map, take, drop, Option, Some, None, slice_index_or, bytes_eq, nat_eq}
 use Rattle.std.specs.List.{starts_with}
 use Rattle.cg_model.specs.declared.config.UnitFields.{UnitFields}
@@ -14,23 +14,23 @@ use Rattle.cg_bits.specs.Format.{ports, arg_len, args_at, slot_len}
 use Rattle.cg_bits.specs.Spelling.{magic}
 use Rattle.cg_bits.specs.Reading.{select_place, unit_place, config_at, body_bits}
 
--- the first of a list
+-- the first item of a list
 abbrev pub first : {X : Type 0} → List X → Option X
 first [] = None
 first (x ∷ xs) = Some x
 
--- one complaint, unless it is right
+-- a list of one fault, unless the test holds
 abbrev pub unless : {X : Type 0} → Bool → X → List X
 unless right x = if right then [] else x ∷ []
 
 -- ---- the fields of a unit against the rules of canonical configurations, by the place of the field
 
--- mode bit, count and words of argument p, which begins at a place
+-- the mode bit, count and words of argument p, which begins at a place
 abbrev pub arg_breaches : UnitFields → ℕ → ℕ → List ℕ
 arg_breaches f p at =
     unless (mode_right f p) at ++ (unless (count_right f p) (at + 1) ++ joined (λ k. unless (word_right f p k) (at + 4 + k * 32)) 4)
 
--- stage, port, immediate and the arguments of a unit with n ports, which begins at a place
+-- the stage, port, immediate and arguments of a unit with n ports, which begins at a place
 abbrev pub unit_breaches : Format → ℕ → UnitFields → ℕ → List ℕ
 unit_breaches F n f at =
     unless (stage_right f) (at + F.op_bits)
@@ -38,19 +38,19 @@ unit_breaches F n f at =
     ++ (unless (immediate_right f) (at + F.op_bits + 20) ++ joined (λ p. arg_breaches f p (at + args_at F + p * arg_len)) n))
 
 module _ (F : Format) (A : Arch) (digest : List ℕ) (bytes : List ℕ) where
-  -- the configuration that the bytes would spell
+  -- the configuration that the bytes would encode
   abbrev pub read : Config
   read = config_at F A bytes
 
-  -- how many bytes the header and the slots take
+  -- the number of bytes of the header and the slots
   abbrev pub size : ℕ
   size = 40 + (read.ii * slot_len F A + 7) / 8
 
-  -- what is said of each resource in each slot
+  -- the items for each resource in each slot, concatenated
   abbrev pub each_resource : (ℕ → ℕ → List ℕ) → List ℕ
   each_resource says = joined (λ slot. joined (λ r. says r slot) (length A.resources)) read.ii
 
-  -- what is said of each unit in each slot
+  -- the items for each unit in each slot, concatenated
   abbrev pub each_unit : (ℕ → ℕ → List ℕ) → List ℕ
   each_unit says = joined (λ slot. joined (λ x. says x slot) (length A.units)) read.ii
 
@@ -58,11 +58,11 @@ module _ (F : Format) (A : Arch) (digest : List ℕ) (bytes : List ℕ) where
   abbrev pub at_unit : ℕ → ℕ → ℕ
   at_unit x slot = 320 + unit_place F A x slot
 
-  -- B1: the first four bytes, or all where there are fewer, don't begin the magic
+  -- B1: the first four bytes, or all where there are fewer, aren't a prefix of the magic
   abbrev pub wrong_magic : List BitsFault
   wrong_magic = unless (starts_with nat_eq (magic F) (take 4 bytes)) Magic
 
-  -- B3
+  -- B3: the digest is another one
   abbrev pub other_digest : List BitsFault
   other_digest = unless (bytes_eq (take 32 (drop 8 bytes)) digest) (ArchMismatch (take 32 (drop 8 bytes)) digest)
 
@@ -71,7 +71,7 @@ module _ (F : Format) (A : Arch) (digest : List ℕ) (bytes : List ℕ) where
   bad_header =
       unless (not (eqb read.ii 0 || (nat_lt A.contexts read.ii || eqb read.stages 0))) (BadHeader read.ii read.stages)
 
-  -- B2: the header isn't whole; or, where neither B3 nor B4 applies, the slots aren't
+  -- B2: the header isn't complete; or, where neither B3 nor B4 applies, the slots aren't
   abbrev pub too_short : List BitsFault
   too_short =
       if nat_lt (length bytes) 40 then Truncated (length bytes) ∷ []
@@ -98,13 +98,13 @@ module _ (F : Format) (A : Arch) (digest : List ℕ) (bytes : List ℕ) where
       unless (eqb read.stages (1 + last_stage A read)) 48
       ++ each_unit (λ x slot. unit_breaches F (ports A x) (fields read x slot) (at_unit x slot))
 
-  -- B9: a bit of the last byte behind the slots is 1
+  -- B9: a bit of the last byte after the slots is 1
   abbrev pub set_padding : List ℕ
   set_padding =
       joined (λ i. unless (not (slice_index_or (body_bits bytes) (read.ii * slot_len F A + i) false)) (320 + (read.ii * slot_len F A + i)))
       ((size - 40) * 8 - read.ii * slot_len F A)
 
-  -- B10: bytes behind the padding
+  -- B10: bytes after the padding
   abbrev pub trailing : List ℕ
   trailing = unless (nat_le (length bytes) size) size
 
@@ -112,7 +112,7 @@ module _ (F : Format) (A : Arch) (digest : List ℕ) (bytes : List ℕ) where
   abbrev pub repeated_ports : List ℕ
   repeated_ports = each_unit (λ x slot. unless (port_free A read x slot) (at_unit x slot + F.op_bits + 16))
 
-  -- all, B1 to B11, each at its places in order
+  -- all faults, B1 to B11, each at its places in order
   abbrev pub faults : List BitsFault
   faults =
       wrong_magic

@@ -1,4 +1,4 @@
--- What readers and writers of single fields ask.
+-- The requirements of readers and writers of single fields.
 use Rattle.std.specs.Prelude.{ℕ, ◌<◌, ◌≤◌, ◌^◌, List, slice_index}
 use Rattle.cg_model.specs.declared.config.UnitFields.{UnitFields}
 use Rattle.cg_model.specs.Config.{arg}
@@ -9,13 +9,13 @@ use Rattle.cg_bits.specs.Format.{code_of}
 abbrev pub IsBytes : List ℕ → Type 0
 IsBytes bytes = (i : ℕ) → slice_index bytes i < 256
 
--- a format's codes have room in their bits, and each names an operation
+-- a format's codes fit their bits, and each is the code of an operation
 pub record IsFormat (F : Format) : Type 0 where
   pub narrow : F.op_bits ≤ 6
   pub codes_fit : F.greatest < 2 ^ F.op_bits
   pub known : F.greatest ≤ 25
 
--- each field has room in its bits, and there are no more ports than arguments
+-- each field fits its bits, and there are no more ports than arguments
 pub record HasRanges (F : Format) (n : ℕ) (f : UnitFields) : Type 0 where
   pub few : n ≤ 3
   pub width : F.op_bits ≤ 6

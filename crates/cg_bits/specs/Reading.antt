@@ -1,5 +1,5 @@
--- What the bits at each place say, and the configuration of them all. Where the bits end early, what is missing counts as
--- no bits.
+-- The fields at each place of the bits, and the configuration of all of them. Where the bits end early, missing bits
+-- count as an empty list.
 use Rattle.std.specs.Prelude.{ℕ, ◌+◌, ◌*◌, nat_lt, eqb, if◌then◌else◌, Bool, List, length, map, take, drop}
 use Rattle.std.specs.List.{range_with_len}
 use Rattle.std.specs.Int.{w16, from_be_bytes}
@@ -32,15 +32,15 @@ unit_in F n bits at =
       args = map (λ p. if nat_lt p n then arg_in bits (at + args_at F + p * arg_len) else no_arg) (range_with_len 0 3);
     }
 
--- the interval that the header says
+-- the interval in the header
 abbrev pub ii_in : List ℕ → ℕ
 ii_in bytes = from_be_bytes w16 (take 2 (drop 4 bytes))
 
--- the stages that it says
+-- the stages in the header
 abbrev pub stages_in : List ℕ → ℕ
 stages_in bytes = from_be_bytes w16 (take 2 (drop 6 bytes))
 
--- the bits behind the header
+-- the bits after the header
 abbrev pub body_bits : List ℕ → List Bool
 body_bits bytes = bits_of_bytes (drop 40 bytes)
 
@@ -63,6 +63,6 @@ module _ (F : Format) (A : Arch) where
         units = map (λ slot. map (λ x. unit_in F (ports A x) bits (unit_place x slot)) (range_with_len 0 (length A.units))) (range_with_len 0 ii);
       }
 
-  -- the configuration that bytes would spell
+  -- the configuration that bytes would encode
   abbrev pub config_at : List ℕ → Config
   config_at bytes = config_in (body_bits bytes) (ii_in bytes) (stages_in bytes)

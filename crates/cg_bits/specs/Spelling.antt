@@ -1,4 +1,4 @@
--- The bits of a configuration, and the bytes that spell it.
+-- The bits of a configuration, and the bytes that encode it.
 use Rattle.std.specs.Prelude.{◌≡◌, ℕ, ◌<◌, ◌≤◌, Bool, false, List, [], ◌∷◌, ◌++◌, length, replicate, slice_index}
 use Rattle.std.specs.Int.{w16, to_be_bytes}
 use Rattle.cg_model.specs.declared.config.ArgFields.{ArgFields}
@@ -24,7 +24,7 @@ unit_bits F n f =
     ++ (bits_of 16 f.stage ++ (bits_of 4 f.port ++ (bits_of 32 f.immediate ++ joined (λ p. arg_bits (arg f p)) n)))
 
 -- the bits of a slot: the select of each resource, and then the fields of each unit. A resource without drivers has a
--- select of no bits
+-- select of 0 bits
 unfoldable pub slot_bits : Format → Arch → Config → ℕ → List Bool
 slot_bits F A C slot =
     joined (λ r. bits_of (select_bits A r) (select C r slot)) (length A.resources)
@@ -38,12 +38,12 @@ slots F A C = joined (slot_bits F A C) C.ii
 abbrev pub magic : Format → List ℕ
 magic F = 67 ∷ 71 ∷ 66 ∷ F.sign ∷ []
 
--- the first 40 bytes: these, the interval, the stages and the architecture's digest
+-- the first 40 bytes: the magic, the interval, the stages and the architecture's digest
 abbrev pub header : Format → List ℕ → Config → List ℕ
 header F digest C = magic F ++ (to_be_bytes w16 C.ii ++ (to_be_bytes w16 C.stages ++ digest))
 
--- the header, and then the whole bytes that begin with the slots' bits in order and end with fewer than eight zero bits;
--- each operation is one of the format
+-- the header, followed by the whole bytes that begin with the slots' bits in order and end with fewer than eight zero
+-- bits; each operation is one of the format
 pub record Spells (F : Format) (A : Arch) (digest : List ℕ) (C : Config) (bytes : List ℕ) : Type 0 where
   pub body : List ℕ
   pub padding : ℕ
@@ -52,12 +52,12 @@ pub record Spells (F : Format) (A : Arch) (digest : List ℕ) (C : Config) (byte
   pub whole : bytes ≡ header F digest C ++ body
   pub known : (x slot : ℕ) → x < length A.units → slot < C.ii → code_of (fields C x slot).op ≤ F.greatest
 
--- the bytes are a bitstream of that configuration: it is canonical for the architecture, and they spell it in `CGB2`
+-- the bytes are a bitstream of that configuration: it is canonical for the architecture, and they encode it in `CGB2`
 pub record AreBits (A : Arch) (C : Config) (bytes : List ℕ) : Type 0 where
   pub canonical : IsCanonical A C
   pub spelled : Spells cgb2 A (digest_of A) C bytes
 
--- they are a bitstream of it in the first format: it is canonical, and they spell it in `CGB1`
+-- the bytes are a bitstream of that configuration in the first format: it is canonical, and they encode it in `CGB1`
 pub record AreFirstBits (A : Arch) (C : Config) (bytes : List ℕ) : Type 0 where
   pub canonical : IsCanonical A C
   pub spelled : Spells cgb1 A (digest_of A) C bytes

@@ -1,10 +1,10 @@
--- What reports say of the faults of bits.
+-- The texts of the faults of bits in reports.
 use Rattle.std.specs.Prelude.{ℕ, List, [], ◌++◌, codes, decimal}
 use Rattle.hex.specs.Hex.{encode_lower}
 use Rattle.cg_bits.specs.declared.fault.BitsFault.{BitsFault}
 use Rattle.cg_bits.specs.declared.fault.BitsFault.TheVariants.{Memory, Magic, Truncated, ArchMismatch, BadHeader, BadSelect, BadOp, NotOffered, NotCanonical, BadPadding, Trailing, RepeatedPort}
 
--- code, name and place, where codes begin with a letter
+-- the code, the name and the place, where codes begin with a letter
 abbrev pub fault_text : List ℕ → BitsFault → List ℕ
 fault_text letter Memory = []
 fault_text letter Magic = letter ++ codes "1 Magic byte 0"
@@ -20,10 +20,10 @@ fault_text letter (BadPadding n) = letter ++ (codes "9 BadPadding bit " ++ decim
 fault_text letter (Trailing n) = letter ++ (codes "10 Trailing byte " ++ decimal n)
 fault_text letter (RepeatedPort n) = letter ++ (codes "11 RepeatedPort bit " ++ decimal n)
 
--- those of the format of today begin with B
+-- the codes of the current format begin with B
 abbrev pub bits_fault_text : BitsFault → List ℕ
 bits_fault_text f = fault_text (codes "B") f
 
--- and those of the first format with C
+-- the codes of the first format begin with C
 abbrev pub first_fault_text : BitsFault → List ℕ
 first_fault_text f = fault_text (codes "C") f

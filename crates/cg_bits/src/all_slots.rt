@@ -8,25 +8,25 @@ use crate::format::Format;
 use crate::reading::op_of;
 use cg_arch::Arch;
 
-/// The greater of two numbers.
+/// Returns the greater of two numbers.
 fn greater(a: u32, b: u32) -> u32
     ensures { result ≡ max a b }
 {
     if a < b { b } else { a }
 }
 
-/// The bits of all slots, behind the header, for an architecture.
+/// The bits of all slots, after the header, for an architecture.
 #[derive(Clone, Copy)]
 pub(crate) struct Slots<'a> {
     /// The version.
     pub format: Format,
     /// The architecture.
     pub arch: &'a Arch,
-    /// The bytes behind the header.
+    /// The bytes after the header.
     pub body: &'a [u8],
     /// The number of slots.
     pub ii: usize,
-    /// The bits of a slot.
+    /// The number of bits of a slot.
     pub len: usize,
     ghost fit: { AreSlots format arch.now body.now ii len },
 }
@@ -42,7 +42,7 @@ impl Slots<'_> {
     ghost use Rattle.cg_bits.specs.Faults.{first};
     ghost use Rattle.cg_bits.specs.Checks.{fields_there, select_faults, slot_faults, slot_stage, padding_faults};
 
-    /// Where a resource's select begins, in bits from the first slot.
+    /// Returns where the select of `resource` in `slot` begins, in bits from the first slot.
     pub fn select_place(&self, resource: u32, slot: usize) -> usize
         requires resource { resource < length self.now.arch.now.resources }
         requires slot { slot < self.now.ii }
@@ -52,7 +52,7 @@ impl Slots<'_> {
         slot * self.len + self.arch.select_at(resource) as usize
     }
 
-    /// Where a unit's fields begin, in bits from the first slot.
+    /// Returns where the fields of `unit` in `slot` begin, in bits from the first slot.
     pub fn unit_place(&self, unit: u32, slot: usize) -> usize
         requires unit { unit < length self.now.arch.now.units }
         requires slot { slot < self.now.ii }
@@ -63,7 +63,7 @@ impl Slots<'_> {
         slot * self.len + self.arch.unit_at(unit) as usize - unit as usize * narrower
     }
 
-    /// The first select of a slot that no driver has.
+    /// Returns the first select in `slot` that is above the number of drivers.
     fn bad_select_in(&self, slot: usize) -> Option<usize>
         requires { slot < self.now.ii }
         ensures { result ≡ first (select_faults self.now.format self.now.arch.now (bits_of_bytes self.now.body.now) slot) }
@@ -78,7 +78,7 @@ impl Slots<'_> {
         None
     }
 
-    /// The first select that no driver has.
+    /// Returns the first select that is above the number of drivers.
     pub fn bad_select(&self) -> Option<usize>
         ensures { result ≡ first (joined (select_faults self.now.format self.now.arch.now (bits_of_bytes self.now.body.now)) self.now.ii) }
     {
@@ -90,7 +90,7 @@ impl Slots<'_> {
         None
     }
 
-    /// What a check finds first in a slot.
+    /// Returns the first bit in `slot` that the check `check` finds at fault.
     fn bad_unit_in(&self, check: UnitCheck, slot: usize) -> Option<usize>
         requires { slot < self.now.ii }
         ensures { result ≡ first (slot_faults self.now.format self.now.arch.now (bits_of_bytes self.now.body.now) check slot) }
@@ -104,7 +104,7 @@ impl Slots<'_> {
         None
     }
 
-    /// What a check finds first.
+    /// Returns the first bit that the check `check` finds at fault.
     pub fn bad_unit(&self, check: UnitCheck) -> Option<usize>
         ensures { result ≡ first (joined (slot_faults self.now.format self.now.arch.now (bits_of_bytes self.now.body.now) check) self.now.ii) }
     {
@@ -116,7 +116,7 @@ impl Slots<'_> {
         None
     }
 
-    /// The stage of a unit in a slot, 0 where it is off.
+    /// Returns the stage of `unit` in `slot`, 0 where it is off.
     fn stage(&self, unit: u32, slot: usize) -> u32
         requires unit { unit < length self.now.arch.now.units }
         requires slot { slot < self.now.ii }
@@ -129,7 +129,7 @@ impl Slots<'_> {
         }
     }
 
-    /// The greatest stage in a slot, or 0.
+    /// Returns the greatest stage in `slot`, or 0.
     fn last_stage_in(&self, slot: usize) -> u32
         requires { slot < self.now.ii }
         ensures { result ≡ slot_stage self.now.format self.now.arch.now (bits_of_bytes self.now.body.now) slot }
@@ -141,7 +141,7 @@ impl Slots<'_> {
         last
     }
 
-    /// The greatest stage, or 0.
+    /// Returns the greatest stage, or 0.
     pub fn last_stage(&self) -> u32
         ensures { result ≡ greatest_of (slot_stage self.now.format self.now.arch.now (bits_of_bytes self.now.body.now)) self.now.ii }
     {
@@ -152,7 +152,7 @@ impl Slots<'_> {
         last
     }
 
-    /// The first bit that is set behind the slots, in the last byte.
+    /// Returns the first bit that is set after the slots, in the last byte.
     pub fn set_padding(&self) -> Option<usize>
         ensures { result ≡ first (padding_faults self.now.format self.now.arch.now self.now.body.now self.now.ii) }
     {

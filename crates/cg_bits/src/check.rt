@@ -1,4 +1,4 @@
-//! Whether bytes are a bitstream for an architecture.
+//! Checks whether bytes are a bitstream for an architecture.
 ghost use Rattle.std.specs.Prelude.{◌≡◌, ℕ, ◌+◌, ◌*◌, ◌/◌, length, Ok, IfOk};
 ghost use Rattle.cg_model.specs.Array.{IsArch};
 ghost use Rattle.cg_model.specs.Config.{Config};
@@ -23,7 +23,7 @@ use cg_arch::Arch;
 /// The place of the header's stages.
 const STAGES_BIT: usize = 48;
 
-/// The selects and the fields of all units.
+/// Checks the selects and the fields of all units.
 fn check_fields(slots: &Slots<'_>, stages: u32) -> Result<(), BitsFault>
     ensures { Checks result (field_faults slots.now.format slots.now.arch.now (bits_of_bytes slots.now.body.now) slots.now.ii stages) }
 {
@@ -45,7 +45,7 @@ fn check_fields(slots: &Slots<'_>, stages: u32) -> Result<(), BitsFault>
     Ok(())
 }
 
-/// What follows the slots in a file of that length, and the ports of outputs.
+/// Checks what follows the slots in a file of `long` bytes, and the ports of outputs.
 fn check_end(slots: &Slots<'_>, long: usize, size: usize) -> Result<(), BitsFault>
     requires { size ≡ 40 + (slots.now.ii * slot_len slots.now.format slots.now.arch.now + 7) / 8 }
     ensures { Checks result (end_faults slots.now.format slots.now.arch.now slots.now.body.now slots.now.ii long) }
@@ -62,7 +62,7 @@ fn check_end(slots: &Slots<'_>, long: usize, size: usize) -> Result<(), BitsFaul
     Ok(())
 }
 
-/// The first fault of bytes as a bitstream of a format.
+/// Returns the first fault of `bytes` as a bitstream of `format`.
 pub(crate) fn check(format: Format, arch: &Arch, bytes: &[u8]) -> Result<(), BitsFault>
     requires { IsFormat format }
     ensures faults { Checks result (faults format arch.now (digest_of arch.now) bytes.now) }
@@ -84,16 +84,16 @@ pub(crate) fn check(format: Format, arch: &Arch, bytes: &[u8]) -> Result<(), Bit
     check_end(&slots, bytes.len(), size(ii, len))
 }
 
-/// Whether the bytes are a `CGB2` bitstream for the architecture, and if not why: the lowest fault at its least place. It
-/// takes no memory, and never answers `Memory`.
+/// Checks whether `bytes` are a `CGB2` bitstream for `arch`; the error is the lowest fault at its least place. It
+/// allocates no memory, and never returns `Memory`.
 pub fn check_bits(arch: &Arch, bytes: &[u8]) -> Result<(), BitsFault>
     ensures answer { result ≡ unless_fault (faults_of arch.now bytes.now) tt }
     ensures valid { IsArch arch.now }
     // Where there is no fault, they are a bitstream of the configuration that is read.
     ensures bits { IfOk result (λ _. AreBits arch.now (config_of arch.now bytes.now) bytes.now) }
-    // A bitstream of any configuration has no fault, and it is that one which is read.
+    // A bitstream of any configuration has no fault, and is read as that configuration.
     ensures all { (C : Config) → AreBits arch.now C bytes.now → (result ≡ Ok tt) × (config_of arch.now bytes.now ≡ C) }
-    // The bits of each fault rise in its list, so the first of them is the least.
+    // The bits of each fault are listed in ascending order, so that the first of them is the least.
     ensures rising { PlacesRise arch.now bytes.now }
 {
     check(CGB2, arch, bytes)

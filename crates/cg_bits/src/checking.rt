@@ -1,4 +1,4 @@
-//! The slots of a bitstream against an architecture.
+//! Checks the slots of a bitstream against an architecture.
 ghost use Rattle.std.specs.Prelude.{◌≡◌, ◌+◌, ◌*◌, ◌<◌, ◌≤◌, ◌^◌, nat_le, length};
 ghost use Rattle.cg_model.specs.Canonical.{offered};
 ghost use Rattle.cg_bits.specs.Numbers.{number_at, bits_of_bytes};
@@ -13,10 +13,10 @@ use crate::reading::{op_of, unit_at};
 use crate::rules::unit_breach;
 use cg_model::Unit;
 
-/// The bits before the first slot: those of the header.
+/// The number of bits before the first slot, which are those of the header.
 pub(crate) const HEADER_BITS: usize = 320;
 
-/// What is looked for in the fields of a unit.
+/// A check on the fields of a unit.
 #[derive(Clone, Copy, Debug, PartialEq, Eq)]
 pub(crate) enum UnitCheck {
     /// An operation code above the greatest.
@@ -27,7 +27,7 @@ pub(crate) enum UnitCheck {
     Fields,
 }
 
-/// The first bit at fault of a unit that begins at a place.
+/// Returns the first bit at fault of a unit that begins at a place.
 #[tactic(auto, unfolding(crate::specs::Reading::unit_in))]
 pub(crate) fn unit_fault(
     check: UnitCheck,

@@ -1,10 +1,10 @@
-//! Why bytes are no bitstream for an architecture.
+//! Why bytes are not a valid bitstream for an architecture.
 
 use std::alloc::{AllocError, AllocFailed};
 use thiserror::Error;
 
-/// Why bytes are no bitstream for an architecture. The variants after `Memory` are B1 to B11, in this order. Bits and bytes
-/// are counted from 0 at the first one of the file; a bit is the first one of the field at fault.
+/// Why bytes are not a valid bitstream for an architecture. The variants after `Memory` are B1 to B11, in this order.
+/// Bits and bytes are counted from 0 at the start of the file; a bit is the first bit of the field at fault.
 #[derive(Clone, Copy, Debug, PartialEq, Eq, Error)]
 pub enum BitsFault {
     #[error("memory ran out")]
@@ -12,13 +12,13 @@ pub enum BitsFault {
     /// The first bytes aren't those of the format.
     #[error("no bits")]
     Magic,
-    /// The bytes end early: how many there are.
+    /// The bytes end early: the number of bytes.
     #[error("the bytes end early")]
     Truncated(usize),
-    /// The file is for another architecture: the digest that it names, and that of the architecture.
+    /// The file is for another architecture: the digest in the file, and that of the architecture.
     #[error("bits of another architecture")]
     ArchMismatch([u8; 32], [u8; 32]),
-    /// The header's interval or stages can't be: both of them.
+    /// The header's interval or stages are invalid: both of them.
     #[error("an interval or stages that can't be")]
     BadHeader(u32, u32),
     /// A select above the number of drivers: its bit.
@@ -36,7 +36,7 @@ pub enum BitsFault {
     /// A padding bit is set: the first one.
     #[error("a padding bit is set")]
     BadPadding(usize),
-    /// Bytes follow the padding: the number of the first of them.
+    /// Bytes follow the padding: the position of the first of them.
     #[error("a byte too many")]
     Trailing(usize),
     /// An output to a port that an earlier field has: the bit of its port.
@@ -44,7 +44,8 @@ pub enum BitsFault {
     RepeatedPort(usize),
 }
 
-/// Why bytes are no bitstream of the first format for an architecture: the same faults at the same places, C1 to C11.
+/// Why bytes are not a valid bitstream of the first format for an architecture: the same faults at the same places, C1
+/// to C11.
 pub type Bits1Fault = BitsFault;
 
 impl From<AllocError> for BitsFault {

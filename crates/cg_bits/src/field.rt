@@ -1,9 +1,9 @@
-//! Fields that are read where they lie.
+//! Reads fields in place.
 ghost use Rattle.std.specs.Prelude.{◌≡◌, ◌+◌, ◌*◌, ◌/◌, ◌%◌, ◌≤◌, ◌<◌, ◌^◌, length};
 ghost use Rattle.cg_bits.specs.Numbers.{number, number_at, bits_of_bytes};
 
 /// Returns the number of `width` bits at `place` in `bytes`, counted in bits. It reads eight bytes at once where there
-/// are as many from the field's first one on, and else those that the field lies in, at most five.
+/// are eight from the field's first byte on, and otherwise the bytes in which the field lies, at most five.
 pub fn number_at(bytes: &[u8], place: usize, width: u32) -> u32
     requires narrow { width ≤ 32 }
     requires inside { place + width ≤ 8 * length bytes.now }
@@ -23,7 +23,7 @@ pub fn number_at(bytes: &[u8], place: usize, width: u32) -> u32
     cut(few_bytes(&bytes[first..last]), last * 8 - end, width)
 }
 
-/// Returns the `width` bits of `word` behind which `behind` others stand.
+/// Returns the `width` bits of `word` that are followed by `behind` other bits.
 fn cut(word: u64, behind: usize, width: u32) -> u32
     requires narrow { width ≤ 32 }
     requires inside { behind < 64 }
@@ -32,7 +32,7 @@ fn cut(word: u64, behind: usize, width: u32) -> u32
     ((word >> behind) % (1 << width)) as u32
 }
 
-/// The number of eight bytes.
+/// Returns the number of eight bytes.
 fn eight_bytes(bytes: &[u8]) -> u64
     requires { length bytes.now ≡ 8 }
     ensures { result ≡ number (bits_of_bytes bytes.now) }
@@ -42,7 +42,7 @@ fn eight_bytes(bytes: &[u8]) -> u64
     ])
 }
 
-/// The number of at most five bytes.
+/// Returns the number of at most five bytes.
 fn few_bytes(bytes: &[u8]) -> u64
     requires { length bytes.now ≤ 5 }
     ensures { result ≡ number (bits_of_bytes bytes.now) }

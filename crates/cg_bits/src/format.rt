@@ -1,9 +1,9 @@
-//! What the versions of the bit format differ in.
+//! The differences between the versions of the bit format.
 
 /// A version of the bit format.
 #[derive(Clone, Copy, Debug, PartialEq, Eq)]
 pub struct Format {
-    /// The fourth byte of the file, behind `CGB`.
+    /// The fourth byte of the file, after `CGB`.
     pub sign: u8,
     /// The width of an operation code, in bits.
     pub op_bits: u32,
@@ -11,7 +11,7 @@ pub struct Format {
     pub greatest: u32,
 }
 
-/// `CGB1`, of the time before guarded operations.
+/// `CGB1`, the format before guarded operations.
 pub const CGB1: Format = Format {
     sign: b'1',
     op_bits: 5,

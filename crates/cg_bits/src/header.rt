@@ -17,7 +17,7 @@ use cg_arch::Arch;
 /// The length of the header, in bytes.
 pub const HEADER: usize = 40;
 
-/// The interval that a header says.
+/// Returns the interval in a header.
 pub fn ii_in(bytes: &[u8]) -> u32
     requires { 40 ≤ length bytes.now }
     ensures value { result ≡ ii_in bytes.now }
@@ -26,7 +26,7 @@ pub fn ii_in(bytes: &[u8]) -> u32
     u32::from(u16::from_be_bytes([bytes[4], bytes[5]]))
 }
 
-/// The stages that a header says.
+/// Returns the stages in a header.
 pub fn stages_in(bytes: &[u8]) -> u32
     requires { 40 ≤ length bytes.now }
     ensures { result ≡ stages_in bytes.now }
@@ -34,7 +34,7 @@ pub fn stages_in(bytes: &[u8]) -> u32
     u32::from(u16::from_be_bytes([bytes[6], bytes[7]]))
 }
 
-/// The bits of a slot.
+/// Returns the number of bits of a slot.
 pub(crate) fn slot_len(format: Format, arch: &Arch) -> usize
     requires { IsFormat format }
     ensures value { result ≡ slot_len format arch.now }
@@ -53,7 +53,7 @@ pub(crate) fn size(ii: u32, len: usize) -> usize
     HEADER + (ii as usize * len + 7) / 8
 }
 
-/// Whether the first bytes, as many as there are of four, are those of the format.
+/// Returns whether the first four bytes, or all where there are fewer, are a prefix of the format's magic.
 fn begins(format: Format, bytes: &[u8]) -> bool
     ensures { result ≡ starts_with nat_eq (magic format) (take 4 bytes.now) }
 {
@@ -62,7 +62,7 @@ fn begins(format: Format, bytes: &[u8]) -> bool
     magic.starts_with(first)
 }
 
-/// The digest that a header names.
+/// Returns the digest in a header.
 fn digest_in(bytes: &[u8]) -> [u8; 32]
     requires { 40 ≤ length bytes.now }
     ensures { result ≡ take 32 (drop 8 bytes.now) }
@@ -72,14 +72,14 @@ fn digest_in(bytes: &[u8]) -> [u8; 32]
     digest
 }
 
-/// Whether an interval or stages can't be.
+/// Returns whether the interval `ii` or the stages `stages` are invalid.
 fn header_wrong(contexts: u32, ii: u32, stages: u32) -> bool
     ensures { result ≡ (eqb ii 0 || (nat_lt contexts ii || eqb stages 0)) }
 {
     ii == 0 || ii > contexts || stages == 0
 }
 
-/// The digest, the interval and the stages of a header against an architecture, whose digest is given.
+/// Checks the digest, the interval and the stages of a header against an architecture, whose digest is given.
 fn check_header(
     format: Format,
     arch: &Arch,
@@ -103,7 +103,7 @@ fn check_header(
 }
 
 /// Checks the header in `bytes` against `arch`, whose digest is `digest`, and whether the bytes hold the number of
-/// slots that it says, of `len` bits each.
+/// slots that the header says, of `len` bits each.
 pub(crate) fn check_start(
     format: Format,
     arch: &Arch,

@@ -13,7 +13,7 @@ use crate::reading::op_of;
 use cg_contexts::gives_output;
 use cg_word::Op;
 
-/// Notes an output to a port as used. Whether it was free: no output, or one to a port that wasn't used.
+/// Marks an output's port as used. Returns whether it was free, or there is no output.
 fn take_port(used: &mut [bool; 16], op: Option<Op>, port: u32) -> bool
     requires { port < 16 }
     ensures free { result ≡ not (gives_output op && slice_index_or used.old port false) }
@@ -27,7 +27,7 @@ fn take_port(used: &mut [bool; 16], op: Option<Op>, port: u32) -> bool
     free
 }
 
-/// The port field of the first output in a slot to a port that is used; the others are noted as used.
+/// Returns the port field of the first output in `slot` to a port in use; the ports of the others are marked as used.
 fn repeated_port_in(slots: &Slots<'_>, slot: usize, used: &mut [bool; 16]) -> Option<usize>
     requires { slot < slots.now.ii }
     ensures first { result ≡ first (port_faults slots.now.format slots.now.arch.now (bits_of_bytes slots.now.body.now) (λ q. slice_index_or used.old q false) slot) }
@@ -47,7 +47,7 @@ fn repeated_port_in(slots: &Slots<'_>, slot: usize, used: &mut [bool; 16]) -> Op
     None
 }
 
-/// The port field of the first output to a port that an earlier field gives output to.
+/// Returns the port field of the first output to a port that an earlier field gives output to.
 pub(crate) fn repeated_port(slots: &Slots<'_>) -> Option<usize>
     ensures { result ≡ first (repeated_faults slots.now.format slots.now.arch.now (bits_of_bytes slots.now.body.now) slots.now.ii) }
 {

@@ -1,4 +1,4 @@
-//! The fields of units, read where they lie.
+//! Reads the fields of units in place.
 ghost use Rattle.std.specs.Prelude.{◌≡◌, ◌+◌, ◌*◌, ◌<◌, ◌≤◌, ◌^◌, length};
 ghost use Rattle.cg_bits.specs.Numbers.{bits_of_bytes};
 ghost use Rattle.cg_bits.specs.Format.{op_of, args_at, arg_len};
@@ -11,7 +11,7 @@ use cg_config::NO_ARG;
 use cg_contexts::{ArgFields, UnitFields};
 use cg_word::Op;
 
-/// The operation of a code: none for 0, and none above the greatest code.
+/// Returns the operation with the code `code`: None for 0, and for codes above the greatest one.
 pub fn op_of(format: Format, code: u32) -> Option<Op>
     requires { IsFormat format }
     ensures { result ≡ op_of format code }
@@ -22,7 +22,7 @@ pub fn op_of(format: Format, code: u32) -> Option<Op>
     Some(Op::ALL[code as usize - 1])
 }
 
-/// The argument at a place in the bits.
+/// Returns the argument at place `at` in the bits.
 pub fn arg_at(bytes: &[u8], at: usize) -> ArgFields
     requires inside { at + arg_len ≤ 8 * length bytes.now }
     requires counted { at < 2 ^ 59 }

@@ -1,4 +1,4 @@
-//! Configurations out of bytes.
+//! Reads configurations from bytes.
 ghost use Rattle.std.specs.Prelude.{◌≡◌, ◌+◌, ◌*◌, ◌/◌, ◌<◌, ◌≤◌, map, length, Ok, IfOk};
 ghost use Rattle.std.specs.List.{range_with_len};
 ghost use Rattle.cg_model.specs.Answers.{Gives};
@@ -26,7 +26,7 @@ use cg_config::{Config, Row};
 use cg_contexts::UnitFields;
 use std::alloc::{AllocError, Global};
 
-/// The selects of a slot.
+/// Returns the selects of `slot`.
 fn selects_row(alloc: Global, slots: &Slots<'_>, slot: usize) -> Result<Row<u32>, AllocError>
     requires { slot < slots.now.ii }
     ensures { IfOk result (λ row. row ≡ map (λ r. number_at (bits_of_bytes slots.now.body.now) (select_place slots.now.format slots.now.arch.now r slot) (select_bits slots.now.arch.now r)) (range_with_len 0 (length slots.now.arch.now.resources))) }
@@ -39,7 +39,7 @@ fn selects_row(alloc: Global, slots: &Slots<'_>, slot: usize) -> Result<Row<u32>
     Ok(Row::new(row))
 }
 
-/// The fields of a slot.
+/// Returns the fields of `slot`.
 fn fields_row(alloc: Global, slots: &Slots<'_>, slot: usize) -> Result<Row<UnitFields>, AllocError>
     requires { slot < slots.now.ii }
     ensures { IfOk result (λ row. row ≡ map (fields_there slots.now.format slots.now.arch.now (bits_of_bytes slots.now.body.now) slot) (range_with_len 0 (length slots.now.arch.now.units))) }
@@ -53,7 +53,7 @@ fn fields_row(alloc: Global, slots: &Slots<'_>, slot: usize) -> Result<Row<UnitF
     Ok(Row::new(row))
 }
 
-/// The selects of all slots.
+/// Returns the selects of all slots.
 fn selects_rows(alloc: Global, slots: &Slots<'_>) -> Result<Vec<Row<u32>>, AllocError>
     ensures { IfOk result (λ rows. rows.items ≡ map (λ slot. map (λ r. number_at (bits_of_bytes slots.now.body.now) (select_place slots.now.format slots.now.arch.now r slot) (select_bits slots.now.arch.now r)) (range_with_len 0 (length slots.now.arch.now.resources))) (range_with_len 0 slots.now.ii)) }
 {
@@ -64,7 +64,7 @@ fn selects_rows(alloc: Global, slots: &Slots<'_>) -> Result<Vec<Row<u32>>, Alloc
     Ok(rows)
 }
 
-/// The fields of all slots.
+/// Returns the fields of all slots.
 fn fields_rows(alloc: Global, slots: &Slots<'_>) -> Result<Vec<Row<UnitFields>>, AllocError>
     ensures { IfOk result (λ rows. rows.items ≡ map (λ slot. map (fields_there slots.now.format slots.now.arch.now (bits_of_bytes slots.now.body.now) slot) (range_with_len 0 (length slots.now.arch.now.units))) (range_with_len 0 slots.now.ii)) }
 {
@@ -95,7 +95,7 @@ fn tables(alloc: Global, format: Format, arch: &Arch, bytes: &[u8]) -> Result<Co
     Ok(Config::from_rows(ii, stages_in(bytes), selects, units))
 }
 
-/// Returns the configuration that `bytes` spell in `format` for `arch`, or why they spell none.
+/// Returns the configuration that `bytes` encode in `format` for `arch`, or why they encode none.
 fn read(alloc: Global, format: Format, arch: &Arch, bytes: &[u8]) -> Result<Config, BitsFault>
     requires { IsFormat format }
     ensures answer { Gives BitsFault.Memory result (answer_in format arch.now bytes.now) }
@@ -108,8 +108,8 @@ fn read(alloc: Global, format: Format, arch: &Arch, bytes: &[u8]) -> Result<Conf
     }
 }
 
-/// Returns the configuration that `bytes` spell for `arch`, in tables, or why they spell none: the lowest fault at its
-/// least place.
+/// Returns the configuration that `bytes` encode for `arch`, in tables, or why they encode none: the lowest fault at
+/// its least place.
 pub fn read_bits(alloc: Global, arch: &Arch, bytes: &[u8]) -> Result<Config, BitsFault>
     ensures answer { Gives BitsFault.Memory result (answer_of arch.now bytes.now) }
     ensures bits { IfOk result (λ config. AreBits arch.now config bytes.now) }
@@ -118,8 +118,8 @@ pub fn read_bits(alloc: Global, arch: &Arch, bytes: &[u8]) -> Result<Config, Bit
     read(alloc, CGB2, arch, bytes)
 }
 
-/// Returns the configuration that `bytes` spell in the first format for `arch`, in tables, or why they spell none: the
-/// lowest fault at its least place.
+/// Returns the configuration that `bytes` encode in the first format for `arch`, in tables, or why they encode none:
+/// the lowest fault at its least place.
 pub fn read_bits_1(alloc: Global, arch: &Arch, bytes: &[u8]) -> Result<Config, Bits1Fault>
     ensures answer { Gives BitsFault.Memory result (answer_in cgb1 arch.now bytes.now) }
     ensures bits { IfOk result (λ config. AreFirstBits arch.now config bytes.now) }

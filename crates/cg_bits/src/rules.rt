@@ -11,8 +11,8 @@ use cg_contexts::{
     stage_right, word_right,
 };
 
-/// The first field of an argument that breaks a rule, by its bit; the argument begins at a place. It is told whether the
-/// operation has the argument, and whether one before it is fixed.
+/// Returns the first field of `arg` that breaks a rule, by its bit; the argument begins at place `at`. `used` says
+/// whether the operation has the argument, and `fixed_before` whether one before it is fixed.
 fn arg_breach(arg: &ArgFields, used: bool, fixed_before: bool, at: usize) -> Option<usize>
     requires { at < 2 ^ 59 }
     ensures { result ≡ first (arg_faults arg.now used fixed_before at) }
@@ -31,7 +31,8 @@ fn arg_breach(arg: &ArgFields, used: bool, fixed_before: bool, at: usize) -> Opt
     None
 }
 
-/// The first field of the first arguments that breaks a rule, by its bit; the arguments begin at a place.
+/// Returns the first field of the first `ports` arguments that breaks a rule, by its bit; the arguments begin at place
+/// `at`.
 fn args_breach(fields: &UnitFields, ports: usize, at: usize) -> Option<usize>
     requires few { ports ≤ 3 }
     requires counted { at < 2 ^ 58 }

@@ -1,4 +1,4 @@
-//! What reports say of the faults of bits.
+//! The texts of the faults of bits in reports.
 ghost use Rattle.std.specs.Prelude.{◌≡◌, ◌++◌, IfOk, codes, string_bytes};
 ghost use Rattle.hex.specs.Hex.{encode_lower};
 ghost use Rattle.cg_bits.specs.Texts.{fault_text, bits_fault_text, first_fault_text};
@@ -6,15 +6,15 @@ ghost use Rattle.cg_bits.specs.Texts.{fault_text, bits_fault_text, first_fault_t
 use crate::fault::{Bits1Fault, BitsFault};
 use std::alloc::{AllocError, Global};
 
-/// Returns code, name and place of `fault`, as `B8 NotCanonical bit 48`. Out of memory has none of them.
+/// Returns code, name and place of `fault`, for example `B8 NotCanonical bit 48`. Out of memory has none of them.
 pub fn bits_fault_text(alloc: Global, fault: BitsFault) -> Result<String, AllocError>
     ensures { IfOk result (λ s. string_bytes s ≡ bits_fault_text fault) }
 {
     fault_text(alloc, "B", fault)
 }
 
-/// Returns code, name and place of `fault`, a fault of bits of the first format, as `C8 NotCanonical bit 48`. Out of
-/// memory has none of them.
+/// Returns code, name and place of `fault`, a fault of bits of the first format, for example `C8 NotCanonical bit 48`.
+/// Out of memory has none of them.
 pub fn first_fault_text(alloc: Global, fault: Bits1Fault) -> Result<String, AllocError>
     ensures { IfOk result (λ s. string_bytes s ≡ first_fault_text fault) }
 {
@@ -45,7 +45,7 @@ fn fault_text(alloc: Global, letter: &str, fault: BitsFault) -> Result<String, A
     }
 }
 
-/// Returns the text of the fault that a file is for another architecture, both given by their digests.
+/// Returns the text of the fault that a file is for another architecture, where both are given by their digests.
 fn digests_text(
     alloc: Global,
     letter: &str,

@@ -1,11 +1,11 @@
-//! Bits into bytes.
+//! Packs bits into bytes.
 ghost use Rattle.std.specs.Prelude.{◌≡◌, ◌+◌, ◌*◌, ◌≤◌, ◌<◌, ◌^◌, ◌++◌, ℕ, List, false, length, replicate, OnOk, IfOk};
 ghost use Rattle.cg_bits.specs.Numbers.{bits_of, bits_of_bytes};
 
 use std::alloc::{AllocError, Global};
 use std::marker::Model;
 
-/// Bits that become bytes, the most significant bit first. Contracts see it as the bits.
+/// A writer that packs bits into bytes, the most significant bit first. Contracts see it as the bits.
 #[derive(Drop)]
 pub(crate) struct BitWriter {
     bytes: Vec<u8>,
@@ -25,7 +25,7 @@ impl Model for BitWriter {
 }
 
 impl BitWriter {
-    /// Goes on behind these bytes.
+    /// Returns a writer that continues after `bytes`.
     pub fn new(bytes: Vec<u8>) -> BitWriter
         ensures { result ≡ bits_of_bytes bytes.items }
     {
@@ -54,7 +54,7 @@ impl BitWriter {
         Ok(())
     }
 
-    /// The bytes, the last one filled with zero bits.
+    /// Returns the bytes, the last one filled with zero bits.
     pub fn finish(self) -> Result<Vec<u8>, AllocError>
         ensures { IfOk result (λ v. (padding : ℕ) × (padding < 8) × (bits_of_bytes v.items ≡ self ++ replicate padding false)) }
     {

@@ -1,4 +1,4 @@
-//! The bytes that spell a configuration.
+//! Writes the bytes that encode a configuration.
 ghost use Rattle.std.specs.Prelude.{◌≡◌, ℕ, ◌<◌, ◌≤◌, ◌^◌, ◌++◌, List, OnOk, IfOk, length, replicate, false};
 ghost use Rattle.cg_model.specs.Array.{IsArch};
 ghost use Rattle.cg_model.specs.Config.{select, fields};
@@ -18,7 +18,7 @@ use cg_contexts::{ArgFields, Contexts, UnitFields};
 use cg_word::Op;
 use std::alloc::{AllocError, Global};
 
-/// The code of an operation, 0 for none.
+/// Returns the code of `op`, 0 for none.
 fn code_of(op: Option<Op>) -> u32
     ensures { result ≡ code_of op }
 {
@@ -91,7 +91,7 @@ fn push_fields(
     Ok(())
 }
 
-/// The bits of all slots, in whole bytes.
+/// Returns the bits of all slots, in whole bytes.
 fn body_of(alloc: Global, arch: &Arch, config: &Config) -> Result<Vec<u8>, AllocError>
     requires { IsCanonical arch.now config.now }
     ensures { IfOk result (λ v. (padding : ℕ) × (padding < 8) × (bits_of_bytes v.items ≡ slots cgb2 arch.now config.now ++ replicate padding false)) }
@@ -104,7 +104,7 @@ fn body_of(alloc: Global, arch: &Arch, config: &Config) -> Result<Vec<u8>, Alloc
     writer.finish()
 }
 
-/// The digest of an architecture, which is valid.
+/// Returns the digest of `arch`, which is valid.
 fn valid_digest(arch: &Arch) -> [u8; 32]
     ensures digest { result ≡ digest_of arch.now }
     ensures sized { length (digest_of arch.now) ≡ 32 }
@@ -114,16 +114,16 @@ fn valid_digest(arch: &Arch) -> [u8; 32]
     arch.digest()
 }
 
-/// A law: each item of a list of bytes is below 256.
+/// States that each item of a list of bytes is below 256.
 fn are_bytes(_bytes: &[u8])
     ensures { IsBytes _bytes.now }
 {}
 
-/// The one file of bits that spells a configuration.
+/// Returns the one file of bits that encodes `config`.
 pub fn write_bits(alloc: Global, arch: &Arch, config: &Config) -> Result<Vec<u8>, AllocError>
     requires { IsCanonical arch.now config.now }
     ensures bits { IfOk result (λ v. AreBits arch.now config.now v.items) }
-    // No other bytes spell it.
+    // No other bytes encode it.
     ensures only { IfOk result (λ v. (bytes : List ℕ) → IsBytes bytes → AreBits arch.now config.now bytes → bytes ≡ v.items) }
 {
     let digest = valid_digest(arch);

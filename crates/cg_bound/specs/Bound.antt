@@ -29,7 +29,7 @@ HasNoOverfull A K ii = (set : List Op) → IsOverfull A K ii set → ⊥
 abbrev pub IsForbidden : Arch → Kernel → ℕ → Type 0
 IsForbidden A K ii = ((ids : List EdgeId) × IsRecurrence A K ii ids) ⊎ ((set : List Op) × IsOverfull A K ii set)
 
--- neither does
+-- neither a recurrence nor an overfull set forbids the interval
 pub record IsOpen (A : Arch) (K : Kernel) (ii : ℕ) : Type 0 where
   pub no_recurrence : HasNoRecurrence A K ii
   pub no_overfull : HasNoOverfull A K ii
@@ -58,18 +58,18 @@ pub record IsFirstUnoffered (A : Arch) (K : Kernel) (op : Op) : Type 0 where
 
 -- ---- certificates
 
--- the certificate shows what it says: a closed chain that is too long, or an overfull set of operations of nodes
+-- the certificate is right: a closed chain that is too long, or an overfull set of operations of nodes
 abbrev pub Certifies : Arch → Kernel → ℕ → Certificate → Type 0
 Certifies A K ii (Cycle ids) = IsRecurrence A K ii ids.items
 Certifies A K ii (Class set) = IsOverfull A K ii set × AreOfNodes K set
 
--- the set of the first unoffered operation alone
+-- the set with only the first unoffered operation
 abbrev pub ShowsUnoffered : Arch → Kernel → Certificate → Type 0
 ShowsUnoffered A K (Cycle ids) = ⊥
 ShowsUnoffered A K (Class set) = (op : Op) × IsFirstUnoffered A K op × (set ≡ op ∷ [])
 
--- where each operation is offered: a recurrence in its shown form, where there is one, and else an overfull set of
--- operations of nodes
+-- if each operation is offered: a recurrence in its shown form, if there is one, and else an overfull set of operations
+-- of nodes
 abbrev pub ShowsForbidden : Arch → Kernel → ℕ → Certificate → Type 0
 ShowsForbidden A K ii (Cycle ids) = IsRecurrence A K ii ids.items × IsShown (edge_of A K) ids.items
 ShowsForbidden A K ii (Class set) = HasNoRecurrence A K ii × IsOverfull A K ii set × AreOfNodes K set
@@ -80,12 +80,12 @@ Shows A K ii certificate = ShowsUnoffered A K certificate ⊎ (AllOffered A K ×
 
 -- ---- answers
 
--- what is shown where the interval is impossible; an open interval else
+-- what is shown if the interval is impossible; else an open interval
 abbrev pub IsVerdict : Arch → Kernel → ℕ → IntervalVerdict → Type 0
 IsVerdict A K ii (Impossible certificate) = Shows A K ii certificate
 IsVerdict A K ii Allowed = IsOpen A K ii
 
--- the certificate of an impossible interval is one
+-- the certificate of an impossible interval is right
 abbrev pub HasCertificate : Arch → Kernel → ℕ → IntervalVerdict → Type 0
 HasCertificate A K ii (Impossible certificate) = Certifies A K ii certificate
 HasCertificate A K ii Allowed = ⊤
@@ -95,12 +95,12 @@ abbrev pub Excludes : Arch → Kernel → ℕ → IntervalVerdict → Type 0
 Excludes A K ii (Impossible certificate) = (M : Mapping) → M.ii ≡ ii → IsLegal A K M → ⊥
 Excludes A K ii Allowed = ⊤
 
--- what is shown of the interval below m: nothing exactly where m is 1
+-- what is shown of the interval below m: nothing exactly if m is 1
 abbrev pub IsShownBelow : Arch → Kernel → ℕ → Option Certificate → Type 0
 IsShownBelow A K m None = m ≡ 1
 IsShownBelow A K m (Some certificate) = (1 < m) × Shows A K (m - 1) certificate
 
--- the least interval, with what is shown below it; or none, exactly where an operation is unoffered, which is shown
+-- the least interval, with what is shown below it; or none, exactly if an operation is unoffered, which is shown
 abbrev pub IsBoundBy : Arch → Kernel → Option ℕ → Option Certificate → Type 0
 IsBoundBy A K (Some m) below = AllOffered A K × IsMii A K m × IsShownBelow A K m below
 IsBoundBy A K None (Some certificate) = ShowsUnoffered A K certificate

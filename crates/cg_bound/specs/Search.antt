@@ -1,4 +1,4 @@
--- The search for operations that no unit offers, and the search by halves for the least interval.
+-- The search for operations that no unit offers, and the binary search for the least interval.
 use Rattle.std.specs.Prelude.{ℕ, ◌+◌, ◌*◌, ◌<◌, ◌≤◌, ◌&&◌, eqb, not, Bool, List, Option}
 use Rattle.std.specs.List.{list_any}
 use Rattle.cg_word.specs.declared.op.Op.{Op}
@@ -20,11 +20,11 @@ has_op op n = eqb (code n.op) (code op)
 abbrev pub offers : Op → Unit → Bool
 offers op u = among u.ops op
 
--- some node has it and no unit offers it
+-- some node has the operation and no unit offers it
 abbrev pub is_unoffered : List Unit → List Node → Op → Bool
 is_unoffered units nodes op = list_any (has_op op) nodes && not (list_any (offers op) units)
 
--- an interval that is open where each operation is offered, since no latency is above 4
+-- an interval that is open if each operation is offered, since no latency is above 4
 abbrev pub limit : Kernel → ℕ
 limit K = 4 * size K + 1
 

@@ -1,4 +1,4 @@
--- What reports say of an impossible interval.
+-- The text of reports on an impossible interval.
 use Rattle.std.specs.Prelude.{ℕ, List, ◌∷◌, ◌++◌, flat_map, codes, decimal, Option, Some, None}
 use Rattle.cg_word.specs.declared.op.Op.{Op}
 use Rattle.cg_model.specs.Kernel.{Kernel, node}
@@ -24,7 +24,7 @@ edge_word K id = 32 ∷ edge_text K id
 abbrev pub edge_words : Kernel → List EdgeId → List ℕ
 edge_words K ids = flat_map (edge_word K) ids
 
--- which interval: that of `ii` cycles, or every one
+-- the interval: that of `ii` cycles, or every one
 abbrev pub interval_text : Option ℕ → List ℕ
 interval_text (Some ii) = codes "impossible at ii " ++ (decimal ii ++ codes ": ")
 interval_text None = codes "impossible at every ii: "

@@ -1,4 +1,4 @@
-//! The nodes and units of a set of operations, counted, and the sums over a chain of edges.
+//! Counts of the nodes and units of a set of operations, and the sums over a chain of edges.
 ghost use Rattle.std.specs.Prelude.{◌≡◌};
 ghost use Rattle.cg_edges.specs.Chain.{latencies, distances};
 ghost use Rattle.cg_edges.specs.Edges.{edge_of};
@@ -9,14 +9,14 @@ use cg_edges::{EdgeId, find_edge};
 use cg_model::{Kernel, Node, Unit};
 use cg_word::{Op, OpSet};
 
-/// The number of nodes whose operation is in a set.
+/// Returns the number of `nodes` whose operation is in `set`.
 pub(crate) fn count_nodes(nodes: &[Node], set: OpSet) -> usize
     ensures { result ≡ nodes_in nodes.now set }
 {
     nodes.iter().filter(|node| set.has(node.op)).count()
 }
 
-/// The number of units that offer an operation of a set.
+/// Returns the number of `units` that offer an operation of `set`.
 pub(crate) fn count_units(units: &[Unit], set: OpSet) -> usize
     ensures { result ≡ units_for units.now set }
 {
@@ -26,7 +26,7 @@ pub(crate) fn count_units(units: &[Unit], set: OpSet) -> usize
         .count()
 }
 
-/// Whether some operation of a set is offered.
+/// Returns whether some operation of `set` is in `offered`.
 #[tactic(auto, unfolding(cg_class::specs::Class::offers_one))]
 fn offers_one(set: OpSet, offered: OpSet) -> bool
     ensures { result ≡ offers_one set offered }
@@ -37,7 +37,8 @@ fn offers_one(set: OpSet, offered: OpSet) -> bool
         .any(move |op: Op| set.has(op) && offered.has(op))
 }
 
-/// Returns the sum of the latencies of the edges `ids` of a chain, in cycles, and that of their distances, in turns.
+/// Returns the sum of the latencies of the edges `ids` of a chain, in cycles, and that of their distances, in
+/// iterations.
 pub fn sums(arch: &Arch, kernel: &Kernel, ids: &[EdgeId]) -> (u128, u128)
     ensures latency { result.0 ≡ latencies (edge_of arch.now kernel.now) ids.now }
     ensures distance { result.1 ≡ distances (edge_of arch.now kernel.now) ids.now }

@@ -1,4 +1,4 @@
-//! The search by halves for the least interval: first for one without a recurrence, and from there on for one without an
+//! The binary search for the least interval: first for one without a recurrence, and from there on for one without an
 //! overfull set.
 ghost use Rattle.std.specs.Prelude.{◌≡◌, ◌≤◌, IfOk};
 ghost use Rattle.cg_class.specs.Class.{IsOverfull, AreOfNodes};
@@ -14,14 +14,14 @@ use cg_recur::{Recur, recurrence};
 use cg_word::OpSet;
 use std::alloc::{AllocError, Global};
 
-/// An interval, and why the one below it is impossible; None where it is 1.
+/// An interval, and why the one below it is impossible; `None` if it is 1.
 #[derive(Drop)]
 pub(crate) struct Found {
     pub interval: u32,
     pub below: Option<Certificate>,
 }
 
-/// The least interval that nothing forbids.
+/// Returns the least interval that nothing forbids.
 pub(crate) fn least_open(alloc: Global, arch: &Arch, kernel: &Kernel) -> Result<Found, AllocError>
     requires { AllOffered arch.now kernel.now }
     ensures { IfOk result (spec.IsLeastOpen arch.now kernel.now) }
@@ -33,7 +33,7 @@ pub(crate) fn least_open(alloc: Global, arch: &Arch, kernel: &Kernel) -> Result<
     }
 }
 
-/// The least interval without a recurrence.
+/// Returns the least interval without a recurrence.
 fn least_free(alloc: Global, arch: &Arch, kernel: &Kernel) -> Result<Found, AllocError>
     requires { AllOffered arch.now kernel.now }
     ensures { IfOk result (spec.IsLeastFree arch.now kernel.now) }
@@ -59,7 +59,7 @@ fn least_free(alloc: Global, arch: &Arch, kernel: &Kernel) -> Result<Found, Allo
     })
 }
 
-/// The least open interval above one without a recurrence at which a set of operations is overfull.
+/// Returns the least open interval above one without a recurrence at which a set of operations is overfull.
 fn above_class(
     alloc: Global,
     arch: &Arch,
@@ -93,7 +93,7 @@ fn above_class(
     })
 }
 
-/// An interval that is open where each operation is offered.
+/// Returns an interval that is open if each operation is offered.
 fn limit(kernel: &Kernel) -> u32
     ensures value { result ≡ spec.limit kernel.now }
     ensures small { result ≤ 4097 }

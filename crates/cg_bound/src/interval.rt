@@ -19,30 +19,30 @@ pub enum Certificate {
     /// The edges of a closed chain that is too long for it. It meets no node twice, and begins at its least-numbered
     /// node.
     Cycle(Vec<EdgeId>),
-    /// A set of operations that more nodes have than its units can begin in the interval.
+    /// A set of operations for which there are more nodes than its units can begin in the interval.
     Class(OpSet),
 }
 
 /// The least interval that isn't impossible.
 #[derive(Drop)]
 pub struct LeastInterval {
-    /// The interval, in cycles; None where an operation of the kernel is offered by no unit.
+    /// The interval, in cycles; `None` if an operation of the kernel is offered by no unit.
     pub mii: Option<u32>,
-    /// Why the interval below it is impossible, or every one; None where it is 1.
+    /// Why the interval below it is impossible, or every one; `None` if the interval is 1.
     pub below: Option<Certificate>,
 }
 
-/// Whether an interval is impossible.
+/// The verdict on an interval.
 #[derive(Drop)]
 pub enum IntervalVerdict {
-    /// It is, and this is why.
+    /// It is impossible, and this is why.
     Impossible(Certificate),
-    /// Nothing that is looked at forbids it; there may still be no mapping.
+    /// Neither a recurrence nor an overfull set forbids it; there may still be no mapping.
     Allowed,
 }
 
-/// Whether a recurrence or an overfull set of operations forbids an interval. Where one does, no mapping of that interval
-/// is legal.
+/// Returns whether a recurrence or an overfull set of operations forbids an interval. If one does, no mapping of that
+/// interval is legal.
 pub fn verdict(
     alloc: Global,
     arch: &Arch,
@@ -66,7 +66,7 @@ pub fn verdict(
     }
 }
 
-/// The least interval that no recurrence and no overfull set of operations forbids.
+/// Returns the least interval that no recurrence and no overfull set of operations forbids.
 pub fn bound(alloc: Global, arch: &Arch, kernel: &Kernel) -> Result<LeastInterval, AllocError>
     ensures { IfOk result (IsBound arch.now kernel.now) }
 {
@@ -83,7 +83,7 @@ pub fn bound(alloc: Global, arch: &Arch, kernel: &Kernel) -> Result<LeastInterva
     })
 }
 
-/// The class of one operation.
+/// Returns the class of the operation `op` alone.
 fn class_of(op: Op) -> Certificate
     ensures { result ≡ Class (op ∷ []) }
 {

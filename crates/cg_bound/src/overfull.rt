@@ -1,4 +1,4 @@
-//! Sets of operations that an interval has too few units for.
+//! Sets of operations for which an interval has too few units.
 ghost use Rattle.std.specs.Prelude.{IfOk, MatchOption};
 ghost use Rattle.cg_class.specs.Class.{IsOverfull, AreOfNodes};
 ghost use Rattle.cg_bound.specs.Bound.{HasNoOverfull};
@@ -9,7 +9,7 @@ use cg_model::Kernel;
 use cg_word::OpSet;
 use std::alloc::{AllocError, Global};
 
-/// A set of operations of nodes that is overfull at an interval, if there is one.
+/// Returns a set of operations of nodes that is overfull at an interval, if there is one.
 pub(crate) fn overfull_at(
     alloc: Global,
     arch: &Arch,

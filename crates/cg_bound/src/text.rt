@@ -1,4 +1,4 @@
-//! What reports say of an impossible interval.
+//! The text of reports on an impossible interval.
 ghost use Rattle.std.specs.Prelude.{◌≡◌, ◌++◌, IfOk, OnOk, string_bytes};
 ghost use Rattle.cg_model.specs.Kernel.{node};
 ghost use Rattle.cg_flat.specs.Text as flat;
@@ -12,7 +12,7 @@ use cg_model::Kernel;
 use cg_word::{Op, OpSet};
 use std::alloc::{AllocError, Global};
 
-/// Why an interval is impossible, or every one where none is named, as
+/// Returns why an interval is impossible, or every one if none is given, as
 /// `impossible at ii 2: cycle x.0 a.0 latency 3 distance 1` or `impossible at every ii: class mul nodes 1 units 0`.
 pub fn certificate_text(
     alloc: Global,
@@ -31,7 +31,7 @@ pub fn certificate_text(
     Ok(text)
 }
 
-/// The interval, and that it is impossible.
+/// Returns the text that the interval `at`, or every one, is impossible.
 fn interval_text(alloc: Global, at: Option<u32>) -> Result<String, AllocError>
     ensures { IfOk result (λ s. string_bytes s ≡ spec.interval_text at) }
 {
@@ -41,7 +41,7 @@ fn interval_text(alloc: Global, at: Option<u32>) -> Result<String, AllocError>
     }
 }
 
-/// Adds a closed chain.
+/// Adds a closed chain to `text`.
 fn push_cycle(
     alloc: Global,
     text: &mut Vec<u8>,
@@ -89,8 +89,8 @@ pub fn push_edges(
     Ok(())
 }
 
-/// Returns the text of edge `id` after a blank: the name of the node that takes the value and the number of the operand, or
-/// `order` and the number of the order edge.
+/// Returns the text of edge `id` after a blank: for a data edge the name of the node that takes the value and the
+/// number of the operand, for an order edge `order` and its number.
 pub fn edge_word(alloc: Global, kernel: &Kernel, id: EdgeId) -> Result<String, AllocError>
     ensures { IfOk result (λ s. string_bytes s ≡ spec.edge_word kernel.now id) }
 {
@@ -103,7 +103,7 @@ pub fn edge_word(alloc: Global, kernel: &Kernel, id: EdgeId) -> Result<String, A
     }
 }
 
-/// The name of a node; empty past the last node.
+/// Returns the name of node `number`; empty past the last node.
 fn node_name(kernel: &Kernel, number: u32) -> &str
     ensures { result.now ≡ (node kernel.now number).name }
 {
@@ -113,7 +113,7 @@ fn node_name(kernel: &Kernel, number: u32) -> &str
     }
 }
 
-/// Adds a class of operations.
+/// Adds a class of operations to `text`.
 fn push_class(
     alloc: Global,
     text: &mut Vec<u8>,
@@ -127,8 +127,8 @@ fn push_class(
     push_set(alloc, text, arch, kernel, set)
 }
 
-/// Adds the operations of `set` to `text` in the order of their codes, each after a blank, with the numbers of its nodes
-/// and units, as ` load store nodes 6 units 4`.
+/// Adds the operations of `set` to `text` in the order of their codes, each after a blank, with the numbers of its
+/// nodes and units, as ` load store nodes 6 units 4`.
 pub fn push_set(
     alloc: Global,
     text: &mut Vec<u8>,
@@ -146,7 +146,7 @@ pub fn push_set(
     Ok(())
 }
 
-/// Adds the names of operations in the order of their codes, each after a blank.
+/// Adds the names of the operations of `set` to `text` in the order of their codes, each after a blank.
 fn push_ops(text: &mut Vec<u8>, set: OpSet) -> Result<(), AllocError>
     ensures { OnOk result (text.new.items ≡ text.old.items ++ flat.op_words set) }
 {
@@ -156,7 +156,7 @@ fn push_ops(text: &mut Vec<u8>, set: OpSet) -> Result<(), AllocError>
     Ok(())
 }
 
-/// Adds a blank and the name of an operation, where it is in the set.
+/// Adds a blank and the name of `op` to `text`, if it is in `set`.
 fn push_op(text: &mut Vec<u8>, set: OpSet, op: Op) -> Result<(), AllocError>
     ensures { OnOk result (text.new.items ≡ text.old.items ++ flat.op_word set op) }
 {

@@ -9,14 +9,14 @@ use cg_arch::Arch;
 use cg_model::{Kernel, Node, Unit};
 use cg_word::Op;
 
-/// The operation of a node that no unit offers, if there is one: of all such the one of least code.
+/// Returns the operation of a node that no unit offers, if there is one: the one of least code.
 pub(crate) fn first_unoffered(arch: &Arch, kernel: &Kernel) -> Option<Op>
     ensures { MatchOption result (AllOffered arch.now kernel.now) (IsFirstUnoffered arch.now kernel.now) }
 {
     find_unoffered(arch.units(), kernel.nodes())
 }
 
-/// The first operation that a node has and no unit offers.
+/// Returns the first operation that one of `nodes` has and none of `units` offers.
 fn find_unoffered(units: &[Unit], nodes: &[Node]) -> Option<Op>
     ensures { result ≡ find (is_unoffered units.now nodes.now) all_ops }
 {

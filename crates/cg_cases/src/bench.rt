@@ -1,4 +1,4 @@
-//! A store and a sink in memory, and the calls made over them.
+//! A store and a sink in memory, and the calls made on them.
 
 use cg_aside::Aside;
 use cg_files::{MemSink, MemStore};
@@ -12,18 +12,18 @@ struct Shared {
     bytes: Vec<u8>,
 }
 
-/// Keeps the notes and the progress of a call.
+/// A recorder of the notes and the progress of a call.
 #[derive(Drop)]
 struct Recorder {
     /// The notes, each with a line feed.
     text: Vec<u8>,
-    /// The progress, a line each, and a line `end` for its end.
+    /// The progress, a line for each report, and a line `end` for its end.
     progress: String,
 }
 
 impl Aside for Recorder {
     fn note(&mut self, text: &str) {
-        // A note that finds no memory is missing, which a case shows.
+        // A note for which memory runs out is missing, which a case shows.
         let _ = self.text.extend_from_slice(text.as_bytes());
         let _ = self.text.push(b'\n');
     }
@@ -38,13 +38,13 @@ impl Aside for Recorder {
     }
 }
 
-/// What the calls of a case work on.
+/// The state on which the calls of a case work.
 #[derive(Drop)]
 pub(crate) struct Bench {
     store: MemStore,
     sink: MemSink,
     shared: Vec<Shared>,
-    /// How many bytes were put before the last call.
+    /// The number of bytes that were put before the last call.
     put_before: usize,
     /// The notes and the progress of the last call.
     recorder: Recorder,
@@ -65,7 +65,7 @@ impl Bench {
         }
     }
 
-    /// Begins a case: the shared files are held, and nothing was put.
+    /// Begins a case: only the shared files are held, and nothing was put.
     pub(crate) fn clear(&mut self, alloc: Global) -> Result<(), AllocError> {
         let mut store = MemStore::new(alloc);
         for file in &self.shared {
@@ -77,7 +77,7 @@ impl Bench {
         Ok(())
     }
 
-    /// Holds `bytes` under `name` in each case from now on.
+    /// Holds `bytes` under `name` in each case that begins from now on.
     pub(crate) fn share(
         &mut self,
         alloc: Global,
@@ -115,8 +115,8 @@ impl Bench {
         Ok(true)
     }
 
-    /// Turns over bit `bit` of the file `name`, counted from the most significant one of its first byte. Returns false
-    /// where there is none.
+    /// Inverts bit `bit` of the file `name`, counted from the most significant bit of its first byte. Returns false
+    /// where there is no such bit.
     pub(crate) fn flip(
         &mut self,
         alloc: Global,
@@ -140,12 +140,12 @@ impl Bench {
         self.store.held(name)
     }
 
-    /// Lets call `number` of the store fail.
+    /// Makes call `number` of the store fail.
     pub(crate) fn fail_store(&mut self, number: u32) -> Result<(), AllocError> {
         self.store.fail_at(&[number])
     }
 
-    /// Lets call `number` of the sink fail.
+    /// Makes call `number` of the sink fail.
     pub(crate) fn fail_sink(&mut self, number: u32) -> Result<(), AllocError> {
         self.sink.fail_at(&[number])
     }
@@ -170,7 +170,7 @@ impl Bench {
         self.recorder.text.as_slice()
     }
 
-    /// Returns the progress of the last call, a line each, and a line `end` for its end.
+    /// Returns the progress of the last call, a line for each report, and a line `end` for its end.
     pub(crate) fn progress(&self) -> &[u8] {
         self.recorder.progress.as_bytes()
     }

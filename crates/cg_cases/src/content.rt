@@ -1,12 +1,12 @@
-//! Lines that say bytes.
+//! Lines that describe bytes.
 
 use std::alloc::{AllocError, Global};
 
-/// Adds to `bytes` those that the content line `line` says. Returns false where it says none:
+/// Adds to `bytes` those that the content line `line` describes. Returns false where it describes none:
 ///
 /// - `| TEXT` is the text and a line feed, and `|` a line feed alone;
 /// - `+ TEXT` is the text;
-/// - `* N TEXT` is the text N times;
+/// - `* N TEXT` is the text repeated N times;
 /// - `x DIGITS` are bytes in hexadecimal digits, with blanks between them;
 /// - `words ITEM ..` are words of four bytes, the most significant first;
 /// - `image ITEM .. | ITEM .. ..` is an image file: the words of its memory, and of each of its streams.
@@ -30,7 +30,8 @@ pub(crate) fn add_line(alloc: Global, bytes: &mut Vec<u8>, line: &str) -> Result
     }
 }
 
-/// Adds a text to `bytes` as often as the number before it says: `line` is `N TEXT`. Returns false where it isn't.
+/// Adds a repeated text to `bytes`: `line` is `N TEXT`, and the text is added N times. Returns false where `line` has
+/// another form.
 fn add_repeated(bytes: &mut Vec<u8>, line: &str) -> Result<bool, AllocError> {
     let (count, text) = line.split_once(' ').unwrap_or((line, ""));
     let Ok(count) = count.parse::<u32>() else {
@@ -42,7 +43,7 @@ fn add_repeated(bytes: &mut Vec<u8>, line: &str) -> Result<bool, AllocError> {
     Ok(true)
 }
 
-/// Adds to `bytes` those that `line` gives by two hexadecimal digits each. Returns false where it gives none.
+/// Adds to `bytes` those that `line` contains as two hexadecimal digits each. Returns false where it has another form.
 fn add_digits(alloc: Global, bytes: &mut Vec<u8>, line: &str) -> Result<bool, AllocError> {
     for digits in line.split(' ') {
         let Ok(some) = hex::decode(alloc, digits) else {
@@ -53,7 +54,7 @@ fn add_digits(alloc: Global, bytes: &mut Vec<u8>, line: &str) -> Result<bool, Al
     Ok(true)
 }
 
-/// Adds to `bytes` the words that the items of `line` say. Returns false where one says none.
+/// Adds to `bytes` the words that the items of `line` describe. Returns false where an item describes none.
 fn add_words(bytes: &mut Vec<u8>, line: &str) -> Result<bool, AllocError> {
     for item in line.split(' ') {
         if !item.is_empty() && !add_item(bytes, item)? {
@@ -63,8 +64,8 @@ fn add_words(bytes: &mut Vec<u8>, line: &str) -> Result<bool, AllocError> {
     Ok(true)
 }
 
-/// Adds to `bytes` the words of `item`: `W` is one, `W*N` is it N times, `A..B` are those from A to B. Returns false
-/// where it is none of these.
+/// Adds to `bytes` the words of `item`: `W` is one word, `W*N` is that word N times, `A..B` are the words from A to B.
+/// Returns false where `item` has another form.
 fn add_item(bytes: &mut Vec<u8>, item: &str) -> Result<bool, AllocError> {
     if let Some((word, count)) = item.split_once('*') {
         let (Ok(word), Ok(count)) = (word.parse::<u32>(), count.parse::<u32>()) else {
@@ -88,8 +89,8 @@ fn add_item(bytes: &mut Vec<u8>, item: &str) -> Result<bool, AllocError> {
     Ok(true)
 }
 
-/// Adds the image file that `line` says to `bytes`. Streams that aren't given are empty. Returns false where it says
-/// none.
+/// Adds to `bytes` the image file that `line` describes. Streams that aren't given are empty. Returns false where it
+/// describes none.
 fn add_image(alloc: Global, bytes: &mut Vec<u8>, line: &str) -> Result<bool, AllocError> {
     bytes.extend_from_slice(b"CGI1")?;
     let mut blocks = line.split('|');

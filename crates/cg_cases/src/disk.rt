@@ -1,4 +1,4 @@
-//! Calls over the files of the system and the standard output: what they write there.
+//! Calls on the files of the system and the standard output, and what they write there.
 
 use cg_files::{DiskStore, StdSink, Store, StoreFail};
 use cg_top::run_line;
@@ -12,11 +12,12 @@ struct DiskCall {
     line: &'static str,
     status: u8,
     name: &'static str,
-    /// The file that holds what is to be written.
+    /// The name of the file with the expected contents.
     wanted: &'static str,
 }
 
-/// A kernel that leaves another image than it began with, and an architecture of one unit.
+/// The calls: `flat` on an architecture of one unit, and `turns` on a kernel that leaves another image than it began
+/// with.
 const CALLS: [DiskCall; 2] = [
     DiskCall {
         line: "flat one_unit.toml out.flat",
@@ -32,7 +33,7 @@ const CALLS: [DiskCall; 2] = [
     },
 ];
 
-/// Makes the calls of `CALLS`, and prints how many differ from what is wanted.
+/// Makes the calls of `CALLS`, and prints how many differ from what is expected.
 pub(crate) fn run_calls<R: Files + Print + AllocGlobal>(rt: &R) -> io::Result<()> {
     let mut differing = 0u32;
     for call in &CALLS {
@@ -45,7 +46,7 @@ pub(crate) fn run_calls<R: Files + Print + AllocGlobal>(rt: &R) -> io::Result<()
     rt.print(line.as_str())
 }
 
-/// Checks whether `call` ends with its status and writes what is wanted, and removes the file that it writes.
+/// Checks whether `call` ends with its status and writes the expected contents, and removes the file that it writes.
 fn is_as_wanted<R: Files + Print + AllocGlobal>(rt: &R, call: &DiskCall) -> io::Result<bool> {
     let words = words_of(rt.alloc(), call.line)?;
     let mut store = DiskStore::new(rt);
@@ -57,7 +58,7 @@ fn is_as_wanted<R: Files + Print + AllocGlobal>(rt: &R, call: &DiskCall) -> io::
     Ok(status.number() == call.status && written.as_slice() == wanted.as_slice())
 }
 
-/// Returns the words of `line`, parted by single blanks.
+/// Returns the words of `line`, separated by single blanks.
 fn words_of(alloc: Global, line: &str) -> Result<Vec<String>, AllocError> {
     let mut words = Vec::new(alloc);
     for word in line.split(' ') {
@@ -66,11 +67,11 @@ fn words_of(alloc: Global, line: &str) -> Result<Vec<String>, AllocError> {
     Ok(words)
 }
 
-/// The bytes that the system's store is to keep, one after another under one name.
+/// The lengths, in bytes, of the texts that the system's store is to keep, one after another under one name.
 const LENGTHS: [u32; 4] = [11, 70_000, 10_000, 7];
 
 /// Writes texts over one another, and prints how many checks differ: whether each text is read back as it was written,
-/// and whether the store says that it failed at a file that isn't there and at one that can't be written.
+/// and whether the store reports a failure at a file that doesn't exist and at one that can't be written.
 pub(crate) fn keep_files<R: Files + Print + AllocGlobal>(rt: &R) -> io::Result<()> {
     let mut store = DiskStore::new(rt);
     let mut differing = 0u32;
@@ -87,11 +88,11 @@ pub(crate) fn keep_files<R: Files + Print + AllocGlobal>(rt: &R) -> io::Result<(
     rt.print(line.as_str())
 }
 
-/// The name under which they are kept.
+/// The name under which the texts are kept.
 const KEPT: &str = "kept.txt";
 
-/// Checks whether `store` reads a text of `length` bytes back as it was written, and says at a limit of one byte less
-/// that it is too long.
+/// Checks whether `store` reads a text of `length` bytes back as it was written, and reports at a limit of one byte
+/// less that it is too long.
 fn is_kept<S: Store>(alloc: Global, store: &mut S, length: u32) -> Result<bool, AllocError> {
     let text = text_of(alloc, length)?;
     if store.write(alloc, KEPT, text.as_slice()).is_err() {
@@ -101,7 +102,7 @@ fn is_kept<S: Store>(alloc: Global, store: &mut S, length: u32) -> Result<bool, 
     Ok(gives(alloc, store, text.as_slice(), limit) && is_too_long(alloc, store, limit))
 }
 
-/// Returns a text of `length` bytes, in which the bytes that a piece apart differ.
+/// Returns a text of `length` bytes, in which bytes whose distance is the length of a piece differ.
 fn text_of(alloc: Global, length: u32) -> Result<Vec<u8>, AllocError> {
     (0..length)
         .map(|place| (place % 89) as u8 + 33)
@@ -116,7 +117,7 @@ fn gives<S: Store>(alloc: Global, store: &mut S, bytes: &[u8], limit: u64) -> bo
     }
 }
 
-/// Checks whether `store` says that what is held, `length` bytes, is too long by one byte.
+/// Checks whether `store` reports that the held file of `length` bytes is too long by one byte.
 fn is_too_long<S: Store>(alloc: Global, store: &mut S, length: u64) -> bool {
     match store.read(alloc, KEPT, length.saturating_sub(1)) {
         Err(StoreFail::TooLong(got)) => got == length,
@@ -124,7 +125,7 @@ fn is_too_long<S: Store>(alloc: Global, store: &mut S, length: u64) -> bool {
     }
 }
 
-/// Checks whether `store` says that a file isn't there, and that one can't be written.
+/// Checks whether `store` reports that a file doesn't exist, and that one can't be written.
 fn says_what_failed<S: Store>(alloc: Global, store: &mut S) -> bool {
     let missing = match store.read(alloc, "missing.txt", 7) {
         Err(fail) => fail == StoreFail::Failed,

@@ -1,6 +1,6 @@
 //! Runs the transcripts that its arguments name: worked cases as data, each a call of `run_line` over files in memory
-//! and what it must leave. Prints a line a transcript, and before it what differs. At last some calls over the files of
-//! the system, and what its store keeps.
+//! and what the call must leave. Prints a line for each transcript, preceded by the differences. At the end it makes
+//! some calls on the files of the system, and checks what the system's store keeps.
 #![tactic(auto)]
 
 mod bench;
@@ -21,7 +21,7 @@ fn main(rt: HostRuntime) -> io::Result<()> {
     disk::keep_files(&rt)
 }
 
-/// Runs the transcript that the file `name` holds, and prints its report.
+/// Runs the transcript in the file `name`, and prints its report.
 fn run_file(rt: &(impl Files + Print + AllocGlobal), name: &str) -> io::Result<()> {
     let alloc = rt.alloc();
     let text = fs::read_to_string(rt, name)?;

@@ -1,8 +1,9 @@
-//! Cases that differ in a number alone.
+//! Cases that differ only in a number.
 
 use std::alloc::{AllocError, Global};
 
-/// Cases that differ in a number alone, one for each from the first to the last. In their lines `%` stands for it.
+/// A series of cases that differ only in a number, one for each number from the first to the last. In their lines `%`
+/// denotes the number.
 #[derive(Drop)]
 pub(crate) struct Series {
     pub(crate) name: String,
@@ -12,7 +13,8 @@ pub(crate) struct Series {
 }
 
 impl Series {
-    /// Reads `title` as `NAME A..B` and returns the series that it begins; None where it is the name of one case.
+    /// Reads `title` as `NAME A..B` and returns the series that begins there; None where it is the name of a single
+    /// case.
     pub(crate) fn begun(alloc: Global, title: &str) -> Result<Option<Series>, AllocError> {
         let Some((name, range)) = title.split_once(' ') else {
             return Ok(None);
@@ -31,7 +33,7 @@ impl Series {
         }))
     }
 
-    /// Adds `line` to the lines of all its cases.
+    /// Adds `line` to the lines of all cases of the series.
     pub(crate) fn add(&mut self, alloc: Global, line: &str) -> Result<(), AllocError> {
         self.lines.push(String::from_str(alloc, line)?)?;
         Ok(())

@@ -1,33 +1,33 @@
-//! Follows a transcript line by line, and tells what differs.
+//! Follows a transcript line by line, and reports what differs.
 
 use crate::bench::Bench;
 use crate::content::add_line;
 use crate::series::{Series, with_number};
 use std::alloc::{AllocError, Global};
 
-/// What the content lines that come next say.
+/// What the next content lines describe.
 #[derive(Drop)]
 enum Purpose {
-    /// Nothing: they have no place here.
+    /// Nothing: content lines aren't allowed here.
     None,
     /// The bytes of a file.
     File(String),
-    /// What the last call puts.
+    /// What the last call put.
     Report,
-    /// What is held under a name after it.
+    /// What is held under a name after the last call.
     Held(String),
     /// The notes of the last call.
     Notes,
-    /// Its progress.
+    /// The progress of the last call.
     Progress,
 }
 
-/// How much of some bytes the content lines say.
+/// How much of some bytes the content lines describe.
 #[derive(Clone, Copy)]
 enum Reach {
-    /// All of them.
+    /// All of the bytes.
     Whole,
-    /// How they begin.
+    /// The beginning of the bytes.
     Beginning,
 }
 
@@ -37,25 +37,25 @@ pub(crate) struct Transcript {
     title: String,
     bench: Bench,
     case: Option<String>,
-    /// The series whose lines are being taken in.
+    /// The series whose lines are being read.
     series: Option<Series>,
     purpose: Purpose,
-    /// The bytes that the content lines said so far.
+    /// The bytes that the content lines described so far.
     bytes: Vec<u8>,
-    /// The status of the last call, until the line comes that says which one it must be.
+    /// The status of the last call, until the line that states the expected status.
     open_status: Option<u8>,
     /// Whether a call was made in this case.
     calls: bool,
-    /// Whether a difference was met in this case.
+    /// Whether a difference was found in this case.
     differs: bool,
     cases: u64,
     differing: u64,
-    /// What is printed.
+    /// The text to print.
     text: String,
 }
 
 impl Transcript {
-    /// Returns a transcript named `title`, of which no line was followed.
+    /// Returns a transcript named `title`, of which no line has been followed.
     pub(crate) fn new(alloc: Global, title: &str) -> Result<Transcript, AllocError> {
         Ok(Transcript {
             title: String::from_str(alloc, title)?,
@@ -147,7 +147,7 @@ impl Transcript {
         }
     }
 
-    /// Ends the transcript, and returns all that is printed.
+    /// Ends the transcript, and returns the text to print.
     pub(crate) fn finish(mut self, alloc: Global) -> Result<String, AllocError> {
         self.end_series(alloc)?;
         self.settle(alloc, Reach::Whole)?;
@@ -160,19 +160,19 @@ impl Transcript {
         Ok(self.text)
     }
 
-    /// Checks whether content lines have a place here.
+    /// Checks whether content lines are allowed here.
     fn has_content(&self) -> bool {
         !matches!(self.purpose, Purpose::None)
     }
 
-    /// Sets `purpose` as what the content lines that come next say.
+    /// Sets `purpose` as what the next content lines describe.
     fn expect(&mut self, alloc: Global, purpose: Purpose) -> Result<(), AllocError> {
         self.purpose = purpose;
         self.bytes = Vec::new(alloc);
         Ok(())
     }
 
-    /// Does with the content lines what they are for. `reach` says how much of the bytes they give.
+    /// Uses the content lines for their purpose. `reach` states how much of the bytes they describe.
     fn settle(&mut self, alloc: Global, reach: Reach) -> Result<(), AllocError> {
         let purpose = std::mem::replace(&mut self.purpose, Purpose::None);
         let bytes = std::mem::replace(&mut self.bytes, Vec::new(alloc));
@@ -197,7 +197,7 @@ impl Transcript {
         self.bench.clear(alloc)
     }
 
-    /// Ends the case and counts it, where there is one.
+    /// Ends the current case and counts it, if there is one.
     fn end_case(&mut self, alloc: Global) -> Result<(), AllocError> {
         self.end_call(alloc)?;
         if self.case.is_some() {
@@ -214,7 +214,7 @@ impl Transcript {
         Ok(())
     }
 
-    /// Notes a difference where no line said the status of the last call.
+    /// Notes a difference where no line stated the expected status of the last call.
     fn end_call(&mut self, alloc: Global) -> Result<(), AllocError> {
         match self.open_status.take() {
             None => Ok(()),
@@ -222,7 +222,7 @@ impl Transcript {
         }
     }
 
-    /// Cuts a file that is held, or turns over some of its bits, by `word`: `line` is `NAME N ..`.
+    /// Cuts a file that is held, or inverts some of its bits, by `word`: `line` is `NAME N ..`.
     fn alter(&mut self, alloc: Global, word: &str, line: &str) -> Result<(), AllocError> {
         let (name, numbers) = line.split_once(' ').unwrap_or((line, ""));
         for number in numbers.split(' ') {
@@ -261,7 +261,7 @@ impl Transcript {
         Ok(())
     }
 
-    /// Makes the call with the words of `line`, parted by single blanks; `""` is an empty one.
+    /// Makes the call with the words of `line`, separated by single blanks; `""` is an empty word.
     fn run(&mut self, alloc: Global, line: &str) -> Result<(), AllocError> {
         self.end_call(alloc)?;
         self.calls = true;
@@ -276,7 +276,8 @@ impl Transcript {
         Ok(())
     }
 
-    /// Notes a difference where the last call didn't end with the status `wanted`. What it put comes next.
+    /// Notes a difference where the last call didn't end with the status `wanted`. The next content lines describe what
+    /// it put.
     fn judge_status(&mut self, alloc: Global, wanted: &str) -> Result<(), AllocError> {
         let Some(got) = self.open_status.take() else {
             return self.differ(alloc, "no call before status", wanted);
@@ -376,7 +377,7 @@ impl Transcript {
     }
 }
 
-/// Checks whether `bytes` are the wanted ones, or begin with them where `reach` says so.
+/// Checks whether `bytes` are the bytes `wanted`, or begin with them where `reach` says so.
 fn is_wanted(bytes: &[u8], wanted: &[u8], reach: Reach) -> bool {
     match reach {
         Reach::Whole => bytes == wanted,
@@ -384,10 +385,10 @@ fn is_wanted(bytes: &[u8], wanted: &[u8], reach: Reach) -> bool {
     }
 }
 
-/// The most bytes that are shown of a report or a file.
+/// The maximum number of bytes of a report or a file that are shown.
 const SHOWN: usize = 400;
 
-/// Returns how `bytes` are printed: in quotes where they are a short text, else by their number.
+/// Returns the printed form of `bytes`: in quotes where they are a short text, otherwise their number.
 fn shown(alloc: Global, bytes: &[u8]) -> Result<String, AllocError> {
     let count = bytes.len();
     match std::str::from_utf8(bytes) {

@@ -11,7 +11,7 @@ pub use Rattle.cg_check.specs.declared.stop.Sharing.TheVariants.{Value, Way}
 pub use Rattle.cg_check.specs.declared.stop.Cell.{Cell}
 pub use Rattle.cg_check.specs.declared.stop.Cell.TheVariants.{Free, Held, Clash}
 
--- the position that a stop is
+-- the position of a stop
 abbrev pub position_of : Stop → Position
 position_of s = record { source = s.source; resource = s.resource; time = s.time; from = s.from }
 
@@ -22,17 +22,17 @@ stop_of p = record { source = p.source; resource = p.resource; time = p.time; fr
 abbrev pub next_of : Arch → Stop → ℕ → Stop
 next_of A s r = record { source = s.source; resource = r; time = s.time + delay A r; from = Some s.resource }
 
--- they share what they have to
+-- they share what they must
 abbrev pub alike : Sharing → Position → Position → Bool
 alike Value p q = same_value p q
 alike Way p q = same_way p q
 
--- the rule that says so
+-- the rule of a sharing
 abbrev pub rule_of : Sharing → Rule
 rule_of Value = L6
 rule_of Way = L7
 
--- what is known of a resource in a slot after one more position there
+-- the cell of a resource in a slot after one more position there
 abbrev pub with_claim : Sharing → Cell → Position → Cell
 with_claim sharing Free p = Held (stop_of p)
 with_claim sharing (Held q) p = if alike sharing (position_of q) p then Held q else Clash
@@ -42,7 +42,7 @@ with_claim sharing Clash p = Clash
 abbrev pub cell : List Cell → ℕ → Cell
 cell table i = slice_index_or table i Free
 
--- the cell of a position: those of a resource are one behind the other, by slot
+-- the cell of a position: those of a resource are adjacent, by slot
 abbrev pub index_of : ℕ → Position → ℕ
 index_of ii p = p.resource * ii + p.time % ii
 
@@ -60,7 +60,7 @@ is_clash Free = false
 is_clash (Held q) = false
 is_clash Clash = true
 
--- resource r in slot s, where it has a clash
+-- resource r in slot s, if it has a clash there
 abbrev pub clash_at : List Cell → ℕ → ℕ → ℕ → Option RulePlace
 clash_at table ii r s = if is_clash (cell table (r * ii + s)) then Some (at.Resource r s) else None
 
@@ -68,6 +68,6 @@ clash_at table ii r s = if is_clash (cell table (r * ii + s)) then Some (at.Reso
 abbrev pub clash_on : List Cell → ℕ → ℕ → Option RulePlace
 clash_on table ii r = first_below (clash_at table ii r) ii
 
--- the least resource that has one
+-- the least resource that has a clash
 abbrev pub clash_in : List Cell → ℕ → ℕ → Option RulePlace
 clash_in table ii resources = first_below (clash_on table ii) resources

@@ -1,4 +1,4 @@
--- The places of each rule, what the rule says at one of them, and the first at which a mapping breaks it.
+-- The places of each rule, the condition of the rule at one of them, and the first at which a mapping breaks it.
 use Rattle.std.specs.Prelude.{◌≡◌, ℕ, ◌+◌, ◌*◌, ◌%◌, ◌<◌, ◌≤◌, ◌⊎◌, List, length, Contains, Some, slice_get}
 use Rattle.cg_model.specs.declared.kernel.Operand.TheVariants.{Edge}
 use Rattle.cg_model.specs.Kernel.{Kernel, HasOperand, HasOrder, size}
@@ -9,7 +9,7 @@ use Rattle.cg_check.specs.declared.rule.RulePlace.TheVariants as at
 
 -- ---- places
 
--- the rule speaks of that place
+-- the place is one to which the rule applies
 abbrev pub IsPlaceOf : Rule → Arch → Kernel → Mapping → RulePlace → Type 0
 IsPlaceOf L1 A K M at.Mapping = Unit {0}
 IsPlaceOf L2 A K M (at.Node v) = v < size K
@@ -20,7 +20,8 @@ IsPlaceOf L6 A K M (at.Resource r s) = (r < length A.resources) × (s < M.ii)
 IsPlaceOf L7 A K M (at.Resource r s) = (r < length A.resources) × (s < M.ii)
 IsPlaceOf _ A K M _ = ⊥
 
--- the order of places: nodes and order edges by number, operands by node and then by number, resources by number and then by slot
+-- the order of places: nodes and order edges by number, operands by node and then by number, resources by number and
+-- then by slot
 abbrev pub IsBefore : RulePlace → RulePlace → Type 0
 IsBefore (at.Node v) (at.Node w) = v < w
 IsBefore (at.Order e) (at.Order f) = e < f
@@ -36,7 +37,7 @@ AreAlikeOn A K M r s IsLike =
     (p q : Position) → Contains (positions A K M) p → Contains (positions A K M) q →
     p.resource ≡ r → p.time % M.ii ≡ s → q.resource ≡ r → q.time % M.ii ≡ s → IsLike p q
 
--- the mapping keeps the rule at that place
+-- the mapping keeps the rule at the given place
 abbrev pub KeepsAt : Rule → Arch → Kernel → Mapping → RulePlace → Type 0
 KeepsAt L1 A K M at.Mapping = (0 < M.ii) × (M.ii ≤ A.contexts)
 KeepsAt L2 A K M (at.Node v) = StandsWell A K M v
@@ -53,7 +54,7 @@ KeepsAt L6 A K M (at.Resource r s) = AreAlikeOn A K M r s (λ p q. (p.source ≡
 KeepsAt L7 A K M (at.Resource r s) = AreAlikeOn A K M r s (λ p q. p.from ≡ q.from)
 KeepsAt _ A K M _ = Unit {0}
 
--- the mapping breaks the rule at that place of it, and keeps it at each place before
+-- the mapping breaks the rule at the given place of it, and keeps it at each place before
 pub record IsFirstBreach (rule : Rule) (A : Arch) (K : Kernel) (M : Mapping) (first : RulePlace) : Type 0 where
   pub shape : IsPlaceOf rule A K M first
   pub broken : KeepsAt rule A K M first → ⊥

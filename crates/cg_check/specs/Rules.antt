@@ -1,4 +1,4 @@
--- The rules of legal mappings: what each says, and the first place at which a mapping violates it.
+-- The rules of legal mappings: the condition of each, and the first place at which a mapping violates it.
 use Rattle.std.specs.Prelude.{◌≡◌, ℕ, zero, suc, ◌+◌, ◌*◌, ◌%◌, ◌<◌, ◌≤◌, Bool, true, false, ◌&&◌, not, eqb, nat_lt, nat_le, if◌then◌else◌, List, [], ◌∷◌, length, take, Contains, Option, Some, None, slice_get}
 use Rattle.std.specs.List.{list_any}
 use Rattle.std.specs.Option.{option_map, option_or}
@@ -19,9 +19,9 @@ pub use Rattle.cg_check.specs.declared.rule.Rule.TheVariants.{L1, L2, L3, L4, L5
 pub use Rattle.cg_check.specs.declared.rule.RulePlace.{RulePlace}
 pub use Rattle.cg_check.specs.declared.rule.Violation.{Violation}
 
--- ---- what each rule says
+-- ---- the condition of each rule
 
--- node v stands on a unit that offers its operation, at a time up to 65,534
+-- node v is placed on a unit that offers its operation, at a time up to 65,534
 pub record StandsWell (A : Arch) (K : Kernel) (M : Mapping) (v : ℕ) : Type 0 where
   pub known : (place M v).unit < length A.units
   pub offered : Contains (unit A (place M v).unit).ops (node K v).op
@@ -60,7 +60,7 @@ is_interval A M = nat_lt 0 M.ii && nat_le M.ii A.contexts
 abbrev pub stands_well : Arch → Kernel → ℕ → Place → Bool
 stands_well A K v p = nat_lt p.unit (length A.units) && (among (unit A p.unit).ops (node K v).op && nat_le p.time latest_time)
 
--- L3: some node of these places has the unit and the slot of that place
+-- L3: some node of these places has the unit and the slot of the given place
 abbrev pub is_shared : ℕ → List Place → Place → Bool
 is_shared ii places p = list_any (λ q. eqb q.unit p.unit && eqb (q.time % ii) (p.time % ii)) places
 
@@ -72,7 +72,7 @@ is_after M e = nat_le ((place M e.from).time + 1) ((place M e.to).time + M.ii * 
 abbrev pub drives : Arch → ℕ → ℕ → Bool
 drives A q r = list_any (λ d. eqb d q) (resource A r).drivers
 
--- from q at time t the path goes on along links, and ends on r at time s
+-- from q at time t the path continues along links, and ends on r at time s
 abbrev pub goes : Arch → ℕ → ℕ → List ℕ → ℕ → ℕ → Bool
 goes A q t [] r s = eqb q r && eqb t s
 goes A q t (x ∷ path) r s = drives A q x && goes A x (t + delay A x) path r s
@@ -83,7 +83,7 @@ arrives A M u path None s = false
 arrives A M u [] (Some port) s = false
 arrives A M u (x ∷ path) (Some port) s = eqb x (unit A (place M u).unit).out && goes A x (leaves A M u) path port s
 
--- a route's path brings the value of that edge, if there is one, to the port of its operand in time
+-- a route's path brings the value of the given edge, if there is one, to the port of its operand in time
 abbrev pub brings : Arch → Mapping → Route → Option DataEdge → Bool
 brings A M route None = true
 brings A M route (Some e) =
@@ -112,7 +112,7 @@ clashes alike ii ps r s = list_any (λ p. is_on ii r s p && list_any (λ q. is_o
 
 -- ---- first places
 
--- the first that there is for the numbers below n
+-- the first value of f among the numbers below n
 unfoldable pub first_below : {X : Type 0} → (ℕ → Option X) → ℕ → Option X
 first_below f zero = None
 first_below f (suc n) = option_or (first_below f n) (f n)

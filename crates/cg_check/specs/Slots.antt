@@ -1,4 +1,4 @@
--- The slots of units that nodes have taken.
+-- The slots of units that nodes take.
 use Rattle.std.specs.Prelude.{◌≡◌, ℕ, ◌+◌, ◌*◌, ◌%◌, ◌<◌, Bool, false, ◌&&◌, eqb, List, length, take, drop, Option, slice_index_or}
 use Rattle.std.specs.List.{list_any}
 use Rattle.cg_model.specs.First.{first_from}
@@ -13,11 +13,11 @@ takes ii places x s = list_any (λ q. eqb q.unit x && eqb (q.time % ii) s) place
 abbrev pub place_in : List Place → ℕ → Place
 place_in places v = slice_index_or places v (record { unit = 0; time = 0 })
 
--- the mark of a place: those of a unit are one behind the other, by slot
+-- the mark of a place: those of a unit are adjacent, by slot
 abbrev pub mark_of : ℕ → Place → ℕ
 mark_of ii p = p.unit * ii + p.time % ii
 
--- a mark for each slot of each unit, set where one of these places takes it
+-- a mark for each slot of each unit, set if one of these places takes it
 pub record AreMarks (ii units : ℕ) (places : List Place) (marks : List Bool) : Type 0 where
   pub long : length marks ≡ units * ii
   pub set : (x s : ℕ) → x < units → s < ii → slice_index_or marks (x * ii + s) false ≡ takes ii places x s

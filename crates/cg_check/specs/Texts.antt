@@ -1,4 +1,4 @@
--- What reports say of violations.
+-- The report texts of violations.
 use Rattle.std.specs.Prelude.{ℕ, List, ◌++◌, codes, decimal}
 use Rattle.cg_model.specs.Kernel.{Kernel, node}
 use Rattle.cg_model.specs.Array.{Arch, resource}

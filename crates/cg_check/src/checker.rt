@@ -15,30 +15,30 @@ use cg_arch::Arch;
 use cg_model::{Kernel, Mapping};
 use std::alloc::{AllocError, Global};
 
-/// What the checker says of a mapping.
+/// The result of checking a mapping.
 #[derive(Drop)]
 pub enum CheckVerdict<'a> {
-    /// It is legal.
+    /// The mapping is legal.
     Legal(LegalMapping<'a>),
-    /// It isn't.
+    /// The mapping isn't legal.
     Illegal {
         /// The lowest rule that it violates.
         rule: Rule,
         /// The first place at which it violates that rule.
         place: RulePlace,
-        /// The mapping, given back.
+        /// The mapping, returned.
         mapping: Mapping,
     },
 }
 
-/// What is answered where a rule is violated.
+/// Returns the violation of `rule` at `place`.
 fn violation_at(rule: Rule, place: RulePlace) -> Option<Violation>
     ensures { result ≡ Some (record { rule = rule; place = place }) }
 {
     Some(Violation { rule, place })
 }
 
-/// The lowest rule that is violated, at its first place.
+/// Returns the lowest rule that `mapping` violates, at its first place.
 fn first_violation(
     alloc: Global,
     arch: &Arch,
@@ -72,8 +72,8 @@ fn first_violation(
     Ok(None)
 }
 
-/// Whether the mapping is legal for the architecture and the kernel; if not, the lowest rule that it violates, at the first
-/// place. The mapping is lost where memory runs out.
+/// Checks whether `mapping` is legal for the architecture and the kernel; if not, returns the lowest rule that it
+/// violates, at the first place. The mapping is lost if memory runs out.
 pub fn check<'a>(
     alloc: Global,
     arch: &'a Arch,

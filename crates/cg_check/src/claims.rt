@@ -1,4 +1,4 @@
-//! L6 and L7: what routes that meet on a resource in a slot have to share.
+//! L6 and L7: what routes that meet on a resource in a slot must share.
 ghost use Rattle.std.specs.Prelude.{◌≡◌, ◌∷◌, ◌^◌, ◌<◌};
 ghost use Rattle.cg_model.specs.Mapping as mappings;
 ghost use Rattle.cg_check.specs.Claims as spec;
@@ -10,7 +10,7 @@ use crate::stop::{Cell, Sharing, Stop};
 use cg_arch::Arch;
 use cg_model::{Kernel, Mapping, Route};
 
-/// Whether two values come from one resource, or both begin their paths.
+/// Returns whether two values come from one resource, or both begin their paths.
 fn same_from(first: Option<u32>, second: Option<u32>) -> bool
     ensures { result ≡ mappings.same_from first second }
 {
@@ -21,7 +21,7 @@ fn same_from(first: Option<u32>, second: Option<u32>) -> bool
     }
 }
 
-/// Whether two values share what they have to.
+/// Returns whether two values share what `sharing` requires.
 fn alike(sharing: Sharing, first: Stop, second: Stop) -> bool
     ensures { result ≡ spec.alike sharing (spec.position_of first) (spec.position_of second) }
 {
@@ -31,7 +31,7 @@ fn alike(sharing: Sharing, first: Stop, second: Stop) -> bool
     }
 }
 
-/// A cell after one more value there.
+/// Returns `cell` after one more value there.
 fn with_claim(sharing: Sharing, cell: Cell, stop: Stop) -> Cell
     ensures { result ≡ spec.with_claim sharing cell (spec.position_of stop) }
 {
@@ -48,7 +48,7 @@ fn with_claim(sharing: Sharing, cell: Cell, stop: Stop) -> Cell
     }
 }
 
-/// What claims are made for: a mapping on its architecture, and what values have to share.
+/// The setting of claims: a mapping on its architecture, and what values must share.
 #[derive(Clone, Copy)]
 struct Claiming<'a> {
     sharing: Sharing,
@@ -56,7 +56,7 @@ struct Claiming<'a> {
     mapping: &'a Mapping,
 }
 
-/// Claims the resource and the slot of a stop; one past the table claims nothing.
+/// Claims the resource and the slot of `stop` in `table`; a stop past the table claims nothing.
 #[tactic(auto, unfolding(crate::specs::Claims::claimed))]
 fn claim(table: &mut [Cell], claiming: Claiming, stop: Stop)
     requires { 0 < claiming.mapping.now.ii }
@@ -69,7 +69,7 @@ fn claim(table: &mut [Cell], claiming: Claiming, stop: Stop)
     }
 }
 
-/// The next stop on a path.
+/// Returns the stop after `stop` on a path that continues to `resource`.
 fn next(arch: &Arch, stop: Stop, resource: u32) -> Stop
     requires { stop.time < 2 ^ 63 }
     ensures { result ≡ spec.next_of arch.now stop resource }
@@ -82,7 +82,7 @@ fn next(arch: &Arch, stop: Stop, resource: u32) -> Stop
     }
 }
 
-/// Claims the stops of a path from its first one on.
+/// Claims in `table` the stops of a path, from `start` on.
 fn claim_path(table: &mut [Cell], claiming: Claiming, start: Stop, rest: &[u32])
     requires interval { 0 < claiming.mapping.now.ii }
     requires soon { start.time < 2 ^ 33 }
@@ -96,7 +96,7 @@ fn claim_path(table: &mut [Cell], claiming: Claiming, start: Stop, rest: &[u32])
     }
 }
 
-/// Claims the stops of a route.
+/// Claims in `table` the stops of `route`.
 fn claim_route(table: &mut [Cell], claiming: Claiming, kernel: &Kernel, route: &Route)
     requires { 0 < claiming.mapping.now.ii }
     ensures { table.new ≡ spec.claims claiming.entry.sharing claiming.entry.mapping.now.ii table.old (mappings.of_route claiming.entry.arch.now kernel.now claiming.entry.mapping.now route.now) }
@@ -114,7 +114,7 @@ fn claim_route(table: &mut [Cell], claiming: Claiming, kernel: &Kernel, route: &
     }
 }
 
-/// Claims the stops of all routes.
+/// Claims in `table` the stops of all routes.
 pub(crate) fn claim_all(
     table: &mut [Cell],
     sharing: Sharing,

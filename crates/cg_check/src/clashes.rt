@@ -11,7 +11,7 @@ use cg_arch::Arch;
 use cg_model::{Kernel, Mapping};
 use std::alloc::{AllocError, Global};
 
-/// A resource in a slot, where it has a clash.
+/// Returns `resource` in `slot`, if it has a clash there.
 fn clash_at(table: &[Cell], ii: usize, resource: usize, slot: usize) -> Option<RulePlace>
     requires slot { slot < ii }
     requires table { resource * ii + ii ≤ length table.now }
@@ -23,7 +23,7 @@ fn clash_at(table: &[Cell], ii: usize, resource: usize, slot: usize) -> Option<R
     }
 }
 
-/// The least slot in which a resource has a clash.
+/// Returns `resource` in the least slot in which it has a clash.
 fn clash_on(table: &[Cell], ii: usize, resource: usize) -> Option<RulePlace>
     requires { resource * ii + ii ≤ length table.now }
     ensures { result ≡ spec.clash_on table.now ii resource }
@@ -37,7 +37,7 @@ fn clash_on(table: &[Cell], ii: usize, resource: usize) -> Option<RulePlace>
     None
 }
 
-/// The least resource that has one.
+/// Returns the least resource that has a clash.
 fn clash_in(table: &[Cell], ii: usize, resources: usize) -> Option<RulePlace>
     requires { length table.now ≡ resources * ii }
     ensures { result ≡ spec.clash_in table.now ii resources }
@@ -51,8 +51,8 @@ fn clash_in(table: &[Cell], ii: usize, resources: usize) -> Option<RulePlace>
     None
 }
 
-/// Returns what is known of every resource in every slot of the interval, once the stops of all routes are there: that of
-/// resource r in slot s at index r * interval + s. Values share what `sharing` says.
+/// Returns the cell of every resource in every slot of the interval, after the stops of all routes are claimed: that of
+/// resource r in slot s at index r * interval + s. Values must share what `sharing` requires.
 pub fn all_claims(
     alloc: Global,
     sharing: Sharing,
@@ -70,7 +70,7 @@ pub fn all_claims(
     Ok(table)
 }
 
-/// The least resource, and on it the least slot, where values meet that don't share what they have to.
+/// Returns the least resource, and on it the least slot, where values meet that don't share what `sharing` requires.
 pub(crate) fn first_clash(
     alloc: Global,
     sharing: Sharing,

@@ -5,16 +5,16 @@ ghost use Rattle.cg_check.specs.Edges.{data_edge};
 
 use cg_model::{Kernel, Operand, Route};
 
-/// The data edge that an operand is.
+/// The data edge of an operand.
 #[derive(Clone, Copy)]
 pub struct DataEdge {
-    /// The number of the node whose value it takes.
+    /// The number of the node whose value the operand takes.
     pub source: u32,
-    /// How many turns ago the node had the value.
+    /// The distance of the edge: the number of iterations since the node had the value.
     pub distance: u32,
 }
 
-/// Returns the data edge that is the operand at which `route` ends; None where that is none.
+/// Returns the data edge of the operand at which `route` ends; `None` if the operand isn't an edge.
 pub fn edge_into(kernel: &Kernel, route: &Route) -> Option<DataEdge>
     ensures { result ≡ data_edge (slice_get (node kernel.now route.now.node).operands route.now.arg) }
 {

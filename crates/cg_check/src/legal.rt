@@ -4,7 +4,7 @@ use cg_arch::Arch;
 use cg_model::{Kernel, Mapping};
 use std::marker::Model;
 
-/// A legal mapping, with the architecture and the kernel that it is of.
+/// A legal mapping, with its architecture and its kernel.
 #[derive(Drop)]
 pub struct LegalMapping<'a> {
     arch: &'a Arch,
@@ -29,7 +29,7 @@ impl<'a> LegalMapping<'a> {
     ghost use Rattle.cg_model.specs.Kernel.{IsKernel};
     ghost use Rattle.cg_model.specs.Mapping.{IsLegal};
 
-    /// The mapping, which is legal for that architecture and kernel.
+    /// Returns `mapping`, which is legal for `arch` and `kernel`, as a legal mapping.
     pub fn new(arch: &'a Arch, kernel: &'a Kernel, mapping: Mapping) -> LegalMapping<'a>
         requires { IsLegal arch.now kernel.now mapping }
         ensures { result ≡ record { arch = arch.now; kernel = kernel.now; mapping = mapping } }
@@ -41,21 +41,21 @@ impl<'a> LegalMapping<'a> {
         }
     }
 
-    /// The architecture.
+    /// Returns the architecture.
     pub fn arch(&self) -> &'a Arch
         ensures { result.now ≡ self.now.arch }
     {
         self.arch
     }
 
-    /// The kernel.
+    /// Returns the kernel.
     pub fn kernel(&self) -> &'a Kernel
         ensures { result.now ≡ self.now.kernel }
     {
         self.kernel
     }
 
-    /// The mapping.
+    /// Returns the mapping.
     pub fn mapping(&self) -> &Mapping
         ensures mapping { result.now ≡ self.now.mapping }
         ensures legal { IsLegal self.now.arch self.now.kernel self.now.mapping }

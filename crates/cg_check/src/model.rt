@@ -1,4 +1,5 @@
-//! What a mapping says of nodes, and an architecture of units and resources; past the end, what the model says there.
+//! The places of nodes in a mapping, and the units and resources of an architecture; past the end, the defaults of the
+//! model.
 ghost use Rattle.std.specs.Prelude.{◌≡◌, ◌≤◌, eqb, slice_get};
 ghost use Rattle.std.specs.List.{list_any};
 ghost use Rattle.cg_model.specs.Array.{unit, delay as delay_of};
@@ -8,7 +9,7 @@ ghost use Rattle.cg_check.specs.Rules.{drives as drives_of};
 use cg_arch::Arch;
 use cg_model::{Kind, Mapping, Place};
 
-/// The place of a node.
+/// Returns the place of `node`.
 pub(crate) fn place(mapping: &Mapping, node: u32) -> Place
     ensures { result ≡ place_of mapping.now node }
 {
@@ -19,7 +20,7 @@ pub(crate) fn place(mapping: &Mapping, node: u32) -> Place
     places[node as usize]
 }
 
-/// The cycles that a unit takes.
+/// Returns the latency of unit number `number`, in cycles.
 fn latency(arch: &Arch, number: u32) -> u32
     ensures value { result ≡ (unit arch.now number).latency }
     ensures small { result ≤ 4 }
@@ -31,7 +32,7 @@ fn latency(arch: &Arch, number: u32) -> u32
     units[number as usize].latency
 }
 
-/// The number of a unit's out.
+/// Returns the number of the out of unit number `number`.
 pub(crate) fn out(arch: &Arch, number: u32) -> u32
     ensures { result ≡ (unit arch.now number).out }
 {
@@ -42,7 +43,7 @@ pub(crate) fn out(arch: &Arch, number: u32) -> u32
     units[number as usize].out
 }
 
-/// The number of a port of a unit, if it has that port.
+/// Returns the number of port `arg` of unit number `number`, if it has that port.
 pub(crate) fn port(arch: &Arch, number: u32, arg: u32) -> Option<u32>
     ensures { result ≡ slice_get (unit arch.now number).ports arg }
 {
@@ -54,7 +55,7 @@ pub(crate) fn port(arch: &Arch, number: u32, arg: u32) -> Option<u32>
     ports.get(arg as usize).copied()
 }
 
-/// Returns the cycle in which the value of `node` leaves its unit, counted from its turn's start.
+/// Returns the cycle in which the value of `node` leaves its unit, counted from its iteration's start.
 pub fn leaves(arch: &Arch, mapping: &Mapping, node: u32) -> u64
     ensures value { result ≡ leaves_of arch.now mapping.now node }
     ensures soon { result ≤ 4294967299 }
@@ -78,7 +79,7 @@ pub fn delay(arch: &Arch, resource: u32) -> u64
     }
 }
 
-/// Whether there is a link from one resource to another.
+/// Returns whether there is a link from resource `from` to resource `to`.
 pub(crate) fn drives(arch: &Arch, from: u32, to: u32) -> bool
     ensures { result ≡ drives_of arch.now from to }
 {
@@ -89,7 +90,7 @@ pub(crate) fn drives(arch: &Arch, from: u32, to: u32) -> bool
     has(resources[to as usize].drivers.as_slice(), from)
 }
 
-/// Whether a number is in a list.
+/// Returns whether `wanted` is in `numbers`.
 fn has(numbers: &[u32], wanted: u32) -> bool
     ensures { result ≡ list_any (λ number. eqb number wanted) numbers.now }
 {

@@ -9,7 +9,7 @@ use crate::rule::RulePlace;
 use cg_arch::Arch;
 use cg_model::{Kernel, LATEST_TIME, Mapping, OrderEdge, Place};
 
-/// The mapping, where its interval isn't one of the architecture.
+/// Returns the mapping as a place, if its interval isn't one of the architecture.
 #[tactic(auto, unfolding(crate::specs::Rules::violated))]
 pub(crate) fn wrong_interval(arch: &Arch, mapping: &Mapping) -> Option<RulePlace>
     ensures { (K : KernelOf) → result ≡ violated L1 arch.now K mapping.now }
@@ -21,7 +21,8 @@ pub(crate) fn wrong_interval(arch: &Arch, mapping: &Mapping) -> Option<RulePlace
     }
 }
 
-/// Returns whether `node`, placed at `place`, is on a unit of `arch` that offers its operation, at a time that isn't too late.
+/// Returns whether `node`, placed at `place`, is on a unit of `arch` that offers its operation, at a time that isn't
+/// too late.
 pub fn stands_well(arch: &Arch, kernel: &Kernel, node: usize, place: Place) -> bool
     requires { node < size kernel.now }
     ensures { result ≡ stands_well_at arch.now kernel.now node place }
@@ -34,7 +35,7 @@ pub fn stands_well(arch: &Arch, kernel: &Kernel, node: usize, place: Place) -> b
     units[place.unit as usize].ops.has(op) && place.time <= LATEST_TIME
 }
 
-/// The first node that doesn't.
+/// Returns the first node that isn't on a unit that offers its operation, at a time that isn't too late.
 #[tactic(auto, unfolding(crate::specs::Rules::violated))]
 pub(crate) fn misplaced(arch: &Arch, kernel: &Kernel, mapping: &Mapping) -> Option<RulePlace>
     requires { length mapping.now.places ≡ size kernel.now }
@@ -57,7 +58,7 @@ pub fn is_after(mapping: &Mapping, edge: &OrderEdge) -> bool
     source + 1 <= target + u64::from(mapping.ii()) * u64::from(edge.distance)
 }
 
-/// The first order edge whose target doesn't.
+/// Returns the first order edge whose target doesn't begin after its source.
 #[tactic(auto, unfolding(crate::specs::Rules::violated))]
 pub(crate) fn late_edge(kernel: &Kernel, mapping: &Mapping) -> Option<RulePlace>
     ensures { (A : ArchOf) → result ≡ violated L4 A kernel.now mapping.now }

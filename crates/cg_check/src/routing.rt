@@ -9,7 +9,7 @@ use crate::stop::At;
 use cg_arch::Arch;
 use cg_model::{Kernel, Mapping, Route};
 
-/// Whether a path goes on along links from a resource at a time, and ends on a port at a time.
+/// Returns whether `path` continues along links from `start`, and ends on the port and at the time of `end`.
 fn goes(arch: &Arch, start: At, path: &[u32], end: At) -> bool
     requires { start.time < 2 ^ 33 }
     ensures { result ≡ goes_of arch.now start.resource start.time path.now end.resource end.time }
@@ -26,7 +26,8 @@ fn goes(arch: &Arch, start: At, path: &[u32], end: At) -> bool
     at == end.resource && now == end.time
 }
 
-/// Whether a path begins with the out of a node's unit when its value leaves, and goes to a port.
+/// Returns whether `path` begins with the out of `source`'s unit when the value leaves it, and goes to the port and the
+/// time of `end`.
 fn arrives(arch: &Arch, mapping: &Mapping, source: u32, path: &[u32], end: At) -> bool
     ensures { result ≡ arrives_of arch.now mapping.now source path.now (Some end.resource) end.time }
 {
@@ -43,8 +44,8 @@ fn arrives(arch: &Arch, mapping: &Mapping, source: u32, path: &[u32], end: At) -
     }
 }
 
-/// Returns whether `route` brings the value of its edge along links, from its source's out to its port, in time. A route that
-/// ends at no data edge does.
+/// Returns whether `route` brings the value of its edge along links, from its source's out to its port, in time. A
+/// route that ends at no data edge satisfies this.
 pub fn is_brought(arch: &Arch, kernel: &Kernel, mapping: &Mapping, route: &Route) -> bool
     ensures { result ≡ is_brought_of arch.now kernel.now mapping.now route.now }
 {
@@ -54,7 +55,7 @@ pub fn is_brought(arch: &Arch, kernel: &Kernel, mapping: &Mapping, route: &Route
     }
 }
 
-/// Whether a route brings the value of that edge.
+/// Returns whether `route` brings the value of `edge`.
 fn brings(arch: &Arch, mapping: &Mapping, route: &Route, edge: DataEdge) -> bool
     ensures { result ≡ brings_of arch.now mapping.now route.now (Some edge) }
 {
@@ -69,7 +70,7 @@ fn brings(arch: &Arch, mapping: &Mapping, route: &Route, edge: DataEdge) -> bool
     }
 }
 
-/// The operand of the first route that doesn't.
+/// Returns the operand of the first route that doesn't bring its value.
 #[tactic(auto, unfolding(crate::specs::Rules::violated))]
 pub(crate) fn unbrought(arch: &Arch, kernel: &Kernel, mapping: &Mapping) -> Option<RulePlace>
     ensures { result ≡ violated L5 arch.now kernel.now mapping.now }

@@ -5,13 +5,13 @@
 pub enum Rule {
     /// The interval is at least 1 and at most the number of contexts.
     L1,
-    /// Each node stands on a unit that offers its operation, at a time that isn't too late.
+    /// Each node is placed on a unit that offers its operation, at a time that isn't too late.
     L2,
     /// A unit begins at most one node in each slot.
     L3,
     /// The target of an order edge begins after its source.
     L4,
-    /// Each route goes along links, from the source's out to the port, and is there in time.
+    /// Each route goes along links, from the source's out to the port, and arrives in time.
     L5,
     /// Routes that meet on a resource in a slot carry one value.
     L6,
@@ -23,7 +23,7 @@ impl Rule {
     ghost use Rattle.std.specs.Prelude.{◌≡◌};
     ghost use Rattle.cg_check.specs.Texts.{rule_code};
 
-    /// Its code, as reports print it.
+    /// Returns the code of the rule, as reports print it.
     pub fn code(self) -> &'static str
         ensures { result.now ≡ rule_code self }
     {
@@ -39,7 +39,7 @@ impl Rule {
     }
 }
 
-/// Where a mapping violates a rule. All numbers count from 0.
+/// The place where a mapping violates a rule. All numbers count from 0.
 #[derive(Clone, Copy, Debug, PartialEq, Eq)]
 pub enum RulePlace {
     /// The mapping as a whole.
@@ -64,7 +64,7 @@ pub enum RulePlace {
     },
 }
 
-/// A rule that is violated, and where.
+/// A violated rule, and the place of the violation.
 #[derive(Clone, Copy, Debug, PartialEq, Eq)]
 pub struct Violation {
     /// The rule.

@@ -10,7 +10,7 @@ use cg_arch::Arch;
 use cg_model::Mapping;
 use std::alloc::{AllocError, Global};
 
-/// The first node that shares its unit and slot with an earlier one.
+/// Returns the first node that shares its unit and slot with an earlier one.
 fn shared_node(alloc: Global, arch: &Arch, mapping: &Mapping) -> Result<Option<usize>, AllocError>
     requires interval { 0 < mapping.now.ii }
     requires units { (v : ℕ) → v < length mapping.now.places → (place_of mapping.now v).unit < length arch.now.units }
@@ -30,7 +30,7 @@ fn shared_node(alloc: Global, arch: &Arch, mapping: &Mapping) -> Result<Option<u
     Ok(None)
 }
 
-/// The place of that node.
+/// Returns the place of the first node that shares its unit and slot with an earlier one.
 #[tactic(auto, unfolding(crate::specs::Rules::violated))]
 pub(crate) fn shared_slot(
     alloc: Global,

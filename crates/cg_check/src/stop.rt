@@ -1,6 +1,6 @@
-//! Where a value is on its path.
+//! The position of a value on its path.
 
-/// A resource, and a cycle in turn 0.
+/// A resource, and a cycle in iteration 0.
 #[derive(Clone, Copy)]
 pub(crate) struct At {
     pub resource: u32,
@@ -14,28 +14,28 @@ pub struct Stop {
     pub source: u32,
     /// The number of the resource.
     pub resource: u32,
-    /// The cycle in which it is there in turn 0.
+    /// The cycle of iteration 0 in which the value is there.
     pub time: u64,
-    /// The resource before it on the path; None at the path's start.
+    /// The resource before it on the path; `None` at the path's start.
     pub from: Option<u32>,
 }
 
-/// What the values that meet on a resource in a slot have to share.
+/// What the values that meet on a resource in a slot must share.
 #[derive(Clone, Copy)]
 pub enum Sharing {
     /// Source and time, so that they are one value.
     Value,
-    /// The resource that they come from.
+    /// The resource from which they come.
     Way,
 }
 
-/// What is known of a resource in a slot.
+/// The claims of a resource in a slot.
 #[derive(Clone, Copy)]
 pub enum Cell {
     /// No value is there.
     Free,
-    /// One is there, and all others that are there share with it what they have to.
+    /// A value is there, and all others that are there share with it what they must.
     Held(Stop),
-    /// Two are there that don't.
+    /// Two values are there that don't share what they must.
     Clash,
 }

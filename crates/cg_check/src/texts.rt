@@ -1,4 +1,4 @@
-//! What reports say of violations.
+//! The report texts of violations.
 ghost use Rattle.std.specs.Prelude.{◌≡◌, IfOk, string_bytes};
 ghost use Rattle.cg_model.specs.Array.{resource as resource_of};
 ghost use Rattle.cg_model.specs.Kernel.{node as node_of};
@@ -9,7 +9,7 @@ use cg_arch::Arch;
 use cg_model::Kernel;
 use std::alloc::{AllocError, Global};
 
-/// Code and place of a violation, as `L6 resource r0c0_r slot 0`.
+/// Returns the code and place of a violation, as `L6 resource r0c0_r slot 0`.
 pub fn rule_text(
     alloc: Global,
     arch: &Arch,
@@ -50,7 +50,7 @@ fn place_text(
     }
 }
 
-/// The name of a node; empty past the last one.
+/// Returns the name of node `number`; empty past the last one.
 fn node_name(kernel: &Kernel, number: usize) -> &str
     ensures { result.now ≡ (node_of kernel.now number).name }
 {
@@ -61,7 +61,7 @@ fn node_name(kernel: &Kernel, number: usize) -> &str
     nodes[number].name.as_str()
 }
 
-/// The name of a resource; empty past the last one.
+/// Returns the name of resource `number`; empty past the last one.
 fn resource_name(arch: &Arch, number: usize) -> &str
     ensures { result.now ≡ (resource_of arch.now number).name }
 {

@@ -9,7 +9,7 @@ pub use Rattle.cg_claims.specs.declared.claim.ClaimUse.{ClaimUse}
 abbrev pub position_of : ℕ → ClaimUse → Position
 position_of r c = record { source = c.source; resource = r; time = c.time; from = c.before }
 
--- no predecessor stands before each
+-- no predecessor comes before each
 abbrev pub rank_of : Option ℕ → ℕ
 rank_of None = zero
 rank_of (Some q) = suc q
@@ -19,7 +19,7 @@ abbrev pub IsBefore : ClaimUse → ClaimUse → Type 0
 IsBefore c d =
     (c.source < d.source) ⊎ (c.source ≡ d.source) × ((c.time < d.time) ⊎ (c.time ≡ d.time) × (rank_of c.before < rank_of d.before))
 
--- how often a list of claims on resource r says that a claim is used
+-- the number of uses of a claim by a list of claims on resource r
 abbrev pub uses_in : ℕ → List ClaimUse → Position → ℕ
 uses_in r cs p = sum_by (λ c. if same p (position_of r c) then c.uses else 0) cs
 
@@ -29,17 +29,17 @@ pub record IsNodeList (ii : ℕ) (n : MNode) (cs : List ClaimUse) : Type 0 where
   pub used : All (λ c. 0 < c.uses) cs
   pub here : All (λ c. c.time % ii ≡ n.slot) cs
 
--- the claims of those positions on a node, in order, each once with the number of its uses
+-- the claims of the given positions on a node, in order, each once with the number of its uses
 pub record AreClaims (ii : ℕ) (ps : List Position) (n : MNode) (cs : List ClaimUse) : Type 0 where
   pub list : IsNodeList ii n cs
   pub exact : (p : Position) → is_at ii n p ≡ true → uses ps p ≡ uses_in n.resource cs p
 
--- the positions that claims on resource r stand for
+-- the positions of claims on resource r
 abbrev pub expand : ℕ → List ClaimUse → List Position
 expand r [] = []
 expand r (c ∷ cs) = replicate c.uses (position_of r c) ++ expand r cs
 
--- those of lists by node, from node number k on
+-- the positions of lists by node, from node number k on
 abbrev pub expand_all : ℕ → ℕ → List (List ClaimUse) → List Position
 expand_all ii k [] = []
 expand_all ii k (cs ∷ nodes) = expand (k / ii) cs ++ expand_all ii (suc k) nodes

@@ -13,7 +13,7 @@ AreLists ii nodes = (k : ℕ) → k < length nodes → IsNodeList ii (node_at ii
 abbrev pub beyond : List (List ClaimUse) → ℕ
 beyond nodes = sum_by (λ (cs : List ClaimUse). length cs - 1) nodes
 
--- the table of those lists and histories
+-- the table of the given lists and histories
 abbrev pub table_of : Arch → ℕ → List (List ClaimUse) → List ℕ → Table
 table_of A ii nodes history = record { arch = A; interval = ii; positions = expand_all ii 0 nodes; history = history }
 

@@ -5,15 +5,15 @@ use Rattle.cg_model.specs.Mapping.{Position}
 use Rattle.cg_claims.specs.declared.laws.PlainPosition.{PlainPosition}
 use Rattle.cg_claims.specs.Table.{Table}
 
--- the position that is kept
+-- the position that a plain one is
 abbrev pub plain : PlainPosition → Position
 plain p = record { source = p.source; resource = p.resource; time = p.time; from = p.from }
 
--- those of a list
+-- the positions of a list
 abbrev pub plains : List PlainPosition → List Position
 plains ps = map plain ps
 
--- the table of those positions and histories
+-- the table of the given positions and histories
 abbrev pub plain_table : Arch → ℕ → List PlainPosition → List ℕ → Table
 plain_table A ii positions history = record { arch = A; interval = ii; positions = plains positions; history = history }
 

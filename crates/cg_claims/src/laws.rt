@@ -1,4 +1,4 @@
-//! The plain use table, by whose clauses the faster one is proved too.
+//! The plain use table, whose contract is that of the faster one.
 ghost use Rattle.std.specs.Prelude.{◌≡◌, ℕ, ◌+◌, ◌-◌, ◌*◌, ◌^◌, ◌<◌, ◌≤◌, ◌++◌, ◌&&◌, eqb, nat_lt, not, true, [], Some, length, All, HoldsAt, IfOk, OnOk, OnErr, IfSome, IfNone, replicate, map, take, slice_index, if◌then◌else◌};
 ghost use Rattle.std.specs.List.{list_any, range_with_len};
 ghost use Rattle.cg_model.specs.Mapping.{Position, positions_on};
@@ -13,7 +13,7 @@ use cg_mrrg::{Arch, MNode, Mrrg};
 use std::alloc::{AllocError, Global};
 use std::marker::Model;
 
-/// A position of a path: the value of a source is on a resource at a time, and comes there from another, or from its
+/// A position of a path: the value of a source is on a resource at a time, and comes from another resource, or from its
 /// unit.
 #[derive(Clone, Copy, Debug, PartialEq, Eq, Drop)]
 pub struct PlainPosition {
@@ -21,13 +21,13 @@ pub struct PlainPosition {
     pub source: u32,
     /// The resource.
     pub resource: u32,
-    /// The cycle of the first turn in which the value is there.
+    /// The cycle of the first iteration in which the value is there.
     pub time: u32,
-    /// The resource from which it comes; none where the path begins.
+    /// The resource from which it comes; none if the path begins there.
     pub from: Option<u32>,
 }
 
-/// A use table that keeps the positions of all paths, and counts anew at each question.
+/// A use table that keeps the positions of all paths, and recounts at each query.
 #[derive(Drop)]
 pub struct PlainUsage<'a> {
     arch: &'a Arch,
@@ -56,7 +56,7 @@ impl<'a> PlainUsage<'a> {
     ghost use Rattle.cg_claims.specs.Table.{IsMore, aged};
     ghost use Rattle.cg_claims.specs.Table as tables;
 
-    /// No claims, and histories of 0.
+    /// Returns the table of `graph` without claims, with histories of 0.
     pub fn new(alloc: Global, graph: &Mrrg<'a>) -> Result<PlainUsage<'a>, AllocError>
         ensures { IfOk result (λ u. u ≡ record { arch = graph.now.arch; interval = graph.now.interval; positions = []; history = replicate (length graph.now.arch.resources * graph.now.interval) 0 }) }
     {
@@ -70,7 +70,7 @@ impl<'a> PlainUsage<'a> {
         })
     }
 
-    /// The interval, in cycles.
+    /// Returns the interval, in cycles.
     pub fn interval(&self) -> u32
         ensures value { result ≡ self.now.interval }
         ensures some { 0 < result }
@@ -79,7 +79,7 @@ impl<'a> PlainUsage<'a> {
         self.interval
     }
 
-    /// Adds the claims of a path that the value of a source enters at that time.
+    /// Adds the claims of `path`, which the value of `source` enters at the time `start`.
     pub fn add(&mut self, source: u32, start: u32, path: &[u32]) -> Result<(), AllocError>
         requires known { All (λ r. r < length self.old.arch.resources) path.now }
         requires near { start + length path.now < 2 ^ 32 }
@@ -90,7 +90,7 @@ impl<'a> PlainUsage<'a> {
         push_path(&mut self.positions, self.arch, source, start, path)
     }
 
-    /// Takes the claims of a path away.
+    /// Removes the claims of `path`.
     pub fn remove(&mut self, source: u32, start: u32, path: &[u32])
         requires known { All (λ r. r < length self.old.arch.resources) path.now }
         requires near { start + length path.now < 2 ^ 32 }
@@ -100,7 +100,7 @@ impl<'a> PlainUsage<'a> {
         take_path(&mut self.positions, self.arch, source, start, path);
     }
 
-    /// The claims beyond one, over all nodes.
+    /// Returns the number of claims beyond one, over all nodes.
     pub fn excess(&self) -> u64
         ensures { result ≡ tables.excess self.now }
     {
@@ -115,7 +115,7 @@ impl<'a> PlainUsage<'a> {
         age_all(&mut self.history, &self.positions, self.interval);
     }
 
-    /// What a claim more on a node costs.
+    /// Returns the cost of one more claim on `node`.
     pub fn toll(&self, node: MNode) -> u64
         requires node { graphs.IsNode (record { arch = self.now.arch; interval = self.now.interval }) node }
         ensures toll { result ≡ tables.toll self.now node }
@@ -126,7 +126,7 @@ impl<'a> PlainUsage<'a> {
             + CLAIM_TOLL * count_claims(&self.positions, self.interval, node)
     }
 
-    /// Whether the value of a source is on a resource at a time.
+    /// Returns whether the value of `source` is on `resource` at `time`.
     pub fn has_value(&self, source: u32, resource: u32, time: u32) -> bool
         requires { resource < length self.now.arch.resources }
         ensures { result ≡ list_any (λ (p : Position). eqb p.source source && eqb p.resource resource && eqb p.time time) self.now.positions }
@@ -134,7 +134,7 @@ impl<'a> PlainUsage<'a> {
         any_value(&self.positions, source, resource, time)
     }
 
-    /// Whether it comes there from that other resource.
+    /// Returns whether the value of `source` is on `resource` at `time` and comes from the resource `before`.
     pub fn has_claim(&self, source: u32, resource: u32, time: u32, before: u32) -> bool
         requires { resource < length self.now.arch.resources }
         ensures { result ≡ list_any (same (record { source = source; resource = resource; time = time; from = Some before })) self.now.positions }
@@ -151,7 +151,7 @@ impl<'a> PlainUsage<'a> {
     }
 }
 
-/// Adds the positions of a path, or none.
+/// Adds the positions of a path to `positions`; if memory runs out, adds none.
 fn push_path(
     positions: &mut Vec<PlainPosition>,
     arch: &Arch,
@@ -172,7 +172,7 @@ fn push_path(
     pushed
 }
 
-/// Adds the positions of a path, or its first ones.
+/// Adds the positions of a path to `positions`; if memory runs out, only the first ones.
 fn push_all(
     positions: &mut Vec<PlainPosition>,
     arch: &Arch,
@@ -200,7 +200,7 @@ fn push_all(
     Ok(())
 }
 
-/// Takes the positions of a path away.
+/// Removes the positions of `path` from `positions`.
 fn take_path(positions: &mut Vec<PlainPosition>, arch: &Arch, source: u32, start: u32, path: &[u32])
     requires known { All (λ r. r < length arch.now.resources) path.now }
     requires near { start + length path.now < 2 ^ 32 }
@@ -225,7 +225,7 @@ fn take_path(positions: &mut Vec<PlainPosition>, arch: &Arch, source: u32, start
     }
 }
 
-/// Takes a position away once.
+/// Removes one occurrence of `position` from `positions`.
 fn take_one(positions: &mut Vec<PlainPosition>, position: PlainPosition)
     requires { 0 < claims.uses (plains positions.old.items) (plain position) }
     ensures taken { (p : Position) → claims.uses (plains positions.old.items) p ≡ claims.uses (plains positions.new.items) p + (if claims.same p (plain position) then 1 else 0) }
@@ -236,7 +236,7 @@ fn take_one(positions: &mut Vec<PlainPosition>, position: PlainPosition)
     }
 }
 
-/// Where a position stands.
+/// Finds the index of `position` in `positions`.
 fn find(positions: &[PlainPosition], position: PlainPosition) -> Option<usize>
     ensures some { IfSome result (λ i. (i < length positions.now) × HoldsAt (λ q. claims.same (plain position) (plain q) ≡ true) positions.now i) }
     ensures none { IfNone result (claims.uses (plains positions.now) (plain position) ≡ 0) }
@@ -249,7 +249,7 @@ fn find(positions: &[PlainPosition], position: PlainPosition) -> Option<usize>
     None
 }
 
-/// Whether two positions are the same.
+/// Returns whether two positions are equal.
 fn is_same(a: PlainPosition, b: PlainPosition) -> bool
     ensures { result ≡ claims.same (plain a) (plain b) }
 {
@@ -259,7 +259,7 @@ fn is_same(a: PlainPosition, b: PlainPosition) -> bool
         && same_from(a.from, b.from)
 }
 
-/// Whether two predecessors are the same.
+/// Returns whether two predecessors are equal.
 fn same_from(a: Option<u32>, b: Option<u32>) -> bool
     ensures { result ≡ mappings.same_from a b }
 {
@@ -269,21 +269,21 @@ fn same_from(a: Option<u32>, b: Option<u32>) -> bool
     }
 }
 
-/// Whether a position is there.
+/// Returns whether `position` is in `positions`.
 fn has(positions: &[PlainPosition], position: PlainPosition) -> bool
     ensures { result ≡ list_any (λ q. claims.same (plain position) (plain q)) positions.now }
 {
     positions.iter().any(|other| is_same(position, *other))
 }
 
-/// Whether a value is there.
+/// Returns whether the value of `source` is on `resource` at `time` in one of `positions`.
 fn any_value(positions: &[PlainPosition], source: u32, resource: u32, time: u32) -> bool
     ensures { result ≡ list_any (λ (p : PlainPosition). eqb p.source source && eqb p.resource resource && eqb p.time time) positions.now }
 {
     positions.iter().any(|p| p.source == source && p.resource == resource && p.time == time)
 }
 
-/// The number of claims on a node.
+/// Returns the number of claims on `node`.
 fn count_claims(positions: &[PlainPosition], interval: u32, node: MNode) -> u64
     requires { 0 < interval }
     ensures { result ≡ claims.claims_at interval (plains positions.now) node }
@@ -297,7 +297,7 @@ fn count_claims(positions: &[PlainPosition], interval: u32, node: MNode) -> u64
     count
 }
 
-/// Whether a position is on a node, and none of the later ones is the same.
+/// Returns whether `position` is on `node`, and none of the `later` ones is equal to it.
 fn counts(position: PlainPosition, later: &[PlainPosition], interval: u32, node: MNode) -> bool
     requires { 0 < interval }
     ensures { result ≡ (claims.is_at interval node (plain position) && not (list_any (λ q. claims.same (plain position) (plain q)) later.now)) }
@@ -307,7 +307,7 @@ fn counts(position: PlainPosition, later: &[PlainPosition], interval: u32, node:
         && !has(later, position)
 }
 
-/// The claims beyond one, over the first nodes.
+/// Returns the number of claims beyond one, over the first `count` nodes.
 fn excess_of(positions: &[PlainPosition], interval: u32, count: usize) -> u64
     requires some { 0 < interval }
     requires near { count ≤ 2 ^ 32 * interval }
@@ -321,7 +321,7 @@ fn excess_of(positions: &[PlainPosition], interval: u32, count: usize) -> u64
     total
 }
 
-/// The node of that number.
+/// Returns node number `place`.
 fn node(interval: u32, place: usize) -> MNode
     requires some { 0 < interval }
     requires near { place < 2 ^ 32 * interval }

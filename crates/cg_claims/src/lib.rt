@@ -1,4 +1,4 @@
-//! Claims on the nodes of the modulo routing resource graph, and what a link costs there.
+//! Claims on the nodes of the modulo routing resource graph, and the cost of a link there.
 #![tactic(auto)]
 
 mod claim;

@@ -51,7 +51,7 @@ impl<'a> Usage<'a> {
     ghost use Rattle.cg_claims.specs.Kept.{AreClaims, position_of};
     ghost use Rattle.cg_claims.specs.Nodes.{IsListed};
 
-    /// No claims, and histories of 0.
+    /// Returns the table of `graph` without claims, with histories of 0.
     pub fn new(alloc: Global, graph: &Mrrg<'a>) -> Result<Usage<'a>, AllocError>
         ensures { IfOk result (λ u. u ≡ record { arch = graph.now.arch; interval = graph.now.interval; positions = []; history = replicate (length graph.now.arch.resources * graph.now.interval) 0 }) }
     {
@@ -66,7 +66,7 @@ impl<'a> Usage<'a> {
         })
     }
 
-    /// The interval, in cycles.
+    /// Returns the interval, in cycles.
     pub fn interval(&self) -> u32
         ensures value { result ≡ self.now.interval }
         ensures some { 0 < result }
@@ -75,7 +75,7 @@ impl<'a> Usage<'a> {
         self.interval
     }
 
-    /// Adds the claims of a path that the value of a source enters at that time.
+    /// Adds the claims of `path`, which the value of `source` enters at the time `start`.
     pub fn add(&mut self, source: u32, start: u32, path: &[u32]) -> Result<(), AllocError>
         requires known { All (λ r. r < length self.old.arch.resources) path.now }
         requires near { start + length path.now < 2 ^ 32 }
@@ -97,7 +97,7 @@ impl<'a> Usage<'a> {
         Ok(())
     }
 
-    /// Takes the claims of a path away.
+    /// Removes the claims of `path`.
     pub fn remove(&mut self, source: u32, start: u32, path: &[u32])
         requires known { All (λ r. r < length self.old.arch.resources) path.now }
         requires near { start + length path.now < 2 ^ 32 }
@@ -107,7 +107,7 @@ impl<'a> Usage<'a> {
         self.take(source, start, path);
     }
 
-    /// The claims beyond one, over all nodes.
+    /// Returns the number of claims beyond one, over all nodes.
     pub fn excess(&self) -> u64
         ensures { result ≡ tables.excess self.now }
     {
@@ -122,7 +122,7 @@ impl<'a> Usage<'a> {
         age_nodes(&mut self.history, &self.nodes);
     }
 
-    /// The claims on a node: by source, then time, then predecessor.
+    /// Returns the claims on `node`: by source, then time, then predecessor.
     pub fn claims_at(&self, node: MNode) -> &[ClaimUse]
         requires node { graphs.IsNode (record { arch = self.now.arch; interval = self.now.interval }) node }
         ensures { AreClaims self.now.interval self.now.positions node result.now }
@@ -130,7 +130,7 @@ impl<'a> Usage<'a> {
         self.nodes[place(self.interval, node.resource, node.slot)].as_slice()
     }
 
-    /// What a claim more on a node costs.
+    /// Returns the cost of one more claim on `node`.
     pub fn toll(&self, node: MNode) -> u64
         requires node { graphs.IsNode (record { arch = self.now.arch; interval = self.now.interval }) node }
         ensures toll { result ≡ tables.toll self.now node }
@@ -140,7 +140,7 @@ impl<'a> Usage<'a> {
         1 + u64::from(self.history[place]) + CLAIM_TOLL * self.nodes[place].len()
     }
 
-    /// Whether the value of a source is on a resource at a time.
+    /// Returns whether the value of `source` is on `resource` at `time`.
     pub fn has_value(&self, source: u32, resource: u32, time: u32) -> bool
         requires { resource < length self.now.arch.resources }
         ensures { result ≡ list_any (λ (p : Position). eqb p.source source && eqb p.resource resource && eqb p.time time) self.now.positions }
@@ -149,7 +149,7 @@ impl<'a> Usage<'a> {
         any_value(self.nodes[place].as_slice(), source, time)
     }
 
-    /// Whether it comes there from that other resource.
+    /// Returns whether the value of `source` is on `resource` at `time` and comes from the resource `before`.
     pub fn has_claim(&self, source: u32, resource: u32, time: u32, before: u32) -> bool
         requires { resource < length self.now.arch.resources }
         ensures { result ≡ list_any (same (record { source = source; resource = resource; time = time; from = Some before })) self.now.positions }
@@ -158,7 +158,7 @@ impl<'a> Usage<'a> {
         any_claim(self.nodes[place].as_slice(), source, time, before)
     }
 
-    /// One use more of a claim on a resource.
+    /// Adds one use of `claim` on `resource`.
     fn raise(&mut self, resource: u32, claim: ClaimUse) -> Result<(), AllocError>
         requires known { resource < length self.old.arch.resources }
         requires one { claim.uses ≡ 1 }
@@ -173,7 +173,7 @@ impl<'a> Usage<'a> {
         Ok(())
     }
 
-    /// One use less.
+    /// Subtracts one use of `claim` on `resource`.
     fn lower(&mut self, resource: u32, claim: ClaimUse)
         requires known { resource < length self.old.arch.resources }
         requires one { claim.uses ≡ 1 }
@@ -187,7 +187,7 @@ impl<'a> Usage<'a> {
         self.excess = self.excess - excess + self.nodes[place].excess();
     }
 
-    /// Takes the claims of a path away.
+    /// Removes the claims of `path`.
     fn take(&mut self, source: u32, start: u32, path: &[u32])
         requires known { All (λ r. r < length self.old.arch.resources) path.now }
         requires near { start + length path.now < 2 ^ 32 }
@@ -206,7 +206,7 @@ impl<'a> Usage<'a> {
     }
 }
 
-/// Returns `count` lists of no claims.
+/// Returns `count` empty lists of claims.
 fn no_claims(alloc: Global, count: usize) -> Result<Vec<ClaimList>, AllocError>
     ensures { IfOk result (λ t. t.items ≡ replicate count []) }
 {
@@ -217,7 +217,7 @@ fn no_claims(alloc: Global, count: usize) -> Result<Vec<ClaimList>, AllocError>
     Ok(nodes)
 }
 
-/// The number of the node of a resource in the slot of a time: nodes are ordered by resource, then slot.
+/// Returns the number of the node of `resource` in the slot of `time`: nodes are ordered by resource, then slot.
 pub(crate) fn place(interval: u32, resource: u32, time: u32) -> usize
     requires some { 0 < interval }
     requires few { interval ≤ 64 }
@@ -226,7 +226,8 @@ pub(crate) fn place(interval: u32, resource: u32, time: u32) -> usize
     resource as usize * interval as usize + (time % interval) as usize
 }
 
-/// When a value comes to a resource that was at that time on the resource before it, or enters there.
+/// Returns the time at which a value arrives on `resource`: it was on the resource `before` at `time`, or, without one,
+/// enters there at `time`.
 pub(crate) fn arrives(arch: &Arch, before: Option<u32>, time: u32, resource: u32) -> u32
     requires known { resource < length arch.now.resources }
     requires near { time + 1 < 2 ^ 32 }
@@ -239,7 +240,7 @@ pub(crate) fn arrives(arch: &Arch, before: Option<u32>, time: u32, resource: u32
     }
 }
 
-/// A claim that is used once.
+/// Returns a claim with one use.
 fn one_use(source: u32, time: u32, before: Option<u32>) -> ClaimUse
     ensures { result ≡ record { source = source; time = time; before = before; uses = 1 } }
 {
@@ -264,7 +265,7 @@ fn age_nodes(history: &mut [u32], nodes: &[ClaimList])
     }
 }
 
-/// Whether a claim is of that source at that time.
+/// Returns whether one of `claims` is of `source` at `time`.
 fn any_value(claims: &[ClaimUse], source: u32, time: u32) -> bool
     ensures { result ≡ list_any (λ (c : ClaimUse). eqb c.source source && eqb c.time time) claims.now }
 {
@@ -273,7 +274,7 @@ fn any_value(claims: &[ClaimUse], source: u32, time: u32) -> bool
         .any(|claim| claim.source == source && claim.time == time)
 }
 
-/// Whether one comes from that resource too.
+/// Returns whether one of `claims` is of `source` at `time`, and comes from the resource `before`.
 fn any_claim(claims: &[ClaimUse], source: u32, time: u32, before: u32) -> bool
     ensures { result ≡ list_any (λ (c : ClaimUse). eqb source c.source && eqb time c.time && same_from (Some before) c.before) claims.now }
 {
@@ -282,7 +283,7 @@ fn any_claim(claims: &[ClaimUse], source: u32, time: u32, before: u32) -> bool
     })
 }
 
-/// Whether a predecessor is that one.
+/// Returns whether the predecessor `before` is `resource`.
 pub(crate) fn comes_from(resource: u32, before: Option<u32>) -> bool
     ensures { result ≡ same_from (Some resource) before }
 {

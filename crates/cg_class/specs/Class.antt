@@ -1,4 +1,4 @@
--- Sets of operations that more nodes have than the units can take, and assignments of nodes to units.
+-- Sets of operations for which there are more nodes than the units can take, and assignments of nodes to units.
 use Rattle.std.specs.List.{list_any}
 use Rattle.std.specs.Prelude.{◌≡◌, ℕ, ◌*◌, ◌<◌, ◌≤◌, ◌&&◌, ◌==◌, Bool, true, List, length, count_by, slice_index}
 use Rattle.cg_word.specs.declared.op.Op.{Op}
@@ -35,14 +35,14 @@ AreOfNodes K set = (op : Op) → among set op ≡ true → (v : ℕ) × (v < siz
 abbrev pub load : List ℕ → ℕ → ℕ
 load places x = count_by (λ y. y == x) places
 
--- each node on a unit that offers its operation, at most ii on each unit
+-- each node is on a unit that offers its operation, at most ii nodes on each unit
 pub record IsAssignment (A : Arch) (K : Kernel) (ii : ℕ) (places : List ℕ) : Type 0 where
   pub each : length places ≡ size K
   pub known : (v : ℕ) → v < size K → slice_index places v < length A.units
   pub offered : (v : ℕ) → v < size K → among (unit A (slice_index places v)).ops (node K v).op ≡ true
   pub room : (x : ℕ) → x < length A.units → load places x ≤ ii
 
--- an overfull set of operations of nodes; or an assignment, where no set is overfull
+-- an overfull set of operations of nodes; or an assignment, if no set is overfull
 abbrev pub IsAnswer : Arch → Kernel → ℕ → Assignment → Type 0
 IsAnswer A K ii (Overfull s) = IsOverfull A K ii s × AreOfNodes K s
 IsAnswer A K ii (Units places) = IsAssignment A K ii places.items × ((s : List Op) → IsOverfull A K ii s → ⊥)

@@ -9,7 +9,7 @@ use cg_model::Kernel;
 use cg_word::OpSet;
 use std::alloc::{AllocError, Global};
 
-/// Whether more nodes have an operation of the set than its units can begin in `ii` cycles.
+/// Returns whether more nodes have an operation of `set` than its units can begin in `ii` cycles.
 pub fn check_class(arch: &Arch, kernel: &Kernel, ii: u32, set: OpSet) -> bool
     ensures { IsTrue result ↔ IsOverfull arch.now kernel.now ii set }
 {
@@ -18,7 +18,7 @@ pub fn check_class(arch: &Arch, kernel: &Kernel, ii: u32, set: OpSet) -> bool
     (ii as u128 * units as u128) < nodes as u128
 }
 
-/// A unit for each node, or a set of operations that more nodes have than the units can take.
+/// A unit for each node, or a set of operations for which there are more nodes than the units can take.
 #[derive(Drop)]
 pub enum Assignment {
     /// The set.
@@ -27,8 +27,8 @@ pub enum Assignment {
     Units(Vec<u32>),
 }
 
-/// An offering unit for each node with at most `ii` nodes a unit, or a set of operations that more nodes have than its
-/// units can begin in `ii` cycles.
+/// Returns a unit that offers its operation for each node with at most `ii` nodes per unit, or a set of operations for
+/// which there are more nodes than its units can begin in `ii` cycles.
 pub fn assign(
     alloc: Global,
     arch: &Arch,

@@ -8,8 +8,8 @@ use cg_model::{Node, Unit};
 use cg_word::OpSet;
 use std::alloc::{AllocError, Global};
 
-/// A unit to which a node may move, from the unit of an earlier move. The first moves are of the new node: `before` is
-/// their own number.
+/// A unit to which a node may move, from the unit of an earlier move. The first moves are of the new node; their
+/// `before` is their own number.
 #[derive(Clone, Copy, Drop)]
 pub(crate) struct Move {
     pub unit: u32,
@@ -17,16 +17,16 @@ pub(crate) struct Move {
     pub before: usize,
 }
 
-/// Where a new node's moves lead.
+/// The result of a new node's search for room.
 #[derive(Drop)]
 pub(crate) enum Found {
-    /// To a unit with room, by the move of that number.
+    /// A unit with room, reached by the move of the given number.
     Room(Vec<Move>, usize),
-    /// To no such unit: too many nodes have these operations.
+    /// No unit with room: too many nodes have these operations.
     Full(OpSet),
 }
 
-/// Nodes, of which the first have places on units, and how many a unit has room for.
+/// Nodes, of which the first have places on units, and the number of nodes for which a unit has room.
 #[derive(Clone, Copy)]
 struct Placed<'a> {
     nodes: &'a [Node],
@@ -66,8 +66,8 @@ fn spread(
     Ok(())
 }
 
-/// Goes over the nodes on the unit of move `number`, so that the units are reached that offer one of their operations; None
-/// where that unit has room. It gives the operations that are done then.
+/// Visits the nodes on the unit of move `number`, and reaches the units that offer one of their operations. Returns the
+/// operations that are done after this, or `None` if that unit has room.
 fn visit(
     log: &mut Vec<Move>,
     seen: &mut [bool],
@@ -97,7 +97,7 @@ fn visit(
     Ok(Some(done))
 }
 
-/// The moves of the next node to a unit with room, or the operations of all nodes that could move.
+/// Returns the moves of the next node to a unit with room, or the operations of all nodes that could move.
 pub(crate) fn reach(
     alloc: Global,
     nodes: &[Node],
@@ -132,7 +132,7 @@ pub(crate) fn reach(
     Ok(Found::Full(done))
 }
 
-/// Moves each node on the way to its unit, from the last one on; the new node comes last.
+/// Moves each node of the chain of moves to its unit, from the last one on; the new node comes last.
 pub(crate) fn shift(
     places: &mut Vec<u32>,
     log: &[Move],

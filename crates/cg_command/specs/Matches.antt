@@ -1,4 +1,4 @@
--- What `clap` is asked, and what its matches say.
+-- The command that `clap` is given, and the arguments in its matches.
 use Rattle.std.specs.Prelude.{◌∷◌, [], List, Bool, true, ◌&&◌, Option, Some, None, codes, unwrap_or, map, if◌then◌else◌}
 use Rattle.std.specs.List.{list_all}
 use Rattle.clap.specs.Words.{App, Row, Rule, Text, new_rule, all_of}
@@ -14,11 +14,11 @@ words_rule = record (new_rule (codes "words")) { action = Some Append }
 abbrev pub named_rule : Text → Rule
 named_rule id = record (new_rule id) { long = Some id; action = Some Append }
 
--- a command with that positional and these options, each of which may come any number of times
+-- a command with that positional and these options, each of which may occur any number of times
 abbrev pub asked_shape : List Text → Shape
 asked_shape os = record (new_shape (codes "cgra")) { rules = words_rule ∷ map named_rule os; no_binary_name = true; disable_help_flag = true }
 
--- the same, with no command below it
+-- an app of that command, with no subcommand
 abbrev pub asked_app : List Text → App
 asked_app os = record { top = asked_shape os; subs = [] }
 
@@ -38,6 +38,6 @@ has_file g = is_file g.value
 abbrev pub judged : List Text → List Given → Option Arguments
 judged words given = if list_all is_file words && list_all has_file given then Some (record { words = words; options = given }) else None
 
--- what `clap`'s rows say
+-- the arguments in `clap`'s rows
 unfoldable pub arguments_in_rows : List Row → Option Arguments
 arguments_in_rows rows = judged (row_texts (codes "words") rows) (given_by (λ name. row_texts name rows) options)

@@ -1,4 +1,4 @@
--- What the words of a command line ask.
+-- The plan that the words of a command line ask for.
 use Rattle.std.specs.Prelude.{◌≡◌, ◌≤◌, ◌==◌, ◌⊎◌, ℕ, Bool, true, false, not, List, [], ◌∷◌, ◌++◌, take, drop, find, map, Option, Some, None, option_map, option_and_then, if◌then◌else◌, codes, string_bytes}
 use Rattle.std.specs.List.{list_all, list_any, before_first, after_first}
 use Rattle.std.specs.Str.{bytes_eq}
@@ -57,7 +57,7 @@ name_in word = before_first is_equals_sign (drop 2 word)
 abbrev pub value_in : Text → Option Text
 value_in word = if list_any is_equals_sign (drop 2 word) then Some (after_first is_equals_sign (drop 2 word)) else None
 
--- an option with the value behind its `=`, or waiting for the next word; another name is refused
+-- an option with the value after its `=`, or waiting for the next word; another name is refused
 abbrev pub option_parts : Option Text → Option Text → Option (List Part) → (Text → Option (List Part)) → Option (List Part)
 option_parts None value rest waiting = None
 option_parts (Some name) (Some value) rest waiting = and_then (named name value) rest
@@ -91,7 +91,7 @@ pub record Arguments : Type 0 where
   pub words : List Text
   pub options : List Given
 
--- what a value of the program says
+-- the option that a value of the program denotes
 abbrev pub heard_option : GivenValue → Given
 heard_option g = record { name = g.name.now; value = g.value.now }
 
@@ -119,11 +119,11 @@ abbrev pub given_by : (Text → List Text) → List Text → List Given
 given_by values [] = []
 given_by values (name ∷ names) = given_values name (values name) ++ given_by values names
 
--- what the parts say
+-- the arguments of the parts
 abbrev pub arguments_by : List Part → Arguments
 arguments_by parts = record { words = plain_words parts; options = given_by (λ name. values_of name parts) options }
 
--- what the words after a command's name say, None where they fit no command
+-- the arguments in the words after a command's name; None where they fit no command
 unfoldable pub arguments_of : List Text → Option Arguments
 arguments_of words = option_map arguments_by (parts_of None words)
 
@@ -135,7 +135,7 @@ pub record Plan : Type 0 where
   pub inputs : List Text
   pub outputs : List Text
 
--- the plan that a value of the program is
+-- the plan that a value of the program denotes
 abbrev pub planned : PlanValue → Plan
 planned p = record { command = p.command; inputs = map string_bytes p.inputs.items; outputs = map string_bytes p.outputs.items }
 
@@ -151,7 +151,8 @@ turns_plan (kernel ∷ turns ∷ input ∷ output ∷ []) =
     option_map (λ n. record { command = TurnsOnImage n; inputs = kernel ∷ input ∷ []; outputs = output ∷ [] }) (turns_of turns)
 turns_plan _ = None
 
--- flat ARCH OUT, verilog ARCH OUT, loop SOURCE OUT, depend KERNEL OUT and image TEXT OUT: a command that reads one file and writes one
+-- flat ARCH OUT, verilog ARCH OUT, loop SOURCE OUT, depend KERNEL OUT and image TEXT OUT: a command that reads one file
+-- and writes one
 abbrev pub file_plan : Command → List Text → Option Plan
 file_plan command (input ∷ output ∷ []) = Some (record { command = command; inputs = input ∷ []; outputs = output ∷ [] })
 file_plan command _ = None
@@ -203,13 +204,14 @@ abbrev pub values_said : Text → List Given → List Text
 values_said name [] = []
 values_said name (g ∷ gs) = if bytes_eq g.name name then g.value ∷ values_said name gs else values_said name gs
 
--- what an option says that may be given once: where it isn't given what is usual, else what its value is read as
+-- the result of an option that may be given once: where it isn't given the usual value, else the value that its text is
+-- read as
 abbrev pub said_once : {T : Type 0} → T → (Text → Option T) → List Text → Option T
 said_once usual read [] = Some usual
 said_once usual read (value ∷ []) = read value
 said_once usual read (value ∷ other ∷ values) = None
 
--- the interval that a value of `--ii` asks
+-- the interval that a value of `--ii` asks for
 abbrev pub asked_interval : Text → Option (Option ℕ)
 asked_interval value = option_map Some (interval_of value)
 
@@ -217,7 +219,8 @@ asked_interval value = option_map Some (interval_of value)
 abbrev pub named_file : Text → Option (List Text)
 named_file value = Some (value ∷ [])
 
--- what the options of a search say, with `usual` moves where none are given; without `--ii` no interval is asked
+-- the request in the options of a search, with `usual` moves where none are given; without `--ii` no interval is asked
+-- for
 abbrev pub request_of : ℕ → List Given → Option Request
 request_of usual given =
     option_and_then (λ ii. option_and_then (λ seed. option_map (λ moves. record { ii = ii; seed = seed; moves = moves })
@@ -225,13 +228,13 @@ request_of usual given =
     (said_once usual_seed seed_of (values_said (codes "seed") given)))
     (said_once None asked_interval (values_said (codes "ii") given))
 
--- the plan of a search that writes the bits, and maybe the mapping
+-- the plan of a search that writes the bitstream, and possibly the mapping
 abbrev pub written_plan : List Text → Command → List Text → Option Plan
 written_plan (arch ∷ kernel ∷ out ∷ []) command mapping =
     Some (record { command = command; inputs = arch ∷ kernel ∷ []; outputs = out ∷ mapping })
 written_plan _ command mapping = None
 
--- the same, by what was said
+-- the plan of a search with these arguments
 abbrev pub searching_plan : Command → Arguments → Option Plan
 searching_plan command said = option_and_then (written_plan said.words command) (said_once [] named_file (values_said (codes "mapping") said.options))
 
@@ -277,7 +280,7 @@ is_empty (g ∷ gs) = false
 abbrev pub without_options : (List Text → Option Plan) → Arguments → Option Plan
 without_options plan said = if is_empty said.options then plan said.words else None
 
--- the plan of the command of this name, of those that neither judge nor map
+-- the plan of the command of this name, for the commands that `command_plan` leaves to it
 abbrev pub further_plan : Text → Arguments → Option Plan
 further_plan name said =
     if bytes_eq name (codes "trial") then without_options trial_plan said
@@ -306,12 +309,12 @@ command_plan name said =
     else (if bytes_eq name (codes "show") then without_options show_plan said
     else further_plan name said)))))))))
 
--- what the words ask, None where they fit no command
+-- the plan that the words ask for; None where they fit no command
 unfoldable pub plan_of : List Text → Option Plan
 plan_of [] = None
 plan_of (name ∷ words) = option_and_then (command_plan name) (arguments_of words)
 
--- how many files a command reads and writes, and the ranges of its numbers
+-- the number of files that a command reads and writes, and the ranges of its numbers
 abbrev pub HasShape : Command → ℕ → ℕ → Type 0
 HasShape (Turns turns) inputs outputs = (inputs ≡ 1) × (outputs ≡ 0) × (turns ≤ most_turns)
 HasShape (TurnsOnImage turns) inputs outputs = (inputs ≡ 2) × (outputs ≡ 1) × (turns ≤ most_turns)

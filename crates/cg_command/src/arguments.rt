@@ -28,7 +28,7 @@ pub struct Arguments<'a> {
     pub options: Vec<Given<'a>>,
 }
 
-/// Returns what `words`, those after a command's name, say; None where they fit no command.
+/// Returns the plain words and the options of `words`, those after a command's name; None where they fit no command.
 pub fn arguments_of<'a>(
     alloc: Global,
     words: &'a [String],
@@ -108,7 +108,7 @@ fn arguments_in<'a>(
     Ok(judged(words, options))
 }
 
-/// Returns the arguments of `words` and `options`, None where a word or a value can't name a file.
+/// Returns the arguments of `words` and `options`; None where a word or a value can't name a file.
 fn judged<'a>(words: Vec<&'a str>, options: Vec<Given<'a>>) -> Option<Arguments<'a>>
     ensures { option_map spec.heard result
         ≡ rows.judged (map (λ word. word.now) words.entry.items) (map heard_option options.entry.items) }

@@ -45,7 +45,7 @@ pub fn moves_of(word: &str) -> Option<u32>
     }
 }
 
-/// Returns the number of turns that `word` writes, at most 1,000,000; None where it writes none.
+/// Returns the number of iterations that `word` writes, at most 1,000,000; None where it writes none.
 pub fn turns_of(word: &str) -> Option<u32>
     ensures value { result ≡ spec.turns_of word.now }
     ensures within { IfSome result (λ turns. turns ≤ most_turns) }

@@ -13,41 +13,44 @@ use std::alloc::{AllocError, Global};
 /// A command, with its numbers.
 #[derive(Clone, Copy, Debug, PartialEq, Eq)]
 pub enum Command {
-    /// `turns KERNEL TURNS`: a number of turns of the kernel.
+    /// `turns KERNEL TURNS`: a number of iterations of the kernel.
     Turns { turns: u32 },
-    /// `turns KERNEL TURNS IN OUT`: the same from an image, and the result image.
+    /// `turns KERNEL TURNS IN OUT`: a number of iterations of the kernel from an image, and the result image.
     TurnsOnImage { turns: u32 },
     /// `flat ARCH OUT`: the flat text of an architecture.
     Flat,
-    /// `run ARCH BITS TURNS IN OUT [--netlist FILE]`: a number of turns of the array, or of a netlist in its place, under a
-    /// configuration, from an image, and the result image.
+    /// `run ARCH BITS TURNS IN OUT [--netlist FILE]`: a number of iterations of the array, or of a netlist in its
+    /// place, under a configuration, from an image, and the result image.
     Run { turns: u32 },
     /// `bound ARCH KERNEL`: the least interval that nothing forbids, and what forbids the one below it.
     Bound,
     /// `check ARCH KERNEL MAPPING`: whether the mapping is legal.
     Check,
-    /// `emit ARCH KERNEL MAPPING OUT`: the bits of a legal mapping.
+    /// `emit ARCH KERNEL MAPPING OUT`: the bitstream of a legal mapping.
     Emit,
-    /// `map ARCH KERNEL OUT [--ii N] [--seed N] [--moves N] [--mapping FILE]`: the bits of a mapping that is searched.
+    /// `map ARCH KERNEL OUT [--ii N] [--seed N] [--moves N] [--mapping FILE]`: the bitstream of a mapping that is
+    /// searched.
     Map(Request),
-    /// `search ARCH KERNEL OUT [--ii N] [--seed N] [--moves N] [--mapping FILE]`: the bits of a mapping near the least interval.
+    /// `search ARCH KERNEL OUT [--ii N] [--seed N] [--moves N] [--mapping FILE]`: the bitstream of a mapping near the
+    /// least interval.
     Search(Request),
-    /// `show ARCH KERNEL MAPPING [OUT]`: what a legal mapping does in each slot, as a table, and as a picture where a file is
-    /// named for it.
+    /// `show ARCH KERNEL MAPPING [OUT]`: the contents of each slot of a legal mapping, as a table, and as a picture
+    /// where a file is named for it.
     Show,
-    /// `trial SEED`: a drawn kernel, mapped over the hub of an architecture made for it, run by the array and by its turns.
+    /// `trial SEED`: a random kernel, mapped over the hub of an architecture made for it, and run both by the array and
+    /// by the iterations of the kernel.
     Trial { seed: u64 },
     /// `verilog ARCH OUT`: the netlist of an architecture, as structural Verilog.
     Verilog,
-    /// `loop SOURCE OUT`: the kernel of a loop as one writes it.
+    /// `loop SOURCE OUT`: the kernel of a loop in source form.
     Loop,
     /// `depend KERNEL OUT`: the kernel with the order edges that its accesses need.
     Depend,
-    /// `migrate ARCH BITS OUT`: bits of the first format in that of today.
+    /// `migrate ARCH BITS OUT`: a bitstream of the first format in the current format.
     Migrate,
     /// `bench ARCH BITS TURNS IN OUT`: a test bench of the array under a configuration, for a simulator of Verilog.
     Bench { turns: u32 },
-    /// `image TEXT OUT`: the image that a text spells.
+    /// `image TEXT OUT`: the image that a text encodes.
     Image,
     /// `words IMAGE`: an image as a text.
     Words,
@@ -66,7 +69,7 @@ pub struct Plan {
     pub outputs: Vec<String>,
 }
 
-/// Returns the plan that `words` ask, None where they fit no command.
+/// Returns the plan for `words`; None where they fit no command.
 #[tactic(auto, unfolding(crate::specs::Words::plan_of))]
 pub fn plan_words(alloc: Global, words: &[String]) -> Result<Option<Plan>, AllocError>
     ensures plan { IfOk result
@@ -148,7 +151,7 @@ fn command_plan(alloc: Global, name: &str, said: &Arguments) -> Result<Option<Pl
     }
 }
 
-/// Returns the plan of the command `name` with the arguments `said`, of those commands that neither judge nor map.
+/// Returns the plan of the command `name` with the arguments `said`, for the commands that `command_plan` leaves to it.
 fn further_plan(alloc: Global, name: &str, said: &Arguments) -> Result<Option<Plan>, AllocError>
     ensures plan { IfOk result
         (λ p. option_map spec.planned p ≡ spec.further_plan name.now (spec.heard said.now)) }
@@ -183,7 +186,7 @@ fn has_no_options(said: &Arguments) -> bool
     matches!(said.options.as_slice(), [])
 }
 
-/// Checks whether each option that was given, as `said` has them, is one of `names`.
+/// Checks whether each option given in `said` is one of `names`.
 fn takes_only(said: &Arguments, names: &[&str]) -> bool
     ensures { result ≡ spec.takes (map (λ name. name.now) names.now) (spec.heard said.now).options }
 {
@@ -288,8 +291,8 @@ fn run_plan_with_files(
     }
 }
 
-/// Returns the plan of `command`, which reads an architecture and a kernel and writes nothing, with the files that `words`
-/// name.
+/// Returns the plan of `command`, which reads an architecture and a kernel and writes nothing, with the files that
+/// `words` name.
 fn pair_plan(alloc: Global, command: Command, words: &[&str]) -> Result<Option<Plan>, AllocError>
     requires { HasShape command 2 0 }
     ensures plan { IfOk result
@@ -303,8 +306,8 @@ fn pair_plan(alloc: Global, command: Command, words: &[&str]) -> Result<Option<P
     }
 }
 
-/// Returns the plan of `command`, which reads an architecture, a kernel and a mapping and writes nothing, with the files that
-/// `words` name.
+/// Returns the plan of `command`, which reads an architecture, a kernel and a mapping and writes nothing, with the
+/// files that `words` name.
 fn mapping_plan(alloc: Global, command: Command, words: &[&str]) -> Result<Option<Plan>, AllocError>
     requires { HasShape command 3 0 }
     ensures plan { IfOk result

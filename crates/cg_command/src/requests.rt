@@ -1,4 +1,4 @@
-//! The words of `map` and `search`: their files, and the options of what is searched.
+//! The words of `map` and `search`: their files, and the options of the search.
 ghost use Rattle.std.specs.Prelude.{◌≡◌, ◌≤◌, [], ◌∷◌, None, IfOk, IfSome, map, option_and_then, option_map, vec_len};
 ghost use Rattle.cg_model.specs.Limits.{most_moves};
 ghost use Rattle.cg_command.specs.Words as spec;
@@ -39,7 +39,7 @@ pub(crate) fn search_plan(alloc: Global, said: &Arguments) -> Result<Option<Plan
     }
 }
 
-/// Returns the plan of `command`, a search, with what `said` says of its files.
+/// Returns the plan of `command`, a search, with the files in `said`.
 fn searching_plan(
     alloc: Global,
     command: Command,
@@ -79,7 +79,7 @@ fn plan_with_files(
     }
 }
 
-/// Returns the plan of `command`, a search that writes the bits alone; `words` are its files.
+/// Returns the plan of `command`, a search that writes only the bitstream; `words` are its files.
 fn written_plan(alloc: Global, words: &[&str], command: Command) -> Result<Option<Plan>, AllocError>
     requires { HasShape command 2 1 }
     ensures plan { IfOk result
@@ -93,7 +93,7 @@ fn written_plan(alloc: Global, words: &[&str], command: Command) -> Result<Optio
     }
 }
 
-/// Returns the plan of `command`, a search that writes the bits, and the mapping under the name `mapping`.
+/// Returns the plan of `command`, a search that writes the bitstream, and the mapping under the name `mapping`.
 fn plan_with_mapping(
     alloc: Global,
     words: &[&str],
@@ -112,8 +112,8 @@ fn plan_with_mapping(
     }
 }
 
-/// Returns what the `options` of a search say, with `usual` as the number of moves where none is given; None where they
-/// can't be read.
+/// Returns the request in the `options` of a search, with `usual` as the number of moves where none is given; None
+/// where they can't be read.
 fn request_of(alloc: Global, usual: u32, options: &[Given]) -> Result<Option<Request>, AllocError>
     requires { usual ≤ most_moves }
     ensures value { IfOk result (λ s. s ≡ spec.request_of usual (map heard_option options.now)) }
@@ -149,7 +149,7 @@ pub(crate) fn values_said<'a>(
     Ok(values)
 }
 
-/// Returns the interval that `values` ask for, if they do; None where they can't be read.
+/// Returns the interval that `values` ask for, if they ask for one; None where they can't be read.
 fn interval_said(values: &[&str]) -> Option<Option<u32>>
     ensures value { result ≡ said_once None spec.asked_interval (map (λ value. value.now) values.now) }
     ensures some { IfSome result (λ ii. IfSome ii (λ n. 1 ≤ n)) }
@@ -175,8 +175,8 @@ fn seed_said(values: &[&str]) -> Option<u64>
     }
 }
 
-/// Returns the greatest number of moves at an interval that `values` give, `usual` where there is none; None where they
-/// can't be read.
+/// Returns the greatest number of moves at an interval that `values` give, or `usual` where there is none; None where
+/// they can't be read.
 fn moves_said(usual: u32, values: &[&str]) -> Option<u32>
     requires { usual ≤ most_moves }
     ensures value { result ≡ said_once usual spec.moves_of (map (λ value. value.now) values.now) }

@@ -15,11 +15,11 @@ all_off A ii =
       units = replicate ii (replicate (length A.units) off);
     }
 
--- with another select of resource r in a slot
+-- the configuration with another select of resource r in a slot
 abbrev pub with_select : Config → ℕ → ℕ → ℕ → Config
 with_select C r slot value = record C { selects = slice_set C.selects slot (slice_set (slice_index_or C.selects slot []) r value) }
 
--- with other fields of unit x in a slot, and stages enough for them
+-- the configuration with other fields of unit x in a slot, and stages raised if needed
 abbrev pub with_fields : Config → ℕ → ℕ → UnitFields → Config
 with_fields C x slot f =
     record C {

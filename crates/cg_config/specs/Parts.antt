@@ -5,7 +5,7 @@ use Rattle.cg_model.specs.Array.{Arch, resource, unit}
 use Rattle.cg_model.specs.Config.{Config, select, fields}
 use Rattle.cg_model.specs.Canonical.{AreFields, gives_output, any_below, last_stage, port_free}
 
--- it is so in each slot
+-- the property holds in each slot
 abbrev pub EachSlot : Config → (ℕ → Type 0) → Type 0
 EachSlot C P = (slot : ℕ) → slot < C.ii → P slot
 
@@ -16,7 +16,7 @@ abbrev pub HasRow : Arch → Config → ℕ → Type 0
 HasRow A C slot =
     (length (slice_index_or C.selects slot []) ≡ length A.resources) × (length (slice_index_or C.units slot []) ≡ length A.units)
 
--- there are as many slots as the interval, and each has a select for each resource and fields for each unit
+-- the number of slots is the interval, and each slot has a select for each resource and fields for each unit
 pub record HasRows (A : Arch) (C : Config) : Type 0 where
   pub slots : (length C.selects ≡ C.ii) × (length C.units ≡ C.ii)
   pub rows : EachSlot C (HasRow A C)
@@ -27,11 +27,11 @@ pub record HasRows (A : Arch) (C : Config) : Type 0 where
 abbrev pub HasInterval : Arch → Config → Type 0
 HasInterval A C = (0 < C.ii) × (C.ii ≤ A.contexts)
 
--- each select of the slot is 0 or the place of a driver
+-- each select of the slot is 0 or the position of a driver
 abbrev pub HasSelects : Arch → Config → ℕ → Type 0
 HasSelects A C slot = (r : ℕ) → r < length A.resources → select C r slot ≤ length (resource A r).drivers
 
--- the fields of each unit in the slot are right
+-- the fields of each unit in the slot keep the rules
 abbrev pub HasFields : Arch → Config → ℕ → Type 0
 HasFields A C slot = (x : ℕ) → x < length A.units → AreFields (unit A x).ops (fields C x slot)
 
@@ -39,7 +39,7 @@ HasFields A C slot = (x : ℕ) → x < length A.units → AreFields (unit A x).o
 abbrev pub HasPorts : Arch → Config → ℕ → Type 0
 HasPorts A C slot = (x : ℕ) → x < length A.units → port_free A C x slot ≡ true
 
--- all that a canonical configuration is beside the lengths of its rows
+-- the properties of a canonical configuration besides the lengths of its rows
 pub record KeepsRules (A : Arch) (C : Config) : Type 0 where
   pub interval : HasInterval A C
   pub stages : C.stages ≡ 1 + last_stage A C
@@ -61,6 +61,6 @@ given_in C slot n q = any_below (λ y. gives_to (fields C y slot) q) n
 abbrev pub given_before : Arch → Config → ℕ → ℕ → Bool
 given_before A C slot q = any_below (λ s. given_in C s (length A.units) q) slot
 
--- of each of the sixteen ports it is noted whether it is one of these
+-- for each of the sixteen ports, the list says whether the port satisfies the test
 abbrev pub Notes : List Bool → (ℕ → Bool) → Type 0
 Notes taken given = (q : ℕ) → q < 2 ^ 4 → slice_index_or taken q false ≡ given q

@@ -1,4 +1,4 @@
-//! The test whether a configuration is canonical.
+//! Checks whether a configuration is canonical.
 ghost use Rattle.std.specs.Prelude.{◌≡◌, ◌+◌, ◌<◌, ◌&&◌, ◌||◌, ◌↔◌, not, false, length, slice_index_or, IsTrue};
 ghost use Rattle.std.specs.Bool.{OnTrue};
 ghost use Rattle.cg_model.specs.Config as configs;
@@ -9,15 +9,16 @@ use crate::config::{Config, stage_of};
 use cg_arch::Arch;
 use cg_contexts::{Contexts, UnitFields, are_fields, gives_output};
 
-/// Tells whether `config` is a canonical configuration of `arch`, as `set_select`, `set_unit` and runs of the array ask.
+/// Returns whether `config` is a canonical configuration of `arch`, as `set_select`, `set_unit` and runs of the array
+/// require.
 pub fn is_canonical(arch: &Arch, config: &Config) -> bool
     ensures { IsTrue result ↔ IsCanonical arch.now config.now }
 {
     has_rows(arch, config) && keeps_rules(arch, config)
 }
 
-/// Tells whether `config` has as many slots as its interval, and each of them a select for each resource of `arch` and
-/// fields for each unit.
+/// Returns whether the number of slots of `config` is its interval, and each slot has a select for each resource of
+/// `arch` and fields for each unit.
 fn has_rows(arch: &Arch, config: &Config) -> bool
     ensures { IsTrue result ↔ HasRows arch.now config.now }
 {
@@ -33,7 +34,7 @@ fn has_rows(arch: &Arch, config: &Config) -> bool
     true
 }
 
-/// Tells whether `slot` of `config` has a select for each resource of `arch` and fields for each unit.
+/// Returns whether `slot` of `config` has a select for each resource of `arch` and fields for each unit.
 fn has_row(arch: &Arch, config: &Config, slot: usize) -> bool
     requires selects { slot < length config.now.selects }
     requires units { slot < length config.now.units }
@@ -43,7 +44,7 @@ fn has_row(arch: &Arch, config: &Config, slot: usize) -> bool
         && config.fields_in(slot).len() == arch.units().len()
 }
 
-/// Tells whether `config`, which has its rows, is canonical.
+/// Returns whether `config`, whose rows have the right lengths, is canonical.
 fn keeps_rules(arch: &Arch, config: &Config) -> bool
     requires { HasRows arch.now config.now }
     ensures { IsTrue result ↔ KeepsRules arch.now config.now }
@@ -54,14 +55,14 @@ fn keeps_rules(arch: &Arch, config: &Config) -> bool
         && has_units(arch, config)
 }
 
-/// Tells whether the interval of `config` is at least 1 and at most the contexts of `arch`.
+/// Returns whether the interval of `config` is at least 1 and at most the contexts of `arch`.
 fn has_interval(arch: &Arch, config: &Config) -> bool
     ensures { IsTrue result ↔ HasInterval arch.now config.now }
 {
     0 < config.ii() && config.ii() <= arch.contexts()
 }
 
-/// Tells whether the stages of `config` are one more than the greatest stage in use.
+/// Returns whether the stages of `config` are one more than the greatest stage in use.
 fn has_stages(arch: &Arch, config: &Config) -> bool
     requires { HasRows arch.now config.now }
     ensures { IsTrue result ↔ (config.now.stages ≡ 1 + last_stage arch.now config.now) }
@@ -95,7 +96,7 @@ fn last_stage_in(arch: &Arch, config: &Config, slot: usize) -> u32
     last
 }
 
-/// Tells whether each select of `config` is 0 or the place of a driver.
+/// Returns whether each select of `config` is 0 or the position of a driver.
 fn has_selects(arch: &Arch, config: &Config) -> bool
     requires { HasRows arch.now config.now }
     ensures { IsTrue result ↔ EachSlot config.now (HasSelects arch.now config.now) }
@@ -108,7 +109,7 @@ fn has_selects(arch: &Arch, config: &Config) -> bool
     true
 }
 
-/// Tells whether each select in `slot` is 0 or the place of a driver.
+/// Returns whether each select in `slot` is 0 or the position of a driver.
 fn has_selects_in(arch: &Arch, config: &Config, slot: usize) -> bool
     requires rows { HasRows arch.now config.now }
     requires slot { slot < config.now.ii }
@@ -123,7 +124,7 @@ fn has_selects_in(arch: &Arch, config: &Config, slot: usize) -> bool
     true
 }
 
-/// Tells whether the fields of each unit are right, and no two of them give output to one port.
+/// Returns whether the fields of each unit keep the rules, and no two of them give output to one port.
 fn has_units(arch: &Arch, config: &Config) -> bool
     requires { HasRows arch.now config.now }
     ensures { IsTrue result ↔ (EachSlot config.now (HasFields arch.now config.now) × EachSlot config.now (HasPorts arch.now config.now)) }
@@ -131,7 +132,7 @@ fn has_units(arch: &Arch, config: &Config) -> bool
     has_fields(arch, config) && has_ports(arch, config)
 }
 
-/// Tells whether the fields of each unit are right.
+/// Returns whether the fields of each unit keep the rules.
 fn has_fields(arch: &Arch, config: &Config) -> bool
     requires { HasRows arch.now config.now }
     ensures { IsTrue result ↔ EachSlot config.now (HasFields arch.now config.now) }
@@ -144,7 +145,7 @@ fn has_fields(arch: &Arch, config: &Config) -> bool
     true
 }
 
-/// Tells whether the fields of each unit in `slot` are right.
+/// Returns whether the fields of each unit in `slot` keep the rules.
 fn has_fields_in(arch: &Arch, config: &Config, slot: usize) -> bool
     requires rows { HasRows arch.now config.now }
     requires slot { slot < config.now.ii }
@@ -159,7 +160,7 @@ fn has_fields_in(arch: &Arch, config: &Config, slot: usize) -> bool
     true
 }
 
-/// Tells whether no two fields give output to one port.
+/// Returns whether no two fields give output to one port.
 fn has_ports(arch: &Arch, config: &Config) -> bool
     requires rows { HasRows arch.now config.now }
     requires fields { EachSlot config.now (HasFields arch.now config.now) }
@@ -174,8 +175,8 @@ fn has_ports(arch: &Arch, config: &Config) -> bool
     true
 }
 
-/// Tells whether no field in `slot` gives output to a port that a field before it gives output to, and notes the ports of
-/// the slot, where `taken` has noted those of the slots before it.
+/// Returns whether no field in `slot` gives output to a port that a field before it gives output to, and marks the
+/// ports of the slot in `taken`, where those of the slots before it are marked.
 fn has_ports_in(arch: &Arch, config: &Config, slot: usize, taken: &mut [bool; 16]) -> bool
     requires rows { HasRows arch.now config.now }
     requires slot { slot < config.now.ii }
@@ -193,7 +194,7 @@ fn has_ports_in(arch: &Arch, config: &Config, slot: usize, taken: &mut [bool; 16
     true
 }
 
-/// Notes the port that `fields` give output to as taken. Tells whether it was free, or they give no output.
+/// Marks the port that `fields` give output to as taken. Returns whether it was free, or they give no output.
 fn take_port(taken: &mut [bool; 16], fields: &UnitFields) -> bool
     requires { fields.now.port < 16 }
     ensures free { result ≡ not (gives_output fields.now.op && slice_index_or taken.old fields.now.port false) }

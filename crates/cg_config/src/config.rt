@@ -9,7 +9,7 @@ use cg_contexts::{ArgFields, Contexts, UnitFields, UnitHead, gives_output, told_
 use std::alloc::{AllocError, Global};
 use std::marker::Model;
 
-/// An argument that is all zero.
+/// The fields of an argument, all zero.
 pub const NO_ARG: ArgFields = ArgFields {
     fixed: false,
     count: 0,
@@ -59,7 +59,7 @@ impl Config {
         Config::all_off(alloc, arch, ii)
     }
 
-    /// A configuration that is off everywhere.
+    /// Returns a configuration that is off everywhere.
     fn all_off(alloc: Global, arch: &Arch, ii: u32) -> Result<Config, AllocError>
         ensures { IfOk result (λ config. config ≡ all_off arch.now ii) }
     {
@@ -73,8 +73,8 @@ impl Config {
         })
     }
 
-    /// Sets the select of a resource in a slot: 0 for none, else the place of a driver in the resource's list, counted
-    /// from 1.
+    /// Sets the select of `resource` in `slot` to `value`: 0 for none, else the position of a driver in the resource's
+    /// list, counted from 1.
     pub fn set_select(&mut self, arch: &Arch, resource: u32, slot: u32, value: u32)
         requires canonical { IsCanonical arch.now self.old }
         requires resource { resource < length arch.now.resources }
@@ -96,8 +96,8 @@ impl Config {
         row.set(resource, value);
     }
 
-    /// Sets the fields of a unit in a slot, where it was off. The stages become one more than the greatest stage in use.
-    /// `are_fields` and `leaves_ports_free` tell whether `fields` may be set.
+    /// Sets the fields of `unit`, which is off, in `slot`. The stages become one more than the greatest stage in use.
+    /// `are_fields` and `leaves_ports_free` say whether `fields` may be set.
     pub fn set_unit(&mut self, arch: &Arch, unit: u32, slot: u32, fields: UnitFields)
         requires canonical { IsCanonical arch.now self.old }
         requires unit { unit < length arch.now.units }
@@ -111,7 +111,7 @@ impl Config {
         self.put_fields(unit as usize, slot as usize, fields);
     }
 
-    /// Tells whether a field of the configuration gives output to a port that `fields` give output to.
+    /// Returns whether a field of the configuration gives output to a port that `fields` give output to.
     fn clashes(&self, fields: &UnitFields) -> bool
         ensures some { result ≡ true → (slot : ℕ) × (slot < length self.now.units) × (x : ℕ) × (x < length (slice_index_or self.now.units slot [])) × (clash (configs.fields self.now x slot) fields.now ≡ true) }
         ensures none { result ≡ false → (slot x : ℕ) → slot < length self.now.units → x < length (slice_index_or self.now.units slot []) → clash (configs.fields self.now x slot) fields.now ≡ false }
@@ -124,14 +124,15 @@ impl Config {
         false
     }
 
-    /// Tells whether no field of the configuration gives output to a port that `fields` give output to, as `set_unit` asks.
+    /// Returns whether no field of the configuration gives output to a port that `fields` give output to, as `set_unit`
+    /// requires.
     pub fn leaves_ports_free(&self, fields: &UnitFields) -> bool
         ensures { (A : arrays.Arch) → IsCanonical A self.now → (IsTrue result ↔ LeavesPortsFree A self.now fields.now) }
     {
         !self.clashes(fields)
     }
 
-    /// Sets fields in the tables, and stages enough for them.
+    /// Sets fields in the tables, and raises the stages if needed.
     fn put_fields(&mut self, unit: usize, slot: usize, fields: UnitFields)
         requires slot { slot < length self.old.units }
         requires unit { unit < length (slice_index_or self.old.units slot []) }
@@ -146,7 +147,7 @@ impl Config {
         row.set(unit, fields);
     }
 
-    /// A configuration of these tables.
+    /// Returns a configuration of these tables.
     pub fn from_rows(
         ii: u32,
         stages: u32,
@@ -163,14 +164,14 @@ impl Config {
         }
     }
 
-    /// Tells whether there are `slots` rows of selects and as many rows of fields.
+    /// Returns whether there are `slots` rows of selects and `slots` rows of fields.
     pub(crate) fn has_slots(&self, slots: usize) -> bool
         ensures { IsTrue result ↔ ((length self.now.selects ≡ slots) × (length self.now.units ≡ slots)) }
     {
         self.selects.len() == slots && self.units.len() == slots
     }
 
-    /// The selects of a slot, by resource.
+    /// Lends the selects of `slot`, by resource.
     pub fn selects_in(&self, slot: usize) -> &[u32]
         requires { slot < length self.now.selects }
         ensures { result.now ≡ slice_index_or self.now.selects slot [] }
@@ -178,7 +179,7 @@ impl Config {
         self.selects[slot].as_slice()
     }
 
-    /// The fields of a slot, by unit.
+    /// Lends the fields of `slot`, by unit.
     pub fn fields_in(&self, slot: usize) -> &[UnitFields]
         requires { slot < length self.now.units }
         ensures { result.now ≡ slice_index_or self.now.units slot [] }
@@ -187,7 +188,7 @@ impl Config {
     }
 }
 
-/// The stage of a unit, 0 where it is off.
+/// Returns the stage of a unit, 0 where it is off.
 pub(crate) fn stage_of(fields: &UnitFields) -> u32
     ensures { result ≡ stage_of fields.now }
 {
@@ -197,14 +198,14 @@ pub(crate) fn stage_of(fields: &UnitFields) -> u32
     }
 }
 
-/// Tells whether `one` and `other` give output to the same port.
+/// Returns whether `one` and `other` give output to the same port.
 fn clash(one: &UnitFields, other: &UnitFields) -> bool
     ensures { result ≡ clash one.now other.now }
 {
     gives_output(one.op) && gives_output(other.op) && one.port == other.port
 }
 
-/// Tells whether one of the fields in `row` gives output to a port that `fields` give output to.
+/// Returns whether one of the fields in `row` gives output to a port that `fields` give output to.
 fn clashes_in(row: &[UnitFields], fields: &UnitFields) -> bool
     ensures some { result ≡ true → (x : ℕ) × (x < length row.now) × (clash (slice_index_or row.now x off) fields.now ≡ true) }
     ensures none { result ≡ false → (x : ℕ) → x < length row.now → clash (slice_index_or row.now x off) fields.now ≡ false }

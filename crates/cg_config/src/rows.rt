@@ -2,7 +2,7 @@
 
 use std::marker::Model;
 
-/// A list whose items are set in place.
+/// A list whose items can be set in place.
 #[derive(Drop)]
 pub struct Row<T> {
     items: Vec<T>,
@@ -19,7 +19,7 @@ impl<T> Model for Row<T> {
 impl<T: Copy> Row<T> {
     ghost use Rattle.std.specs.Prelude.{◌≡◌, ◌<◌, length, slice_set};
 
-    /// Takes the items over.
+    /// Takes over `items`.
     pub fn new(items: Vec<T>) -> Row<T>
         ensures { result ≡ items.items }
     {
@@ -33,7 +33,7 @@ impl<T: Copy> Row<T> {
         &self.items
     }
 
-    /// Sets an item.
+    /// Sets the item at `index`.
     pub fn set(&mut self, index: usize, item: T)
         requires { index < length self.old }
         ensures { self.new ≡ slice_set self.old index item }

@@ -1,4 +1,4 @@
--- The numbers that a configuration has entries for.
+-- The resources and units for which a configuration has entries.
 use Rattle.std.specs.Prelude.{ℕ, ◌<◌, [], length, slice_index_or}
 use Rattle.cg_model.specs.Config.{Config}
 

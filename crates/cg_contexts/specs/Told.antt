@@ -1,4 +1,4 @@
--- What is asked of the fields of a unit, part by part.
+-- Access to the fields of a unit, part by part.
 use Rattle.std.specs.Prelude.{ℕ, nat_lt, if◌then◌else◌, Option, Some, None, slice_index}
 use Rattle.cg_model.specs.declared.config.UnitFields.{UnitFields}
 use Rattle.cg_model.specs.Config.{arg}
@@ -8,8 +8,9 @@ use Rattle.cg_contexts.specs.declared.head.UnitHead.{UnitHead}
 abbrev pub head_of : UnitFields → UnitHead
 head_of f = record { op = f.op; stage = f.stage; port = f.port }
 
--- the word that the fields have for argument p in a turn: the immediate where its mode bit is set, else the initial word
--- of the turn's number where it is below the count; where they have none, the argument is the word on its port
+-- the word that the fields have for argument p in a turn: the immediate where its mode bit is set, else the initial
+-- word with the turn's number where that number is below the count; where they have none, the argument is the word on
+-- its port
 abbrev pub told : UnitFields → ℕ → ℕ → Option ℕ
 told f p turn =
     if (arg f p).fixed

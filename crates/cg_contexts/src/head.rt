@@ -8,7 +8,7 @@ use cg_word::Op;
 pub struct UnitHead {
     /// Its operation, `None` where the unit is off.
     pub op: Option<Op>,
-    /// The round in which it works on turn 0, a round being `ii` cycles.
+    /// The round in which it works on turn 0, where a round is `ii` cycles.
     pub stage: u32,
     /// The stream of an input, output or outputif; 0 for all other operations.
     pub port: u32,
@@ -18,7 +18,7 @@ impl UnitHead {
     ghost use Rattle.std.specs.Prelude.{◌≡◌};
     ghost use Rattle.cg_contexts.specs.Told.{head_of};
 
-    /// What fields in memory begin.
+    /// Returns the head of `fields`.
     pub fn of(fields: &UnitFields) -> UnitHead
         ensures { result ≡ head_of fields.now }
     {

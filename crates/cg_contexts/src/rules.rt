@@ -27,7 +27,7 @@ fn names_port(op: Option<Op>) -> bool
     }
 }
 
-/// Tells whether the operation `op` is an output or outputif.
+/// Returns whether the operation `op` is an output or outputif.
 pub fn gives_output(op: Option<Op>) -> bool
     ensures { result ≡ gives_output op }
 {
@@ -46,21 +46,21 @@ fn offered(ops: OpSet, op: Option<Op>) -> bool
     }
 }
 
-/// Tells whether the stage of `fields` keeps its rule.
+/// Returns whether the stage of `fields` keeps its rule.
 pub fn stage_right(fields: &UnitFields) -> bool
     ensures { result ≡ stage_right fields.now }
 {
     fields.stage <= 65_534 && (fields.op.is_some() || fields.stage == 0)
 }
 
-/// Tells whether the port of `fields` keeps its rule.
+/// Returns whether the port of `fields` keeps its rule.
 pub fn port_right(fields: &UnitFields) -> bool
     ensures { result ≡ port_right fields.now }
 {
     names_port(fields.op) || fields.port == 0
 }
 
-/// Tells whether the immediate of `fields` keeps its rule.
+/// Returns whether the immediate of `fields` keeps its rule.
 pub fn immediate_right(fields: &UnitFields) -> bool
     ensures { result ≡ immediate_right fields.now }
 {
@@ -68,7 +68,7 @@ pub fn immediate_right(fields: &UnitFields) -> bool
     (fields.op.is_some() && any_fixed) || fields.immediate == 0
 }
 
-/// Tells whether the mode bit of `arg` keeps its rule, where `used` says that the operation has the argument and
+/// Returns whether the mode bit of `arg` keeps its rule, where `used` says that the operation has the argument and
 /// `fixed_before` that one before it is fixed.
 pub fn mode_right(arg: &ArgFields, used: bool, fixed_before: bool) -> bool
     ensures { result ≡ mode_ok arg.now used fixed_before }
@@ -76,14 +76,14 @@ pub fn mode_right(arg: &ArgFields, used: bool, fixed_before: bool) -> bool
     !arg.fixed || (used && !fixed_before)
 }
 
-/// Tells whether the count of `arg` keeps its rule, where `used` says that the operation has the argument.
+/// Returns whether the count of `arg` keeps its rule, where `used` says that the operation has the argument.
 pub fn count_right(arg: &ArgFields, used: bool) -> bool
     ensures { result ≡ count_ok arg.now used }
 {
     arg.count <= 4 && (arg.count == 0 || (used && !arg.fixed))
 }
 
-/// Tells whether word `k` of `arg` keeps its rule, where `used` says that the operation has the argument.
+/// Returns whether word `k` of `arg` keeps its rule, where `used` says that the operation has the argument.
 pub fn word_right(arg: &ArgFields, used: bool, k: usize) -> bool
     requires { k < 4 }
     ensures { result ≡ word_ok arg.now used k }
@@ -129,19 +129,19 @@ fn fields_right(ops: OpSet, fields: &UnitFields) -> bool
         && args_right(fields)
 }
 
-/// A law: each of `_numbers` is a word.
+/// States that each of `_numbers` is a word.
 fn are_numbers(_numbers: &[u32])
     ensures { (k : ℕ) → slice_index _numbers.now k < words }
 {}
 
-/// A law: `numbers` are four words.
+/// States that `numbers` are four words.
 fn are_words(numbers: &[u32; 4])
     ensures { AreWords numbers.now }
 {
     are_numbers(numbers);
 }
 
-/// A law: what the type of `fields` says of their arguments and numbers.
+/// States what the type of `fields` says of their arguments and numbers.
 fn are_typed(fields: &UnitFields)
     ensures { IsTyped fields.now }
 {
@@ -150,7 +150,7 @@ fn are_typed(fields: &UnitFields)
     are_words(&fields.args[2].init);
 }
 
-/// Tells whether `fields` keep the rules of canonical configurations under a unit that offers the operations `ops`.
+/// Returns whether `fields` keep the rules of canonical configurations for a unit that offers the operations `ops`.
 pub fn are_fields(ops: OpSet, fields: &UnitFields) -> bool
     ensures { IsTrue result ↔ AreFields ops fields.now }
 {

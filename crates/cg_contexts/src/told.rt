@@ -1,10 +1,10 @@
-//! What fields in memory have for an argument.
+//! The word that fields in memory have for an argument.
 ghost use Rattle.std.specs.Prelude.{◌≡◌, ◌<◌, slice_index};
 ghost use Rattle.cg_contexts.specs.Told.{told};
 
 use cg_model::UnitFields;
 
-/// The word that fields in memory have for an argument in a turn, if any.
+/// Returns the word that `fields` have for the argument `place` in turn `turn`, if any.
 pub fn told_by(fields: &UnitFields, place: usize, turn: u32) -> Option<u32>
     requires { place < 3 }
     ensures { result ≡ told fields.now place turn }
@@ -19,7 +19,7 @@ pub fn told_by(fields: &UnitFields, place: usize, turn: u32) -> Option<u32>
     }
 }
 
-/// The initial word of a turn, 0 past the last.
+/// Returns the initial word of `turn`, 0 past the last one.
 fn initial_word(init: &[u32; 4], turn: u32) -> u32
     ensures { result ≡ slice_index init.now turn }
 {

@@ -1,4 +1,4 @@
--- What the units of one cycle do, one after the other.
+-- The effects of the units of one cycle, one after the other.
 use Rattle.std.specs.Prelude.{◌≡◌, ◌≢◌, ℕ, ◌+◌, ◌*◌, ◌<◌, ◌≤◌, true, List, [], ◌∷◌, ◌++◌, Option, length, slice_index, slice_set, vec_len, vec_capacity}
 use Rattle.cg_model.specs.declared.config.UnitFields.{UnitFields}
 use Rattle.cg_model.specs.Config.{Config, fields}
@@ -21,13 +21,13 @@ abbrev pub HasRoom : List Reserved → UnitFields → ℕ → ℕ → Type 0
 HasRoom streams f n round = gives_output f.op ≡ true → f.stage ≤ round → round < f.stage + n →
     (f.port < length streams) × (length (stream streams f.port).words < (stream streams f.port).room)
 
--- the same, after the works of the first x units
+-- there is room for what a unit with these fields sends in a round, after the works of the first x units
 abbrev pub HasRoomAfter : List Reserved → (ℕ → Option Work) → ℕ → UnitFields → ℕ → ℕ → Type 0
 HasRoomAfter streams works x f n round = gives_output f.op ≡ true → f.stage ≤ round → round < f.stage + n →
     (f.port < length streams) ×
     (length ((stream streams f.port).words ++ sent_by_units works f.port x) < (stream streams f.port).room)
 
--- there is room for what each unit sends, after the works of those before it
+-- there is room for what each unit sends, after the works of the units before it
 abbrev pub AreRoomy : Config → List Terminals → ℕ → ℕ → ℕ → List ℕ → List Reserved → Type 0
 AreRoomy C us n slot round words streams = (x : ℕ) → x < length us →
     HasRoomAfter streams (works_on C us n slot round words) x (fields C x slot) n round
@@ -56,7 +56,7 @@ pub record BeginsAll (image : Image) (works : ℕ → Option Work) (x : ℕ) (e 
   pub room : (port : ℕ) → (stream e.streams.items port).room ≤ (stream g.streams.items port).room
   pub outside : g.outside ≡ e.outside + missed_by_units works (length e.memory) x
 
--- that row of the history has the results of the first x units, and the other rows are as before
+-- the given row of the history has the results of the first x units, and the other rows are unchanged
 pub record HasRow (image : Image) (memory : List ℕ) (works : ℕ → Option Work) (row x : ℕ) (old new : List ℕ) : Type 0 where
   pub here : (y : ℕ) → y < x → slice_index new (4 * y + row) ≡ result_of image memory (works y)
   pub there : (y d : ℕ) → d < 4 → d ≢ row → slice_index new (4 * y + d) ≡ slice_index old (4 * y + d)

@@ -1,8 +1,8 @@
--- Where a cycle stands.
+-- The position of a cycle in a run.
 use Rattle.std.specs.Prelude.{◌≡◌, ℕ, ◌/◌, ◌%◌}
 use Rattle.cg_cycle.specs.declared.moment.Moment.{Moment}
 
--- cycle c stands there
+-- the moment is the position of cycle c
 pub record IsMoment (m : Moment) (ii c : ℕ) : Type 0 where
   pub slot : m.slot ≡ c % ii
   pub round : m.round ≡ c / ii

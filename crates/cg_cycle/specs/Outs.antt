@@ -3,8 +3,8 @@ use Rattle.std.specs.Prelude.{◌≡◌, ℕ, ◌+◌, ◌-◌, ◌*◌, ◌%◌
 use Rattle.cg_cycle.specs.declared.terminals.Terminals.{Terminals}
 use Rattle.cg_cycle.specs.Terminals.{terminals}
 
--- what unit x gave a latency ago, where the last four results of each unit stand together and those of this cycle are to
--- stand in that row
+-- the result that unit x gave one latency ago, where the last four results of each unit are adjacent and those of this
+-- cycle will be in the given row
 abbrev pub delayed : List Terminals → ℕ → List ℕ → ℕ → ℕ
 delayed us row history x = slice_index history (4 * x + (row + 4 - (terminals us x).latency) % 4)
 

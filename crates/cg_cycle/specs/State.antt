@@ -1,4 +1,4 @@
--- What the fields of a course are.
+-- The meaning of the fields of a course.
 use Rattle.std.specs.Prelude.{◌≡◌, ℕ, ◌*◌, ◌≤◌, ◌^◌, List, [], length, vec_capacity}
 use Rattle.std.specs.declared.vec.Vec.{Vec}
 use Rattle.std.specs.declared.alloc.Global.{Global}
@@ -13,7 +13,7 @@ use Rattle.cg_cycle.specs.Moment.{IsMoment}
 use Rattle.cg_cycle.specs.declared.moment.Moment.{Moment}
 use Rattle.cg_cycle.specs.declared.effects.Effects.{Effects}
 
--- what a run has left before its first cycle, with room for all that it leaves
+-- the effects of a run before its first cycle, with room for all its effects
 pub record IsFresh (A : Arch) (C : Config) (n : ℕ) (image : Image) (e : Effects) : Type 0 where
   pub memory : e.memory ≡ image.memory
   pub pending : e.pending.items ≡ []
@@ -23,7 +23,7 @@ pub record IsFresh (A : Arch) (C : Config) (n : ℕ) (image : Image) (e : Effect
   pub room : HaveRoom C (length A.units) n e.streams.items
   pub outside : e.outside ≡ 0
 
--- what a run has left after c cycles, with room for the rest
+-- the effects of a run after c cycles, with room for the rest
 pub record AreEffects (A : Arch) (C : Config) (n c : ℕ) (e : Effects) : Type 0 where
   pub fits : length e.memory ≤ A.memory
   pub ports : length e.streams.items ≡ 16
@@ -34,7 +34,7 @@ pub record AreEffects (A : Arch) (C : Config) (n c : ℕ) (e : Effects) : Type 0
   pub pending_room : length A.units ≤ vec_capacity e.pending
   pub few : e.outside ≤ c * 1024
 
--- a course, in the fields of its struct
+-- a course, by the fields of its struct
 pub record IsCourse (k : Course) (ii len : ℕ) (moment : Moment) (e : Effects) (finished : Vec (List ℕ) Global) : Type 0 where
   pub valid : IsArch k.arch
   pub canonical : IsCanonical k.arch k.config

@@ -1,4 +1,4 @@
--- What the units of a run begin on words by number.
+-- The work that the units of a run begin on words by number.
 use Rattle.std.specs.Prelude.{ℕ, ◌-◌, List, [], Option, length, slice_index, slice_index_or}
 use Rattle.cg_model.specs.Config.{Config, fields}
 use Rattle.cg_model.specs.Work.{Work}
@@ -9,10 +9,10 @@ use Rattle.cg_cycle.specs.declared.terminals.Terminals.{Terminals}
 abbrev pub terminals : List Terminals → ℕ → Terminals
 terminals us x = slice_index_or us x (record { ports = []; out = 0; latency = 0 })
 
--- the word on port p of a unit whose ports these are; a port that there isn't has the last word, which nobody writes
+-- the word on port p of a unit with these ports; a port that doesn't exist has the last word, which is never written
 abbrev pub on_ports : List ℕ → List ℕ → ℕ → ℕ
 on_ports ports words p = slice_index words (slice_index_or ports p (length words - 1))
 
--- what unit x begins with those words
+-- what unit x begins on the given words
 abbrev pub works_on : Config → List Terminals → ℕ → ℕ → ℕ → List ℕ → ℕ → Option Work
 works_on C us n slot round words x = begun (fields C x slot) n round (on_ports (terminals us x).ports words)

@@ -1,4 +1,4 @@
--- What reports say of the faults of runs.
+-- The report texts of the faults of runs.
 use Rattle.std.specs.Prelude.{ℕ, List, [], ◌++◌, codes, decimal}
 use Rattle.cg_cycle.specs.declared.fault.SimFault.{SimFault}
 use Rattle.cg_cycle.specs.declared.fault.SimFault.TheVariants as sim

@@ -18,7 +18,8 @@ use cg_pad::{Image, PORTS, Streams};
 use std::alloc::{AllocError, Global};
 use std::marker::Model;
 
-/// All that a run of units keeps but the words. Contracts see what runs, how many cycles are over, and what they left.
+/// The state of a run of units, except the words. Contracts see the architecture, configuration and image of the run,
+/// the number of cycles done, and what these cycles left.
 #[derive(Drop)]
 pub struct Course<'a, C: Contexts> {
     arch: &'a Arch,
@@ -55,7 +56,8 @@ impl<'a, C: Contexts> Course<'a, C> {
     ghost use Rattle.cg_cycle.specs.Terminals.{terminals};
     ghost use Rattle.cg_cycle.specs.Course.{course_cycles, AreShort, IsStart, Keeps, AreOutsRight, GiveOuts, ArePortsKnown, Advances};
 
-    /// Begins a run of `n` turns of `arch` under `contexts` from `image`, whose units have these `terminals`. It takes all memory of the run; no later call takes any.
+    /// Begins a run of `n` iterations of `arch` under `contexts` from `image`, whose units have these `terminals`. It
+    /// allocates all memory of the run; no later call allocates any.
     pub fn new(
         alloc: Global,
         arch: &'a Arch,
@@ -117,7 +119,7 @@ impl<'a, C: Contexts> Course<'a, C> {
         })
     }
 
-    /// Returns the number of cycles that are not yet run.
+    /// Returns the number of cycles that remain to be run.
     pub fn left(&self) -> u64
         ensures left { result ≡ course_cycles self.now - self.now.done }
         ensures within { self.now.done ≤ course_cycles self.now }
@@ -145,7 +147,7 @@ impl<'a, C: Contexts> Course<'a, C> {
         }
     }
 
-    /// Sets the word of each out in `words` to what its unit gave a latency ago.
+    /// Sets the word of each out in `words` to the result that its unit gave one latency ago.
     pub fn give_outs(&self, words: &mut [u32])
         requires { (x : ℕ) → x < length self.now.terminals → (terminals self.now.terminals x).out < length words.old }
         ensures kept { (f : ℕ → ℕ) → GiveOuts self.now f → Keeps f words.old words.new }
@@ -154,7 +156,7 @@ impl<'a, C: Contexts> Course<'a, C> {
         set_outs(&self.terminals, self.moment.row, &self.history, words);
     }
 
-    /// Begins the units of the next cycle in order, on these `words`, and goes on by that cycle.
+    /// Begins the units of the next cycle in order, on these `words`, and advances by that cycle.
     pub fn begin(&mut self, words: &[u32])
         requires left { self.old.done < course_cycles self.old }
         requires ports { ArePortsKnown self.old.terminals words.now }
@@ -182,7 +184,7 @@ impl<'a, C: Contexts> Course<'a, C> {
         self.effects.outside
     }
 
-    /// Gives away the memory and the output streams as they are.
+    /// Returns the memory and the output streams as they are, and consumes the run.
     pub fn into_image(self) -> Image
         ensures image { result ≡ record { memory = self.entry.memory; streams = self.entry.streams } }
         ensures storable { IsStorable result }
@@ -204,7 +206,8 @@ impl<'a, C: Contexts> Course<'a, C> {
     }
 }
 
-/// Checks that `n` turns from `image` can be run on `arch`: first the number of turns, then the size of the image.
+/// Checks that `n` iterations from `image` can be run on `arch`: first the number of iterations, then the size of the
+/// image.
 pub fn check_run(arch: &Arch, n: u32, image: &Image) -> Result<(), SimFault>
     ensures ok { (result ≡ Ok tt) ↔ ((n ≤ most_turns) × (length image.now.memory ≤ arch.now.memory)) }
     ensures many { (t : ℕ) → (result ≡ Err (SimFault.TooManyTurns t)) ↔ ((t ≡ n) × (most_turns < n)) }

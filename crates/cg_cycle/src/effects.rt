@@ -1,4 +1,4 @@
-//! What the units of a cycle leave: words in streams, and stores that wait for the cycle's end.
+//! The effects of the units of a cycle: words in streams, and stores that are pending until the cycle's end.
 ghost use Rattle.std.specs.Prelude.{◌≡◌, ◌<◌, ◌≤◌, ◌+◌, ◌++◌, ℕ, List, true, length, vec_len, vec_capacity};
 ghost use Rattle.cg_word.specs.Word.{is_output};
 ghost use Rattle.cg_model.specs.Work.{stored, sent};
@@ -37,7 +37,7 @@ impl Stream {
         let _done = self.words.push(word);
     }
 
-    /// Gives the words away.
+    /// Returns the words, and consumes the stream.
     pub(crate) fn into_words(self) -> Words
         ensures { result ≡ self.words }
     {
@@ -53,7 +53,7 @@ pub(crate) struct Store {
     pub(crate) value: u32,
 }
 
-/// What a run has left so far, and the stores of the cycle that is under way.
+/// The effects of a run so far, and the pending stores of the current cycle.
 #[derive(Drop)]
 pub(crate) struct Effects {
     pub(crate) memory: Scratchpad,
@@ -66,7 +66,7 @@ impl Effects {
     ghost use Rattle.std.specs.Prelude.{◌≡◌, ◌≤◌, [], vec_capacity};
     ghost use Rattle.cg_cycle.specs.Effects.{applied};
 
-    /// Applies the stores that wait to the memory, in order.
+    /// Applies the pending stores to the memory, in order.
     pub(crate) fn store_pending(&mut self)
         ensures memory { self.new.memory ≡ applied self.old.memory self.old.pending.items }
         ensures pending { self.new.pending.items ≡ [] }
@@ -79,7 +79,7 @@ impl Effects {
     }
 }
 
-/// Appends to its stream of `streams` what the operation of `work` sends.
+/// Appends the word that the operation of `work` sends, if any, to its stream of `streams`.
 #[tactic(auto, unfolding(cg_model::specs::Work::sent))]
 pub(crate) fn send(work: Work, streams: &mut [Stream])
     requires { is_output work.op ≡ true → (work.port < length streams.old) × (length (stream streams.old work.port).words < (stream streams.old work.port).room) }
@@ -92,7 +92,7 @@ pub(crate) fn send(work: Work, streams: &mut [Stream])
     }
 }
 
-/// Adds the store of `work` to those that wait in `pending`, where it is one that acts.
+/// Adds the store of `work` to those in `pending`, if it is a store that takes effect.
 #[tactic(auto, unfolding(cg_model::specs::Work::stored))]
 pub(crate) fn hold(work: Work, pending: &mut Vec<Store>)
     requires { vec_len pending.old < vec_capacity pending.old }
@@ -108,7 +108,7 @@ pub(crate) fn hold(work: Work, pending: &mut Vec<Store>)
     }
 }
 
-/// Applies the stores `pending` of a cycle to `memory`, in order.
+/// Applies the pending stores `pending` of a cycle to `memory`, in order.
 fn store_all(memory: &mut Scratchpad, pending: &[Store])
     ensures { memory.new ≡ applied memory.old pending.now }
 {

@@ -8,10 +8,10 @@ use thiserror::Error;
 pub enum SimFault {
     #[error("memory ran out")]
     Memory,
-    /// There are more than 1,000,000 turns: how many.
+    /// There are more than 1,000,000 iterations: their number.
     #[error("{0} turns")]
     TooManyTurns(u32),
-    /// The image has more memory words than the architecture: how many.
+    /// The image has more memory words than the architecture: their number.
     #[error("{0} memory words")]
     ImageTooLarge(usize),
 }

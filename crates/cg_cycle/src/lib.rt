@@ -1,4 +1,4 @@
-//! What a run of units keeps and does in a cycle, over words by number.
+//! The state of a run of units and its step by one cycle, over words by number.
 #![tactic(auto)]
 
 mod course;

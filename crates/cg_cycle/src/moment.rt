@@ -1,6 +1,6 @@
-//! Where a run stands.
+//! The position of a cycle in a run.
 
-/// Where a cycle stands: its slot, its round, and its number modulo 4, which is the row of its results.
+/// The position of a cycle in a run: its slot, its round, and its number modulo 4, which is the row of its results.
 #[derive(Clone, Copy)]
 pub(crate) struct Moment {
     pub(crate) slot: u32,
@@ -12,7 +12,7 @@ impl Moment {
     ghost use Rattle.std.specs.Prelude.{◌<◌, ◌+◌, ◌^◌, ℕ};
     ghost use Rattle.cg_cycle.specs.Moment.{IsMoment};
 
-    /// Returns where the next cycle stands, at the interval `ii`.
+    /// Returns the position of the next cycle, at the interval `ii`.
     pub(crate) fn next(self, ii: u32) -> Moment
         requires slot { self.slot < ii }
         requires round { self.round + 1 < 2 ^ 32 }

@@ -6,7 +6,8 @@ ghost use Rattle.cg_cycle.specs.Outs.{AreGiven};
 
 use crate::terminals::Terminals;
 
-/// Sets the word of each out in `words` to what its unit of `units` gave a latency ago. In `history` the results of the last four cycles stand together, unit by unit; those of this cycle are to stand in `row`.
+/// Sets the word of each out in `words` to the result that its unit of `units` gave one latency ago. `history` holds
+/// the results of the last four cycles, unit by unit; the results of this cycle will be in row `row`.
 pub(crate) fn set_outs(units: &[Terminals], row: usize, history: &[u32], words: &mut [u32])
     requires row { row < 4 }
     requires history { length history.now ≡ 4 * length units.now }

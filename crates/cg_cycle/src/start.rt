@@ -1,4 +1,4 @@
-//! What a run has before its first cycle.
+//! The state of a run before its first cycle.
 ghost use Rattle.std.specs.Prelude.{◌≡◌, ◌<◌, ◌≤◌, ◌^◌, IfOk};
 ghost use Rattle.cg_model.specs.Canonical.{IsCanonical};
 ghost use Rattle.cg_model.specs.Config as configs;
@@ -13,7 +13,8 @@ use cg_contexts::Contexts;
 use cg_pad::{Image, Scratchpad};
 use std::alloc::{AllocError, Global};
 
-/// Returns what a run of `n` turns from `image` has left before its first cycle, with room for all that the units of `arch` leave under `contexts`.
+/// Returns the effects of a run of `n` iterations from `image` before its first cycle, with room for all effects of the
+/// units of `arch` under `contexts`.
 pub(crate) fn no_effects<C: Contexts>(
     alloc: Global,
     arch: &Arch,
@@ -35,7 +36,7 @@ pub(crate) fn no_effects<C: Contexts>(
     })
 }
 
-/// Returns how many cycles `n` turns take, of `stages` stages at the interval `ii`.
+/// Returns the number of cycles of a run of `n` iterations, of `stages` stages at the interval `ii`.
 pub(crate) fn length_in_cycles(n: u32, stages: u32, ii: u32) -> u64
     requires turns { n ≤ most_turns }
     requires stages { (0 < stages) × (stages ≤ 65535) }

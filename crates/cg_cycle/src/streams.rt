@@ -13,7 +13,7 @@ use cg_model::Words;
 use cg_pad::PORTS;
 use std::alloc::{AllocError, Global};
 
-/// Returns sixteen streams, with room for `n` words in those that the units of `arch` name for output under `contexts`.
+/// Returns sixteen streams, with room for `n` words in each to which units of `arch` output under `contexts`.
 pub(crate) fn reserve_streams<C: Contexts>(
     alloc: Global,
     arch: &Arch,
@@ -35,7 +35,7 @@ pub(crate) fn reserve_streams<C: Contexts>(
     Ok(streams)
 }
 
-/// Returns which ports the units of `arch` name for output under `contexts`.
+/// Returns which ports the units of `arch` output to under `contexts`.
 fn used_ports<C: Contexts>(arch: &Arch, contexts: &C) -> [bool; 16]
     requires { IsCanonical arch.now (C.config contexts.now) }
     ensures { AreMarked (C.config contexts.now) (length arch.now.units) (C.config contexts.now).ii result }
@@ -48,7 +48,7 @@ fn used_ports<C: Contexts>(arch: &Arch, contexts: &C) -> [bool; 16]
     used
 }
 
-/// Marks in `used` the ports that the first `units` units name for output in `slot` under `contexts`.
+/// Marks in `used` the ports to which the first `units` units output in `slot` under `contexts`.
 fn mark_used<C: Contexts>(units: usize, contexts: &C, slot: u32, used: &mut [bool])
     requires few { units ≤ most_units }
     requires known { (x : ℕ) → x < units → HasUnit (C.config contexts.now) x slot }
@@ -64,7 +64,7 @@ fn mark_used<C: Contexts>(units: usize, contexts: &C, slot: u32, used: &mut [boo
     }
 }
 
-/// Tells whether `op` is an output or outputif.
+/// Returns whether `op` is `output` or `outputif`.
 fn gives_output(op: Option<Op>) -> bool
     ensures { result ≡ gives_output op }
 {

@@ -3,7 +3,7 @@
 use cg_contexts::{Contexts, UnitHead};
 use std::marker::Model;
 
-/// A unit in a slot of a configuration, lent. Contracts see it as its fields.
+/// A unit in a slot of a configuration, borrowed. Contracts see it as its fields.
 #[derive(Drop)]
 pub(crate) struct UnitInSlot<'a, C: Contexts> {
     contexts: &'a C,
@@ -30,7 +30,7 @@ impl<'a, C: Contexts> UnitInSlot<'a, C> {
     ghost use Rattle.cg_contexts.specs.Known.{HasUnit};
     ghost use Rattle.cg_contexts.specs.Told.{head_of, told};
 
-    /// Lends unit number `unit` in `slot` of `contexts`.
+    /// Borrows unit number `unit` in `slot` of `contexts`.
     pub(crate) fn new(contexts: &'a C, unit: u32, slot: u32) -> UnitInSlot<'a, C>
         requires { HasUnit (C.config contexts.now) unit slot }
         ensures { result ≡ configs.fields (C.config contexts.now) unit slot }
@@ -42,14 +42,15 @@ impl<'a, C: Contexts> UnitInSlot<'a, C> {
         }
     }
 
-    /// Returns what it begins, without its arguments.
+    /// Returns what the unit begins, without its arguments.
     pub(crate) fn head(&self) -> UnitHead
         ensures { result ≡ head_of self.now }
     {
         self.contexts.head(self.unit, self.slot)
     }
 
-    /// Returns the word that it is told for argument number `place` of its operation in `turn`, if any.
+    /// Returns the initial word or immediate that argument number `place` of the unit's operation has in iteration
+    /// `turn`, if any.
     pub(crate) fn told(&self, place: usize, turn: u32) -> Option<u32>
         requires { place < arity_of self.now.op }
         ensures { result ≡ told self.now place turn }

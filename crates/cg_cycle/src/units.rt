@@ -15,7 +15,8 @@ use crate::unit_in_slot::UnitInSlot;
 use cg_contexts::Contexts;
 use cg_pad::{Image, Work};
 
-/// Returns argument number `place` of `unit`, which is active in `turn`: what it is told, else the word on that one of its `ports` among `words`.
+/// Returns argument number `place` of `unit`, which is active in iteration `turn`: its initial word or immediate if it
+/// has one, else the word on its port in `ports` among `words`.
 fn argument_word<C: Contexts>(
     unit: &UnitInSlot<'_, C>,
     place: usize,
@@ -42,7 +43,8 @@ fn word_on_port(ports: [u32; 3], place: usize, words: &[u32]) -> u32
     words[ports[place] as usize]
 }
 
-/// Returns argument number `place` of the `count` arguments of `unit` in `turn`, with its `ports` among `words`; 0 past the last.
+/// Returns argument number `place` of the `count` arguments of `unit` in iteration `turn`, with its `ports` among
+/// `words`; 0 past the last.
 fn operand<C: Contexts>(
     unit: &UnitInSlot<'_, C>,
     count: u32,
@@ -62,7 +64,8 @@ fn operand<C: Contexts>(
     }
 }
 
-/// Begins what `unit` begins in `round` of a run of `n` turns from `image`, if anything, with its `ports` among `words`. Returns the result; a store waits in `effects` for the end of the cycle.
+/// Begins the operation, if any, of `unit` in `round` of a run of `n` iterations from `image`, with its `ports` among
+/// `words`. Returns the result; a store is pending in `effects` until the end of the cycle.
 fn begin<C: Contexts>(
     image: &Image,
     unit: &UnitInSlot<'_, C>,
@@ -103,7 +106,8 @@ fn begin<C: Contexts>(
     value
 }
 
-/// Begins the `units` of the cycle at `moment` in order, on `words`. Their results come to stand in the cycle's row of `history`, and their stores wait in `effects`.
+/// Begins the `units` of the cycle at `moment` in order, on `words`. Their results are written to the cycle's row of
+/// `history`, and their stores are pending in `effects`.
 pub(crate) fn begin_units<C: Contexts>(
     units: &[Terminals],
     contexts: &C,

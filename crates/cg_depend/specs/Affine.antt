@@ -1,4 +1,4 @@
--- Nodes whose value in every turn is a base and a stride times the turn, modulo 2^32.
+-- Nodes whose value in every turn is a base plus a stride times the turn, modulo 2^32.
 use Rattle.std.specs.Prelude.{ℕ, zero, suc, ◌+◌, ◌-◌, ◌*◌, ◌%◌, eqb, if◌then◌else◌, Bool, true, ◌&&◌, List, [], ◌∷◌, ◌++◌, Option, Some, None, slice_get, slice_index, slice_index_or}
 use Rattle.std.specs.Option.{option_or}
 use Rattle.cg_word.specs.declared.op.Op.{Op}
@@ -16,24 +16,24 @@ pair_of base stride = record { base = base; stride = stride }
 abbrev pub at_turn : AffinePair → ℕ → ℕ
 at_turn p i = (p.base + p.stride * i) % words
 
--- and x turns before turn 0
+-- the word of a pair x turns before turn 0
 abbrev pub ago : AffinePair → ℕ → ℕ
 ago p x = (p.base + (words - p.stride) * x) % words
 
 -- ---- operands
 
--- the first k initial words of an edge of distance d go on backwards as the pair does: initial word i is read in turn i, in
+-- the first k initial words of an edge of distance d continue the pair backwards: initial word i is read in turn i, in
 -- which the source would be d - i turns before turn 0
 abbrev pub suits : AffinePair → ℕ → List ℕ → ℕ → Bool
 suits p d init zero = true
 suits p d init (suc k) = eqb (slice_index init k) (ago p (d - k)) && suits p d init k
 
--- the pair of what is read d turns later
+-- the pair of a value that is read d turns later
 abbrev pub delayed : ℕ → List ℕ → Option AffinePair → Option AffinePair
 delayed d init None = None
 delayed d init (Some p) = if suits p d init d then Some (pair_of (ago p d) p.stride) else None
 
--- the pair of an operand, where `earlier` has those of the nodes before
+-- the pair of an operand, where `earlier` has the pairs of the nodes before
 abbrev pub operand_pair : List (Option AffinePair) → Operand → Option AffinePair
 operand_pair earlier (Constant c) = Some (pair_of c 0)
 operand_pair earlier (Edge u d init) = delayed d init (slice_index_or earlier u None)
@@ -48,7 +48,7 @@ arg_pair earlier operands p = pair_of_some earlier (slice_get operands p)
 
 -- ---- operations
 
--- sums and differences
+-- the pair of a sum or a difference
 abbrev pub line : Op → Option AffinePair → Option AffinePair → Option AffinePair
 line op (Some p) (Some q) = Some (pair_of (apply_of op p.base q.base 0) (apply_of op p.stride q.stride 0))
 line op _ _ = None
@@ -74,7 +74,7 @@ abbrev pub constant : Option Operand → Option ℕ
 constant (Some (Constant c)) = Some c
 constant _ = None
 
--- a node that begins with w and adds the constant c to itself, or takes it away, turn by turn
+-- the pair of a node that begins with w and adds the constant c to itself, or subtracts it, turn by turn
 abbrev pub climb : Option ℕ → Option ℕ → Option AffinePair
 climb (Some w) (Some c) = Some (pair_of (apply_of Add w c 0) c)
 climb _ _ = None

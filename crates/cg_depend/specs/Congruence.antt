@@ -9,11 +9,12 @@ Solves stride delta x = (stride * x) % 2 ^ 32 ≡ delta
 abbrev pub HasNone : ℕ → ℕ → ℕ → ℕ → Type 0
 HasNone stride delta least most = (x : ℕ) → least ≤ x → x < most → Solves stride delta x → ⊥
 
--- x is the least of these numbers that does
+-- x is the least of these numbers that solves it
 abbrev pub IsLeast : ℕ → ℕ → ℕ → ℕ → ℕ → Type 0
 IsLeast stride delta least most x = (least ≤ x) × (x < most) × Solves stride delta x × HasNone stride delta least x
 
--- a stride is an odd number times 2 to the `zeros`, and the odd number's inverse is known; or it is 0, and `zeros` is 32
+-- a stride is an odd number times 2 to the power `zeros`, and the odd number's inverse is known; or it is 0, and
+-- `zeros` is 32
 abbrev pub IsParted : ℕ → ℕ → ℕ → Type 0
 IsParted stride zeros inverse =
     ((stride ≡ 0) × (zeros ≡ 32)) ⊎ ((odd : ℕ) × (stride ≡ odd * 2 ^ zeros) × (zeros < 32) × ((odd * inverse) % 2 ^ 32 ≡ 1))

@@ -9,7 +9,8 @@ use Rattle.cg_model.specs.Limits.{most_order_distance, most_turns}
 use Rattle.cg_model.specs.Order.{Chain}
 use Rattle.cg_depend.specs.Affine.{AffinePair, address_pair}
 
--- a question: in which later turns, from `least` turns later on, may the target reach the word that the source reaches?
+-- a question: in which later turns, from `least` turns later on, may the target access the word that the source
+-- accesses?
 pub record Ask : Type 0 where
   pub source : ℕ
   pub target : ℕ
@@ -19,7 +20,7 @@ pub record Ask : Type 0 where
 abbrev pub conflict : Kernel → ℕ → ℕ → Bool
 conflict K u v = is_access (node K u).op && (is_access (node K v).op && (is_store (node K u).op || is_store (node K v).op))
 
--- a pair of them asks twice: v after u, in the same turn or later, and u after v, in a later turn
+-- the questions for a pair of nodes: v after u, in the same turn or later, and u after v, in a later turn
 abbrev pub asks_of : Kernel → ℕ → ℕ → List Ask
 asks_of K u v =
     if nat_lt u v && conflict K u v
@@ -36,12 +37,12 @@ pub record HaveOneStride (K : Kernel) (a : Ask) (p q : AffinePair) : Type 0 wher
   pub of_target : address_pair K a.target ≡ Some q
   pub one : p.stride ≡ q.stride
 
--- an address with pair q is x turns later what one with pair p is now
+-- an address with pair q is, x turns later, equal to one with pair p now
 abbrev pub Meets : AffinePair → AffinePair → ℕ → Type 0
 Meets p q x = (p.stride * x) % words ≡ apply_of Sub p.base q.base 0
 
--- the least number of turns after which the target may reach the source's word; None where it doesn't in any run. Where the
--- addresses have no pairs of one stride, any turn may be it
+-- the least number of turns after which the target may access the source's word; None where it doesn't in any run.
+-- Where the addresses have no pairs with one stride, this may be any turn
 pub data Gap (K : Kernel) (a : Ask) : Option ℕ → Type 0 where
   never : (p q : AffinePair) → HaveOneStride K a p q →
       ((x : ℕ) → a.least ≤ x → x < most_turns → Meets p q x → ⊥) → Gap K a None
@@ -49,11 +50,11 @@ pub data Gap (K : Kernel) (a : Ask) : Option ℕ → Type 0 where
       ((y : ℕ) → a.least ≤ y → y < x → Meets p q y → ⊥) → Gap K a (Some x)
   unknown : ((p q : AffinePair) → HaveOneStride K a p q → ⊥) → Gap K a (Some a.least)
 
--- how far an order edge goes for a gap
+-- the distance of an order edge for a gap
 abbrev pub distance_for : ℕ → ℕ
 distance_for g = min g most_order_distance
 
--- a chain of the kernel's own edges leads from u to v over at most that many turns
+-- a chain of the kernel's own edges leads from u to v over at most the given number of turns
 abbrev pub Within : Kernel → ℕ → ℕ → ℕ → Type 0
 Within K u v most = (d : ℕ) × Chain K u v d × (d ≤ most)
 
@@ -61,7 +62,8 @@ Within K u v most = (d : ℕ) × Chain K u v d × (d ≤ most)
 abbrev pub edge_for : Ask → ℕ → OrderEdge
 edge_for a g = record { from = a.source; to = a.target; distance = distance_for g }
 
--- the edges that are added for these questions: for each with a gap one, unless a chain orders the two as closely already
+-- the edges that are added for these questions: one for each question with a gap, unless a chain already orders the two
+-- nodes as closely
 pub data Added (K : Kernel) : List Ask → List OrderEdge → Type 0 where
   none : Added K [] []
   apart : {a : Ask} {rest : List Ask} {es : List OrderEdge} → Gap K a None → Added K rest es → Added K (a ∷ rest) es
@@ -74,7 +76,7 @@ pub data Added (K : Kernel) : List Ask → List OrderEdge → Type 0 where
 abbrev pub with_order : Kernel → List OrderEdge → Kernel
 with_order K es = record { nodes = K.nodes; order = K.order ++ es }
 
--- these are all the edges that K's accesses need beside its own
+-- these are all the edges that K's accesses need in addition to its own
 abbrev pub AreNeeded : Kernel → List OrderEdge → Type 0
 AreNeeded K es = Added K (asks K) es
 
@@ -82,7 +84,7 @@ AreNeeded K es = Added K (asks K) es
 abbrev pub IsDepend : Kernel → Kernel → Type 0
 IsDepend K K' = (es : List OrderEdge) × (K' ≡ with_order K es) × AreNeeded K es
 
--- with them K would have n order edges in all
+-- with the needed edges K would have n order edges in all
 abbrev pub NeedsOrder : Kernel → ℕ → Type 0
 NeedsOrder K n = (es : List OrderEdge) × AreNeeded K es × (n ≡ length K.order + length es)
 

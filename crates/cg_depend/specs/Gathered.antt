@@ -1,4 +1,4 @@
--- What the code keeps while it gathers the edges.
+-- The state of the code while it gathers the edges.
 use Rattle.std.specs.Prelude.{◌≡◌, ℕ, ◌+◌, ◌<◌, ◌≤◌, ◌++◌, Bool, true, false, List, [], ◌∷◌, length, Option, Some, None, option_map, slice_index_or}
 use Rattle.cg_model.specs.declared.kernel.OrderEdge.{OrderEdge}
 use Rattle.cg_word.specs.declared.op.Op.{Op}
@@ -25,7 +25,7 @@ role_by false false = Apart
 abbrev pub role_of : Op → Role
 role_of op = role_by (is_store op) (is_access op)
 
--- both access the memory, and one stores
+-- both access the memory, and at least one stores
 abbrev pub meet : Role → Role → Bool
 meet Apart other = false
 meet Loads Apart = false
@@ -62,8 +62,8 @@ pub record Gains (es : List OrderEdge) (old new : Needed) : Type 0 where
 abbrev pub Answers : Kernel → List Ask → Needed → Needed → Type 0
 Answers K qs old new = (es : List OrderEdge) × Added K qs es × Gains es old new
 
--- these questions of the kernel were asked: the number of its order edges and those that answer them is known, and where there
--- are few enough, those that do
+-- these questions of the kernel were asked: the total number of its order edges and of the edges that answer them is
+-- known, and, unless there are too many, the edges that answer them
 pub record IsGathered (K : Kernel) (qs : List Ask) (needed : Needed) : Type 0 where
   pub edges : List OrderEdge
   pub are : Added K qs edges

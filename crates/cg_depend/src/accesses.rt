@@ -1,4 +1,4 @@
-//! The accesses of a kernel: which edge a pair of them needs.
+//! The accesses of a kernel, and the edge that a pair of them needs.
 ghost use Rattle.std.specs.Prelude.{◌≡◌, ◌<◌, ◌≤◌, ◌↔◌, IfOk, IsTrue, option_map, Some};
 ghost use Rattle.cg_model.specs.Kernel.{Kernel as KernelValue, size};
 ghost use Rattle.cg_depend.specs.Affine.{address_pair};
@@ -13,7 +13,7 @@ use cg_word::Op;
 use std::alloc::{AllocError, Global};
 use std::marker::Model;
 
-/// The address of an access that has a pair: its base, and its stride as `gap` takes it.
+/// The address of an access that has a pair: its base, and its stride in the form that `gap` takes.
 #[derive(Drop)]
 pub(crate) struct Address {
     pub base: u32,
@@ -82,7 +82,7 @@ impl<'k> Accesses<'k> {
         self.kernel.nodes().len()
     }
 
-    /// Tells whether the node `u` accesses the memory.
+    /// Returns whether the node `u` accesses the memory.
     pub fn is_access(&self, u: u32) -> bool
         requires { u < size self.now }
         ensures { result ≡ is_access (node self.now u).op }
@@ -90,7 +90,7 @@ impl<'k> Accesses<'k> {
         self.kernel.nodes()[u as usize].op.is_access()
     }
 
-    /// Tells whether the nodes `u` and `v` access the memory and at least one of them stores.
+    /// Returns whether the nodes `u` and `v` access the memory and at least one of them stores.
     pub fn conflict(&self, u: u32, v: u32) -> bool
         requires u { u < size self.now }
         requires v { v < size self.now }
@@ -99,8 +99,8 @@ impl<'k> Accesses<'k> {
         meet(self.roles[u as usize], self.roles[v as usize])
     }
 
-    /// Returns the edge that is to be added so that `to` comes after `from` wherever it reaches the same word, `least`
-    /// turns later or more; None where none is needed.
+    /// Returns the edge to be added so that `to` comes after `from` wherever it accesses the same word, `least` turns
+    /// later or more; None where none is needed.
     pub fn edge(&self, from: u32, to: u32, least: u32) -> Option<OrderEdge>
         requires from { from < size self.now }
         requires to { to < size self.now }
@@ -133,7 +133,7 @@ fn roles_of(alloc: Global, kernel: &Kernel) -> Result<Vec<Role>, AllocError>
     Ok(roles)
 }
 
-/// Returns the role of a node of the operation `op`.
+/// Returns the role of a node with the operation `op`.
 fn role_of(op: Op) -> Role
     ensures { result ≡ role_of op }
 {
@@ -146,7 +146,7 @@ fn role_of(op: Op) -> Role
     }
 }
 
-/// Tells whether two nodes of the roles `one` and `other` both access the memory, and at least one of them stores.
+/// Returns whether two nodes of the roles `one` and `other` both access the memory, and at least one of them stores.
 fn meet(one: Role, other: Role) -> bool
     ensures { result ≡ meet one other }
 {
@@ -156,7 +156,7 @@ fn meet(one: Role, other: Role) -> bool
     }
 }
 
-/// Returns how far an order edge goes for a gap of `gap` turns.
+/// Returns the distance of an order edge for a gap of `gap` turns.
 fn distance_for(gap: u32) -> u32
     ensures { result ≡ distance_for gap }
 {
@@ -175,7 +175,7 @@ fn addresses_of(alloc: Global, kernel: &Kernel) -> Result<Vec<Option<Address>>, 
     Ok(addresses)
 }
 
-/// Returns the address of the node of number `node`, None where it has no pair.
+/// Returns the address of node number `node`, None where it has no pair.
 fn address_at(table: &AffineTable, node: u32) -> Option<Address>
     requires { node < size table.now }
     ensures { option_map pair_in result ≡ address_pair table.now node }
@@ -189,8 +189,8 @@ fn address_at(table: &AffineTable, node: u32) -> Option<Address>
     }
 }
 
-/// Returns the least number of turns, from `least` on, after which an access at `to` may reach the word of one at `from`;
-/// None where it doesn't in any run.
+/// Returns the least number of turns, from `least` on, after which an access at `to` may access the word of one at
+/// `from`; None where it doesn't in any run.
 fn gap_between(from: &Option<Address>, to: &Option<Address>, least: u32) -> Option<u32>
     requires { least ≤ 1 }
     ensures { (K : KernelValue) (a : Ask) → address_pair K a.source ≡ option_map pair_in from.now → address_pair K a.target ≡ option_map pair_in to.now → a.least ≡ least → Gap K a result }
@@ -201,8 +201,8 @@ fn gap_between(from: &Option<Address>, to: &Option<Address>, least: u32) -> Opti
     }
 }
 
-/// Returns the least number of turns, from `least` on, after which an access at `to` reaches the word of one at `from`, both
-/// with pairs. Where their strides differ it is `least`; None where they don't meet in any run.
+/// Returns the least number of turns, from `least` on, after which an access at `to` accesses the word of one at
+/// `from`, both with pairs. Where their strides differ it is `least`; None where they don't meet in any run.
 fn address_gap(from: &Address, to: &Address, least: u32) -> Option<u32>
     requires { least ≤ 1 }
     ensures { (K : KernelValue) (a : Ask) → address_pair K a.source ≡ Some (pair_in from.now) → address_pair K a.target ≡ Some (pair_in to.now) → a.least ≡ least → Gap K a result }
@@ -213,7 +213,7 @@ fn address_gap(from: &Address, to: &Address, least: u32) -> Option<u32>
     gap(&from.stride, from.base.wrapping_sub(to.base), least)
 }
 
-/// Tells whether a chain leads from `from` to `to` over at most `most` turns.
+/// Returns whether a chain leads from `from` to `to` over at most `most` turns.
 fn is_within(table: &DistanceTable, from: u32, to: u32, most: u32) -> bool
     ensures { IsTrue result ↔ Within table.now from to most }
 {

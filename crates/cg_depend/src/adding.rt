@@ -1,4 +1,4 @@
-//! The order edges that a kernel's accesses need, added to it.
+//! Adds the order edges that a kernel's accesses need.
 ghost use Rattle.std.specs.Prelude.{◌≡◌, ◌≢◌, ◌≤◌, ◌<◌, ◌+◌, ℕ, Err, IfOk, IfErr, length};
 ghost use Rattle.cg_model.specs.Kernel.{IsKernel};
 ghost use Rattle.cg_model.specs.Order.{IsUnaliased};
@@ -15,14 +15,14 @@ use std::alloc::{AllocError, Global};
 /// A kernel with the order edges that its accesses need.
 #[derive(Drop)]
 pub struct DependDone {
-    /// The kernel. Its order edges are those it had, and after them the added ones.
+    /// The kernel. Its order edges are the original ones, followed by the added ones.
     pub kernel: Kernel,
-    /// How many were added.
+    /// The number of added edges.
     pub added: u32,
 }
 
-/// Returns a copy of `kernel` with the order edges that its accesses need beside its own: those with which no run of at
-/// most 1,000,000 turns, on any image, leaves two accesses to one word unordered of which one is a store.
+/// Returns a copy of `kernel` with the order edges that its accesses need in addition to its own: with these edges, no
+/// run of at most 1,000,000 turns, on any image, has two unordered accesses to one word of which one is a store.
 ///
 /// `docs/dependence.md` says which edges these are.
 ///
@@ -35,7 +35,8 @@ pub fn depend(alloc: Global, kernel: &Kernel) -> Result<DependDone, DependFault>
     ensures begins { IfOk result (λ d. BeginsWith kernel.now d.kernel) }
     ensures same { IfOk result (λ d. (n : ℕ) (image : Image) → turns_left d.kernel n image ≡ turns_left kernel.now n image) }
     ensures unaliased { IfOk result (λ d. (n : ℕ) (image : Image) → n ≤ 1000000 → IsUnaliased d.kernel n image) }
-    // But for running out of memory it is refused exactly where there would be more than 4,096 order edges, with their number.
+    // Unless memory runs out, it is refused exactly where there would be more than 4,096 order edges, with their
+    // number.
     ensures many { (n : ℕ) → result ≡ Err (DependFault.TooManyEdges n) → NeedsOrder kernel.now n × (4096 < n) }
     ensures fits { IfOk result (λ d. (n : ℕ) → NeedsOrder kernel.now n → n ≤ 4096) }
     ensures few { IfOk result (λ d. length d.kernel.order ≤ 4096) }

@@ -10,7 +10,7 @@ use thiserror::Error;
 pub enum DependFault {
     #[error("memory ran out")]
     Memory,
-    /// With the edges that its accesses need the kernel would have more than 4,096 order edges: how many.
+    /// With the edges that its accesses need the kernel would have more than 4,096 order edges: their number.
     #[error("{0} order edges")]
     TooManyEdges(usize),
 }
@@ -26,7 +26,7 @@ impl From<AllocError> for DependFault {
     }
 }
 
-/// Returns code, name and place of `fault`, as `Y1 TooManyEdges order 4160`. Out of memory has none of them.
+/// Returns code, name and place of `fault`, for example `Y1 TooManyEdges order 4160`. Out of memory has none of them.
 pub fn depend_fault_text(alloc: Global, fault: DependFault) -> Result<String, AllocError>
     ensures { IfOk result (λ s. string_bytes s ≡ depend_fault_text fault) }
 {

@@ -4,7 +4,8 @@ ghost use Rattle.cg_depend.specs.Congruence.{HasNone, IsLeast};
 
 use std::marker::Model;
 
-/// A stride with the power of two in it and the inverse of its odd part, which `gap` needs. Contracts see it as the stride.
+/// A stride with the power of two in it and the inverse of its odd part, which `gap` needs. Contracts see it as the
+/// stride.
 #[derive(Debug, Drop)]
 pub(crate) struct Stride {
     stride: u32,
@@ -35,7 +36,7 @@ impl Stride {
     }
 }
 
-/// Returns the inverse of `odd` modulo 2^32, one bit after the other.
+/// Returns the inverse of `odd` modulo 2^32, computed bit by bit.
 fn inverse(odd: u64) -> u64
     requires word { odd < 2 ^ 32 }
     requires odd { odd % 2 ≡ 1 }
@@ -73,7 +74,8 @@ pub(crate) fn parted(stride: u32) -> Stride
     }
 }
 
-/// Returns the least number from `least` on and below 1,000,000 that times `stride` is `delta`, modulo 2^32.
+/// Returns the least number that is at least `least` and below 1,000,000 and whose product with `stride` is `delta`,
+/// modulo 2^32.
 pub(crate) fn gap(stride: &Stride, delta: u32, least: u32) -> Option<u32>
     requires { least ≤ 1 }
     ensures { MatchOption result (HasNone stride.now delta least 1000000) (IsLeast stride.now delta least 1000000) }

@@ -1,4 +1,4 @@
-//! The edges that a kernel's accesses need, gathered pair by pair.
+//! Gathers the edges that a kernel's accesses need, pair by pair.
 ghost use Rattle.std.specs.Prelude.{◌≡◌, ◌+◌, ◌*◌, ◌^◌, ◌<◌, ◌≤◌, ◌∷◌, [], IfOk, OnOk, flat_map};
 ghost use Rattle.std.specs.List.{range_with_len};
 ghost use Rattle.cg_model.specs.Kernel.{IsKernel, size};
@@ -9,12 +9,12 @@ use crate::accesses::Accesses;
 use cg_model::{Kernel, MOST_ORDER_EDGES, OrderEdge};
 use std::alloc::{AllocError, Global};
 
-/// The edges that are needed beside a kernel's own.
+/// The edges that are needed in addition to a kernel's own.
 #[derive(Drop)]
 pub(crate) struct Needed {
-    /// The edges in order; those with which the kernel would have more than 4,096 are counted alone.
+    /// The edges in order; edges that bring the kernel above 4,096 order edges are only counted.
     pub edges: Vec<OrderEdge>,
-    /// How many order edges the kernel would have with all of them.
+    /// The number of order edges of the kernel with all of them.
     pub total: usize,
 }
 
@@ -22,7 +22,7 @@ impl Needed {
     ghost use Rattle.std.specs.Prelude.{◌+◌, ◌^◌, ◌<◌, ◌≤◌, ◌∷◌, [], OnOk};
     ghost use Rattle.cg_depend.specs.Gathered.{Gains};
 
-    /// Counts `edge`, and keeps it while there are few enough.
+    /// Counts `edge`, and keeps it unless there are too many.
     fn add(&mut self, edge: OrderEdge) -> Result<(), AllocError>
         requires { self.old.total < 2 ^ 32 }
         ensures gains { OnOk result (Gains (edge ∷ []) self.old self.new) }
@@ -36,7 +36,7 @@ impl Needed {
     }
 }
 
-/// Adds to `needed` the edge, if any, that puts accesses of `to` after those of `from`, `least` turns later or more.
+/// Adds to `needed` the edge, if any, that orders accesses of `to` after those of `from`, `least` turns later or more.
 fn add_edge(
     accesses: &Accesses,
     from: u32,

@@ -1,4 +1,4 @@
-//! Nodes whose value in every turn is a base and a stride times the turn.
+//! Nodes whose value in every turn is a base plus a stride times the turn.
 ghost use Rattle.std.specs.Prelude.{◌≡◌, IfOk, None, Some, slice_get, slice_index, slice_index_or};
 ghost use Rattle.cg_model.specs.Kernel.{IsWired, size};
 ghost use Rattle.cg_depend.specs.Affine as spec;
@@ -13,7 +13,7 @@ use std::marker::Model;
 pub struct AffinePair {
     /// The value in turn 0.
     pub base: u32,
-    /// How much it grows from turn to turn; above 2^31 it falls.
+    /// The increment from turn to turn; above 2^31 it is a decrease.
     pub stride: u32,
 }
 
@@ -87,7 +87,7 @@ fn all_pairs(alloc: Global, kernel: &Kernel) -> Result<Vec<Option<AffinePair>>, 
     Ok(pairs)
 }
 
-/// Returns the pair of `node`, which has that number and comes after the nodes of the pairs `earlier`.
+/// Returns the pair of `node`, which is number `number` and comes after the nodes of the pairs `earlier`.
 fn pair_by(number: usize, earlier: &[Option<AffinePair>], node: &Node) -> Option<AffinePair>
     ensures { result ≡ spec.pair_by number earlier.now node.now.operands node.now.op }
 {
@@ -278,7 +278,8 @@ fn operand_pair(earlier: &[Option<AffinePair>], operand: &Operand) -> Option<Aff
     }
 }
 
-/// Returns the pair of what is read `distance` turns after it had the pair `source`, with the words of `init` before that.
+/// Returns the pair of what is read `distance` turns after the source, which has the pair `source`, with the words of
+/// `init` before that.
 fn delayed(distance: u32, init: &[u32], source: Option<AffinePair>) -> Option<AffinePair>
     ensures { result ≡ spec.delayed distance init.now source }
 {
@@ -293,7 +294,7 @@ fn delayed(distance: u32, init: &[u32], source: Option<AffinePair>) -> Option<Af
     }
 }
 
-/// Tells whether the words of `init` go on backwards as `pair` does, over `distance` turns before turn 0.
+/// Returns whether the words of `init` continue `pair` backwards, over `distance` turns before turn 0.
 fn suits(pair: AffinePair, distance: u32, init: &[u32]) -> bool
     ensures { result ≡ spec.suits pair distance init.now distance }
 {
@@ -305,7 +306,7 @@ fn suits(pair: AffinePair, distance: u32, init: &[u32]) -> bool
     true
 }
 
-/// Returns the word of `pair` that many turns before turn 0.
+/// Returns the word of `pair` at `turns` turns before turn 0.
 fn ago(pair: AffinePair, turns: u32) -> u32
     ensures { result ≡ spec.ago pair turns }
 {

@@ -27,7 +27,7 @@ impl<'k> DistanceTable<'k> {
     ghost use Rattle.std.specs.Prelude.{IfSome, IfNone};
     ghost use Rattle.cg_distance.specs.Least.{IsLeast, HasNoChain};
 
-    /// The least total distance of a non-empty chain of edges from one node to another, of data and of order.
+    /// Returns the least total distance of a non-empty chain of data and order edges from node `from` to node `to`.
     pub fn get(&self, from: u32, to: u32) -> Option<u32>
         ensures least { IfSome result (IsLeast self.now from to) }
         ensures none { IfNone result (HasNoChain self.now from to) }
@@ -43,7 +43,7 @@ impl<'k> DistanceTable<'k> {
 
 ghost use Rattle.std.specs.Prelude.{◌≡◌, IfOk};
 
-/// The least total distances of the chains of a kernel's edges.
+/// Returns the least total distances of the chains of the edges of `kernel`.
 pub fn min_distance<'k>(alloc: Global, kernel: &'k Kernel) -> Result<DistanceTable<'k>, AllocError>
     ensures { IfOk result (λ t. t ≡ kernel.now) }
 {

@@ -1,4 +1,4 @@
-//! The links of a kernel, its data and order edges, by the node that they leave.
+//! The links of a kernel, which are its data and order edges, by the node that they leave.
 ghost use Rattle.std.specs.Prelude.{◌≡◌, ◌<◌, ◌+◌, ◌∷◌, ◌++◌, [], IfOk, OnOk, length, replicate, slice_set};
 ghost use Rattle.cg_model.specs.Kernel.{size};
 ghost use Rattle.cg_model.specs.Order.{Links};
@@ -7,14 +7,14 @@ ghost use Rattle.cg_distance.specs.Leaving.{HasLinks, Seen, leaving};
 use cg_model::{Items, Kernel, Operand};
 use std::alloc::{AllocError, Global};
 
-/// A link to a node, at its end where it leaves another.
+/// A link to a node, as kept at the node that it leaves.
 #[derive(Clone, Copy, Drop)]
 pub(crate) struct Link {
     pub to: u32,
     pub distance: u32,
 }
 
-/// The links that leave each node.
+/// Returns the links that leave each node.
 pub(crate) fn links(alloc: Global, kernel: &Kernel) -> Result<Vec<Items<Link>>, AllocError>
     ensures { IfOk result (λ t. HasLinks (size kernel.now) (Links kernel.now) t.items) }
 {
@@ -38,7 +38,7 @@ fn no_links(alloc: Global, count: usize) -> Result<Vec<Items<Link>>, AllocError>
     Ok(lists)
 }
 
-/// Adds a link to those that leave a node.
+/// Adds `link` to those that leave node `from`.
 fn add_link(lists: &mut [Items<Link>], from: usize, link: Link) -> Result<(), AllocError>
     requires { from < length lists.old }
     ensures { OnOk result (lists.new ≡ slice_set lists.old from (leaving lists.old from ++ link ∷ [])) }
@@ -47,7 +47,7 @@ fn add_link(lists: &mut [Items<Link>], from: usize, link: Link) -> Result<(), Al
     Ok(())
 }
 
-/// Adds the data edges into a node.
+/// Adds the data edges into node `to`.
 fn add_operands(kernel: &Kernel, to: usize, lists: &mut [Items<Link>]) -> Result<(), AllocError>
     requires to { to < size kernel.now }
     requires lists { HasLinks (size kernel.now) (Seen kernel.now to 0 0) lists.old }

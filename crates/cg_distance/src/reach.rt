@@ -1,4 +1,4 @@
-//! The totals that a search has found so far, and the nodes that wait for it to go on from them.
+//! The totals that a search has found so far, and the nodes that wait to be continued from.
 ghost use Rattle.std.specs.Prelude.{◌≡◌, ◌<◌, IfOk, OnOk, None, length, replicate};
 ghost use Rattle.std.specs.BinaryHeap.{heap_items};
 ghost use Rattle.cg_distance.specs.Found.{nearer, Takes, OnlyAt};
@@ -7,7 +7,7 @@ use std::alloc::{AllocError, Global};
 use std::cmp::Reverse;
 use std::collections::BinaryHeap;
 
-/// A node that a chain of that total distance reaches. Two of them compare as their totals do.
+/// A node that a chain of that total distance reaches. Values are compared by their totals.
 #[derive(Clone, Copy, Drop)]
 #[derive_where(PartialEq, Eq, PartialOrd, Ord)]
 pub(crate) struct Reached {
@@ -27,7 +27,7 @@ pub(crate) fn no_totals(alloc: Global, count: usize) -> Result<Vec<Option<u32>>,
     Ok(totals)
 }
 
-/// Whether a total is less than the one that is known, or none is known.
+/// Returns whether `total` is less than the known total, or none is known.
 fn is_nearer(total: u32, known: Option<u32>) -> bool
     ensures { result ≡ nearer total known }
 {
@@ -37,7 +37,7 @@ fn is_nearer(total: u32, known: Option<u32>) -> bool
     }
 }
 
-/// Takes a total for a node where it is nearer than the one that is known, and lets the node wait.
+/// Records a total for a node if it is less than the known one, and queues the node.
 pub(crate) fn reach(
     reached: Reached,
     totals: &mut [Option<u32>],

@@ -1,4 +1,4 @@
-//! The search from a node: the least total distances of the chains that leave it.
+//! The search from a node: the least total distances of the chains that leave the node.
 ghost use Rattle.std.specs.Prelude.{◌<◌, IfOk, OnOk, All, length};
 ghost use Rattle.std.specs.BinaryHeap.{heap_items};
 ghost use Rattle.cg_model.specs.Kernel.{size};
@@ -14,7 +14,7 @@ use std::alloc::{AllocError, Global};
 use std::cmp::Reverse;
 use std::collections::BinaryHeap;
 
-/// Goes over the links that leave a node which was reached at that total.
+/// Follows the links that leave a node, which was reached at that total.
 fn leave(
     links: &[Link],
     total: u32,
@@ -37,7 +37,7 @@ fn leave(
     Ok(())
 }
 
-/// Goes on from a node that waited, unless a lesser total was found for it since.
+/// Continues from a node that waited, unless a smaller total was found for it since.
 fn go_on(
     links: &[Link],
     reached: Reached,
@@ -54,7 +54,7 @@ fn go_on(
     Ok(())
 }
 
-/// The least total distances of the chains that leave a node.
+/// Returns the least total distances of the chains that leave a node.
 fn totals_from(
     alloc: Global,
     kernel: &Kernel,
@@ -75,7 +75,7 @@ fn totals_from(
     Ok(Items::new(totals))
 }
 
-/// The least total distances of the chains that leave each node.
+/// Returns the least total distances of the chains that leave each node.
 pub(crate) fn all_totals(
     alloc: Global,
     kernel: &Kernel,

@@ -1,7 +1,7 @@
--- Where the resources and the units of an array of tiles stand in a panel, in pixels: each resource is a chip of 33 by 12,
--- each unit a box of 84 by 36. A tile has its wires at the top, its registers at the bottom, four in a row; its units between
--- them, one below the other, each with its ports at the left and its out at the right. Tiles stand in a grid, 30 pixels apart,
--- with 34 pixels round it.
+-- The places of the resources and the units of an array of tiles in a panel, in pixels: each resource is a chip of 33
+-- by 12, each unit a box of 84 by 36. A tile has its wires at the top, its registers at the bottom, four in a row; its
+-- units between them, one below the other, each with its ports at the left and its out at the right. Tiles form a grid,
+-- 30 pixels apart, with a margin of 34 pixels.
 use Rattle.std.specs.Prelude.{ℕ, ◌+◌, ◌*◌, ◌/◌, ◌%◌, Bool, ◌&&◌, ◌||◌, eqb, nat_lt, length, unwrap_or, if◌then◌else◌}
 use Rattle.std.specs.List.{list_any}
 use Rattle.cg_model.specs.First.{first_from}
@@ -35,7 +35,7 @@ holder A r = unwrap_or (first_from (λ x u. holds r u) 0 A.units) 0
 abbrev pub port_number : ℕ → Unit → ℕ
 port_number r u = unwrap_or (first_from (λ p q. eqb q r) 0 u.ports) 0
 
--- the most resources of a kind in a tile
+-- the greatest number of resources of a kind in a tile
 abbrev pub most_of : Arch → Kind → ℕ
 most_of A kind = greatest_below (λ r. if same_kind (resource A r).kind kind then rank A r + 1 else 0) (length A.resources)
 
@@ -48,11 +48,11 @@ frame_of A = record {
   registers = most_of A Register;
 }
 
--- the rows of n chips
+-- the number of rows of n chips
 abbrev pub chip_rows : ℕ → ℕ
 chip_rows n = (n + 3) / 4
 
--- where a tile's units and its registers begin, and where it ends
+-- where a tile's units begin, where its registers begin, and where it ends
 abbrev pub units_top : Frame → ℕ
 units_top F = 18 + 15 * chip_rows F.wires
 
@@ -66,11 +66,11 @@ tile_height F = registers_top F + 15 * chip_rows F.registers + 5
 abbrev pub corner : Frame → ℕ → Spot
 corner F t = record { x = 34 + 200 * column_of t; y = 34 + (tile_height F + 30) * row_of t }
 
--- x pixels to the right of a place and y below it
+-- the place x pixels to the right of a place and y pixels below it
 abbrev pub beyond : Spot → ℕ → ℕ → Spot
 beyond s x y = record { x = s.x + x; y = s.y + y }
 
--- chip k of those in rows that begin at y
+-- chip number k in rows that begin at y
 abbrev pub in_rows : Spot → ℕ → ℕ → Spot
 in_rows s y k = beyond s (8 + 39 * (k % 4)) (y + 15 * (k / 4))
 

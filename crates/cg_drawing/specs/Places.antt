@@ -1,4 +1,4 @@
--- What is kept of an array of tiles: the tile of each resource, and the places of resources and units.
+-- The data of an array of tiles: the tile of each resource, and the places of resources and units.
 use Rattle.std.specs.Prelude.{◌≡◌, ℕ, ◌<◌, ◌≤◌, ◌^◌, true, List, slice_index, slice_index_or}
 use Rattle.cg_model.specs.Array.{Arch}
 use Rattle.cg_drawing.specs.Tiles.{is_tiled, tile_of}
@@ -13,7 +13,7 @@ pub record AreTiles (A : Arch) (tiles : List ℕ) : Type 0 where
 abbrev pub nowhere : Spot
 nowhere = record { x = 0; y = 0 }
 
--- a place whose sums with what is small fit
+-- a place near enough to the corner that sums with small numbers don't overflow
 abbrev pub IsNear : Spot → Type 0
 IsNear s = (s.x < 2 ^ 14) × (s.y < 2 ^ 28)
 
@@ -34,7 +34,7 @@ pub record AreBoxes (A : Arch) (F : Frame) (spots : List Spot) : Type 0 where
 abbrev pub IsGrid : Frame → Type 0
 IsGrid F = (F.rows ≤ 32) × (F.columns ≤ 32)
 
--- what is kept of an array
+-- the data of an array
 pub record ArePlaces (A : Arch) (F : Frame) (chips squares : List Spot) : Type 0 where
   pub frame : F ≡ frame_of A
   pub grid : IsGrid F

@@ -1,4 +1,4 @@
--- The tiles that the names of an array's resources say, by number: the tiles of a row are one behind the other.
+-- The tiles in the names of an array's resources, by number: the tiles of a row have consecutive numbers.
 use Rattle.std.specs.Prelude.{ℕ, ◌/◌, ◌%◌, Bool, List, [], ◌∷◌, ◌++◌, map, length, nat_eq, nat_lt, Option, is_some, unwrap_or, if◌then◌else◌, codes, decimal}
 use Rattle.std.specs.List.{list_all, starts_with}
 use Rattle.cg_model.specs.First.{first_from}
@@ -16,14 +16,14 @@ row_of t = t / 32
 abbrev pub column_of : ℕ → ℕ
 column_of t = t % 32
 
--- how the names of a tile's resources begin, as `r0c1_`
+-- the prefix of the names of a tile's resources, as `r0c1_`
 abbrev pub tile_prefix : ℕ → List ℕ
 tile_prefix t = codes "r" ++ (decimal (row_of t) ++ (codes "c" ++ (decimal (column_of t) ++ codes "_")))
 
 unfoldable pub prefixes : List (List ℕ)
 prefixes = lists_below (λ t. tile_prefix t ∷ []) most_tiles
 
--- the tile that a name says
+-- the tile of a name
 abbrev pub tile_in : List ℕ → Option ℕ
 tile_in name = first_from (λ t prefix. starts_with nat_eq name prefix) 0 prefixes
 
@@ -31,7 +31,7 @@ tile_in name = first_from (λ t prefix. starts_with nat_eq name prefix) 0 prefix
 abbrev pub tiles_in : List Resource → List (Option ℕ)
 tiles_in rs = map (λ (r : Resource). tile_in r.name) rs
 
--- each resource's name says a tile
+-- the name of each resource has a tile
 abbrev pub is_tiled : Arch → Bool
 is_tiled A = list_all is_some (tiles_in A.resources)
 

@@ -1,6 +1,7 @@
--- The way of a line from the chip of a resource to that of one that it drives: it leaves its chip at the right and comes in at
--- the left. To a column further to the right it is a curve; back it goes between the tiles, so that no box is in its way; where
--- it is shorter round the edge of the panel, it leaves the panel and comes in on the other side.
+-- The way of a line from the chip of a resource to that of a resource that it drives: it leaves its chip at the right
+-- and arrives at the left. To a column further to the right it is a curve; back to the left it goes between the tiles,
+-- so that it crosses no box; where it is shorter around the edge of the panel, it leaves the panel and comes in on the
+-- other side.
 use Rattle.std.specs.Prelude.{ℕ, ◌+◌, ◌-◌, ◌*◌, ◌/◌, ◌%◌, max, min, Bool, ◌&&◌, eqb, nat_lt, List, ◌++◌, if◌then◌else◌, codes, decimal}
 use Rattle.cg_model.specs.declared.array.Kind.{Kind}
 use Rattle.cg_model.specs.declared.array.Kind.TheVariants.{Wire, Register, Port, Out}
@@ -24,7 +25,7 @@ below F t k = (corner F t).y + tile_height F + 6 + 3 * k
 abbrev pub beside : Frame → ℕ → ℕ → ℕ
 beside F t k = (corner F t).x + 176 + 3 * k
 
--- where a way leaves its tile, and where it comes to the other
+-- where a way leaves its tile, and where it enters the other tile
 abbrev pub exit_by : Frame → ℕ → ℕ → ℕ → Kind → ℕ
 exit_by F t k y Out = y
 exit_by F t k y Register = below F t k
@@ -63,29 +64,29 @@ bends_by F k from to = record {
 abbrev pub bends : Arch → Frame → ℕ → ℕ → ℕ → Bends
 bends A F v q r = bends_by F (lane v) (chip A F q) (chip A F r)
 
--- a curve from s, first towards one point, and to f, at last from one
+-- the beginning of a curve from s towards a point, and the end of a curve to f from a point
 abbrev pub departure : Spot → ℕ → ℕ → List ℕ
 departure s x y = codes "M" ++ (decimal s.x ++ (codes " " ++ (decimal s.y ++ (codes "C" ++ (decimal x ++ (codes " " ++ (decimal y ++ codes " ")))))))
 
 abbrev pub arrival : Spot → ℕ → ℕ → List ℕ
 arrival f x y = decimal x ++ (codes " " ++ (decimal y ++ (codes " " ++ (decimal f.x ++ (codes " " ++ decimal f.y)))))
 
--- a curve that begins and ends level, m pixels long on both sides
+-- a curve that begins and ends horizontally, m pixels long on both sides
 abbrev pub curve : Spot → Spot → ℕ → List ℕ
 curve s f m = departure s (s.x + m) s.y ++ arrival f (f.x - m) f.y
 
--- from a chip to itself, over it
+-- the way from a chip to itself, above it
 abbrev pub circuit : Spot → Spot → List ℕ
 circuit s f = departure s (s.x + 12) (s.y - 14) ++ arrival f (f.x - 12) (s.y - 14)
 
--- the first bends, and the last
+-- the first bends of a way, and the last
 abbrev pub leaving : Bends → List ℕ
 leaving b = codes "M" ++ (decimal b.start.x ++ (codes " " ++ (decimal b.start.y ++ (codes "H" ++ (decimal b.turn ++ (codes "V" ++ decimal b.exit))))))
 
 abbrev pub coming : Bends → List ℕ
 coming b = codes "V" ++ (decimal b.finish.y ++ (codes "H" ++ decimal b.finish.x))
 
--- between the tiles
+-- the part of a way that goes to the gap between the tiles, and up or down in it
 abbrev pub aisle : Bends → List ℕ
 aisle b = codes "H" ++ (decimal b.gap ++ (codes "V" ++ decimal b.entry))
 
@@ -95,7 +96,7 @@ passage b = if eqb b.exit b.entry then codes "" else aisle b
 abbrev pub back : Bends → List ℕ
 back b = leaving b ++ (passage b ++ (codes "H" ++ (decimal b.last ++ coming b)))
 
--- over the right edge, the left, the upper and the lower
+-- the way over the right edge, the left, the upper and the lower
 abbrev pub over_right : Frame → Bends → List ℕ
 over_right F b =
     codes "M" ++ (decimal b.start.x ++ (codes " " ++ (decimal b.start.y ++ (codes "H" ++ (decimal (panel_width F) ++ (codes "M0 " ++ (decimal b.finish.y ++
@@ -113,7 +114,7 @@ abbrev pub over_bottom : Frame → Bends → List ℕ
 over_bottom F b =
     leaving b ++ (codes "H" ++ (decimal b.gap ++ (codes "V" ++ (decimal (panel_height F) ++ (codes "M" ++ (decimal b.last ++ (codes " 10" ++ coming b)))))))
 
--- of n rows or columns it is shorter round the edge from a to b
+-- among n rows or columns the way from a to b is shorter around the edge
 abbrev pub is_round : ℕ → ℕ → ℕ → Bool
 is_round n a b = nat_lt 2 n && nat_lt n (2 * (max a b - min a b))
 
@@ -123,20 +124,20 @@ round_columns F a b bends = if nat_lt b a then over_right F bends else over_left
 abbrev pub round_rows : Frame → ℕ → ℕ → Bends → List ℕ
 round_rows F a b bends = if nat_lt a b then over_top F bends else over_bottom F bends
 
--- from one tile to another inside the panel
+-- the way from one tile to another inside the panel
 abbrev pub inside : ℕ → ℕ → Bends → List ℕ
 inside t u b =
     if nat_lt (column_of t) (column_of u) then curve b.start b.finish (if eqb (row_of t) (row_of u) then 24 else 40)
     else back b
 
--- from one tile to another
+-- the way from one tile to another
 abbrev pub across : Frame → ℕ → ℕ → Bends → List ℕ
 across F t u b =
     if is_round F.columns (column_of t) (column_of u) then round_columns F (column_of t) (column_of u) b
     else (if is_round F.rows (row_of t) (row_of u) then round_rows F (row_of t) (row_of u) b
     else inside t u b)
 
--- within a tile
+-- the way within a tile
 abbrev pub within : Bends → List ℕ
 within b = curve b.start b.finish (if nat_lt b.start.x b.finish.x then 6 else 14)
 

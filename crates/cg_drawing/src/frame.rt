@@ -1,4 +1,4 @@
-//! How much room the tiles of an array take.
+//! The room that the tiles of an array need.
 
 use crate::spot::Frame;
 use crate::tiled::{Tiled, same_kind};
@@ -37,7 +37,8 @@ impl<'a> Tiled<'a> {
         most
     }
 
-    /// Returns the number of resources of `kind` in the tile of `resource` up to it, where it is of that kind, and else 0.
+    /// Returns the number of resources of `kind` in the tile of `resource` up to and including it, where it is of that
+    /// kind, and else 0.
     fn number_in_kind(&self, resource: u32, kind: Kind) -> u32
         requires { resource < 4096 }
         ensures value { result ≡ (if counts.same_kind (resource_of self.now resource).kind kind then spec.rank self.now resource + 1 else 0) }
@@ -50,7 +51,7 @@ impl<'a> Tiled<'a> {
         }
     }
 
-    /// Returns the most resources of `kind` in a tile.
+    /// Returns the greatest number of resources of `kind` in a tile.
     fn most_of(&self, kind: Kind) -> u32
         ensures value { result ≡ spec.most_of self.now kind }
         ensures few { result ≤ 4096 }
@@ -62,7 +63,7 @@ impl<'a> Tiled<'a> {
         most
     }
 
-    /// Returns the most units in a tile.
+    /// Returns the greatest number of units in a tile.
     fn most_units(&self) -> u32
         ensures value { result ≡ greatest_below (λ x. spec.unit_rank self.now x + 1) (length self.now.units) }
         ensures few { result ≤ 1024 }
@@ -74,7 +75,7 @@ impl<'a> Tiled<'a> {
         most
     }
 
-    /// Returns how much room the tiles take.
+    /// Returns the room that the tiles need.
     #[tactic(auto, unfolding(crate::specs::Layout::frame_of))]
     pub(crate) fn frame(&self) -> Frame
         ensures value { result ≡ spec.frame_of self.now }

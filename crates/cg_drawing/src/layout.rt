@@ -1,4 +1,4 @@
-//! Where the resources and units of an array of tiles stand in a panel.
+//! The places of the resources and units of an array of tiles in a panel.
 
 use crate::seats::{boxes, corner, panel_height, panel_width, seats, spot_at, tile_height};
 use crate::spot::{Frame, Spot};
@@ -36,7 +36,7 @@ impl<'a> Layout<'a> {
     ghost use Rattle.cg_drawing.specs.Ways as ways;
     ghost use Rattle.cg_drawing.specs.Places.{IsNear};
 
-    /// Finds the places of the resources and units of `arch`; None where the name of a resource says no tile.
+    /// Finds the places of the resources and units of `arch`; None where the name of a resource has no tile.
     pub fn of(alloc: Global, arch: &'a Arch) -> Result<Option<Layout<'a>>, AllocError>
         ensures { IfOk result (λ o. MatchOption o (is_tiled arch.now ≡ false) (λ l. (is_tiled arch.now ≡ true) × (l ≡ arch.now))) }
     {
@@ -53,7 +53,7 @@ impl<'a> Layout<'a> {
         self.tiled.arch()
     }
 
-    /// Returns how much room the tiles take.
+    /// Returns the room that the tiles need.
     pub fn frame(&self) -> Frame
         ensures { result ≡ spec.frame_of self.now }
     {

@@ -1,4 +1,5 @@
-//! What pictures of arrays are made of: the places of resources and units in a panel, the ways of lines, and elements of SVG.
+//! The parts of pictures of arrays: the places of resources and units in a panel, the ways of lines, and elements of
+//! SVG.
 #![tactic(auto)]
 
 mod frame;

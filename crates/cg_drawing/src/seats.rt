@@ -9,7 +9,7 @@ use crate::tiled::Tiled;
 use cg_model::Kind;
 use std::alloc::{AllocError, Global};
 
-/// Returns the rows that `count` chips take.
+/// Returns the number of rows of `count` chips.
 fn chip_rows(count: u16) -> u32
     ensures value { result ≡ spec.chip_rows count }
     ensures small { result ≤ 16384 }
@@ -80,7 +80,7 @@ pub(crate) fn beyond(spot: Spot, x: u32, y: u32) -> Spot
     }
 }
 
-/// Returns the place of chip `rank` of those in rows that begin at `top`, in a tile that begins at `corner`.
+/// Returns the place of chip number `rank` in rows that begin at `top`, in a tile that begins at `corner`.
 fn in_rows(corner: Spot, top: u32, rank: u32) -> Spot
     requires corner { (corner.x ≤ 6234) × (corner.y ≤ 106000000) }
     requires top { top ≤ 4000000 }

@@ -1,25 +1,25 @@
-//! Places in a panel, and what they depend on.
+//! Places in a panel, and the sizes on which they depend.
 
 /// A place in a panel, in pixels.
 #[derive(Clone, Copy)]
 pub struct Spot {
-    /// From the left.
+    /// The distance from the left.
     pub x: u32,
-    /// From the top.
+    /// The distance from the top.
     pub y: u32,
 }
 
-/// How much room the tiles of an array take.
+/// The room that the tiles of an array need.
 #[derive(Clone, Copy)]
 pub struct Frame {
-    /// The rows of tiles.
+    /// The number of rows of tiles.
     pub rows: u16,
-    /// The columns of tiles.
+    /// The number of columns of tiles.
     pub columns: u16,
-    /// The most wires of a tile.
+    /// The greatest number of wires of a tile.
     pub wires: u16,
-    /// The most units of a tile.
+    /// The greatest number of units of a tile.
     pub units: u16,
-    /// The most registers of a tile.
+    /// The greatest number of registers of a tile.
     pub registers: u16,
 }

@@ -7,13 +7,13 @@ use std::alloc::{AllocError, Global};
 /// A rectangle, in pixels.
 #[derive(Clone, Copy)]
 pub struct Area {
-    /// Its left.
+    /// The left edge.
     pub x: u64,
-    /// Its top.
+    /// The top edge.
     pub y: u64,
-    /// Its width.
+    /// The width.
     pub width: u64,
-    /// Its height.
+    /// The height.
     pub height: u64,
 }
 
@@ -38,7 +38,7 @@ pub fn push_rect(
     text.extend_from_slice(element.as_bytes())
 }
 
-/// Adds `words` of the class `class` at `x` and `y` to `text`.
+/// Adds the words `words` of the class `class` at `x` and `y` to `text`.
 pub fn push_words(
     alloc: Global,
     text: &mut Vec<u8>,
@@ -53,7 +53,7 @@ pub fn push_words(
     text.extend_from_slice(element.as_bytes())
 }
 
-/// Adds a ring round `x` and `y` to `text`.
+/// Adds a ring around `x` and `y` to `text`.
 pub fn push_ring(alloc: Global, text: &mut Vec<u8>, x: u64, y: u64) -> Result<(), AllocError>
     ensures { OnOk result (text.new.items ≡ text.old.items ++ spec.ring_text x y) }
 {
@@ -61,7 +61,7 @@ pub fn push_ring(alloc: Global, text: &mut Vec<u8>, x: u64, y: u64) -> Result<()
     text.extend_from_slice(element.as_bytes())
 }
 
-/// Adds lines of the class `class` that go `way` to `text`.
+/// Adds lines of the class `class` along `way` to `text`.
 pub fn push_path(
     alloc: Global,
     text: &mut Vec<u8>,
@@ -74,7 +74,7 @@ pub fn push_path(
     text.extend_from_slice(element.as_bytes())
 }
 
-/// Adds the head of a mark of the colour `colour` to `text`, of which a browser shows `title`.
+/// Adds the head of a mark of the colour `colour` to `text`; a browser shows `title` for it.
 pub fn push_mark(
     alloc: Global,
     text: &mut Vec<u8>,

@@ -29,7 +29,7 @@ impl<'a> Model for Tiled<'a> {
     ghost invariant = { λ t. AreTiles t.arch.now t.tiles.items };
 }
 
-/// Checks whether both are one kind.
+/// Checks whether both kinds are equal.
 pub(crate) fn same_kind(first: Kind, second: Kind) -> bool
     ensures { result ≡ counts.same_kind first second }
 {
@@ -42,7 +42,7 @@ pub(crate) fn same_kind(first: Kind, second: Kind) -> bool
     }
 }
 
-/// Returns the number of the port of `ports` that `resource` is, and 0 where it is none.
+/// Returns the index of `resource` in `ports`, and 0 where it isn't one of them.
 fn number_of(ports: &[u32], resource: u32) -> u32
     requires { length ports.now ≤ 3 }
     ensures value { result ≡ unwrap_or (first_from (λ p q. eqb q resource) 0 ports.now) 0 }
@@ -76,7 +76,7 @@ impl<'a> Tiled<'a> {
     ghost use Rattle.cg_drawing.specs.Tiles as tiles;
     ghost use Rattle.cg_drawing.specs.Layout as spec;
 
-    /// Finds the tiles of `arch`; None where the name of a resource says no tile.
+    /// Finds the tiles of `arch`; None where the name of a resource has no tile.
     pub(crate) fn of(alloc: Global, arch: &'a Arch) -> Result<Option<Tiled<'a>>, AllocError>
         ensures { IfOk result (λ o. MatchOption o (tiles.is_tiled arch.now ≡ false) (λ t. (tiles.is_tiled arch.now ≡ true) × (t ≡ arch.now))) }
     {
@@ -153,14 +153,14 @@ impl<'a> Tiled<'a> {
         self.tile(self.out(unit))
     }
 
-    /// Checks whether `other` is of the tile and the kind of `resource`.
+    /// Checks whether `other` is in the tile of `resource` and of its kind.
     fn is_beside(&self, resource: u32, other: u32) -> bool
         ensures { result ≡ spec.is_beside self.now resource other }
     {
         self.tile(other) == self.tile(resource) && same_kind(self.kind(other), self.kind(resource))
     }
 
-    /// Returns the number of resources of the tile and the kind of `resource` before it.
+    /// Returns the number of resources before `resource` in its tile and of its kind.
     pub(crate) fn rank(&self, resource: u32) -> u32
         ensures value { result ≡ spec.rank self.now resource }
         ensures few { result ≤ resource }
@@ -174,7 +174,7 @@ impl<'a> Tiled<'a> {
         count
     }
 
-    /// Returns the number of units of the tile of `unit` before it.
+    /// Returns the number of units before `unit` in its tile.
     pub(crate) fn unit_rank(&self, unit: u32) -> u32
         ensures value { result ≡ spec.unit_rank self.now unit }
         ensures few { result ≤ unit }
@@ -202,7 +202,7 @@ impl<'a> Tiled<'a> {
         0
     }
 
-    /// Returns the number of the port of its unit that `resource` is, and 0 where it is none.
+    /// Returns the index of `resource` among the ports of its unit, and 0 where it isn't a port.
     pub(crate) fn port_number(&self, resource: u32) -> u32
         ensures value { result ≡ spec.port_number resource (unit_of self.now (spec.holder self.now resource)) }
         ensures small { result ≤ 3 }

@@ -1,4 +1,4 @@
-//! The tiles that names say.
+//! The tiles in names.
 ghost use Rattle.std.specs.Prelude.{◌≡◌, ◌<◌, ◌*◌, ◌∷◌, [], ℕ, ◌≤◌, length, nat_eq, IfOk, is_some, unwrap_or, map, string_bytes};
 ghost use Rattle.std.specs.List.{list_all, starts_with};
 ghost use Rattle.cg_below.specs.Below.{lists_below};
@@ -8,10 +8,10 @@ ghost use Rattle.cg_drawing.specs.Tiles as spec;
 use cg_arch::Arch;
 use std::alloc::{AllocError, Global};
 
-/// The most tiles of a grid.
+/// The greatest number of tiles of a grid.
 const MOST_TILES: u32 = 1024;
 
-/// Returns how the names of the resources of each tile begin.
+/// Returns the prefixes of the names of the resources of each tile.
 fn prefixes(alloc: Global) -> Result<Vec<String>, AllocError>
     ensures { IfOk result (λ list. map string_bytes list.items ≡ spec.prefixes) }
 {
@@ -22,7 +22,7 @@ fn prefixes(alloc: Global) -> Result<Vec<String>, AllocError>
     Ok(list)
 }
 
-/// Returns how the names of the resources of `tile` begin.
+/// Returns the prefix of the names of the resources of `tile`.
 fn tile_prefix(alloc: Global, tile: u32) -> Result<String, AllocError>
     ensures { IfOk result (λ text. string_bytes text ≡ spec.tile_prefix tile) }
 {
@@ -51,7 +51,7 @@ fn prefix_of(prefixes: &[String], name: &str) -> Option<u32>
     None
 }
 
-/// Returns the tile that `name` says, where `prefixes` are those of all tiles.
+/// Returns the tile of `name`, where `prefixes` are those of all tiles.
 fn tile_in(prefixes: &[String], name: &str) -> Option<u32>
     requires { map string_bytes prefixes.now ≡ spec.prefixes }
     ensures { result ≡ spec.tile_in name.now }
@@ -71,14 +71,14 @@ pub(crate) fn tiles_in(alloc: Global, arch: &Arch) -> Result<Vec<Option<u32>>, A
     Ok(tiles)
 }
 
-/// Checks whether each of `tiles` is one.
+/// Checks whether none of `tiles` is None.
 pub(crate) fn are_all(tiles: &[Option<u32>]) -> bool
     ensures { result ≡ list_all is_some tiles.now }
 {
     tiles.iter().all(|tile| tile.is_some())
 }
 
-/// Returns the numbers of `tiles`, and 0 for none.
+/// Returns the numbers in `tiles`, with 0 for None.
 pub(crate) fn numbers(alloc: Global, tiles: &[Option<u32>]) -> Result<Vec<u32>, AllocError>
     ensures { IfOk result (λ numbers. numbers.items ≡ map (λ tile. unwrap_or tile 0) tiles.now) }
 {

@@ -16,26 +16,26 @@ pub struct Chip {
     pub tile: u32,
     /// Its kind.
     pub kind: Kind,
-    /// Where its chip begins.
+    /// The place where its chip begins.
     pub seat: Spot,
 }
 
 /// Where a way begins and ends, and where it turns.
 #[derive(Clone, Copy)]
 pub struct Bends {
-    /// Where it begins.
+    /// The place where it begins.
     pub start: Spot,
-    /// Where it turns to leave its tile, from the left.
+    /// The position where it turns to leave its tile, from the left.
     pub turn: u32,
-    /// Where it leaves its tile, from the top.
+    /// The position where it leaves its tile, from the top.
     pub exit: u32,
-    /// Where it goes up or down between tiles, from the left.
+    /// The position where it goes up or down between tiles, from the left.
     pub gap: u32,
-    /// Where it comes to the other tile, from the top.
+    /// The position where it enters the other tile, from the top.
     pub entry: u32,
-    /// Where it turns to its end, from the left.
+    /// The position where it turns to its end, from the left.
     pub last: u32,
-    /// Where it ends.
+    /// The place where it ends.
     pub finish: Spot,
 }
 
@@ -99,7 +99,7 @@ fn turn(frame: Frame, chip: Chip, lane: u32) -> u32
     }
 }
 
-/// Returns where a way in `lane` comes to the tile of `chip`.
+/// Returns where a way in `lane` enters the tile of `chip`.
 fn entry(frame: Frame, chip: Chip, lane: u32) -> u32
     requires chip { IsPlaced chip }
     requires lane { lane < 6 }
@@ -140,7 +140,7 @@ fn bends_between(frame: Frame, lane: u32, from: Chip, to: Chip) -> Bends
     }
 }
 
-/// Returns how a curve begins that leaves `spot` towards `x` and `y`.
+/// Returns the beginning of a curve that leaves `spot` towards `x` and `y`.
 fn departure(alloc: Global, spot: Spot, x: u32, y: u32) -> Result<String, AllocError>
     ensures { IfOk result (λ text. string_bytes text ≡ spec.departure spot x y) }
 {
@@ -148,7 +148,7 @@ fn departure(alloc: Global, spot: Spot, x: u32, y: u32) -> Result<String, AllocE
     format!(in alloc; "M{left} {top}C{x} {y} ")
 }
 
-/// Returns how a curve ends that comes to `spot` from `x` and `y`.
+/// Returns the end of a curve that reaches `spot` from `x` and `y`.
 fn arrival(alloc: Global, spot: Spot, x: u32, y: u32) -> Result<String, AllocError>
     ensures { IfOk result (λ text. string_bytes text ≡ spec.arrival spot x y) }
 {
@@ -156,7 +156,7 @@ fn arrival(alloc: Global, spot: Spot, x: u32, y: u32) -> Result<String, AllocErr
     format!(in alloc; "{x} {y} {left} {top}")
 }
 
-/// Returns a curve from `start` to `finish` that begins and ends level, `by` pixels long on both sides.
+/// Returns a curve from `start` to `finish` that begins and ends horizontally, `by` pixels long on both sides.
 fn curve(alloc: Global, start: Spot, finish: Spot, by: u32) -> Result<String, AllocError>
     requires { start.x + by < 2 ^ 32 }
     ensures { IfOk result (λ text. string_bytes text ≡ spec.curve start finish by) }
@@ -166,7 +166,7 @@ fn curve(alloc: Global, start: Spot, finish: Spot, by: u32) -> Result<String, Al
     format!(in alloc; "{first}{last}")
 }
 
-/// Returns a way from `start` to `finish`, which are of one chip, over it.
+/// Returns a way from `start` to `finish`, which belong to one chip, above the chip.
 fn circuit(alloc: Global, start: Spot, finish: Spot) -> Result<String, AllocError>
     requires { start.x + 12 < 2 ^ 32 }
     ensures { IfOk result (λ text. string_bytes text ≡ spec.circuit start finish) }
@@ -195,7 +195,7 @@ fn coming(alloc: Global, bends: Bends) -> Result<String, AllocError>
     format!(in alloc; "V{y}H{x}")
 }
 
-/// Returns what goes up or down between the tiles.
+/// Returns the part of a way that goes to the gap between the tiles, and up or down in it.
 fn aisle(alloc: Global, bends: Bends) -> Result<String, AllocError>
     ensures { IfOk result (λ text. string_bytes text ≡ spec.aisle bends) }
 {
@@ -204,7 +204,7 @@ fn aisle(alloc: Global, bends: Bends) -> Result<String, AllocError>
     format!(in alloc; "H{gap}V{entry}")
 }
 
-/// Returns what goes up or down between the tiles, where it has to.
+/// Returns the part of a way that goes up or down between the tiles, where it has to.
 fn passage(alloc: Global, bends: Bends) -> Result<String, AllocError>
     ensures { IfOk result (λ text. string_bytes text ≡ spec.passage bends) }
 {
@@ -275,7 +275,7 @@ fn over_bottom(alloc: Global, frame: Frame, bends: Bends) -> Result<String, Allo
     format!(in alloc; "{first}H{gap}V{height}M{last} 10{rest}")
 }
 
-/// Checks whether the way between `first` and `second`, of `count` rows or columns, is shorter round the edge.
+/// Checks whether the way between `first` and `second`, among `count` rows or columns, is shorter around the edge.
 fn is_round(count: u16, first: u32, second: u32) -> bool
     requires first { first < 2 ^ 31 }
     requires second { second < 2 ^ 31 }
@@ -284,7 +284,7 @@ fn is_round(count: u16, first: u32, second: u32) -> bool
     2 < count && u32::from(count) < 2 * (first.max(second) - first.min(second))
 }
 
-/// Returns the way round the edge from column `first` to column `second`.
+/// Returns the way around the edge from column `first` to column `second`.
 fn round_columns(
     alloc: Global,
     frame: Frame,
@@ -301,7 +301,7 @@ fn round_columns(
     }
 }
 
-/// Returns the way round the edge from row `first` to row `second`.
+/// Returns the way around the edge from row `first` to row `second`.
 fn round_rows(
     alloc: Global,
     frame: Frame,
@@ -366,7 +366,7 @@ fn within(alloc: Global, bends: Bends) -> Result<String, AllocError>
     curve(alloc, bends.start, bends.finish, by)
 }
 
-/// Returns the way in `lane` from the chip `from` to the chip `to`, which is the same one where `same` says so.
+/// Returns the way in `lane` from the chip `from` to the chip `to`; `same` says whether these are one chip.
 pub(crate) fn way(
     alloc: Global,
     frame: Frame,

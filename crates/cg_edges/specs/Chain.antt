@@ -3,7 +3,7 @@
 use Rattle.std.specs.Prelude.{◌≡◌, ℕ, ◌+◌, ◌*◌, ◌<◌, ◌≤◌, List, [], ◌∷◌, length, Option, Some, None, slice_get}
 use Rattle.cg_edges.specs.declared.edge.Edge.{Edge}
 
--- the parts of an edge, where there is one
+-- the parts of an edge, if there is one
 abbrev pub latency_of : Option Edge → ℕ
 latency_of (Some e) = e.latency
 latency_of None = 0
@@ -47,6 +47,6 @@ module _ {X : Type 0} (edge : X → Option Edge) where
     pub reached : (u : ℕ) × (xs : List X) × Goes u xs v × (latencies xs ≡ t + ii * distances xs)
     pub greatest : (u : ℕ) (xs : List X) → Goes u xs v → latencies xs ≤ t + ii * distances xs
 
-  -- no edge asks for more than these times give
+  -- no edge requires more than these times give
   abbrev pub IsTight : ℕ → (ℕ → ℕ) → Type 0
   IsTight ii time = (x : X) (e : Edge) → edge x ≡ Some e → time e.source + e.latency ≤ time e.target + ii * e.distance

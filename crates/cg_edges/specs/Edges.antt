@@ -12,7 +12,7 @@ pub use Rattle.cg_edges.specs.declared.edge.Edge.{Edge}
 pub use Rattle.cg_edges.specs.declared.edge.EdgeId.{EdgeId}
 pub use Rattle.cg_edges.specs.declared.edge.EdgeId.TheVariants.{Arg, Order}
 
--- the lesser of a number and another one, where there is another
+-- the lesser of a number and another one, if there is another
 abbrev pub lesser : ℕ → Option ℕ → ℕ
 lesser l None = l
 lesser l (Some m) = min l m
@@ -22,7 +22,7 @@ unfoldable pub least_latency : Op → List Unit → Option ℕ
 least_latency op [] = None
 least_latency op (u ∷ us) = if among u.ops op then Some (lesser u.latency (least_latency op us)) else least_latency op us
 
--- the latency of an operation: the least of the units that offer it, 1 where none does
+-- the latency of an operation: the least of the units that offer it, 1 if no unit does
 abbrev pub latency : Arch → Op → ℕ
 latency A op = unwrap_or (least_latency op A.units) 1
 
@@ -43,7 +43,7 @@ data_edge_of A K v p = of_operand A K v (slice_get (node K v).operands p)
 abbrev pub order_edge_of : Kernel → ℕ → Option Edge
 order_edge_of K e = of_order (slice_get K.order e)
 
--- the edge that is named, if the kernel has it
+-- the edge of a name, if the kernel has it
 abbrev pub edge_of : Arch → Kernel → EdgeId → Option Edge
 edge_of A K (Arg v p) = data_edge_of A K v p
 edge_of A K (Order e) = order_edge_of K e
@@ -55,12 +55,12 @@ ComesBefore (Arg v p) (Order k) = Prim.Unit {0}
 ComesBefore (Order j) (Arg w q) = ⊥
 ComesBefore (Order j) (Order k) = j < k
 
--- no name stands before or beside one that comes before it
+-- no name is equal to, or comes after, a later one of the list
 abbrev pub AreRising : List EdgeId → Type 0
 AreRising names = (i j : ℕ) (x y : EdgeId) → i < j → slice_get names i ≡ Some x → slice_get names j ≡ Some y → ComesBefore x y
 
--- each name in the list names the edge at its place, each edge of the kernel is named, and the names are in order: so no
--- other list will do
+-- each name in the list names the edge at its place, each edge of the kernel is named, and the names are in order: this
+-- determines the list
 pub record AreEdges (A : Arch) (K : Kernel) (names : List EdgeId) (edges : List Edge) : Type 0 where
   pub each : length names ≡ length edges
   pub right : (k : ℕ) (x : EdgeId) (e : Edge) → slice_get names k ≡ Some x → slice_get edges k ≡ Some e → edge_of A K x ≡ Some e

@@ -17,7 +17,7 @@ pub record AreSoFar (A : Arch) (K : Kernel) (v p j : ℕ) (names : List EdgeId) 
   pub within : (k : ℕ) (x : EdgeId) → slice_get names k ≡ Some x → IsBefore v p j x
   pub rising : AreRising names
 
--- the lists with the edge that x names, where it names one
+-- the lists with the edge that x names, if there is one
 abbrev pub IsAdded : Option Edge → EdgeId → List EdgeId → List Edge → List EdgeId → List Edge → Type 0
 IsAdded None x names edges names' edges' = (names' ≡ names) × (edges' ≡ edges)
 IsAdded (Some e) x names edges names' edges' = (names' ≡ names ++ x ∷ []) × (edges' ≡ edges ++ e ∷ [])

@@ -7,7 +7,7 @@ pub enum EdgeId {
     Arg {
         /// The number of the node that takes the value.
         node: u32,
-        /// Which of its operands the edge is, from 0 on.
+        /// The number of its operand that is the edge, counted from 0.
         arg: u32,
     },
     /// The order edge of that number.
@@ -19,10 +19,10 @@ pub enum EdgeId {
 pub struct Edge {
     /// The number of the node that it leaves.
     pub source: usize,
-    /// The number of the node that it goes to.
+    /// The number of the node that it enters.
     pub target: usize,
-    /// By how many cycles at least the target begins after the source.
+    /// The least number of cycles by which the target begins after the source.
     pub latency: u32,
-    /// How many turns later.
+    /// The distance of the edge, in iterations.
     pub distance: u32,
 }

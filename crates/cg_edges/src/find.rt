@@ -1,4 +1,4 @@
-//! The edge that a name names.
+//! The edge of a name.
 ghost use Rattle.std.specs.Prelude.{◌≡◌};
 ghost use Rattle.cg_edges.specs.Edges.{edge_of, data_edge_of, order_edge_of};
 
@@ -7,7 +7,7 @@ use crate::least::latency;
 use cg_arch::Arch;
 use cg_model::{Kernel, Operand};
 
-/// The edge of that name, if the kernel has one.
+/// Finds the edge of `kernel` with the name `id`, if there is one.
 pub fn find_edge(arch: &Arch, kernel: &Kernel, id: EdgeId) -> Option<Edge>
     ensures { result ≡ edge_of arch.now kernel.now id }
 {
@@ -17,7 +17,7 @@ pub fn find_edge(arch: &Arch, kernel: &Kernel, id: EdgeId) -> Option<Edge>
     }
 }
 
-/// The data edge that is an operand of a node.
+/// Finds the data edge that is operand `arg` of `node`.
 fn find_data_edge(arch: &Arch, kernel: &Kernel, node: u32, arg: u32) -> Option<Edge>
     ensures { result ≡ data_edge_of arch.now kernel.now node arg }
 {
@@ -40,7 +40,7 @@ fn find_data_edge(arch: &Arch, kernel: &Kernel, node: u32, arg: u32) -> Option<E
     }
 }
 
-/// The order edge of that number.
+/// Finds the order edge of number `number`.
 fn find_order_edge(kernel: &Kernel, number: u32) -> Option<Edge>
     ensures { result ≡ order_edge_of kernel.now number }
 {

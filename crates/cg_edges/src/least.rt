@@ -5,7 +5,7 @@ ghost use Rattle.cg_edges.specs.Edges as spec;
 
 use cg_arch::{Arch, Op};
 
-/// The cycles that an operation takes on the quickest unit that offers it; 1 where none does.
+/// Returns the cycles that `op` takes on the quickest unit that offers it; 1 if no unit does.
 pub fn latency(arch: &Arch, op: Op) -> u32
     ensures { result ≡ spec.latency arch.now op }
 {
@@ -18,7 +18,7 @@ pub fn latency(arch: &Arch, op: Op) -> u32
     least.unwrap_or(1)
 }
 
-/// The lesser of a number and another one, where there is another.
+/// Returns the lesser of `number` and `other`, if there is another.
 fn lesser(number: u32, other: Option<u32>) -> u32
     ensures { result ≡ spec.lesser number other }
 {
@@ -28,7 +28,7 @@ fn lesser(number: u32, other: Option<u32>) -> u32
     }
 }
 
-/// The law that no operation takes more than four cycles; the call does nothing.
+/// States that no operation takes more than four cycles; the call does nothing.
 pub fn latencies_are_small(arch: &Arch)
     ensures { (op : ops.Op) → spec.latency arch.now op ≤ 4 }
 {

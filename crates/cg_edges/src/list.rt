@@ -16,11 +16,11 @@ use std::alloc::{AllocError, Global};
 pub struct KernelEdges {
     /// The names: the data edges by node and operand, then the order edges.
     pub names: Vec<EdgeId>,
-    /// The edges, as many.
+    /// The edges, one for each name.
     pub edges: Vec<Edge>,
 }
 
-/// All edges of a kernel.
+/// Returns all edges of `kernel`.
 pub fn edges_of(alloc: Global, arch: &Arch, kernel: &Kernel) -> Result<KernelEdges, AllocError>
     ensures { IfOk result (λ l. AreEdges arch.now kernel.now l.names.items l.edges.items) }
 {
@@ -35,7 +35,7 @@ pub fn edges_of(alloc: Global, arch: &Arch, kernel: &Kernel) -> Result<KernelEdg
     Ok(list)
 }
 
-/// Adds the data edges into a node.
+/// Adds the data edges into a node to `list`.
 fn add_operands(
     list: &mut KernelEdges,
     arch: &Arch,
@@ -57,7 +57,7 @@ fn add_operands(
     Ok(())
 }
 
-/// Adds the order edges.
+/// Adds the order edges to `list`.
 fn add_order(list: &mut KernelEdges, arch: &Arch, kernel: &Kernel) -> Result<(), AllocError>
     requires { AreSoFar arch.now kernel.now (size kernel.now) 0 0 list.old.names.items list.old.edges.items }
     ensures { OnOk result (AreEdges arch.now kernel.now list.new.names.items list.new.edges.items) }
@@ -69,7 +69,7 @@ fn add_order(list: &mut KernelEdges, arch: &Arch, kernel: &Kernel) -> Result<(),
     Ok(())
 }
 
-/// Adds the edge of that name, if the kernel has one.
+/// Adds the edge of the given name to `list`, if the kernel has one.
 fn add_edge(
     list: &mut KernelEdges,
     arch: &Arch,

@@ -1,4 +1,4 @@
-//! The configuration of a legal mapping and the bytes that spell it.
+//! The configuration of a legal mapping and the bytes that encode it.
 ghost use Rattle.std.specs.Prelude.{◌≡◌, ◌<◌, ℕ, IfOk, Ok, List, length};
 ghost use Rattle.cg_model.specs.Canonical.{IsCanonical};
 ghost use Rattle.cg_model.specs.Config as configs;
@@ -21,8 +21,8 @@ use cg_model::Place;
 use cg_overlap::{configures, overlaps};
 use std::alloc::{AllocError, Global};
 
-/// The configuration of a legal mapping: the selects that the positions of its routes ask for, the fields that its nodes
-/// ask for at their places, and all else zero.
+/// Returns the configuration of a legal mapping: the selects that the positions of its routes require, the fields that
+/// its nodes require at their places, and zeros elsewhere.
 pub fn configuration(alloc: Global, legal: &LegalMapping<'_>) -> Result<Config, AllocError>
     ensures mapped { IfOk result (λ config. config ≡ config_of legal.now) }
     ensures canonical { IfOk result (λ config. IsCanonical legal.now.arch config) }
@@ -35,7 +35,7 @@ pub fn configuration(alloc: Global, legal: &LegalMapping<'_>) -> Result<Config, 
     Ok(config)
 }
 
-/// One more than the greatest stage of these places, or 1.
+/// Returns the greatest stage of `places` plus 1, or 1 if there is no place.
 fn stages_of(ii: u32, places: &[Place]) -> u32
     requires some { 0 < ii }
     requires soon { AreSoon places.now }
@@ -48,8 +48,8 @@ fn stages_of(ii: u32, places: &[Place]) -> u32
     stages
 }
 
-/// The stages of a legal mapping's configuration: one more than the greatest round in which a node works on turn 0, a
-/// round being as many cycles as the interval.
+/// Returns the number of stages of a legal mapping's configuration: the greatest round in which a node works on
+/// iteration 0, plus 1. A round has as many cycles as the interval.
 pub fn stages(legal: &LegalMapping<'_>) -> u32
     ensures { result ≡ (config_of legal.now).stages }
 {
@@ -57,14 +57,15 @@ pub fn stages(legal: &LegalMapping<'_>) -> u32
     stages_of(mapping.ii(), mapping.places())
 }
 
-/// The digest of an architecture, which has 32 bytes.
+/// Returns the digest of `arch`, which has 32 bytes.
 fn digest(arch: &Arch) -> [u8; 32]
     ensures { length (digest_of arch.now) ≡ 32 }
 {
     arch.digest()
 }
 
-/// Laws of the bytes that spell a legal mapping's configuration: what is read of them, and what their run does.
+/// States laws of the bytes that encode a legal mapping's configuration: what reading them gives, and what their run
+/// does.
 fn run_like_turns(legal: &LegalMapping<'_>)
     ensures once { CarriesOne legal.now.arch legal.now.kernel legal.now.mapping }
     ensures read { (bytes : List ℕ) → AreBits legal.now.arch (config_of legal.now) bytes → answer_of legal.now.arch bytes ≡ Ok (config_of legal.now) }
@@ -78,17 +79,18 @@ fn run_like_turns(legal: &LegalMapping<'_>)
     overlaps();
 }
 
-/// The bits of a legal mapping. An array that runs them works on several turns at once, and does what the turns do one
-/// after the other.
+/// Returns the bitstream of a legal mapping. An array that runs it works on several iterations at once, and has the
+/// same effect as the iterations one after the other.
 pub fn emit(alloc: Global, legal: &LegalMapping<'_>) -> Result<Vec<u8>, AllocError>
     ensures bits { IfOk result (λ bytes. AreBits legal.now.arch (config_of legal.now) bytes.items) }
-    // They spell no other configuration, no other bytes spell it, and reading the bytes gives it back.
+    // The bytes encode no other configuration, no other bytes encode this configuration, and reading the bytes gives it
+    // back.
     ensures only { IfOk result (λ bytes. (C : configs.Config) → AreBits legal.now.arch C bytes.items → C ≡ config_of legal.now) }
     ensures one_spelling { IfOk result (λ bytes. (others : List ℕ) → IsBytes others → AreBits legal.now.arch (config_of legal.now) others → others ≡ bytes.items) }
     ensures read { IfOk result (λ bytes. answer_of legal.now.arch bytes.items ≡ Ok (config_of legal.now)) }
 
-    // The overlap theorem: in a cycle nothing carries or begins two values, and the run does what the turns do, in each
-    // cycle and in the end.
+    // The overlap theorem: in a cycle no resource carries and no unit begins two values, and the run does what the
+    // iterations do, in each cycle and in the end.
     ensures once { CarriesOne legal.now.arch legal.now.kernel legal.now.mapping }
     ensures overlaps { IfOk result (λ bytes. RunLikeTurns legal.now.arch legal.now.kernel legal.now.mapping bytes.items) }
 {

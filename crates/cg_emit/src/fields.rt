@@ -1,4 +1,4 @@
-//! What a node asks of its unit.
+//! The fields that a node requires of its unit.
 ghost use Rattle.std.specs.Prelude.{◌≡◌, ◌≤◌, map, length, slice_index, slice_index_or};
 ghost use Rattle.cg_model.specs.Config.{no_arg};
 ghost use Rattle.cg_model.specs.Configured.{padded, arg_fields, constant, node_fields};
@@ -7,14 +7,14 @@ ghost use Rattle.cg_emit.specs.Building.{HasFewWords, HaveFewWords, HasFewOperan
 use cg_bits::{ArgFields, NO_ARG, UnitFields};
 use cg_model::{Node, Operand};
 
-/// A word of a list, 0 past its end.
+/// Returns word `number` of `words`, 0 past its end.
 fn word_at(words: &[u32], number: usize) -> u32
     ensures { result ≡ slice_index words.now number }
 {
     words.get(number).copied().unwrap_or(0)
 }
 
-/// Initial words, filled up with zeros.
+/// Returns the initial words `words`, padded with zeros.
 fn padded_words(words: &[u32]) -> [u32; 4]
     requires { length words.now ≤ 4 }
     ensures { result ≡ padded 4 0 words.now }
@@ -27,7 +27,7 @@ fn padded_words(words: &[u32]) -> [u32; 4]
     ]
 }
 
-/// What an operand asks of its argument.
+/// Returns the fields that `operand` requires of its argument.
 fn arg_fields(operand: &Operand) -> ArgFields
     requires { HasFewWords operand.now }
     ensures { result ≡ arg_fields operand.now }
@@ -46,7 +46,7 @@ fn arg_fields(operand: &Operand) -> ArgFields
     }
 }
 
-/// What an argument is asked for, all zero past the last operand.
+/// Returns the fields of argument `number` of a node with `operands`, all zero past the last operand.
 fn arg_at(operands: &[Operand], number: usize) -> ArgFields
     requires { HaveFewWords operands.now }
     ensures { result ≡ slice_index_or (map arg_fields operands.now) number no_arg }
@@ -57,7 +57,7 @@ fn arg_at(operands: &[Operand], number: usize) -> ArgFields
     }
 }
 
-/// The first constant operand, or 0.
+/// Returns the first constant of `operands`, or 0.
 fn constant(operands: &[Operand]) -> u32
     ensures { result ≡ constant operands.now }
 {
@@ -69,7 +69,7 @@ fn constant(operands: &[Operand]) -> u32
     0
 }
 
-/// What a node asks of its unit in the slot in which it begins.
+/// Returns the fields that `node` requires of its unit in the slot in which it begins, in stage `stage`.
 pub(crate) fn node_fields(node: &Node, stage: u32) -> UnitFields
     requires { HasFewOperands node.now }
     ensures { result ≡ node_fields node.now stage }

@@ -1,4 +1,4 @@
-//! The bits of a legal mapping: its configuration, the bytes that spell it, and what their run does.
+//! The bitstream of a legal mapping: its configuration, the bytes that encode it, and what their run does.
 #![tactic(auto)]
 
 mod emission;

@@ -1,4 +1,4 @@
-//! What the nodes of a mapping ask of their units.
+//! The fields that the nodes of a mapping require of their units.
 ghost use Rattle.std.specs.Prelude.{◌≡◌, ◌+◌, ◌<◌};
 ghost use Rattle.cg_model.specs.Kernel as kernels;
 ghost use Rattle.cg_model.specs.Kernel.{size};
@@ -13,7 +13,7 @@ use cg_bits::{Config, Contexts, UnitFields};
 use cg_check::LegalMapping;
 use cg_model::Place;
 
-/// The place of a node.
+/// Returns the place of `node`.
 pub(crate) fn place_of(legal: &LegalMapping<'_>, node: u32) -> Place
     requires { node < size legal.now.kernel }
     ensures place { result ≡ place legal.now.mapping node }
@@ -22,7 +22,7 @@ pub(crate) fn place_of(legal: &LegalMapping<'_>, node: u32) -> Place
     legal.mapping().places()[node as usize]
 }
 
-/// What a node asks of its unit in a stage.
+/// Returns the fields that `node` requires of its unit in stage `stage`.
 fn fields_of(legal: &LegalMapping<'_>, node: u32, stage: u32) -> UnitFields
     requires { node < size legal.now.kernel }
     ensures fields { result ≡ node_fields (kernels.node legal.now.kernel node) stage }
@@ -31,7 +31,7 @@ fn fields_of(legal: &LegalMapping<'_>, node: u32, stage: u32) -> UnitFields
     node_fields(&legal.kernel().nodes()[node as usize], stage)
 }
 
-/// Tells the unit of a node what the node asks, in the slot of the node's time.
+/// Sets the fields that `node` requires of its unit, in the slot of the node's time.
 fn set_node(config: &mut Config, legal: &LegalMapping<'_>, node: u32)
     requires canonical { IsCanonical legal.now.arch config.old }
     requires node { node < size legal.now.kernel }
@@ -46,7 +46,7 @@ fn set_node(config: &mut Config, legal: &LegalMapping<'_>, node: u32)
     config.set_unit(legal.arch(), place.unit, place.time % ii, fields);
 }
 
-/// Tells the units of all nodes what the nodes ask.
+/// Sets the fields that all nodes require of their units.
 pub(crate) fn set_nodes(config: &mut Config, legal: &LegalMapping<'_>)
     requires canonical { IsCanonical legal.now.arch config.old }
     requires off { config.old ≡ all_off legal.now.arch legal.now.mapping.ii }

@@ -1,4 +1,4 @@
-//! What the routes of a mapping ask of the resources on their ways.
+//! The selects that the routes of a mapping require of the resources on their paths.
 ghost use Rattle.std.specs.Prelude.{◌≡◌, ◌+◌, ◌<◌, ◌≤◌, ◌^◌, ℕ, suc, length, Contains};
 ghost use Rattle.cg_model.specs.Array as arrays;
 ghost use Rattle.cg_model.specs.Array.{delay};
@@ -14,7 +14,7 @@ use cg_bits::{Config, Contexts};
 use cg_check::LegalMapping;
 use cg_model::{Kind, Operand, Route};
 
-/// The cycles that a link into a resource takes.
+/// Returns the delay of a link into `resource`, in cycles.
 fn delay_into(arch: &Arch, resource: u32) -> u32
     requires { resource < length arch.now.resources }
     ensures { result ≡ delay arch.now resource }
@@ -25,7 +25,7 @@ fn delay_into(arch: &Arch, resource: u32) -> u32
     }
 }
 
-/// The place of a number in a list, counted from 1.
+/// Returns the position of `from` in `drivers`, counted from 1.
 fn place_in(drivers: &[u32], from: u32) -> u32
     requires { length drivers.now + 1 < 2 ^ 32 }
     ensures { result ≡ suc (place_of from drivers.now) }
@@ -40,7 +40,7 @@ fn place_in(drivers: &[u32], from: u32) -> u32
     place
 }
 
-/// The select by which a resource has one of its drivers.
+/// Returns the select with which `resource` takes the word of `driver`, one of its drivers.
 fn select_of(arch: &Arch, resource: u32, driver: u32) -> u32
     requires { Contains (arrays.resource arch.now resource).drivers driver }
     ensures select { result ≡ suc (place_of driver (arrays.resource arch.now resource).drivers) }
@@ -50,8 +50,8 @@ fn select_of(arch: &Arch, resource: u32, driver: u32) -> u32
     place_in(resource.drivers.as_slice(), driver)
 }
 
-/// Sets the selects along a path that goes on from a resource, on which a value is at a time; which node's value it is
-/// makes no difference.
+/// Sets the selects along a path that continues on `path` from the resource `from`, on which a value is at `time`. They
+/// don't depend on the node whose value it is.
 fn set_links(config: &mut Config, arch: &Arch, mut from: u32, mut time: u32, path: &[u32])
     requires canonical { IsCanonical arch.now config.old }
     requires path { GoesInTime arch.now from time path.now }
@@ -67,7 +67,7 @@ fn set_links(config: &mut Config, arch: &Arch, mut from: u32, mut time: u32, pat
     }
 }
 
-/// The node whose value a route brings.
+/// Returns the node whose value `route` brings.
 fn source_of(legal: &LegalMapping<'_>, route: &Route) -> u32
     requires { Contains legal.now.mapping.routes route.now }
     ensures source { IsSource legal.now.kernel route.now result }
@@ -81,7 +81,7 @@ fn source_of(legal: &LegalMapping<'_>, route: &Route) -> u32
     }
 }
 
-/// Sets the selects along a route.
+/// Sets the selects along `route`.
 fn set_route(config: &mut Config, legal: &LegalMapping<'_>, route: &Route)
     requires canonical { IsCanonical legal.now.arch config.old }
     requires known { Contains legal.now.mapping.routes route.now }

@@ -1,4 +1,4 @@
--- What a command defines: a status, a report, and files to write in order.
+-- The outcome of a command: a status, a report, and files to write in order.
 use Rattle.std.specs.Prelude.{ℕ, List, [], ◌∷◌, ◌++◌, map, string_bytes}
 use Rattle.cg_ending.specs.declared.outcome.Status.{Status}
 use Rattle.cg_ending.specs.declared.outcome.File.{File as FileValue}
@@ -17,27 +17,27 @@ pub record File : Type 0 where
   pub name : Name
   pub bytes : Bytes
 
--- how a call ends, what it puts, and what it writes, in order
+-- the status, the report and the files to write, in order
 pub record Outcome : Type 0 where
   pub status : Status
   pub report : Bytes
   pub writes : List File
 
--- the line of these pieces: one after the other, and a line feed
+-- the line of these pieces: their concatenation, followed by a line feed
 abbrev pub line_of : List Bytes → Bytes
 line_of [] = 10 ∷ []
 line_of (piece ∷ pieces) = piece ++ line_of pieces
 
--- a line of these pieces, and what comes after it
+-- a line of these pieces, followed by other bytes
 abbrev pub line_then : List Bytes → Bytes → Bytes
 line_then [] rest = 10 ∷ rest
 line_then (piece ∷ pieces) rest = piece ++ line_then pieces rest
 
--- what a file of the program stands for
+-- the file that a file of the program represents
 abbrev pub file_of : FileValue → File
 file_of file = record { name = string_bytes file.name; bytes = file.bytes.items }
 
--- what an outcome of the program stands for
+-- the outcome that an outcome of the program represents
 abbrev pub outcome_of : OutcomeValue → Outcome
 outcome_of outcome = record {
   status = outcome.status;

@@ -6,7 +6,7 @@ use Rattle.cg_ending.specs.declared.read.Stop.{Stop}
 use Rattle.cg_ending.specs.declared.read.Stop.TheVariants.{Ended, Memory}
 use Rattle.cg_ending.specs.Outcome.{Name, File, Outcome, outcome_of, line_of}
 
--- the most bytes that an input file may have
+-- the greatest number of bytes of an input file
 abbrev pub read_limit : ℕ
 read_limit = 16777216
 
@@ -14,7 +14,7 @@ read_limit = 16777216
 abbrev pub IsRead : Held → File → Type 0
 IsRead held file = Holds held file.name file.bytes × (length file.bytes ≤ read_limit)
 
--- each number of the file is one that a byte has
+-- each number of the file is below 256, as a byte is
 abbrev pub HoldsBytes : File → Type 0
 HoldsBytes file = (i : ℕ) → slice_index file.bytes i < 256
 
@@ -23,7 +23,7 @@ pub record AreRead (held : Held) (names : List Name) (files : List File) : Type 
   pub names_are : map (λ file. file.name) files ≡ names
   pub each : All (IsRead held) files
 
--- what a command defines where a file can't be read
+-- the outcome of a command where a file can't be read
 abbrev pub read_fault_of : Name → Outcome
 read_fault_of name = record {
   status = ReadFault;
@@ -31,7 +31,7 @@ read_fault_of name = record {
   writes = [];
 }
 
--- what a command defines where a file is too long
+-- the outcome of a command where a file is too long
 abbrev pub too_long_of : Name → Outcome
 too_long_of name = record {
   status = Malformed;
@@ -49,7 +49,7 @@ pub record StopsAt (held : Held) (rose : Type 0) (names : List Name) (outcome : 
   pub cause : ((outcome ≡ read_fault_of name) × (rose ⊎ IsMissing held name))
       ⊎ ((outcome ≡ too_long_of name) × IsLonger held name read_limit)
 
--- the reading ended before all files were read: by an outcome, or since memory ran out
+-- the reading ended before all files were read: with an outcome, or because memory ran out
 abbrev pub IsStop : Held → Type 0 → List Name → Stop → Type 0
 IsStop held rose names (Ended outcome) = StopsAt held rose names (outcome_of outcome)
 IsStop held rose names Memory = Unit {0}

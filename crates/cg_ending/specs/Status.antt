@@ -15,7 +15,7 @@ number_of WriteFault = 6
 number_of BudgetSpent = 7
 number_of No = 8
 
--- the statuses after which no write call was made, but for No of a command that writes
+-- the statuses after which no write call was made, except No of a command that writes
 abbrev pub leaves_all : Status → Bool
 leaves_all Usage = true
 leaves_all Malformed = true

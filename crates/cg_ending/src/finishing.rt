@@ -1,4 +1,4 @@
-//! Writes the files of an outcome, and then puts its report.
+//! Writes the files of an outcome, and then its report.
 ghost use Rattle.std.specs.Prelude.{◌≡◌, ◌≤◌, [], ℕ, Err, OnOk, IsErrOf, map};
 ghost use Rattle.cg_files.specs.Asked.{NotesAll, NotesPart};
 ghost use Rattle.cg_files.specs.Causes.{Rose};
@@ -9,7 +9,7 @@ use crate::outcome::{File, Outcome, Status};
 use cg_files::{Sink, SinkFail, Store, StoreFail};
 use std::alloc::Global;
 
-/// Does what `outcome` says: each write into `store`, then one put of the report into `out`. Returns the exit status.
+/// Carries out `outcome`: writes each file into `store`, then puts the report into `out` once. Returns the exit status.
 pub fn finish<S: Store, O: Sink>(
     alloc: Global,
     outcome: &Outcome,
@@ -22,9 +22,9 @@ pub fn finish<S: Store, O: Sink>(
         (moment (S.held store.new) (S.read_faults store.new) (S.write_faults store.new)
         (O.taken out.new) (O.faults out.new))
         result }
-    // Where nothing is to be written, the store is not called.
+    // Where the outcome writes no files, the store is not called.
     ensures untouched { outcome.now.writes.items ≡ [] → store.new ≡ store.old }
-    // It writes under the outcome's names alone, under each once, in order.
+    // It writes under the names of the outcome's files only, under each once, in order.
     ensures wrote { NotesPart (S.wrote store.old) (names_of (outcome_of outcome.now).writes)
         (S.wrote store.new) }
     ensures asked { S.asked store.new ≡ S.asked store.old }
@@ -68,7 +68,7 @@ fn write_all<S: Store>(alloc: Global, files: &[File], store: &mut S) -> Result<(
 fn report<O: Sink>(alloc: Global, status: Status, bytes: &[u8], out: &mut O) -> Status
     ensures ends { Reported status bytes.now (O.taken out.old) (O.faults out.old)
         (O.taken out.new) (O.faults out.new) result }
-    // Where there is nothing to put, the sink is not called.
+    // Where the report is empty, the sink is not called.
     ensures untouched { bytes.now ≡ [] → out.new ≡ out.old }
     ensures faults { O.faults out.old ≤ O.faults out.new }
 {

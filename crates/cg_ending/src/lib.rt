@@ -1,4 +1,4 @@
-//! How a command's call begins and ends: the reading of its inputs, then its writes and its report.
+//! How the call of a command begins and ends: reading its inputs, then writing its files and its report.
 #![tactic(auto)]
 
 mod finishing;

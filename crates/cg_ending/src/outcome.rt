@@ -1,4 +1,4 @@
-//! What a command defines.
+//! The outcome of a command.
 ghost use Rattle.std.specs.Prelude.{◌≡◌};
 
 use std::alloc::{AllocError, Global};
@@ -10,9 +10,9 @@ pub enum Status {
     Done,
     /// Memory ran out.
     Memory,
-    /// The words fit no command.
+    /// The arguments fit no command.
     Usage,
-    /// An input file is too long, or isn't what it should be.
+    /// An input file is too long or invalid.
     Malformed,
     /// No mapping can exist at that interval.
     Impossible,
@@ -20,7 +20,7 @@ pub enum Status {
     ReadFault,
     /// An output file couldn't be written, or the report couldn't be put.
     WriteFault,
-    /// The search found no mapping with the moves it had.
+    /// The search found no mapping within its budget of moves.
     BudgetSpent,
     /// The answer to the question asked is no.
     No,
@@ -54,7 +54,7 @@ pub struct File {
     pub bytes: Vec<u8>,
 }
 
-/// What a command defines: how the call ends, what it puts, and the files to write, in order.
+/// The outcome of a command: its status, its report, and the files to write, in order.
 #[derive(Drop)]
 pub struct Outcome {
     pub status: Status,
@@ -92,7 +92,7 @@ impl Outcome {
         Outcome::new(alloc, status, report).writing(alloc, name, bytes)
     }
 
-    /// Returns the outcome with one write more, of `bytes` under `name`.
+    /// Returns the outcome with one more write, of `bytes` under `name`.
     pub fn writing(self, alloc: Global, name: &str, bytes: Vec<u8>) -> Result<Outcome, AllocError>
         ensures { IfOk result (λ o. outcome_of o ≡ record (outcome_of self) {
           writes = (outcome_of self).writes ++ (record { name = name.now; bytes = bytes.items } ∷ []);

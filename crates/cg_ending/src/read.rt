@@ -9,13 +9,13 @@ use crate::outcome::{File, Outcome, Status};
 use cg_files::{Store, StoreFail};
 use std::alloc::{AllocError, AllocFailed, Global};
 
-/// The most bytes that an input file may have.
+/// The greatest number of bytes of an input file.
 pub const READ_LIMIT: u64 = 16_777_216;
 
 /// Why the reading of a command's inputs ended before all were read.
 #[derive(Drop)]
 pub enum Stop {
-    /// A file couldn't be read, or is too long: the call ends by this outcome.
+    /// A file couldn't be read, or is too long: the call ends with this outcome.
     Ended(Outcome),
     /// Memory ran out.
     Memory,
@@ -47,7 +47,7 @@ impl<T: Drop> From<AllocFailed<T>> for Stop {
 pub fn read_all<S: Store>(alloc: Global, names: &[String], store: &mut S) -> Result<Vec<File>, Stop>
     ensures ok { IfOk result (λ files.
         AreRead (S.held store.old) (map string_bytes names.now) (map file_of files.items)) }
-    // Also where the store doesn't tell what it holds.
+    // This holds even where the store doesn't reveal what it holds.
     ensures bytes { IfOk result (λ files. All HoldsBytes (map file_of files.items)) }
     ensures stopped { IfErr result (IsStop (S.held store.old)
         (Rose (S.read_faults store.old) (S.read_faults store.new)) (map string_bytes names.now)) }
@@ -76,7 +76,7 @@ pub fn read_all<S: Store>(alloc: Global, names: &[String], store: &mut S) -> Res
     Ok(files)
 }
 
-/// A law: each item of a list of bytes is below 256.
+/// States that each item of a list of bytes is below 256.
 fn are_bytes(_bytes: &[u8])
     ensures { (i : ℕ) → slice_index _bytes.now i < 256 }
 {}

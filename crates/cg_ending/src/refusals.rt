@@ -1,4 +1,4 @@
-//! The outcomes of refusals that no command has by itself.
+//! The outcomes of refusals that are not specific to one command.
 ghost use Rattle.std.specs.Prelude.{◌≡◌, [], IfOk};
 ghost use Rattle.cg_ending.specs.Outcome.{file_of, outcome_of};
 ghost use Rattle.cg_ending.specs.Allowed.{EndsBy};
@@ -8,7 +8,7 @@ use crate::outcome::{File, Outcome, Status};
 use crate::read::Stop;
 use std::alloc::{AllocError, Global};
 
-/// Returns the outcome where the words fit no command.
+/// Returns the outcome where the arguments fit no command.
 pub fn usage(alloc: Global) -> Result<Outcome, AllocError>
     ensures outcome { IfOk result (λ o. outcome_of o ≡ usage_outcome) }
     ensures no_write { IfOk result (λ o. o.writes.items ≡ []) }

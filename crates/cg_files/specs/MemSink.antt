@@ -1,13 +1,13 @@
--- What a sink in memory shows.
+-- The observable state of a sink in memory.
 use Rattle.std.specs.Prelude.{ℕ, List}
 use Rattle.cg_files.specs.Calls.{IsListed}
 use Rattle.cg_files.specs.declared.memory.MemSink.{MemSink}
 
--- the bytes that it has taken
+-- the bytes taken so far
 abbrev pub taken_of : MemSink → List ℕ
 taken_of sink = sink.bytes.items
 
--- how many calls were counted
+-- the number of counted calls
 abbrev pub calls_of : MemSink → ℕ
 calls_of sink = sink.calls.made
 
@@ -15,7 +15,7 @@ calls_of sink = sink.calls.made
 abbrev pub failing_of : MemSink → List ℕ
 failing_of sink = sink.calls.failing.items
 
--- how many puts were told to fail, and did
+-- the number of puts that failed as requested
 abbrev pub faults_of : MemSink → ℕ
 faults_of sink = sink.faults
 

@@ -1,4 +1,4 @@
--- What a store in memory shows.
+-- The observable state of a store in memory.
 use Rattle.std.specs.Prelude.{◌≡◌, ℕ, List, Option, option_map, map, string_bytes}
 use Rattle.std.specs.BTreeMap.{get_by_text}
 use Rattle.cg_files.specs.Calls.{IsListed}
@@ -8,7 +8,7 @@ use Rattle.cg_files.specs.declared.memory.MemStore.{MemStore}
 abbrev pub files_of : MemStore → List ℕ → Option (List ℕ)
 files_of store name = option_map (λ v. v.items) (get_by_text store.files name)
 
--- how many calls were counted
+-- the number of counted calls
 abbrev pub calls_of : MemStore → ℕ
 calls_of store = store.calls.made
 
@@ -16,11 +16,11 @@ calls_of store = store.calls.made
 abbrev pub failing_of : MemStore → List ℕ
 failing_of store = store.calls.failing.items
 
--- how many reads were told to fail, and did
+-- the number of reads that failed as requested
 abbrev pub read_faults_of : MemStore → ℕ
 read_faults_of store = store.read_faults
 
--- how many writes were told to fail, and did
+-- the number of writes that failed as requested
 abbrev pub write_faults_of : MemStore → ℕ
 write_faults_of store = store.write_faults
 

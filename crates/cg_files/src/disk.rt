@@ -1,4 +1,4 @@
-//! The system's files and its standard output. They tell nothing of content or names.
+//! The system's files and its standard output. Their contracts reveal neither content nor names.
 ghost use Rattle.std.specs.Prelude.{◌≡◌, ◌+◌, ◌-◌, ◌^◌, ◌<◌, ◌≤◌, ◌++◌, ℕ, List, [], Err, Ok, IfOk, IfSome, IsErrOf, OnOk, length, min};
 ghost use Rattle.std.specs.Io.KnownBytes.{Consumes, IsAtEnd};
 
@@ -10,7 +10,7 @@ use std::io::{Read, Write};
 use std::rt::Files;
 use std::{fs, io};
 
-/// The files of the system. Each error of the system raises a count, and a missing file is one.
+/// The files of the system. Each error of the system raises a count; a missing file is one of these errors.
 #[derive(Drop)]
 pub struct DiskStore<'a, R: Files> {
     rt: &'a R,
@@ -19,7 +19,7 @@ pub struct DiskStore<'a, R: Files> {
 }
 
 impl<'a, R: Files> DiskStore<'a, R> {
-    /// The files of this runtime.
+    /// Returns the files of the runtime `rt`.
     pub fn new(rt: &'a R) -> DiskStore<'a, R>
         ensures reads { ⟦<DiskStore<'a, R> as Store>⟧.read_faults result ≡ 0 }
         ensures writes { ⟦<DiskStore<'a, R> as Store>⟧.write_faults result ≡ 0 }
@@ -31,20 +31,20 @@ impl<'a, R: Files> DiskStore<'a, R> {
         }
     }
 
-    /// How many writes failed.
+    /// Returns the number of failed writes.
     pub fn write_faults(&self) -> u64
         ensures { result ≡ ⟦<DiskStore<'a, R> as Store>⟧.write_faults self.now }
     {
         self.write_faults
     }
 
-    /// The bytes of the file, where they are at most `limit`.
+    /// Returns the bytes of the file `name`, if they are at most `limit`.
     fn read_file(&mut self, alloc: Global, name: &str, limit: u64) -> Result<Vec<u8>, StoreFail>
         ensures ok { IfOk result (λ bytes. length bytes.items ≤ limit) }
         ensures too_long { (got : ℕ) → result ≡ Err (StoreFail.TooLong got)
             → (limit < got) × (got ≤ limit + 4096) }
 
-        // The count rises where the answer is `Failed`, by one, and nowhere else.
+        // The count rises by one where the answer is `Failed`, and nowhere else.
         ensures raised { IsErrOf result StoreFail.Failed
             → self.new.read_faults ≡ min (self.old.read_faults + 1) (2 ^ 64 - 1) }
         ensures still { ¬ IsErrOf result StoreFail.Failed
@@ -91,13 +91,13 @@ impl<'a, R: Files> Store for DiskStore<'a, R> {
     }
 }
 
-/// The bytes up to the file's end. It stops at the first piece that goes past the limit.
+/// Reads `file` to its end and returns the bytes. Stops at the first piece that goes past `limit`.
 fn read_up_to<F: Read + Drop>(alloc: Global, mut file: F, limit: u64) -> Result<Vec<u8>, StoreFail>
     ensures short { IfOk result (λ v. length v.items ≤ limit) }
     ensures too_long { (got : ℕ) → result ≡ Err (StoreFail.TooLong got)
         → (limit < got) × (got ≤ limit + 4096) }
 
-    // Where the reader tells what it has left, this is what was read.
+    // Where the reader reveals its remaining bytes, these are the bytes read.
     ensures whole { IfSome (F.remaining file) (λ bytes. IfOk result (λ v. v.items ≡ bytes)) }
     ensures longer { IfSome (F.remaining file) (λ bytes. (got : ℕ)
         → result ≡ Err (StoreFail.TooLong got) → limit < length bytes) }
@@ -107,7 +107,7 @@ fn read_up_to<F: Read + Drop>(alloc: Global, mut file: F, limit: u64) -> Result<
     Ok(bytes)
 }
 
-/// Reads into the empty vector up to the file's end.
+/// Reads `file` to its end into the empty vector `bytes`.
 fn read_pieces<F: Read>(file: &mut F, limit: u64, bytes: &mut Vec<u8>) -> Result<(), StoreFail>
     requires { bytes.old.items ≡ [] }
     ensures short { OnOk result (length bytes.new.items ≤ limit) }
@@ -130,7 +130,7 @@ fn read_pieces<F: Read>(file: &mut F, limit: u64, bytes: &mut Vec<u8>) -> Result
     Err(StoreFail::Failed)
 }
 
-/// Reads the next piece, and answers its length, which is 0 at the file's end alone.
+/// Reads the next piece, and returns its length, which is 0 only at the file's end.
 fn read_piece<F: Read>(file: &mut F, bytes: &mut Vec<u8>) -> Result<usize, StoreFail>
     ensures ok { IfOk result (λ count. (piece : List ℕ) × (length piece ≡ count)
         × (count ≤ 4096) × (bytes.new.items ≡ bytes.old.items ++ piece)
@@ -154,14 +154,14 @@ pub struct StdSink<'a, R: Print> {
 }
 
 impl<'a, R: Print> StdSink<'a, R> {
-    /// The standard output of this runtime.
+    /// Returns the standard output of the runtime `rt`.
     pub fn new(rt: &'a R) -> StdSink<'a, R>
         ensures { ⟦<StdSink<'a, R> as Sink>⟧.faults result ≡ 0 }
     {
         StdSink { rt, faults: 0 }
     }
 
-    /// How many puts failed.
+    /// Returns the number of failed puts.
     pub fn faults(&self) -> u64
         ensures { result ≡ ⟦<StdSink<'a, R> as Sink>⟧.faults self.now }
     {

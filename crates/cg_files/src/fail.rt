@@ -4,9 +4,9 @@ use std::alloc::{AllocError, AllocFailed};
 /// Why a call of a store failed.
 #[derive(Clone, Copy, Debug, PartialEq, Eq)]
 pub enum StoreFail {
-    /// The system, or what stands for it, failed.
+    /// The system, or its substitute, failed.
     Failed,
-    /// More bytes are held than were asked for: the number of those that were seen.
+    /// The file has more bytes than the limit: the number of bytes that were seen.
     TooLong(u64),
     /// Memory ran out.
     Memory,
@@ -15,7 +15,7 @@ pub enum StoreFail {
 /// Why a call of a sink failed.
 #[derive(Clone, Copy, Debug, PartialEq, Eq)]
 pub enum SinkFail {
-    /// The system, or what stands for it, failed.
+    /// The system, or its substitute, failed.
     Failed,
     /// Memory ran out.
     Memory,

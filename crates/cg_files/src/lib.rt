@@ -1,4 +1,4 @@
-//! A store of files and a sink of bytes, by what they tell and how often they failed.
+//! A store of files and a sink of bytes, specified by what they reveal and how often they failed.
 #![tactic(auto)]
 
 mod disk;

@@ -1,4 +1,4 @@
-//! A store and a sink in memory, whose calls fail where they are told to.
+//! A store and a sink in memory, in which selected calls fail.
 ghost use Rattle.std.specs.Prelude.{◌≡◌, ◌+◌, ◌-◌, ◌^◌, ◌<◌, ◌≤◌, ◌↔◌, ◌++◌, [], ◌∷◌, min, map, string_bytes, IsTrue, OnOk, OnErr};
 ghost use Rattle.cg_files.specs.Calls.{IsListed, next_call};
 
@@ -34,7 +34,7 @@ impl Calls {
         self.failing.extend_from_slice(calls)
     }
 
-    /// Whether the next call is to fail.
+    /// Returns whether the next call is to fail.
     fn fails_next(&self) -> bool
         ensures listed { IsTrue result ↔ IsListed self.now.failing.items self.now.made }
         ensures early { IsTrue result → self.now.made + 1 < 2 ^ 32 }
@@ -51,7 +51,7 @@ impl Calls {
     }
 }
 
-/// Adds a name to the names of the calls so far.
+/// Adds `name` to `names`, the names of the calls so far.
 fn note(alloc: Global, names: &mut Vec<String>, name: &str) -> Result<(), AllocError>
     ensures ok { OnOk result
         (map string_bytes names.new.items ≡ map string_bytes names.old.items ++ name.now ∷ []) }
@@ -61,8 +61,8 @@ fn note(alloc: Global, names: &mut Vec<String>, name: &str) -> Result<(), AllocE
     Ok(())
 }
 
-/// Files in memory. Its calls are numbered from 1, reads and writes together; one that answers
-/// `Memory` gets no number.
+/// Files in memory. Its calls are numbered from 1, reads and writes together; a call that returns `Memory` gets no
+/// number.
 #[derive(Drop)]
 pub struct MemStore {
     files: BTreeMap<String, Vec<u8>>,
@@ -79,7 +79,7 @@ impl MemStore {
     ghost use Rattle.std.specs.Prelude.{◌≡◌, ◌≢◌, ◌<◌, ◌≤◌, ◌↔◌, ◌++◌, ◌⊎◌, ℕ, List, [], Some, None, Err, OnOk, OnErr, IfOk, IsErrOf, IsSomeAnd, length, option_map};
     ghost use Rattle.cg_files.specs.MemStore.{files_of, calls_of, failing_of, read_faults_of, write_faults_of, asked_of, wrote_of, SameCalls, FailsNext};
 
-    /// A store that holds nothing, of which no call was made.
+    /// Returns an empty store with no calls made.
     pub fn new(alloc: Global) -> MemStore
         ensures files { files_of result ≡ (λ _. None) }
         ensures calls { calls_of result ≡ 0 }
@@ -99,7 +99,7 @@ impl MemStore {
         }
     }
 
-    /// Adds the numbers of calls that are to fail.
+    /// Adds the numbers `calls` of calls that are to fail.
     pub fn fail_at(&mut self, calls: &[u32]) -> Result<(), AllocError>
         ensures ok { OnOk result (failing_of self.new ≡ failing_of self.old ++ calls.now) }
         ensures err { OnErr result (failing_of self.new ≡ failing_of self.old) }
@@ -109,7 +109,7 @@ impl MemStore {
         self.calls.fail_at(calls)
     }
 
-    /// Holds exactly these bytes under the name. This is no call of the store.
+    /// Holds exactly `bytes` under `name`. This doesn't count as a call of the store.
     pub fn hold(&mut self, alloc: Global, name: &str, bytes: &[u8]) -> Result<(), AllocError>
         ensures ok { OnOk result (files_of self.new name.now ≡ Some bytes.now) }
         ensures err { OnErr result (files_of self.new ≡ files_of self.old) }
@@ -124,14 +124,14 @@ impl MemStore {
         Ok(())
     }
 
-    /// The bytes held under the name. This is no call of the store.
+    /// Returns the bytes held under `name`. This doesn't count as a call of the store.
     pub fn held(&self, name: &str) -> Option<&[u8]>
         ensures { option_map (λ bytes. bytes.now) result ≡ files_of self.now name.now }
     {
         self.files.get(name).map(|bytes| bytes.as_slice())
     }
 
-    /// A copy of what is held under the name.
+    /// Returns a copy of the bytes held under `name`.
     fn copy_of(&self, alloc: Global, name: &str, limit: u64) -> Result<Vec<u8>, StoreFail>
         ensures ok { IfOk result (λ bytes. (files_of self.now name.now ≡ Some bytes.items)
             × (length bytes.items ≤ limit)) }
@@ -152,7 +152,7 @@ impl MemStore {
         Ok(Vec::from_slice(alloc, bytes)?)
     }
 
-    /// What the next read of the name answers.
+    /// Returns what the next read of `name` returns.
     fn answer(&self, alloc: Global, name: &str, limit: u64) -> Result<Vec<u8>, StoreFail>
         ensures ok { IfOk result (λ bytes. (files_of self.now name.now ≡ Some bytes.items)
             × (length bytes.items ≤ limit)) }
@@ -201,7 +201,7 @@ impl Store for MemStore {
             → option_map length (files_of self.old name.now) ≡ Some got }
         ensures held { files_of self.new ≡ files_of self.old }
 
-        // A call is noted and counted unless it answers `Memory`.
+        // A call is recorded and counted unless it returns `Memory`.
         ensures unnoted { IsErrOf result StoreFail.Memory
             → asked_of self.new ≡ asked_of self.old }
         ensures noted { ¬ IsErrOf result StoreFail.Memory
@@ -213,7 +213,7 @@ impl Store for MemStore {
             → calls_of self.new ≡ next_call (calls_of self.old) }
         ensures failing { failing_of self.new ≡ failing_of self.old }
 
-        // The count rises in listed calls alone, by one.
+        // The count rises by one in listed calls, and in no others.
         ensures raised { IsErrOf result StoreFail.Failed → FailsNext self.old
             → read_faults_of self.new ≡ read_faults_of self.old + 1 }
         ensures still { ¬ FailsNext self.old
@@ -246,7 +246,7 @@ impl Store for MemStore {
         ensures others { (other : List ℕ) → other ≢ name.now
             → files_of self.new other ≡ files_of self.old other }
 
-        // A call is noted and counted unless it answers `Memory`.
+        // A call is recorded and counted unless it returns `Memory`.
         ensures unnoted { IsErrOf result StoreFail.Memory
             → wrote_of self.new ≡ wrote_of self.old }
         ensures noted { ¬ IsErrOf result StoreFail.Memory
@@ -258,7 +258,7 @@ impl Store for MemStore {
             → calls_of self.new ≡ next_call (calls_of self.old) }
         ensures failing { failing_of self.new ≡ failing_of self.old }
 
-        // The count rises in listed calls alone, by one.
+        // The count rises by one in listed calls, and in no others.
         ensures raised { IsErrOf result StoreFail.Failed
             → write_faults_of self.new ≡ write_faults_of self.old + 1 }
         ensures still { ¬ FailsNext self.old
@@ -283,7 +283,7 @@ impl Store for MemStore {
     }
 }
 
-/// Bytes in memory. Its calls are numbered from 1; one that answers `Memory` gets no number.
+/// Bytes in memory. Its calls are numbered from 1; a call that returns `Memory` gets no number.
 #[derive(Drop)]
 pub struct MemSink {
     bytes: Vec<u8>,
@@ -296,7 +296,7 @@ impl MemSink {
     ghost use Rattle.std.specs.Prelude.{◌≡◌, ◌++◌, [], OnOk, OnErr};
     ghost use Rattle.cg_files.specs.MemSink.{taken_of, calls_of, failing_of, faults_of};
 
-    /// A sink that has taken nothing, of which no call was made.
+    /// Returns an empty sink with no calls made.
     pub fn new(alloc: Global) -> MemSink
         ensures taken { taken_of result ≡ [] }
         ensures calls { calls_of result ≡ 0 }
@@ -310,7 +310,7 @@ impl MemSink {
         }
     }
 
-    /// Adds the numbers of calls that are to fail.
+    /// Adds the numbers `calls` of calls that are to fail.
     pub fn fail_at(&mut self, calls: &[u32]) -> Result<(), AllocError>
         ensures ok { OnOk result (failing_of self.new ≡ failing_of self.old ++ calls.now) }
         ensures err { OnErr result (failing_of self.new ≡ failing_of self.old) }
@@ -321,7 +321,7 @@ impl MemSink {
         self.calls.fail_at(calls)
     }
 
-    /// The bytes that it has taken.
+    /// Returns the bytes taken so far.
     pub fn taken(&self) -> &[u8]
         ensures { result.now ≡ taken_of self.now }
     {
@@ -345,14 +345,14 @@ impl Sink for MemSink {
             ≡ (if is_ok result then taken_of self.old ++ bytes.now else taken_of self.old) }
         ensures part { AppendsSome (Some (taken_of self.old)) bytes.now (Some (taken_of self.new)) }
 
-        // A call is counted unless it answers `Memory`.
+        // A call is counted unless it returns `Memory`.
         ensures uncounted { IsErrOf result SinkFail.Memory
             → calls_of self.new ≡ calls_of self.old }
         ensures counted { ¬ IsErrOf result SinkFail.Memory
             → calls_of self.new ≡ next_call (calls_of self.old) }
         ensures failing { failing_of self.new ≡ failing_of self.old }
 
-        // The count rises in listed calls alone, by one.
+        // The count rises by one in listed calls, and in no others.
         ensures raised { FailsNext self.old → faults_of self.new ≡ faults_of self.old + 1 }
         ensures still { ¬ FailsNext self.old → faults_of self.new ≡ faults_of self.old }
         ensures count { faults_of self.old ≤ faults_of self.new }

@@ -7,7 +7,7 @@ ghost use Rattle.cg_files.specs.Held.{Held, Holds, IsMissing, IsLonger, TellsLon
 use crate::fail::StoreFail;
 use std::alloc::Global;
 
-/// Files under names. It may tell what it holds or not, and which names it was asked to read and to write.
+/// Files by name. It may reveal to contracts what it holds, and which names it was asked to read and to write.
 pub trait Store {
     ghost held: { Self → Held };
 
@@ -19,7 +19,7 @@ pub trait Store {
 
     ghost write_faults: { Self → ℕ };
 
-    /// The bytes held under the name, where they are at most `limit`.
+    /// Returns the bytes held under `name`, if they are at most `limit`.
     fn read(&mut self, alloc: Global, name: &str, limit: u64) -> Result<Vec<u8>, StoreFail>
         ensures ok { IfOk result (λ bytes. Holds (held self.old) name.now bytes.items
             × (length bytes.items ≤ limit)) }
@@ -27,15 +27,15 @@ pub trait Store {
             → Rose (read_faults self.old) (read_faults self.new)
             ⊎ IsMissing (held self.old) name.now }
 
-        // `TooLong` comes exactly where more is held, unless memory runs out, and except for `Failed`, which goes
-        // first.
+        // `TooLong` is returned exactly where more bytes are held, unless memory runs out or the call fails; `Failed`
+        // takes precedence.
         ensures too_long { (got : ℕ) → result ≡ Err (StoreFail.TooLong got)
             → (limit < got) × IsLonger (held self.old) name.now limit }
         ensures longer { TellsLonger (held self.old) name.now limit → IsErr result }
         ensures failed_first { (got : ℕ) → result ≡ Err (StoreFail.TooLong got)
             → read_faults self.new ≡ read_faults self.old }
 
-        // Each call is noted by its name, unless memory runs out, which leaves everything as it was.
+        // Each call is recorded by its name, unless memory runs out, which leaves everything as it was.
         ensures noted { ¬ IsErrOf result StoreFail.Memory
             → Notes (asked self.old) name.now (asked self.new) }
         ensures unnoted { IsErrOf result StoreFail.Memory → asked self.new ≡ asked self.old }
@@ -47,7 +47,7 @@ pub trait Store {
         ensures reads { read_faults self.old ≤ read_faults self.new }
         ensures writes { write_faults self.new ≡ write_faults self.old };
 
-    /// Holds exactly these bytes under the name.
+    /// Holds exactly `bytes` under `name`.
     fn write(&mut self, alloc: Global, name: &str, bytes: &[u8]) -> Result<(), StoreFail>
         ensures ok { OnOk result (Holds (held self.new) name.now bytes.now) }
         ensures failed { IsErrOf result StoreFail.Failed
@@ -55,7 +55,7 @@ pub trait Store {
         ensures too_long { (got : ℕ) → result ≡ Err (StoreFail.TooLong got) → ⊥ }
         ensures memory { IsErrOf result StoreFail.Memory → held self.new ≡ held self.old }
 
-        // Each call is noted by its name, unless memory runs out, which leaves everything as it was.
+        // Each call is recorded by its name, unless memory runs out, which leaves everything as it was.
         ensures noted { ¬ IsErrOf result StoreFail.Memory
             → Notes (wrote self.old) name.now (wrote self.new) }
         ensures unnoted { IsErrOf result StoreFail.Memory → wrote self.new ≡ wrote self.old }

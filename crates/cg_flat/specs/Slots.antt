@@ -1,10 +1,10 @@
--- Where the fields of a slot lie, in bits from the slot's first: a select for each resource, and
--- then the fields of each unit.
+-- The layout of the fields of a slot, in bits from the slot's first bit: a select for each resource, and then the
+-- fields of each unit.
 use Rattle.std.specs.Prelude.{ℕ, zero, suc, ◌+◌, ◌*◌, ◌/◌, ◌^◌, ◌<◌, ◌≤◌, eqb, if◌then◌else◌, List, map, length}
 use Rattle.std.specs.List.{range_with_len}
 use Rattle.cg_model.specs.Array.{Arch, resource, unit}
 
--- how many binary digits a number has, counted up to `most`
+-- the number of binary digits of a number, counted up to `most`
 unfoldable pub width_by : ℕ → ℕ → ℕ
 width_by zero k = 0
 width_by (suc most) k = if eqb k 0 then 0 else suc (width_by most (k / 2))
@@ -13,12 +13,12 @@ width_by (suc most) k = if eqb k 0 then 0 else suc (width_by most (k / 2))
 abbrev pub width : ℕ → ℕ
 width k = width_by k k
 
--- w is the least width that tells all numbers up to k apart
+-- w is the least width that distinguishes all numbers up to k
 pub record IsWidth (k w : ℕ) : Type 0 where
   pub enough : k < 2 ^ w
   pub least : (v : ℕ) → k < 2 ^ v → w ≤ v
 
--- the width of a resource's select: 0 is off, and j is its driver in place j, counted from 1
+-- the width of a resource's select: 0 is off, and j selects driver number j, counted from 1
 abbrev pub select_bits : Arch → ℕ → ℕ
 select_bits A r = width (length (resource A r).drivers)
 
@@ -31,8 +31,8 @@ total f (suc n) = total f n + f n
 abbrev pub select_at : Arch → ℕ → ℕ
 select_at A r = total (select_bits A) r
 
--- the bits of a unit: an operation code of 6, a stage of 16, a port of 4 and an immediate of 32
--- bits, and for each of its ports a mode bit, a count of 3 bits and four words of 32
+-- the number of bits of a unit: 6 bits for an operation code, 16 for a stage, 4 for a port and 32 for an immediate, and
+-- for each of its ports a mode bit, 3 bits for a count and four words of 32 bits
 abbrev pub unit_bits : Arch → ℕ → ℕ
 unit_bits A x = 58 + length (unit A x).ports * 132
 
@@ -40,7 +40,7 @@ unit_bits A x = 58 + length (unit A x).ports * 132
 abbrev pub unit_at : Arch → ℕ → ℕ
 unit_at A x = select_at A (length A.resources) + total (unit_bits A) x
 
--- all bits of a slot
+-- the number of bits of a slot
 abbrev pub slot_bits : Arch → ℕ
 slot_bits A = unit_at A (length A.units)
 

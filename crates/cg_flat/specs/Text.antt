@@ -1,5 +1,5 @@
--- The text of a flat architecture: after a first line that names the format, a line each for its
--- name, its contexts, its memory, each resource, each unit and its hub. Each line ends with LF.
+-- The text of a flat architecture: after a first line that names the format, one line each for its name, its contexts,
+-- its memory, each resource, each unit and its hub. Each line ends with LF.
 use Rattle.std.specs.Prelude.{ℕ, List, [], ◌∷◌, ◌++◌, flat_map, codes, decimal, if◌then◌else◌}
 use Rattle.cg_word.specs.declared.op.Op.{Op}
 use Rattle.cg_word.specs.Word.{name_of, all_ops}
@@ -10,7 +10,7 @@ use Rattle.cg_model.specs.declared.array.Resource.{Resource}
 use Rattle.cg_model.specs.declared.array.Unit.{Unit}
 use Rattle.cg_model.specs.Array.{Arch}
 
--- a blank and then the number
+-- a blank followed by the number
 abbrev pub spaced : ℕ → List ℕ
 spaced n = 32 ∷ decimal n
 
@@ -18,7 +18,7 @@ spaced n = 32 ∷ decimal n
 abbrev pub numbers : List ℕ → List ℕ
 numbers ns = flat_map spaced ns
 
--- what a resource's line begins with
+-- the first word of a resource's line
 abbrev pub kind_word : Kind → List ℕ
 kind_word Wire = codes "wire "
 kind_word Register = codes "reg "
@@ -29,7 +29,7 @@ kind_word Out = codes "out "
 abbrev pub resource_line : Resource → List ℕ
 resource_line r = kind_word r.kind ++ (r.name ++ (numbers r.drivers ++ 10 ∷ []))
 
--- the name of an operation after a blank, where it is among those
+-- the name of an operation after a blank, if it is in the list
 abbrev pub op_word : List Op → Op → List ℕ
 op_word ops op = if among ops op then 32 ∷ name_of op else []
 
@@ -37,7 +37,7 @@ op_word ops op = if among ops op then 32 ∷ name_of op else []
 abbrev pub op_words : List Op → List ℕ
 op_words ops = flat_map (op_word ops) all_ops
 
--- what stands before the ports of a unit, and between them and its operations
+-- the part of a unit's line before its ports, and the part between its ports and its operations
 abbrev pub unit_head : List ℕ → ℕ → List ℕ
 unit_head name latency = codes "unit " ++ (name ++ (codes " latency " ++ (decimal latency ++ codes " ports")))
 
@@ -48,7 +48,7 @@ unit_out out = codes " out " ++ (decimal out ++ codes " ops")
 abbrev pub unit_line : Unit → List ℕ
 unit_line u = unit_head u.name u.latency ++ (numbers u.ports ++ (unit_out u.out ++ (op_words u.ops ++ 10 ∷ [])))
 
--- what stands before the resources
+-- the lines before the resources
 abbrev pub head_lines : List ℕ → ℕ → ℕ → List ℕ
 head_lines name contexts memory =
     codes "cgaflat1\nname " ++ (name ++ (codes "\ncontexts " ++ (decimal contexts ++ (codes "\nmemory " ++ (decimal memory ++ 10 ∷ [])))))

@@ -1,4 +1,4 @@
-//! Architectures by number.
+//! Architectures with resources and units by number.
 
 use cg_model::{Name, Resource, Unit};
 use std::marker::Model;
@@ -25,7 +25,7 @@ impl Model for Flat {
 impl Flat {
     ghost use Rattle.std.specs.Prelude.{◌≡◌};
 
-    /// An architecture of these parts by number.
+    /// Returns an architecture of these parts by number.
     pub fn new(
         name: Name,
         contexts: u32,
@@ -46,42 +46,42 @@ impl Flat {
         }
     }
 
-    /// Its name.
+    /// Returns its name.
     pub fn name(&self) -> &Name
         ensures { result.now ≡ self.now.name }
     {
         &self.name
     }
 
-    /// The slots that a configuration may have at most.
+    /// Returns the greatest number of slots of a configuration.
     pub fn contexts(&self) -> u32
         ensures { result ≡ self.now.contexts }
     {
         self.contexts
     }
 
-    /// The words of the scratchpad.
+    /// Returns the number of words of the scratchpad.
     pub fn memory(&self) -> u32
         ensures { result ≡ self.now.memory }
     {
         self.memory
     }
 
-    /// The resources by number.
+    /// Returns the resources by number.
     pub fn resources(&self) -> &[Resource]
         ensures { result.now ≡ self.now.resources }
     {
         &self.resources
     }
 
-    /// The units by number.
+    /// Returns the units by number.
     pub fn units(&self) -> &[Unit]
         ensures { result.now ≡ self.now.units }
     {
         &self.units
     }
 
-    /// The numbers of the hub's registers; empty where there is no hub.
+    /// Returns the numbers of the hub's registers; empty where there is no hub.
     pub fn hub(&self) -> &[u32]
         ensures { result.now ≡ self.now.hub }
     {

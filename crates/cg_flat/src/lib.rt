@@ -1,5 +1,5 @@
-//! Flat architectures, valid or not: their resources and units by number, their text, and where
-//! the fields of a slot lie.
+//! Flat architectures, valid or not: their resources and units by number, their text, and the layout of the fields of a
+//! slot.
 #![tactic(auto)]
 
 mod flat;

@@ -1,4 +1,4 @@
-//! Where the fields of a slot lie.
+//! The layout of the fields of a slot.
 ghost use Rattle.std.specs.Prelude.{◌≡◌, ◌+◌, ◌*◌, ◌<◌, ◌≤◌, ◌^◌, IfOk, length};
 ghost use Rattle.cg_model.specs.Array as arrays;
 ghost use Rattle.cg_flat.specs.Slots as spec;
@@ -7,7 +7,7 @@ use crate::flat::Flat;
 use cg_model::Words;
 use std::alloc::{AllocError, Global};
 
-/// The width of a select among drivers, in bits: the least one whose values are as many as the drivers and one more.
+/// Returns the width of a select among `drivers`, in bits: the least width with a value for each driver and one more.
 pub fn select_bits(drivers: &[u32]) -> u32
     requires { length drivers.now < 2 ^ 32 }
     ensures small { result ≤ 32 }
@@ -17,7 +17,7 @@ pub fn select_bits(drivers: &[u32]) -> u32
     32 - (drivers.len() as u32).leading_zeros()
 }
 
-/// Where the select of each resource begins in a slot, in bits, and where the last one ends.
+/// Returns where the select of each resource begins in a slot, in bits, and where the last select ends.
 pub fn select_starts(alloc: Global, flat: &Flat) -> Result<Words, AllocError>
     requires { arrays.IsSmall flat.now }
     ensures starts { IfOk result (λ starts. starts ≡ spec.all_select_at flat.now) }
@@ -33,7 +33,7 @@ pub fn select_starts(alloc: Global, flat: &Flat) -> Result<Words, AllocError>
     Ok(Words::new(starts))
 }
 
-/// The bits of a unit's fields.
+/// Returns the number of bits of a unit's fields.
 fn unit_bits(ports: &[u32]) -> u32
     requires { length ports.now ≤ 3 }
     ensures small { result ≤ 454 }
@@ -42,8 +42,8 @@ fn unit_bits(ports: &[u32]) -> u32
     58 + ports.len() as u32 * 132
 }
 
-/// Where the fields of each unit begin in a slot, in bits, and where the last ones end. The selects
-/// end at `first`.
+/// Returns where the fields of each unit begin in a slot, in bits, and where the last ones end. The selects end at
+/// `first`.
 pub fn unit_starts(alloc: Global, flat: &Flat, first: u32) -> Result<Words, AllocError>
     requires valid { arrays.IsArch flat.now }
     requires first { first ≡ spec.select_at flat.now (length flat.now.resources) }

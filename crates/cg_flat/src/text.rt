@@ -7,7 +7,7 @@ use cg_model::{Kind, Resource, Unit};
 use cg_word::{Op, OpSet};
 use std::alloc::{AllocError, Global};
 
-/// The text of an architecture, in lines that end with LF.
+/// Returns the text of an architecture, in lines that end with LF.
 #[tactic(auto, unfolding(crate::specs::Text::text_of))]
 pub fn flat_text(alloc: Global, flat: &Flat) -> Result<Vec<u8>, AllocError>
     ensures { IfOk result (λ text. text.items ≡ spec.text_of flat.now) }
@@ -19,7 +19,7 @@ pub fn flat_text(alloc: Global, flat: &Flat) -> Result<Vec<u8>, AllocError>
     Ok(text)
 }
 
-/// The lines before the resources.
+/// Returns the lines before the resources.
 fn head_lines(alloc: Global, flat: &Flat) -> Result<Vec<u8>, AllocError>
     ensures { IfOk result (λ text. text.items ≡ spec.head_lines flat.now.name flat.now.contexts flat.now.memory) }
 {
@@ -30,7 +30,7 @@ fn head_lines(alloc: Global, flat: &Flat) -> Result<Vec<u8>, AllocError>
     Ok(head.into_bytes())
 }
 
-/// Adds a line for each resource.
+/// Appends a line for each resource.
 fn push_resources(
     alloc: Global,
     text: &mut Vec<u8>,
@@ -44,7 +44,7 @@ fn push_resources(
     Ok(())
 }
 
-/// Adds the line of a resource.
+/// Appends the line of `resource` to `text`.
 fn push_resource(alloc: Global, text: &mut Vec<u8>, resource: &Resource) -> Result<(), AllocError>
     ensures { OnOk result (text.new.items ≡ text.old.items ++ spec.resource_line resource.now) }
 {
@@ -55,7 +55,7 @@ fn push_resource(alloc: Global, text: &mut Vec<u8>, resource: &Resource) -> Resu
     Ok(())
 }
 
-/// What a resource's line begins with.
+/// Returns the first word of the line of a resource of kind `kind`.
 fn kind_word(kind: Kind) -> &'static str
     ensures { result.now ≡ spec.kind_word kind }
 {
@@ -67,7 +67,7 @@ fn kind_word(kind: Kind) -> &'static str
     }
 }
 
-/// Adds numbers, each after a blank.
+/// Appends `numbers` to `text`, each after a blank.
 fn push_numbers(alloc: Global, text: &mut Vec<u8>, numbers: &[u32]) -> Result<(), AllocError>
     ensures { OnOk result (text.new.items ≡ text.old.items ++ spec.numbers numbers.now) }
 {
@@ -77,7 +77,7 @@ fn push_numbers(alloc: Global, text: &mut Vec<u8>, numbers: &[u32]) -> Result<()
     Ok(())
 }
 
-/// Adds a blank and a number.
+/// Appends a blank and `number` to `text`.
 fn push_number(alloc: Global, text: &mut Vec<u8>, number: u32) -> Result<(), AllocError>
     ensures { OnOk result (text.new.items ≡ text.old.items ++ spec.spaced number) }
 {
@@ -86,7 +86,7 @@ fn push_number(alloc: Global, text: &mut Vec<u8>, number: u32) -> Result<(), All
     Ok(())
 }
 
-/// Adds a line for each unit.
+/// Appends a line for each unit of `units` to `text`.
 fn push_units(alloc: Global, text: &mut Vec<u8>, units: &[Unit]) -> Result<(), AllocError>
     ensures { OnOk result (text.new.items ≡ text.old.items ++ flat_map spec.unit_line units.now) }
 {
@@ -96,7 +96,7 @@ fn push_units(alloc: Global, text: &mut Vec<u8>, units: &[Unit]) -> Result<(), A
     Ok(())
 }
 
-/// Adds the line of a unit.
+/// Appends the line of `unit` to `text`.
 fn push_unit(alloc: Global, text: &mut Vec<u8>, unit: &Unit) -> Result<(), AllocError>
     ensures { OnOk result (text.new.items ≡ text.old.items ++ spec.unit_line unit.now) }
 {
@@ -108,7 +108,7 @@ fn push_unit(alloc: Global, text: &mut Vec<u8>, unit: &Unit) -> Result<(), Alloc
     Ok(())
 }
 
-/// Adds what stands before the ports of a unit.
+/// Appends the part of a unit's line before its ports.
 fn push_unit_head(
     alloc: Global,
     text: &mut Vec<u8>,
@@ -122,7 +122,7 @@ fn push_unit_head(
     Ok(())
 }
 
-/// Adds what stands between the ports and the operations of a unit.
+/// Appends the part of a unit's line between its ports and its operations.
 fn push_unit_out(alloc: Global, text: &mut Vec<u8>, out: u32) -> Result<(), AllocError>
     ensures { OnOk result (text.new.items ≡ text.old.items ++ spec.unit_out out) }
 {
@@ -131,7 +131,7 @@ fn push_unit_out(alloc: Global, text: &mut Vec<u8>, out: u32) -> Result<(), Allo
     Ok(())
 }
 
-/// Adds the names of operations in the order of their codes, each after a blank.
+/// Appends the names of `ops` to `text` in the order of their codes, each after a blank.
 fn push_ops(text: &mut Vec<u8>, ops: OpSet) -> Result<(), AllocError>
     ensures { OnOk result (text.new.items ≡ text.old.items ++ spec.op_words ops) }
 {
@@ -141,7 +141,7 @@ fn push_ops(text: &mut Vec<u8>, ops: OpSet) -> Result<(), AllocError>
     Ok(())
 }
 
-/// Adds a blank and the name of an operation, where it is among those.
+/// Appends a blank and the name of `op` to `text`, if `op` is in `ops`.
 fn push_op(text: &mut Vec<u8>, ops: OpSet, op: Op) -> Result<(), AllocError>
     ensures { OnOk result (text.new.items ≡ text.old.items ++ spec.op_word ops op) }
 {
@@ -152,7 +152,7 @@ fn push_op(text: &mut Vec<u8>, ops: OpSet, op: Op) -> Result<(), AllocError>
     Ok(())
 }
 
-/// Adds the line of the hub.
+/// Appends the line of the hub.
 fn push_hub(alloc: Global, text: &mut Vec<u8>, hub: &[u32]) -> Result<(), AllocError>
     ensures { OnOk result (text.new.items ≡ text.old.items ++ (codes "hub" ++ (spec.numbers hub.now ++ 10 ∷ []))) }
 {

@@ -21,32 +21,32 @@ use Rattle.cg_gates.specs.declared.fault.GateFault.TheVariants as fault
 
 -- ---- E1 DriverCount: a declared net is the q of not exactly one cell
 
--- how many cells drive a net
+-- the number of cells that drive a net
 abbrev pub driver_count : NetGraph → List ℕ → ℕ
 driver_count N net = count_by (λ (c : Shape). bytes_eq c.q net) (shapes N)
 
 abbrev pub is_miscounted : NetGraph → Net → Bool
 is_miscounted N net = not (eqb (driver_count N net.name) 1)
 
--- the name of the first such net
+-- the name of the first net that isn't driven by exactly one cell
 unfoldable pub miscounted : NetGraph → Option (List ℕ)
 miscounted N = option_map (λ (n : Net). n.name) (find (is_miscounted N) N.nets)
 
 -- ---- E2 PinNet: a pin clk or rst isn't connected to the net of that name, or another pin to no net of the pin's width
 
--- as many as a form chooses among
+-- the number of drivers among which a form chooses
 abbrev pub ways : Form → ℕ
 ways (MuxForm k) = k
 ways (RegisterForm k) = k
 ways _ = 0
 
--- the width of a form's q: that of the select that it gives, or of a word
+-- the width of a form's q: that of the select that it drives, or of a word
 abbrev pub output_width : Form → ℕ
 output_width (ContextForm w) = w
 output_width (PreselectForm w) = w
 output_width _ = 32
 
--- the width of a port: s has the bits to tell 0 to K apart, and all but s and q have those of a word
+-- the width of a port: s has the bits that distinguish 0 to K, and all ports except s and q have the width of a word
 abbrev pub port_width : Form → List ℕ → ℕ
 port_width form port =
     if bytes_eq port (codes "s") then width (ways form) else if bytes_eq port (codes "q") then output_width form else 32
@@ -54,7 +54,7 @@ port_width form port =
 abbrev pub is_clock : List ℕ → Bool
 is_clock port = bytes_eq port (codes "clk") || bytes_eq port (codes "rst")
 
--- a net of that name is declared, with that width
+-- a net with that name and that width is declared
 abbrev pub has_width : List Net → List ℕ → ℕ → Bool
 has_width nets name w = option_map_or (λ (n : Net). eqb n.width w) (find (λ (n : Net). bytes_eq n.name name) nets) false
 
@@ -64,7 +64,7 @@ is_joined_pin nets form p = if is_clock p.port then bytes_eq p.net p.port else h
 abbrev pub is_joined : List Net → Cell → Bool
 is_joined nets c = list_all (is_joined_pin nets (form_said c)) c.pins
 
--- the number of the first cell that isn't joined so
+-- the number of the first cell that isn't joined in this way
 unfoldable pub misjoined : NetGraph → Option ℕ
 misjoined N = first_from (λ i c. not (is_joined N.nets c)) 0 N.cells
 
@@ -90,8 +90,8 @@ pub record Hears (N : NetGraph) (q d : List ℕ) : Type 0 where
   pub drives : cell.q ≡ q
   pub hears : Contains (data_now cell.form cell.ins) d
 
--- nets that muxes drive, each of which hears the next, and the last the first; none twice, and the one that is declared first is
--- at the front
+-- nets that muxes drive, each of which hears the next, and the last the first; none occurs twice, and the net that is
+-- declared first is at the front
 pub record IsMuxLoop (N : NetGraph) (loop : List ℕ) : Type 0 where
   pub some : 0 < length loop
   pub known : (k : ℕ) → k < length loop → slice_index loop k < length N.nets
@@ -118,7 +118,7 @@ repeated_instance N = first_from (λ i (c : Cell). is_before (cell_named N c.nam
 
 -- ---- E5 UnknownInstance: a context or preselect isn't named after a resource of its width, or a unit cell after its unit
 
--- the name is the prefix and then the name of a resource with drivers whose select has w bits
+-- the name is the prefix followed by the name of a resource with drivers whose select has w bits
 abbrev pub gives_select : ℕ → Resource → Bool
 gives_select w r = not (eqb (length r.drivers) 0) && eqb (select_width r) w
 
@@ -126,7 +126,7 @@ abbrev pub names_resource : Arch → List ℕ → ℕ → List ℕ → Bool
 names_resource A prefix w name =
     begins prefix name && option_map_or (gives_select w) (find (λ (r : Resource). bytes_eq r.name (stem name)) A.resources) false
 
--- a unit has p ports, latency l and the set h of operations; a name is `u_` and then that of such a unit
+-- a unit has p ports, latency l and the set h of operations; a name is `u_` followed by the name of a unit with these
 abbrev pub is_unit_of : ℕ → ℕ → ℕ → Unit → Bool
 is_unit_of p l h u = eqb (length u.ports) p && (eqb u.latency l && eqb (bits_of u.ops) h)
 
@@ -151,7 +151,7 @@ unknown_instance A N = first_from (λ i (c : Cell). not (is_known A c.name (form
 abbrev pub has_cell : NetGraph → Unit → Bool
 has_cell N u = list_any (is_instance (unit_instance u.name)) (shapes N)
 
--- the name of the first such unit
+-- the name of the first unit without a cell
 unfoldable pub missing_unit : Arch → NetGraph → Option (List ℕ)
 missing_unit A N = option_map (λ (u : Unit). u.name) (find (λ u. not (has_cell N u)) A.units)
 
@@ -163,20 +163,20 @@ fault_after_loops A N =
 
 -- ---- answers
 
--- a fault that a netlist has over an architecture: E1 or E2, or else a ring of muxes (E3), any one, or else the lowest of E4 to E6,
--- each at its first place
+-- a fault that a netlist has over an architecture: E1 or E2, or else a ring of muxes (E3), any one, or else the lowest
+-- of E4 to E6, each at its first place
 pub data IsFault (A : Arch) (N : NetGraph) : GateFault → Type 0 where
   early : {f : GateFault} → fault_before_loops N ≡ Some f → IsFault A N f
   a_loop : {loop : List ℕ} → fault_before_loops N ≡ None → IsMuxLoop N loop → IsFault A N (fault.MuxLoop (names_of N loop))
   late : {f : GateFault} → fault_before_loops N ≡ None → HasNoMuxLoop N → fault_after_loops A N ≡ Some f → IsFault A N f
 
--- a netlist has none of these
+-- a netlist has none of these faults
 pub record IsAccepted (A : Arch) (N : NetGraph) : Type 0 where
   pub early : fault_before_loops N ≡ None
   pub no_loop : HasNoMuxLoop N
   pub late : fault_after_loops A N ≡ None
 
--- what is answered, but for out of memory
+-- a possible answer, except for out of memory
 abbrev pub IsGateAnswer : {T : Type 0} → Arch → NetGraph → Result T GateFault → Type 0
 IsGateAnswer A N (Ok g) = IsAccepted A N
 IsGateAnswer A N (Err f) = f ≢ fault.Memory → IsFault A N f

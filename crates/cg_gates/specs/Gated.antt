@@ -14,7 +14,7 @@ pub record Gated : Type 0 where
   pub arch : Arch
   pub netlist : NetGraph
 
--- what is kept of an accepted netlist
+-- the tables of an accepted netlist
 pub record IsGated (A : Arch) (N : NetGraph) (cs ps : List SelectCell) (rs ms : Choices) (us : List Terminals) : Type 0 where
   pub valid : IsArch A
   pub graph : IsNetGraph N

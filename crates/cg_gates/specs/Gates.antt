@@ -1,5 +1,5 @@
--- What a netlist does, cycle by cycle. Each net has a word in each cycle, which follows cells and nets. Drivers and selects of the
--- architecture are read for the select of a resource at context and preselect cells alone.
+-- The behaviour of a netlist, cycle by cycle. Each net has a word in each cycle, which is determined by cells and nets.
+-- Drivers and selects of the architecture are read for the select of a resource at context and preselect cells alone.
 use Rattle.std.specs.Prelude.{ℕ, Bool, zero, suc, ◌+◌, ◌-◌, ◌/◌, ◌%◌, ◌&&◌, bytes_eq, codes, List, [], ◌∷◌, ◌++◌, length, drop, find, Option, Some, None, slice_index_or, slice_get}
 use Rattle.std.specs.List.{position_or_len}
 use Rattle.std.specs.Option.{option_map_or}
@@ -20,7 +20,7 @@ use Rattle.cg_gates.specs.Shape.{Shape, shapes, is_unit}
 abbrev pub driving : List ℕ → List Shape → Option Shape
 driving net cells = find (λ (c : Shape). bytes_eq c.q net) cells
 
--- an instance is named after what it belongs to, behind a letter and `_`
+-- the name after a letter and `_`: that of the resource or unit to which the instance belongs
 abbrev pub stem : List ℕ → List ℕ
 stem name = drop 2 name
 
@@ -39,13 +39,13 @@ unit_instance name = codes "u_" ++ name
 abbrev pub is_instance : List ℕ → Shape → Bool
 is_instance name c = is_unit c.form && bytes_eq c.name name
 
--- the nets of its pins a, b and c, as many as it has
+-- the nets of its pins a, b and c, as far as it has them
 abbrev pub pins_named : List ℕ → List Shape → List (List ℕ)
 pins_named name cells = option_map_or (λ (c : Shape). c.ins) (find (is_instance name) cells) []
 
 -- ---- a cycle
 
--- a cycle that is over: the word on each net, and the result of what each unit began in it, 0 for none
+-- a past cycle: the word on each net, and the result of the work that each unit began in it, 0 for none
 pub record GateCycle : Type 0 where
   pub nets : List ℕ → ℕ
   pub results : ℕ → ℕ
@@ -66,7 +66,7 @@ abbrev pub word_on : (List ℕ → ℕ) → Option (List ℕ) → ℕ
 word_on words None = 0
 word_on words (Some net) = words net
 
--- net number j, from 1 on; 0 stands for none
+-- net number j, from 1 on; 0 denotes none
 abbrev pub way : List (List ℕ) → ℕ → Option (List ℕ)
 way nets zero = None
 way nets (suc j) = slice_get nets j
@@ -90,7 +90,7 @@ module _ (A : Arch) (N : NetGraph) (C : Config) where
   on_q c past now None = 0
   on_q c past now (Some cell) = by_form c past now cell.name cell.ins cell.form
 
-  -- the word on a net in cycle c, after that past; muxes form no cycle, so at most `fuel` of them lead to it
+  -- the word on a net in cycle c, after that past; muxes form no ring, so at most `fuel` of them lead to the net
   unfoldable pub net_by : ℕ → List GateCycle → ℕ → List ℕ → ℕ
   net_by c past zero net = 0
   net_by c past (suc fuel) net = on_q c past (net_by c past fuel) (driving net (shapes N))
@@ -99,13 +99,13 @@ module _ (A : Arch) (N : NetGraph) (C : Config) where
   nets_in c past net = net_by c past (suc (length N.nets)) net
 
   module _ (n : ℕ) (image : Image) where
-    -- what each unit begins in it, on the words of its cell's pins
+    -- the work that each unit begins in the cycle, on the words of its cell's pins
     abbrev pub gate_works : ℕ → List GateCycle → ℕ → Option Work
     gate_works c past x =
         begun (fields C x (c % C.ii)) n (c / C.ii) (λ p. word_on (nets_in c past) (slice_get (pins_named (unit_instance (unit A x).name) (shapes N)) p))
 
-    -- the netlist after cycle c, in which the units begin these works: loads saw the memory of the cycle's start, and stores take
-    -- effect at its end, in the order of the architecture's units
+    -- the netlist after cycle c, in which the units begin these works: loads read the memory of the cycle's start, and
+    -- stores take effect at its end, in the order of the architecture's units
     abbrev pub gates_after : ℕ → GateState → (ℕ → Option Work) → GateState
     gates_after c s works =
         record {
@@ -115,7 +115,7 @@ module _ (A : Arch) (N : NetGraph) (C : Config) where
           outside = s.outside + missed_by_units works (length s.memory) (length A.units);
         }
 
-    -- at the start of cycle c
+    -- the netlist at the start of cycle c
     unfoldable pub gates_at : ℕ → GateState
     gates_at zero = record { past = []; memory = image.memory; streams = λ port. []; outside = 0 }
     gates_at (suc c) = gates_after c (gates_at c) (gate_works c (gates_at c).past)
@@ -124,17 +124,17 @@ module _ (A : Arch) (N : NetGraph) (C : Config) where
     abbrev pub net_word : List ℕ → ℕ → ℕ
     net_word net c = nets_in c (gates_at c).past net
 
-    -- what unit x begins in cycle c, and its result
+    -- the work that unit x begins in cycle c, and its result
     abbrev pub gate_begins : ℕ → ℕ → Option Work
     gate_begins x c = gate_works c (gates_at c).past x
 
     abbrev pub gate_result : ℕ → ℕ → ℕ
     gate_result x c = result_of image (gates_at c).memory (gate_begins x c)
 
-    -- after the whole run
+    -- the netlist after the whole run
     abbrev pub gates : GateState
     gates = gates_at (cycles C n)
 
-    -- what it leaves
+    -- the memory, streams and count that the run leaves
     abbrev pub gates_left : Left
     gates_left = left gates.memory gates.streams gates.outside

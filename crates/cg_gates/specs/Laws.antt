@@ -1,4 +1,4 @@
--- What the netlist of an architecture is to the architecture, and what the equations of a netlist say.
+-- The relation of an architecture to its netlist, and the meaning of the equations of a netlist.
 use Rattle.std.specs.Prelude.{◌≡◌, ℕ, ◌<◌, length, List, Option}
 use Rattle.cg_model.specs.Work.{Image, Work}
 use Rattle.cg_model.specs.Array.{Arch, IsArch, resource}
@@ -19,18 +19,18 @@ abbrev pub WordsFollow : Arch → Config → ℕ → Image → Type 0
 WordsFollow A C n image = IsArch A → (r c : ℕ) → r < length A.resources →
     net_word A (netlist_of A) C n image (word_net (resource A r)) c ≡ word A C n image r c
 
--- the netlist leaves what the array leaves
+-- the netlist leaves the same memory, streams and count as the array
 abbrev pub LeavesAlike : Arch → Config → ℕ → Image → Type 0
 LeavesAlike A C n image = IsArch A → gates_left A (netlist_of A) C n image ≡ machine_left A C n image
 
--- what is computed cycle by cycle solves the equations
+-- the values that are computed cycle by cycle solve the equations
 abbrev pub SolvesEquations : Arch → NetGraph → Config → ℕ → Image → Type 0
 SolvesEquations A N C n image = IsNetGraph N → IsAccepted A N →
     IsGateRun A N C n image (net_word A N C n image) (gate_begins A N C n image) (gate_result A N C n image)
     (λ c. (gates_at A N C n image c).memory) (λ port c. (gates_at A N C n image c).streams port)
     (λ c. (gates_at A N C n image c).outside)
 
--- and any two solutions are one
+-- and any two solutions agree
 abbrev pub HasOneSolution : Arch → NetGraph → Config → ℕ → Image → Type 0
 HasOneSolution A N C n image = IsNetGraph N → IsAccepted A N →
     (w v : List ℕ → ℕ → ℕ) (b d : ℕ → ℕ → Option Work) (r s : ℕ → ℕ → ℕ) (m l : ℕ → List ℕ) (x y : ℕ → ℕ → List ℕ) (o p : ℕ → ℕ) →

@@ -1,4 +1,4 @@
--- Numbers by names, as they are looked up.
+-- Maps from names to numbers.
 use Rattle.std.specs.Prelude.{◌≡◌, ◌≢◌, ◌<◌, ◌^◌, ℕ, Bool, List, length, Option, String, bytes_eq, count_by, eqb, is_some, not, unwrap_or}
 use Rattle.std.specs.List.{position_from}
 use Rattle.std.specs.declared.alloc.Global.{Global}
@@ -19,7 +19,7 @@ use Rattle.cg_gates.specs.Accepts.{is_joined, is_known, IsMuxLoop, names_of, mis
 use Rattle.cg_gates.specs.declared.fault.GateFault.{GateFault}
 use Rattle.cg_gates.specs.declared.fault.GateFault.TheVariants as fault
 
--- a map has the number of the first item that a test passes at each name
+-- a map has, for each name, the number of the first item that passes a test
 pub record AreFirst {S T : Type 0} (numbers : IndexMap (String Global) ℕ S) (test : List ℕ → T → Bool) (items : List T) : Type 0 where
   pub found : (name : List ℕ) → found_in numbers name ≡ position_from (test name) 0 items
 
@@ -43,7 +43,7 @@ pub record AreCounts {S : Type 0} (counts : IndexMap (String Global) ℕ S) (cel
 abbrev pub is_uncounted : {S : Type 0} → IndexMap (String Global) ℕ S → Net → Bool
 is_uncounted counts net = not (eqb (counted counts net.name) 1)
 
--- a map has the numbers of nets, of cells, of resources and of units by their names
+-- a map has the numbers of nets, of cells, of resources or of units by their names
 abbrev pub AreNets : {S : Type 0} → IndexMap (String Global) ℕ S → List Net → Type 0
 AreNets numbers nets = AreFirst numbers (by_name (λ (n : Net). n.name)) nets
 
@@ -56,15 +56,15 @@ AreResources numbers resources = AreFirst numbers (by_name (λ (r : Resource). r
 abbrev pub AreUnits : {S : Type 0} → IndexMap (String Global) ℕ S → List Unit → Type 0
 AreUnits numbers units = AreFirst numbers (by_name (λ (u : Unit). u.name)) units
 
--- a cell isn't joined to nets that it may be joined to
+-- a cell has a pin on a net that isn't allowed for it
 abbrev pub is_misjoined : List Net → ℕ → Cell → Bool
 is_misjoined nets i c = not (is_joined nets c)
 
--- a cell has the name of an earlier one
+-- a cell has the same name as an earlier one
 abbrev pub is_repeated : List Cell → ℕ → Cell → Bool
 is_repeated cells i c = is_before (position_from (λ (d : Cell). bytes_eq d.name c.name) 0 cells) i
 
--- a cell hasn't a name that its form may have
+-- a cell has no name that is allowed for its form
 abbrev pub is_unknown : Arch → ℕ → Cell → Bool
 is_unknown A i c = not (is_known A c.name (form_said c))
 
@@ -76,13 +76,14 @@ has_no_number cells u = not (is_some (found_in cells (unit_instance u.name)))
 abbrev pub unknown_or_missing : Arch → NetGraph → Option GateFault
 unknown_or_missing A N = option_or (option_map fault.UnknownInstance (unknown_instance A N)) (option_map fault.MissingUnit (missing_unit A N))
 
--- a netlist's nets have numbers of 32 bits, one of which is left, and they and the cells that drive them are found by name
+-- a netlist's nets have numbers of 32 bits, one of which is unused, and the nets and the cells that drive them are
+-- found by name
 pub record IsIndexed {S : Type 0} (N : NetGraph) (numbers drivers : IndexMap (String Global) ℕ S) : Type 0 where
   pub valid : IsNetGraph N
   pub few : length N.nets < 2 ^ 32
   pub named : AreNets numbers N.nets
   pub driven : AreFirst drivers by_net (shapes N)
 
--- a fault names a ring of muxes, but for out of memory
+-- a fault names a ring of muxes, except for out of memory
 abbrev pub IsRingFault : NetGraph → GateFault → Type 0
 IsRingFault N f = f ≢ fault.Memory → (loop : List ℕ) × IsMuxLoop N loop × (f ≡ fault.MuxLoop (names_of N loop))

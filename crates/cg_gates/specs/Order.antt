@@ -1,4 +1,4 @@
--- Nets as resources that muxes drive: what the search for an order of the muxes, or for a ring of them, goes over.
+-- Nets as resources that muxes drive: the graph in which an order of the muxes, or a ring of them, is searched.
 use Rattle.std.specs.Prelude.{ℕ, bytes_eq, List, [], map, Option, None, Some}
 use Rattle.std.specs.List.{position_or_len}
 use Rattle.cg_model.specs.declared.array.Kind.TheVariants.{Wire}

@@ -1,4 +1,4 @@
--- Cells as they are meant: what a cell of a netlist is, by the form that the name of its module says.
+-- Cells by their meaning: the form that the name of a cell's module denotes, and the nets of its pins.
 use Rattle.std.specs.Prelude.{ℕ, ◌-◌, Bool, true, false, List, [], length, map, take, slice_range, slice_index_or, Option, Some, None}
 use Rattle.cg_netlist.specs.declared.forms.Form.{Form}
 use Rattle.cg_netlist.specs.declared.forms.Form.TheVariants.{Context as ContextForm, Preselect as PreselectForm, Mux as MuxForm, Register as RegisterForm, Zero as ZeroForm, FunctionalUnit as UnitForm}
@@ -7,8 +7,8 @@ use Rattle.cg_netlist.specs.declared.parts.Pin.{Pin}
 use Rattle.cg_netlist.specs.declared.parts.Cell.{Cell}
 use Rattle.cg_netlist.specs.Netlist.{NetGraph}
 
--- its form, its name, the nets of its pins clk and rst where the form has them, those of its other pins in order, and that of
--- its pin q
+-- its form, its name, the nets of its pins clk and rst where the form has them, those of its other pins in order, and
+-- that of its pin q
 pub record Shape : Type 0 where
   pub form : Form
   pub name : List ℕ
@@ -16,7 +16,7 @@ pub record Shape : Type 0 where
   pub ins : List (List ℕ)
   pub q : List ℕ
 
--- how many ports of a form are clk and rst; they are its first
+-- the number of ports of a form that are clk and rst; they are its first
 abbrev pub clock_count : Form → ℕ
 clock_count (ContextForm w) = 2
 clock_count (PreselectForm w) = 2
@@ -29,7 +29,7 @@ abbrev pub said_or_zero : Option Form → Form
 said_or_zero None = ZeroForm
 said_or_zero (Some f) = f
 
--- the form that the cell's module says; each cell of a graph has one
+-- the form that the name of the cell's module denotes; each cell of a graph has one
 abbrev pub form_said : Cell → Form
 form_said c = said_or_zero (form_of c.«module»)
 
@@ -37,7 +37,7 @@ form_said c = said_or_zero (form_of c.«module»)
 abbrev pub nets_of_pins : Cell → List (List ℕ)
 nets_of_pins c = map (λ (p : Pin). p.net) c.pins
 
--- the cell of that form that these nets are the pins of
+-- the cell of that form whose pins are on these nets
 abbrev pub shape_by : Form → List ℕ → List (List ℕ) → Shape
 shape_by form name nets = record {
   form = form;
@@ -50,7 +50,7 @@ shape_by form name nets = record {
 unfoldable pub shape_of : Cell → Shape
 shape_of c = shape_by (form_said c) c.name (nets_of_pins c)
 
--- the cells of a netlist as they are meant
+-- the cells of a netlist by their meaning
 abbrev pub shapes : NetGraph → List Shape
 shapes N = map shape_of N.cells
 

@@ -1,4 +1,4 @@
--- What is kept of an accepted netlist, by the numbers of its nets.
+-- The tables of an accepted netlist, by the numbers of its nets.
 use Rattle.std.specs.Prelude.{◌≡◌, ℕ, suc, ◌+◌, ◌<◌, ◌≤◌, Bool, true, List, [], length, Contains, Option, Some, None, slice_index, slice_index_or, slice_get}
 use Rattle.cg_model.specs.Array.{Arch, unit}
 use Rattle.cg_cycle.specs.declared.terminals.Terminals.{Terminals}
@@ -16,7 +16,7 @@ pub record IsNumber (N : NetGraph) (name : List ℕ) (i : ℕ) : Type 0 where
   pub within : i < length N.nets
   pub named : net_name N i ≡ name
 
--- the pin in that place is on that net; the number past the last net stands for a pin that there isn't
+-- the pin in that place is on that net; the number past the last net denotes a missing pin
 abbrev pub IsPinNumber : NetGraph → Option (List ℕ) → ℕ → Type 0
 IsPinNumber N None i = i ≡ length N.nets
 IsPinNumber N (Some net) i = IsNumber N net i
@@ -45,8 +45,8 @@ pub record AreSelects (A : Arch) (N : NetGraph) (is : Form → Bool) (es : List 
 abbrev pub choice : List Choice → ℕ → Choice
 choice es j = slice_index_or es j (record { net = 0; select = 0; first = 0; count = 0 })
 
--- the entry is that of a cell: the net that it drives, that of its select, and, from a place of one list on, those that it chooses
--- among
+-- the entry is that of a cell: the net that it drives, that of its select, and, from a place of one list on, those
+-- among which it chooses
 pub record IsChoice (N : NetGraph) (is : Form → Bool) (heard : List ℕ) (c : Shape) (e : Choice) : Type 0 where
   pub there : Contains (shapes N) c
   pub form : is c.form ≡ true
@@ -61,7 +61,7 @@ pub record AreChoices (N : NetGraph) (is : Form → Bool) (t : Choices) : Type 0
   pub all : (c : Shape) → Contains (shapes N) c → is c.form ≡ true →
       (j : ℕ) × (j < length t.entries.items) × IsChoice N is t.heard.items c (choice t.entries.items j)
 
--- each entry stands after those whose nets it chooses among
+-- each entry comes after those whose nets it chooses among
 abbrev pub AreRising : Choices → Type 0
 AreRising t = (i j k : ℕ) → i < length t.entries.items → j < length t.entries.items → k < (choice t.entries.items j).count →
     (choice t.entries.items i).net ≡ slice_index t.heard.items ((choice t.entries.items j).first + k) → i < j

@@ -1,4 +1,4 @@
--- What reports say of the faults of netlists: code, name and place.
+-- The texts of faults of netlists in reports: code, name and place.
 use Rattle.std.specs.Prelude.{ℕ, List, [], ◌++◌, codes, decimal, flat_map}
 use Rattle.cg_gates.specs.declared.fault.GateFault.{GateFault}
 use Rattle.cg_gates.specs.declared.fault.GateFault.TheVariants as fault

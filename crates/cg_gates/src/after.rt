@@ -1,4 +1,4 @@
-//! The faults E4 to E6: of instances.
+//! The faults E4 to E6, which are faults of instances.
 ghost use Rattle.std.specs.Prelude.{◌≡◌, IfOk};
 ghost use Rattle.cg_gates.specs.Accepts as spec;
 ghost use Rattle.cg_gates.specs.Numbers.{unknown_or_missing};

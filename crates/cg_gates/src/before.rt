@@ -1,4 +1,4 @@
-//! The faults E1 and E2: of drivers and of pins.
+//! The faults E1 and E2, which are faults of drivers and of pins.
 ghost use Rattle.std.specs.Prelude.{◌≡◌, IfOk};
 ghost use Rattle.cg_gates.specs.Numbers.{AreNets};
 ghost use Rattle.cg_gates.specs.Accepts as spec;
@@ -10,7 +10,8 @@ use cg_names::Numbers;
 use cg_netlist::NetGraph;
 use std::alloc::{AllocError, Global};
 
-/// Finds the lower of E1 and E2 that applies to `netlist`, at its first place. `numbers` has the numbers of its nets by name.
+/// Finds the lower of E1 and E2 that applies to `netlist`, at its first place. `numbers` maps the names of its nets to
+/// their numbers.
 #[tactic(auto, unfolding(crate::specs::Accepts::fault_before_loops))]
 pub fn fault_before_loops(
     alloc: Global,
@@ -29,7 +30,8 @@ pub fn fault_before_loops(
     }
 }
 
-/// Finds the first cell of `netlist` with a pin on another net than it may be on. `numbers` has the numbers of its nets by name.
+/// Finds the first cell of `netlist` with a pin on a net that isn't allowed for it. `numbers` maps the names of its
+/// nets to their numbers.
 #[tactic(auto, unfolding(crate::specs::Accepts::misjoined))]
 fn misjoined_of(netlist: &NetGraph, numbers: &Numbers) -> Option<usize>
     requires { AreNets numbers.now netlist.now.nets }

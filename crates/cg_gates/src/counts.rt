@@ -1,4 +1,4 @@
-//! How many cells drive each net.
+//! The number of cells that drive each net.
 ghost use Rattle.std.specs.Prelude.{◌≡◌, ◌<◌, ◌+◌, ◌^◌, ℕ, List, IfOk, OnOk, bytes_eq, find, map, if◌then◌else◌};
 ghost use Rattle.std.specs.Option.{option_map};
 ghost use Rattle.cg_netlist.specs.declared.parts.Net.{Net};
@@ -12,7 +12,7 @@ use cg_names::{Numbers, number_in};
 use cg_netlist::{Cell, Net, NetGraph};
 use std::alloc::{AllocError, Global};
 
-/// Finds the first net of `netlist` that not exactly one cell drives.
+/// Finds the first net of `netlist` that isn't driven by exactly one cell.
 pub(crate) fn miscounted(alloc: Global, netlist: &NetGraph) -> Result<Option<Name>, AllocError>
     ensures { IfOk result (λ found. found ≡ spec.miscounted netlist.now) }
 {
@@ -36,7 +36,7 @@ fn first_miscounted(
     Ok(None)
 }
 
-/// Counts for each net how many of `cells` drive it.
+/// Counts the `cells` that drive each net.
 fn driver_counts(alloc: Global, cells: &[Cell]) -> Result<Numbers, AllocError>
     ensures { IfOk result (λ counts. AreCounts counts (map shape_of cells.now)) }
 {

@@ -13,20 +13,20 @@ use thiserror::Error;
 pub enum GateFault {
     #[error("out of memory")]
     Memory,
-    /// Not exactly one cell drives a declared net: the net's name.
+    /// A declared net isn't driven by exactly one cell: the net's name.
     #[error("a net that not exactly one cell drives")]
     DriverCount(Name),
-    /// A pin is connected to a net that it can't be: the cell's number.
+    /// A pin is connected to a net that isn't allowed for it: the cell's number.
     #[error("a pin on a wrong net")]
     PinNet(usize),
-    /// Muxes form a ring: the nets that they drive, each mux before the one that it hears, from the net that is declared
-    /// first on.
+    /// Muxes form a ring: the nets that they drive, each mux before the one that it hears, starting at the net that is
+    /// declared first.
     #[error("a ring of muxes")]
     MuxLoop(Items<Name>),
-    /// A cell has the name of an earlier one: its number.
+    /// A cell has the same name as an earlier one: its number.
     #[error("a repeated instance")]
     RepeatedInstance(usize),
-    /// A cell isn't named after a resource or a unit that it fits: its number.
+    /// A cell isn't named after a resource or a unit to which it fits: its number.
     #[error("an instance that the architecture doesn't know")]
     UnknownInstance(usize),
     /// A unit has no cell: its name.

@@ -1,4 +1,4 @@
-//! The first cells that drive nets, and the first that are units of some name.
+//! The first cells that drive nets, and the first cells of units by name.
 ghost use Rattle.std.specs.Prelude.{◌≡◌, ℕ, List, Some, None, IfOk, OnOk, map, if◌then◌else◌};
 ghost use Rattle.std.specs.Option.{option_or};
 ghost use Rattle.cg_names.specs.Numbers.{found_in};
@@ -34,7 +34,7 @@ pub fn unit_cells(alloc: Global, cells: &[Cell]) -> Result<Numbers, AllocError>
     Ok(numbers)
 }
 
-/// Adds to `numbers` the `number` of `cell` under its name, where it is a unit's cell and the name has no number yet.
+/// Adds the `number` of `cell` to `numbers` under its name, where it is a unit's cell and the name has no number yet.
 #[tactic(auto, unfolding(crate::specs::Shape::shape_of))]
 fn add_unit(
     alloc: Global,
@@ -51,14 +51,14 @@ fn add_unit(
     Ok(())
 }
 
-/// Tells whether `form` is that of units.
+/// Checks whether `form` is that of units.
 fn is_unit(form: Form) -> bool
     ensures { result ≡ is_unit form }
 {
     matches!(form, Form::FunctionalUnit { .. })
 }
 
-/// Finds the number of the cell of `unit` in `cells`, the numbers of units' cells by name.
+/// Finds the number of the cell of `unit` in `cells`, which maps the names of units' cells to their numbers.
 pub fn cell_of_unit(
     alloc: Global,
     cells: &Numbers,

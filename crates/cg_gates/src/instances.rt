@@ -1,4 +1,4 @@
-//! Whether cells are named after what they belong to, each otherwise.
+//! Whether cells are named after the resources and units to which they belong, each by a different name.
 ghost use Rattle.std.specs.Prelude.{◌≡◌, ◌≤◌, IfOk, length, Some, None, drop, if◌then◌else◌};
 ghost use Rattle.std.specs.Option.{option_copied};
 ghost use Rattle.cg_model.specs.First.{first_from};
@@ -16,7 +16,7 @@ use cg_names::{Numbers, is_before, number_in};
 use cg_netlist::{Cell, Form, bits_of};
 use std::alloc::{AllocError, Global};
 
-/// Finds the first of `cells` that has the name of an earlier one.
+/// Finds the first of `cells` that has the same name as an earlier one.
 pub(crate) fn repeated_instance(alloc: Global, cells: &[Cell]) -> Result<Option<usize>, AllocError>
     ensures { IfOk result (λ found. found ≡ first_from (is_repeated cells.now) 0 cells.now) }
 {
@@ -24,7 +24,8 @@ pub(crate) fn repeated_instance(alloc: Global, cells: &[Cell]) -> Result<Option<
     Ok(first_repeated(&numbers, cells))
 }
 
-/// Finds the first of `cells` that has the name of an earlier one. `numbers` has the number of the first cell of each name.
+/// Finds the first of `cells` that has the same name as an earlier one. `numbers` has the number of the first cell of
+/// each name.
 fn first_repeated(numbers: &Numbers, cells: &[Cell]) -> Option<usize>
     requires { AreCells numbers.now cells.now }
     ensures { result ≡ first_from (is_repeated cells.now) 0 cells.now }
@@ -37,7 +38,7 @@ fn first_repeated(numbers: &Numbers, cells: &[Cell]) -> Option<usize>
     None
 }
 
-/// Finds the first of `cells` that isn't named after a resource or a unit of `arch` that it fits.
+/// Finds the first of `cells` that isn't named after a resource or a unit of `arch` to which it fits.
 pub(crate) fn unknown_instance(
     alloc: Global,
     arch: &Arch,
@@ -50,8 +51,8 @@ pub(crate) fn unknown_instance(
     Ok(first_unknown(arch, &resources, &units, cells))
 }
 
-/// Finds the first of `cells` that isn't named after a resource or a unit of `arch` that it fits. `resources` and `units` have
-/// their numbers by name.
+/// Finds the first of `cells` that isn't named after a resource or a unit of `arch` to which it fits. `resources` and
+/// `units` map their names to their numbers.
 fn first_unknown(arch: &Arch, resources: &Numbers, units: &Numbers, cells: &[Cell]) -> Option<usize>
     requires resources { AreResources resources.now arch.now.resources }
     requires units { AreUnits units.now arch.now.units }
@@ -65,7 +66,8 @@ fn first_unknown(arch: &Arch, resources: &Numbers, units: &Numbers, cells: &[Cel
     None
 }
 
-/// Tells whether `cell` has a name that its form may have. `resources` and `units` have the numbers of those of `arch` by name.
+/// Checks whether `cell` has a name that is allowed for its form. `resources` and `units` map the names of those of
+/// `arch` to their numbers.
 fn is_known(arch: &Arch, resources: &Numbers, units: &Numbers, cell: &Cell) -> bool
     requires resources { AreResources resources.now arch.now.resources }
     requires units { AreUnits units.now arch.now.units }
@@ -84,8 +86,8 @@ fn is_known(arch: &Arch, resources: &Numbers, units: &Numbers, cell: &Cell) -> b
     }
 }
 
-/// Tells whether `name` is `front` and then the name of a resource of `arch` with drivers, whose select has `width` bits.
-/// `resources` has the resources' numbers by name.
+/// Checks whether `name` is `front` followed by the name of a resource of `arch` with drivers, whose select has `width`
+/// bits. `resources` maps the resources' names to their numbers.
 fn names_resource(arch: &Arch, resources: &Numbers, front: &str, width: u32, name: &str) -> bool
     requires resources { AreResources resources.now arch.now.resources }
     requires two { length front.now ≡ 2 }
@@ -100,7 +102,7 @@ fn names_resource(arch: &Arch, resources: &Numbers, front: &str, width: u32, nam
     }
 }
 
-/// Tells whether `resource` has drivers and a select of `width` bits.
+/// Checks whether `resource` has drivers and a select of `width` bits.
 fn gives_select(width: u32, resource: &Resource) -> bool
     requires { length resource.now.drivers ≤ 65536 }
     ensures { result ≡ spec.gives_select width resource.now }
@@ -109,8 +111,8 @@ fn gives_select(width: u32, resource: &Resource) -> bool
     !drivers.is_empty() && select_bits(drivers) == width
 }
 
-/// Tells whether `name` is `u_` and then the name of a unit of `arch` with the number of ports `ports`, the latency `latency` and
-/// the set of operations `operations`. `units` has the units' numbers by name.
+/// Checks whether `name` is `u_` followed by the name of a unit of `arch` with `ports` ports, the latency `latency` and
+/// the set of operations `operations`. `units` maps the units' names to their numbers.
 fn names_unit(
     arch: &Arch,
     units: &Numbers,
@@ -131,8 +133,8 @@ fn names_unit(
     }
 }
 
-/// Tells whether `unit` has the number of ports `ports`, the latency `latency` in cycles, and the set of operations
-/// `operations`, bit k for the operation of code k.
+/// Checks whether `unit` has `ports` ports, the latency `latency` in cycles, and the set of operations `operations`,
+/// bit k for the operation of code k.
 fn is_unit_of(ports: u32, latency: u32, operations: u32, unit: &Unit) -> bool
     ensures { result ≡ spec.is_unit_of ports latency operations unit.now }
 {
@@ -141,7 +143,7 @@ fn is_unit_of(ports: u32, latency: u32, operations: u32, unit: &Unit) -> bool
         && bits_of(unit.ops) == operations
 }
 
-/// Returns what comes after `front` in `text`, if it begins with it.
+/// Returns the part of `text` after `front`, if it begins with `front`.
 pub fn after_front<'a>(text: &'a str, front: &str) -> Option<&'a str>
     ensures { option_copied result ≡ (if begins front.now text.now then Some (drop (length front.now) text.now) else None) }
 {

@@ -1,4 +1,4 @@
-//! Whether pins are on the nets that they may be on.
+//! Whether pins are on nets that are allowed for them.
 ghost use Rattle.std.specs.Prelude.{◌≡◌, ◌<◌, ◌^◌};
 ghost use Rattle.cg_flat.specs.Slots.{width};
 ghost use Rattle.cg_model.specs.First.{first_from};
@@ -10,7 +10,8 @@ use crate::pins::form_said;
 use cg_names::Numbers;
 use cg_netlist::{Cell, Form, Net, Pin};
 
-/// Finds the first of `cells` with a pin on another net than it may be on. `numbers` has the numbers of `nets` by name.
+/// Finds the first of `cells` with a pin on a net that isn't allowed for it. `numbers` maps the names of `nets` to
+/// their numbers.
 pub(crate) fn misjoined(nets: &[Net], numbers: &Numbers, cells: &[Cell]) -> Option<usize>
     requires { AreNets numbers.now nets.now }
     ensures { result ≡ first_from (is_misjoined nets.now) 0 cells.now }
@@ -23,7 +24,8 @@ pub(crate) fn misjoined(nets: &[Net], numbers: &Numbers, cells: &[Cell]) -> Opti
     None
 }
 
-/// Tells whether each pin of `cell` is on a net that it may be on. `numbers` has the numbers of `nets` by name.
+/// Checks whether each pin of `cell` is on a net that is allowed for it. `numbers` maps the names of `nets` to their
+/// numbers.
 fn is_joined(nets: &[Net], numbers: &Numbers, cell: &Cell) -> bool
     requires { AreNets numbers.now nets.now }
     ensures { result ≡ spec.is_joined nets.now cell.now }
@@ -37,7 +39,8 @@ fn is_joined(nets: &[Net], numbers: &Numbers, cell: &Cell) -> bool
     true
 }
 
-/// Tells whether a `pin` of a cell of that `form` is on a net that it may be on. `numbers` has the numbers of `nets` by name.
+/// Checks whether a `pin` of a cell of that `form` is on a net that is allowed for it. `numbers` maps the names of
+/// `nets` to their numbers.
 fn is_joined_pin(nets: &[Net], numbers: &Numbers, form: Form, pin: &Pin) -> bool
     requires { AreNets numbers.now nets.now }
     ensures { result ≡ spec.is_joined_pin nets.now form pin.now }
@@ -50,14 +53,14 @@ fn is_joined_pin(nets: &[Net], numbers: &Numbers, form: Form, pin: &Pin) -> bool
     has_width(nets, numbers, net, port_width(form, port))
 }
 
-/// Tells whether `port` is that of the clock or of the reset.
+/// Checks whether `port` is that of the clock or of the reset.
 fn is_clock(port: &str) -> bool
     ensures { result ≡ spec.is_clock port.now }
 {
     port == "clk" || port == "rst"
 }
 
-/// Tells whether a net of that `name` and `width` is declared. `numbers` has the numbers of `nets` by name.
+/// Checks whether a net of that `name` and `width` is declared. `numbers` maps the names of `nets` to their numbers.
 fn has_width(nets: &[Net], numbers: &Numbers, name: &str, width: u32) -> bool
     requires { AreNets numbers.now nets.now }
     ensures { result ≡ spec.has_width nets.now name.now width }
@@ -81,7 +84,7 @@ fn port_width(form: Form, port: &str) -> u32
     32
 }
 
-/// Returns how many `form` chooses among.
+/// Returns the number of drivers among which `form` chooses.
 fn ways(form: Form) -> u32
     ensures { result ≡ spec.ways form }
 {
@@ -91,7 +94,7 @@ fn ways(form: Form) -> u32
     }
 }
 
-/// Returns the width of what `form` drives.
+/// Returns the width of the output of `form`.
 fn output_width(form: Form) -> u32
     ensures { result ≡ spec.output_width form }
 {
@@ -101,7 +104,7 @@ fn output_width(form: Form) -> u32
     }
 }
 
-/// Returns the bits to tell 0 to `count` apart.
+/// Returns the number of bits that distinguish 0 to `count`.
 #[tactic(auto, using(cg_flat::proofs::Widths::width_is))]
 fn width_of(count: u32) -> u32
     ensures { result ≡ width count }

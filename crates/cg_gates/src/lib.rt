@@ -1,4 +1,5 @@
-//! Which netlists have a meaning over an architecture, what it is, and which fault tells that one has none.
+//! Which netlists have a meaning over an architecture, what this meaning is, and which fault a netlist without a
+//! meaning has.
 #![tactic(auto)]
 
 mod after;

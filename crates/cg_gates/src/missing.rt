@@ -24,7 +24,7 @@ pub(crate) fn missing_unit(
     first_missing(alloc, arch.units(), &cells)
 }
 
-/// Finds the first of `units` that has no number among the units' `cells` by name.
+/// Finds the first of `units` that has no number in `cells`, which maps the names of units' cells to their numbers.
 fn first_missing(alloc: Global, units: &[Unit], cells: &Numbers) -> Result<Option<Name>, AllocError>
     ensures { IfOk result (λ found. found ≡ option_map (λ (u : Unit). u.name) (find (has_no_number cells.now) units.now)) }
 {

@@ -9,12 +9,12 @@ use cg_names::{Numbers, add_first, number_in};
 use cg_netlist::{Cell, Net};
 use std::alloc::{AllocError, Global};
 
-/// What has a name.
+/// An item that has a name.
 pub trait HasName {
     // Its name.
     ghost own: { Self → List ℕ };
 
-    /// Lends its name.
+    /// Returns its name.
     fn own_name(&self) -> &str
         ensures { result.now ≡ own self.now };
 }
@@ -62,7 +62,7 @@ pub fn numbers_of<T: HasName>(alloc: Global, items: &[T]) -> Result<Numbers, All
     Ok(numbers)
 }
 
-/// Finds the first of `items` that is called `name`. `numbers` has their numbers by name.
+/// Finds the first of `items` that is called `name`. `numbers` maps their names to their numbers.
 pub(crate) fn named<'a, T: HasName>(numbers: &Numbers, items: &'a [T], name: &str) -> Option<&'a T>
     requires { AreFirst numbers.now (by_name T.own) items.now }
     ensures { option_copied result ≡ find (by_name T.own name.now) items.now }
@@ -76,8 +76,8 @@ pub(crate) fn named<'a, T: HasName>(numbers: &Numbers, items: &'a [T], name: &st
     }
 }
 
-/// Returns the number of the first of `items` that is called `name`, or how many items there are. `numbers` has their numbers by
-/// name.
+/// Returns the number of the first of `items` that is called `name`, or the number of items. `numbers` maps their names
+/// to their numbers.
 pub fn number_or_all<T: HasName>(numbers: &Numbers, items: &[T], name: &str) -> usize
     requires { AreFirst numbers.now (by_name T.own) items.now }
     ensures { result ≡ position_or_len (by_name T.own name.now) items.now }

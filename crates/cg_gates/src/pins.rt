@@ -1,4 +1,4 @@
-//! What cells are, and the nets that they are connected to.
+//! The forms of cells, and the nets to which they are connected.
 ghost use Rattle.std.specs.Prelude.{◌≡◌, ◌≤◌, drop, map};
 ghost use Rattle.cg_netlist.specs.declared.parts.Pin.{Pin};
 ghost use Rattle.cg_gates.specs.Accepts.{data_now};
@@ -6,7 +6,7 @@ ghost use Rattle.cg_gates.specs.Shape as spec;
 
 use cg_netlist::{Cell, Form, Pin, form_of};
 
-/// Returns the form that the module of `cell` says.
+/// Returns the form that the name of the module of `cell` denotes.
 pub fn form_said(cell: &Cell) -> Form
     ensures { result ≡ spec.form_said cell.now }
 {
@@ -16,7 +16,7 @@ pub fn form_said(cell: &Cell) -> Form
     }
 }
 
-/// Lends the net that `cell` drives: that of its last pin.
+/// Returns the net that `cell` drives: that of its last pin.
 pub fn driven_net(cell: &Cell) -> &str
     ensures { result.now ≡ (spec.shape_of cell.now).q }
 {
@@ -27,7 +27,7 @@ pub fn driven_net(cell: &Cell) -> &str
     pins[pins.len() - 1].net.as_str()
 }
 
-/// Returns how many of the first pins of `form` are on the clock and the reset.
+/// Returns the number of first pins of `form` that are on the clock and the reset.
 fn clock_count(form: Form) -> usize
     ensures count { result ≡ spec.clock_count form }
     ensures few { result ≤ 2 }
@@ -39,7 +39,7 @@ fn clock_count(form: Form) -> usize
     }
 }
 
-/// Lends the pins of `cell` between those of the clock and the reset and the last.
+/// Returns the pins of `cell` between those of the clock and the reset and the last.
 #[tactic(auto, using(crate::proofs::Shapes::ins_between, crate::proofs::Shapes::no_ins))]
 pub fn ins_of(cell: &Cell) -> &[Pin]
     ensures { map (λ (p : Pin). p.net) result.now ≡ (spec.shape_of cell.now).ins }
@@ -52,7 +52,7 @@ pub fn ins_of(cell: &Cell) -> &[Pin]
     &pins[first..pins.len() - 1]
 }
 
-/// Lends the pins of `cell` on nets that it chooses among in the same cycle.
+/// Returns the pins of `cell` on nets among which it chooses in the same cycle.
 #[tactic(auto, using(crate::proofs::Shapes::data_of_mux, crate::proofs::Shapes::data_of_none))]
 pub fn data_of(cell: &Cell) -> &[Pin]
     ensures { map (λ (p : Pin). p.net) result.now ≡ data_now (spec.shape_of cell.now).form (spec.shape_of cell.now).ins }
@@ -67,7 +67,7 @@ pub fn data_of(cell: &Cell) -> &[Pin]
     }
 }
 
-/// Lends `pins` without the first.
+/// Returns `pins` without the first.
 pub fn after_first(pins: &[Pin]) -> &[Pin]
     ensures { result.now ≡ drop 1 pins.now }
 {

@@ -1,11 +1,11 @@
-//! What is kept of a netlist, by the numbers of its nets.
+//! Tables of a netlist, by the numbers of its nets.
 
 /// A context or a preselect.
 #[derive(Clone, Copy)]
 pub struct SelectCell {
     /// The number of the net that it drives.
     pub net: u32,
-    /// The number of the resource whose select it gives.
+    /// The number of the resource whose select it drives.
     pub resource: u32,
 }
 
@@ -16,9 +16,9 @@ pub struct Choice {
     pub net: u32,
     /// The number of the net of its select.
     pub select: u32,
-    /// The place from which on the nets of its data stand in `Choices::heard`.
+    /// The place in `Choices::heard` at which the nets of its data begin.
     pub first: usize,
-    /// How many nets it chooses among.
+    /// The number of nets among which it chooses.
     pub count: u32,
 }
 
@@ -27,6 +27,6 @@ pub struct Choice {
 pub struct Choices {
     /// Each mux or register.
     pub entries: Vec<Choice>,
-    /// The numbers of the nets that they choose among, those of each one together.
+    /// The numbers of the nets among which they choose, those of each mux or register together.
     pub heard: Vec<u32>,
 }

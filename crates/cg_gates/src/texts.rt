@@ -1,4 +1,4 @@
-//! What reports say of the faults of netlists.
+//! Texts of faults of netlists, for reports.
 ghost use Rattle.std.specs.Prelude.{◌≡◌, ◌++◌, IfOk, codes, flat_map, string_bytes};
 ghost use Rattle.cg_gates.specs.Texts as spec;
 
@@ -6,7 +6,7 @@ use crate::fault::GateFault;
 use cg_model::Name;
 use std::alloc::{AllocError, Global};
 
-/// Returns code, name and place of `fault`, as `E2 PinNet cell 1`. Out of memory has none of them.
+/// Returns code, name and place of `fault`, as in `E2 PinNet cell 1`. Out of memory has no code and no place.
 pub fn gate_fault_text(alloc: Global, fault: &GateFault) -> Result<String, AllocError>
     ensures { IfOk result (λ s. string_bytes s ≡ spec.gate_fault_text fault.now) }
 {

@@ -51,7 +51,7 @@ abbrev pub run_by_size : ℕ → Arch → NetGraph → Config → Image → Name
 run_by_size n A N C image input out =
     if nat_lt A.memory (length image.memory) then too_large input image else gates_ran n A N C image out
 
--- by what is found of the netlist over the architecture: that it has a meaning, or a fault
+-- given the interpretation of the netlist over the architecture: it has a meaning, or a fault
 abbrev pub run_by_gates : ℕ → Arch → Config → Image → Name → Name → Name → NetGraph → Result Gated GateFault → Outcome
 run_by_gates n A C image input netlist out N (Ok g) = run_by_size n A N C image input out
 run_by_gates n A C image input netlist out N (Err f) = malformed_of netlist (gate_fault_text f)
@@ -63,7 +63,7 @@ pub record OfGates (n : ℕ) (A : Arch) (C : Config) (image : Image) (input netl
   pub no_memory : given ≢ Err gate_fault.Memory
   pub outcome : o ≡ run_by_gates n A C image input netlist out N given
 
--- by what the netlist's file spells: a netlist, or a fault
+-- given the result of parsing the netlist's file: a netlist, or a fault
 abbrev pub OfNetlist : ℕ → Arch → Config → Image → Name → Name → Name → Outcome → Result NetGraph VerilogFault → Type 0
 OfNetlist n A C image input netlist out o (Ok N) = OfGates n A C image input netlist out N o
 OfNetlist n A C image input netlist out o (Err f) = o ≡ malformed_of netlist (verilog_fault_text f)
@@ -74,22 +74,22 @@ pub record OfNetlistFile (n : ℕ) (A : Arch) (C : Config) (image : Image) (inpu
   pub is_no_memory : read ≢ Err verilog_fault.Memory
   pub outcome_is : OfNetlist n A C image input netlist.name out o read
 
--- by what is read after the architecture and the configuration: an image, or a fault
+-- given the result of parsing the image, after the architecture and the configuration: an image, or a fault
 abbrev pub OfImage : ℕ → Arch → Config → Name → File → Name → Outcome → Result Image ImageFault → Type 0
 OfImage n A C input netlist out o (Ok image) = OfNetlistFile n A C image input netlist out o
 OfImage n A C input netlist out o (Err f) = o ≡ malformed_of input (image_fault_text f)
 
--- by what is read after the architecture: a configuration, or a fault
+-- given the result of parsing the configuration, after the architecture: a configuration, or a fault
 abbrev pub OfBits : ℕ → Arch → Name → File → File → Name → Outcome → Result Config BitsFault → Type 0
 OfBits n A file input netlist out o (Ok C) = OfImage n A C input.name netlist out o (images.answer_of input.bytes)
 OfBits n A file input netlist out o (Err f) = o ≡ malformed_of file (bits_fault_text f)
 
--- by what is read first
+-- given the result of parsing the architecture, which is read first
 abbrev pub OfArch : ℕ → File → File → File → File → Name → Outcome → Result Arch TilesFault → Type 0
 OfArch n arch file input netlist out o (Ok A) = OfBits n A file.name input netlist out o (bits.answer_of A file.bytes)
 OfArch n arch file input netlist out o (Err f) = o ≡ malformed_of arch.name (tiles_fault_text f)
 
--- the outcomes that the command allows: of the architecture's faults only the loop may be chosen, too
+-- the outcomes that the command allows: of the architecture's faults, too, only the loop may be chosen
 pub record IsNetlistRun (n : ℕ) (arch file input netlist : File) (out : Name) (o : Outcome) : Type 0 where
   pub given : Result Arch TilesFault
   pub is_given : tiles.IsAnswer arch.bytes given
@@ -98,8 +98,8 @@ pub record IsNetlistRun (n : ℕ) (arch file input netlist : File) (out : Name) 
 
 -- ---- what is accepted, and what is left
 
--- the files give an architecture, a canonical configuration of it, an image that fits its memory, and a netlist that has a meaning
--- over it
+-- the files contain an architecture, a canonical configuration of it, an image that fits its memory, and a netlist that
+-- has a meaning over the architecture
 pub record IsNetlistRunnable (arch file input netlist : File) : Type 0 where
   pub array : Arch
   pub given : AreValidBytes arch.bytes array
@@ -112,16 +112,17 @@ pub record IsNetlistRunnable (arch file input netlist : File) : Type 0 where
   pub accepted : IsAccepted array graph
   pub fits : length image.memory ≤ array.memory
 
--- where the bytes are those of a legal mapping of a kernel, whose edges order the accesses that matter or whose nodes don't
--- reach the memory, the netlist leaves what the turns of the kernel leave
+-- where the bytes are those of a legal mapping of a kernel, whose edges order the accesses that matter or whose nodes
+-- don't reach the memory, the netlist leaves what the iterations of the kernel leave
 abbrev pub GatesLeaveTurns : Arch → NetGraph → ℕ → Image → Config → Bytes → Type 0
 GatesLeaveTurns A N n image C bytes =
     (K : Kernel) (M : Mapping) → IsKernel K → IsLegal A K M → AreBits A (configuration_of A K M) bytes →
     IsUnaliased K n image ⊎ HasNoAccess K → gates_left A N C n image ≡ turns_left K n image
 
--- Done: an architecture, a canonical configuration of it, which the bytes spell, an image that fits its memory, and a netlist that
--- has a meaning over it were read; what the netlist leaves after the turns is held under the last name, and its cycles and its
--- count were put. Where it is the netlist of the architecture, it leaves what the array leaves
+-- Done: an architecture, a canonical configuration of it, which the bytes encode, an image that fits its memory, and a
+-- netlist that has a meaning over the architecture were read; what the netlist leaves after the iterations is held
+-- under the last name, and the numbers of cycles and of outside accesses were reported. Where it is the netlist of the
+-- architecture, it leaves what the array leaves
 pub record IsGatesRun (n : ℕ) (arch file input netlist out : Name) (before after : Moment) : Type 0 where
   pub arch_bytes : Bytes
   pub arch_held : Holds before.held arch arch_bytes

@@ -1,4 +1,4 @@
--- Files of netlists that are refused, each for a fault that it has.
+-- Files of netlists that are refused, each for a fault in it.
 use Rattle.cg_model.specs.Array.{Arch}
 use Rattle.cg_ending.specs.Outcome.{Name, File, Outcome}
 use Rattle.cg_inputs.specs.Refused.{Tells}
@@ -11,7 +11,7 @@ use Rattle.cg_gates.specs.Gated.{Gated}
 use Rattle.cg_gates.specs.Accepts.{IsGateAnswer}
 use Rattle.cg_gates.specs.Texts.{gate_fault_text}
 
--- the file spells no netlist
+-- the file contains no valid netlist
 abbrev pub RefusesNetlist : File → Outcome → Type 0
 RefusesNetlist file o = Tells (netlists.IsAnswer file.bytes) verilog_fault.Memory verilog_fault_text file.name o
 

@@ -1,4 +1,4 @@
-//! What `run` answers where a netlist runs in the place of the array.
+//! The answer of `run` with `--netlist`, which runs a netlist in place of the array.
 #![tactic(auto)]
 
 mod reading;

@@ -1,4 +1,4 @@
-//! What the file of a netlist gives. Where it gives none, the call ends by the outcome of its refusal.
+//! Reads the file of a netlist. A file without a valid netlist ends the call with the outcome that refuses it.
 ghost use Rattle.std.specs.Prelude.{◌≡◌, IfOk, IfErr, OnOk, Ok};
 ghost use Rattle.cg_ending.specs.Allowed.{EndsBy};
 ghost use Rattle.cg_ending.specs.Outcome.{file_of};
@@ -14,7 +14,7 @@ use cg_netlist::NetGraph;
 use cg_netlist_reader::{VerilogFault, read_verilog, verilog_fault_text};
 use std::alloc::Global;
 
-/// Reads the netlist that `file` spells. A fault of it ends the call with status 3.
+/// Reads the netlist in `file`. A fault in it ends the call with status 3.
 pub(crate) fn netlist_in(alloc: Global, file: &File) -> Result<NetGraph, Stop>
     ensures given { IfOk result (λ graph. netlists.IsAnswer (file_of file.now).bytes (Ok graph)) }
     ensures refused { IfErr result (EndsBy (RefusesNetlist (file_of file.now))) }
@@ -29,7 +29,7 @@ pub(crate) fn netlist_in(alloc: Global, file: &File) -> Result<NetGraph, Stop>
     }
 }
 
-/// Returns `graph`, which `file` spells, as it is meant over `arch`. A fault of it ends the call with status 3.
+/// Interprets `graph`, which was read from `file`, over `arch`. A fault in it ends the call with status 3.
 pub(crate) fn gates_in<'a>(
     alloc: Global,
     arch: &'a Arch,

@@ -18,9 +18,9 @@ use cg_run_answers::{left_outcome, too_large};
 use cg_view::ConfigView;
 use std::alloc::Global;
 
-/// Returns the outcome of `run` with a netlist: `turns` turns of the netlist that `netlist` spells in the place of the array
-/// that `arch` gives, under the configuration that `file` holds, from the image that `input` holds; the result image is to be
-/// written under the name `out`.
+/// Returns the outcome of `run` with a netlist: runs `turns` iterations of the netlist in `netlist`, in place of the
+/// array in `arch`, configured by `file`, from the image in `input`; the result image is to be written under the name
+/// `out`.
 pub fn run_netlist(
     alloc: Global,
     turns: u32,
@@ -38,7 +38,7 @@ pub fn run_netlist(
     run_configured(alloc, turns, &array, &config, input, netlist, out)
 }
 
-/// Runs `turns` turns of the netlist that `netlist` spells over `array` under `config`, from the image that `input` holds.
+/// Runs `turns` iterations of the netlist in `netlist` over `array` under `config`, from the image in `input`.
 fn run_configured(
     alloc: Global,
     turns: u32,
@@ -57,7 +57,8 @@ fn run_configured(
     run_from(alloc, turns, array, config, &image, input, netlist, out)
 }
 
-/// Runs `turns` turns of the netlist that `netlist` spells over `array` under `config`, from `image`, which `input` holds.
+/// Runs `turns` iterations of the netlist in `netlist` over `array` under `config`, from `image`, which was read from
+/// `input`.
 fn run_from(
     alloc: Global,
     turns: u32,
@@ -78,7 +79,8 @@ fn run_from(
     )
 }
 
-/// Runs `turns` turns of `graph`, which `netlist` spells, over `array` under `config`, from `image`, which `input` holds.
+/// Runs `turns` iterations of `graph`, which was read from `netlist`, over `array` under `config`, from `image`, which
+/// was read from `input`.
 fn run_graph(
     alloc: Global,
     turns: u32,
@@ -98,7 +100,7 @@ fn run_graph(
     run_gates(alloc, turns, &gates, config, image, input, out)
 }
 
-/// Runs `turns` turns of `gates` under `config`, from `image`, which `input` holds.
+/// Runs `turns` iterations of `gates` under `config`, from `image`, which was read from `input`.
 fn run_gates(
     alloc: Global,
     turns: u32,
@@ -118,7 +120,7 @@ fn run_gates(
     }
 }
 
-/// Runs all cycles of `run`, whose image fits the memory, and returns the outcome: the image that they leave, to be written
+/// Runs all cycles of `run`, whose image fits the memory, and returns the outcome; the result image is to be written
 /// under `out`.
 fn gates_ran(alloc: Global, run: GateRun<'_, ConfigView<'_>>, out: &str) -> Result<Outcome, Stop>
     requires { run.done ≡ 0 }

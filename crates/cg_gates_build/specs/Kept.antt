@@ -1,4 +1,4 @@
--- What is kept of a netlist, cell by cell.
+-- The tables of a netlist, cell by cell.
 use Rattle.std.specs.Prelude.{◌≡◌, ℕ, ◌-◌, Bool, true, false, List, [], ◌∷◌, ◌++◌, codes, length, map, drop, find, Option, Some, None, slice_index_or, slice_get}
 use Rattle.cg_model.specs.declared.array.Unit.{Unit}
 use Rattle.cg_netlist.specs.declared.forms.Form.{Form}
@@ -12,21 +12,21 @@ use Rattle.cg_gates.specs.Shape.{Shape, shapes, is_context, is_preselect, is_mux
 use Rattle.cg_gates.specs.Gates.{is_instance, unit_instance}
 use Rattle.cg_gates.specs.Order.{net_number}
 
--- the form of cells that give the selects of a cycle, or of the next one
+-- the form of cells that drive the selects of a cycle, or of the next one
 abbrev pub is_given : Given → Form → Bool
 is_given Now = is_context
 is_given Next = is_preselect
 
--- a mux or a register, whose data stand in a list from a place on
+-- a mux or a register, whose data begin at a place in a list
 abbrev pub entry_of : NetGraph → Shape → ℕ → Choice
 entry_of N c first = record { net = net_number N c.q; select = net_number N (slice_index_or c.ins 0 []); first = first; count = length c.ins - 1 }
 
--- one is added
+-- one choice is added
 pub record IsPushed (N : NetGraph) (c : Shape) (old new : Choices) : Type 0 where
   pub entries : new.entries.items ≡ old.entries.items ++ entry_of N c (length old.heard.items) ∷ []
   pub heard : new.heard.items ≡ old.heard.items ++ map (net_number N) (drop 1 c.ins)
 
--- none is
+-- no choice is added
 pub record IsSame (old new : Choices) : Type 0 where
   pub entries : new.entries.items ≡ old.entries.items
   pub heard : new.heard.items ≡ old.heard.items
@@ -40,7 +40,7 @@ abbrev pub PushesMux : NetGraph → Option Shape → Choices → Choices → Typ
 PushesMux N None old new = IsSame old new
 PushesMux N (Some c) old new = PushesIf (is_mux c.form) N c old new
 
--- the number of a pin's net, and that past the last net where there is no pin
+-- the number of a pin's net, and the number past the last net where there is no pin
 abbrev pub pin_number : NetGraph → Option (List ℕ) → ℕ
 pin_number N None = length N.nets
 pin_number N (Some net) = net_number N net
@@ -58,7 +58,7 @@ abbrev pub front_of : Given → List ℕ
 front_of Now = codes "c_"
 front_of Next = codes "p_"
 
--- the nets are those of the first cell that is a unit's of that name
+-- the nets are those of the first unit cell with the name of this unit
 pub record IsUnitCell (N : NetGraph) (u : Unit) (t : Terminals) : Type 0 where
   pub cell : Shape
   pub first : find (is_instance (unit_instance u.name)) (shapes N) ≡ Some cell

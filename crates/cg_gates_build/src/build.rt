@@ -1,4 +1,4 @@
-//! From a netlist without early faults to what is kept of it.
+//! The tables of a netlist without faults of drivers and pins.
 ghost use Rattle.std.specs.Prelude.{◌≡◌, None, IfOk};
 ghost use Rattle.cg_level.specs.Topological.{IsTopological};
 ghost use Rattle.cg_gates.specs.Accepts.{fault_before_loops, IsAccepted, IsGateAnswer};
@@ -14,7 +14,7 @@ use cg_arch::Arch;
 use cg_gates::{GateFault, fault_after_loops};
 use std::alloc::{AllocError, Global};
 
-/// Returns the netlist of `nets` as it is meant over `arch`, or its fault.
+/// Returns the gates of `nets` over `arch`, or the netlist's fault.
 pub(crate) fn ordered<'a>(
     alloc: Global,
     arch: &'a Arch,
@@ -30,7 +30,7 @@ pub(crate) fn ordered<'a>(
     }
 }
 
-/// Returns the netlist of `nets` as it is meant over `arch`, or its fault. `order` is an order of its muxes.
+/// Returns the gates of `nets` over `arch`, or the netlist's fault. `order` is an order of its muxes.
 fn judged<'a>(
     alloc: Global,
     arch: &'a Arch,
@@ -48,7 +48,7 @@ fn judged<'a>(
     Ok(kept(alloc, arch, nets, order)?)
 }
 
-/// Returns the netlist of `nets` as it is meant over `arch`, where muxes have this `order`.
+/// Returns the gates of `nets` over `arch`, where muxes have this `order`.
 fn kept<'a>(
     alloc: Global,
     arch: &'a Arch,

@@ -21,7 +21,7 @@ use std::alloc::{AllocError, Global};
 pub(crate) struct Chosen {
     /// The registers.
     pub(crate) registers: Choices,
-    /// The muxes, each after those that it hears.
+    /// The muxes, each after the muxes that it hears.
     pub(crate) muxes: Choices,
 }
 
@@ -60,7 +60,7 @@ fn registers_of(alloc: Global, nets: &Nets<'_>) -> Result<Choices, AllocError>
     Ok(choices)
 }
 
-/// Returns the muxes of `nets`, each after those that it hears, by an `order` of the nets.
+/// Returns the muxes of `nets`, each after the muxes that it hears, by an `order` of the nets.
 fn muxes_of(alloc: Global, nets: &Nets<'_>, order: &[u32]) -> Result<Choices, AllocError>
     requires graph { IsNetGraph nets.now }
     requires early { fault_before_loops nets.now ≡ None }
@@ -78,7 +78,7 @@ fn muxes_of(alloc: Global, nets: &Nets<'_>, order: &[u32]) -> Result<Choices, Al
     Ok(choices)
 }
 
-/// Adds to `choices` what drives net `number` of `nets`, where it is a mux.
+/// Adds the driver of net `number` of `nets` to `choices`, where it is a mux.
 fn push_mux(nets: &Nets<'_>, choices: &mut Choices, number: u32) -> Result<(), AllocError>
     requires graph { IsNetGraph nets.now }
     requires early { fault_before_loops nets.now ≡ None }
@@ -116,7 +116,7 @@ fn push_choice(nets: &Nets<'_>, choices: &mut Choices, cell: &Cell) -> Result<()
     Ok(())
 }
 
-/// Returns the entry of `cell` of `nets` whose data stand from place `first` on.
+/// Returns the entry of `cell` of `nets` whose data begin at place `first`.
 fn entry_of(nets: &Nets<'_>, cell: &Cell, first: usize) -> Choice
     requires { length (shape_of cell.now).ins ≤ 65537 }
     ensures { result ≡ spec.entry_of nets.now (shape_of cell.now) first }
@@ -130,7 +130,7 @@ fn entry_of(nets: &Nets<'_>, cell: &Cell, first: usize) -> Choice
     }
 }
 
-/// Lends the net of the first of `pins`.
+/// Returns the net of the first of `pins`.
 fn first_net(pins: &[Pin]) -> &str
     ensures { result.now ≡ slice_index_or (map (λ (p : Pin). p.net) pins.now) 0 [] }
 {
@@ -140,7 +140,7 @@ fn first_net(pins: &[Pin]) -> &str
     pins[0].net.as_str()
 }
 
-/// Adds to `list` the numbers of the nets that `pins` are on.
+/// Adds to `list` the numbers of the nets to which `pins` are connected.
 fn push_numbers(nets: &Nets<'_>, list: &mut Vec<u32>, pins: &[Pin]) -> Result<(), AllocError>
     ensures { OnOk result (list.new.items ≡ list.old.items ++ map (net_number nets.now) (map (λ (p : Pin). p.net) pins.now)) }
 {
@@ -150,14 +150,14 @@ fn push_numbers(nets: &Nets<'_>, list: &mut Vec<u32>, pins: &[Pin]) -> Result<()
     Ok(())
 }
 
-/// Tells whether `form` is that of muxes.
+/// Checks whether `form` is that of muxes.
 fn is_mux(form: Form) -> bool
     ensures { result ≡ is_mux form }
 {
     matches!(form, Form::Mux(_))
 }
 
-/// Tells whether `form` is that of registers.
+/// Checks whether `form` is that of registers.
 fn is_register(form: Form) -> bool
     ensures { result ≡ is_register form }
 {

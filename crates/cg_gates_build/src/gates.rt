@@ -43,8 +43,9 @@ impl<'a> Gates<'a> {
     ghost use Rattle.cg_gates.specs.Tables.{AreSelects, AreChoices, AreRising, AreTerminals};
     ghost use Rattle.cg_gates.specs.Gated.{IsGated};
 
-    /// Returns `netlist` as it is meant over `arch`, or the lowest of E1 to E6 that applies, at its first place. Where muxes
-    /// form rings, one of these is named, from the net that is declared first on and against the signal.
+    /// Returns the gates of `netlist` over `arch`, or the lowest of E1 to E6 that applies, at its first place. Where
+    /// muxes form rings, the fault names one of these, starting at the net that is declared first and against the
+    /// direction of the signal.
     pub fn build(
         alloc: Global,
         arch: &'a Arch,
@@ -60,7 +61,7 @@ impl<'a> Gates<'a> {
         ordered(alloc, arch, &nets)
     }
 
-    /// Keeps these `selects`, `choices` and `units` of `netlist` over `arch`.
+    /// Returns the gates of `netlist` over `arch` with these `selects`, `choices` and `units`.
     pub(crate) fn new(
         arch: &'a Arch,
         netlist: &'a NetGraph,
@@ -82,7 +83,7 @@ impl<'a> Gates<'a> {
         }
     }
 
-    /// Lends the architecture.
+    /// Returns the architecture.
     pub fn arch(&self) -> &'a Arch
         ensures arch { result.now ≡ self.now.arch }
         ensures valid { IsArch self.now.arch }
@@ -90,7 +91,7 @@ impl<'a> Gates<'a> {
         self.arch
     }
 
-    /// Lends the netlist.
+    /// Returns the netlist.
     pub fn netlist(&self) -> &'a NetGraph
         ensures netlist { result.now ≡ self.now.netlist }
         ensures valid { IsNetGraph self.now.netlist }
@@ -99,28 +100,28 @@ impl<'a> Gates<'a> {
         self.netlist
     }
 
-    /// Lends the cells that give the selects of a cycle.
+    /// Returns the cells that drive the selects of a cycle.
     pub fn contexts(&self) -> &[SelectCell]
         ensures { AreSelects self.now.arch self.now.netlist is_context result.now }
     {
         &self.contexts
     }
 
-    /// Lends the cells that give the selects of the next cycle.
+    /// Returns the cells that drive the selects of the next cycle.
     pub fn preselects(&self) -> &[SelectCell]
         ensures { AreSelects self.now.arch self.now.netlist is_preselect result.now }
     {
         &self.preselects
     }
 
-    /// Lends the registers.
+    /// Returns the registers.
     pub fn registers(&self) -> &Choices
         ensures { AreChoices self.now.netlist is_register result.now }
     {
         &self.registers
     }
 
-    /// Lends the muxes, each after those that it hears.
+    /// Returns the muxes, each after the muxes that it hears.
     pub fn muxes(&self) -> &Choices
         ensures all { AreChoices self.now.netlist is_mux result.now }
         ensures rising { AreRising result.now }
@@ -128,7 +129,7 @@ impl<'a> Gates<'a> {
         &self.muxes
     }
 
-    /// Lends the nets of each unit's cell, in the order of the architecture's units.
+    /// Returns the nets of each unit's cell, in the order of the architecture's units.
     pub fn units(&self) -> &[Terminals]
         ensures { AreTerminals self.now.arch self.now.netlist result.now }
     {

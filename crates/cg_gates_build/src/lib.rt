@@ -1,5 +1,5 @@
-//! What is kept of a netlist that has a meaning over an architecture, to run it: the order of its muxes, and which net each pin
-//! of a cell reads.
+//! The tables of a netlist that has a meaning over an architecture, for running it: the order of its muxes, and the net
+//! that each pin of a cell reads.
 #![tactic(auto)]
 
 mod build;

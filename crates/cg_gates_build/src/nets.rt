@@ -6,7 +6,8 @@ use cg_netlist::{Cell, NetGraph, Pin};
 use std::alloc::Global;
 use std::marker::Model;
 
-/// A netlist, with the numbers of its nets by name, and those of the first cells that drive them. Contracts see the netlist.
+/// A netlist, with the numbers of its nets by name, and the numbers of the first cells that drive them. Contracts see
+/// the netlist.
 #[derive(Drop)]
 pub(crate) struct Nets<'a> {
     netlist: &'a NetGraph,
@@ -37,7 +38,7 @@ impl<'a> Nets<'a> {
     ghost use Rattle.cg_gates.specs.Order as order;
     ghost use Rattle.cg_gates.specs.Accepts as accepts;
 
-    /// Returns the nets of `netlist`. Memory holds no more of them than numbers of 32 bits can name.
+    /// Returns the nets of `netlist`. Memory doesn't suffice for more nets than numbers of 32 bits can name.
     pub(crate) fn new(alloc: Global, netlist: &'a NetGraph) -> Result<Nets<'a>, GateFault>
         ensures ok { IfOk result (λ nets. nets ≡ netlist.now) }
         ensures fault { IfErr result (λ e. e ≡ Memory) }
@@ -54,7 +55,7 @@ impl<'a> Nets<'a> {
         })
     }
 
-    /// Lends the netlist.
+    /// Returns the netlist.
     pub(crate) fn netlist(&self) -> &'a NetGraph
         ensures netlist { result.now ≡ self.now }
         ensures few { length self.now.nets < 2 ^ 32 }
@@ -63,21 +64,21 @@ impl<'a> Nets<'a> {
         self.netlist
     }
 
-    /// Lends the numbers of the nets by name.
+    /// Returns the numbers of the nets by name.
     pub(crate) fn numbers(&self) -> &Numbers
         ensures { AreNets result.now self.now.nets }
     {
         &self.numbers
     }
 
-    /// Returns how many nets there are.
+    /// Returns the number of nets.
     pub(crate) fn count(&self) -> u32
         ensures { result ≡ length self.now.nets }
     {
         self.netlist.nets().len() as u32
     }
 
-    /// Returns the number of the net called `name`, or how many nets there are.
+    /// Returns the number of the net called `name`, or the number of nets.
     #[tactic(auto, unfolding(cg_gates::specs::Order::net_number))]
     pub(crate) fn number(&self, name: &str) -> u32
         ensures { result ≡ order.net_number self.now name.now }
@@ -85,7 +86,7 @@ impl<'a> Nets<'a> {
         number_or_all(&self.numbers, self.netlist.nets(), name) as u32
     }
 
-    /// Lends the name of the net with that `number`, and nothing past the last one.
+    /// Returns the name of the net with that `number`; empty past the last one.
     pub(crate) fn name(&self, number: u32) -> &'a str
         ensures { result.now ≡ accepts.net_name self.now number }
     {
@@ -96,7 +97,7 @@ impl<'a> Nets<'a> {
         nets[number as usize].name.as_str()
     }
 
-    /// Lends the first cell that drives the net called `name`.
+    /// Returns the first cell that drives the net called `name`.
     pub(crate) fn driving(&self, name: &str) -> Option<&'a Cell>
         ensures { option_map shape_of (option_copied result) ≡ gates.driving name.now (shapes self.now) }
     {
@@ -110,7 +111,7 @@ impl<'a> Nets<'a> {
         }
     }
 
-    /// Lends the pins on nets among which what drives the net called `name` chooses in the same cycle.
+    /// Returns the pins on nets among which the driver of the net called `name` chooses in the same cycle.
     pub(crate) fn heard(&self, name: &str) -> &'a [Pin]
         ensures { map (λ (p : Pin). p.net) result.now ≡ order.heard (gates.driving name.now (shapes self.now)) }
     {

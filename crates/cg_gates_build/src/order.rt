@@ -13,7 +13,8 @@ use cg_level::{OrderFault, topological_order};
 use cg_model::{Items, Name, Words};
 use std::alloc::{AllocError, Global};
 
-/// Returns the numbers of all `nets`, each after those that its mux hears. Where muxes form rings, the fault names one.
+/// Returns the numbers of all `nets`, each after the nets that its mux hears. Where muxes form rings, the fault names
+/// one.
 pub(crate) fn order_of(alloc: Global, nets: &Nets<'_>) -> Result<Words, GateFault>
     requires { spec.fault_before_loops nets.now ≡ None }
     ensures order { IfOk result (IsTopological (mux_graph nets.now)) }
@@ -37,7 +38,7 @@ fn ring_fault(alloc: Global, nets: &Nets<'_>, ring: &[u32]) -> GateFault
     }
 }
 
-/// Returns the names of a `ring` of nets in the other direction, from the first on.
+/// Returns the names of a `ring` of nets in the opposite direction, starting at the first.
 fn ring_names(alloc: Global, nets: &Nets<'_>, ring: &[u32]) -> Result<Vec<Name>, AllocError>
     ensures { IfOk result (λ names. names.items ≡ spec.names_of nets.now (take 1 ring.now ++ reverse (drop 1 ring.now))) }
 {
@@ -45,7 +46,7 @@ fn ring_names(alloc: Global, nets: &Nets<'_>, ring: &[u32]) -> Result<Vec<Name>,
     names_of(alloc, nets, &turned)
 }
 
-/// Returns the numbers of a `ring` in the other direction, from the first on.
+/// Returns the numbers of a `ring` in the opposite direction, starting at the first.
 fn turned(alloc: Global, ring: &[u32]) -> Result<Vec<u32>, AllocError>
     ensures { IfOk result (λ list. list.items ≡ take 1 ring.now ++ reverse (drop 1 ring.now)) }
 {
@@ -55,7 +56,7 @@ fn turned(alloc: Global, ring: &[u32]) -> Result<Vec<u32>, AllocError>
     with_reversed(alloc, &ring[..1], &ring[1..])
 }
 
-/// Returns the numbers of `front`, and then those of `back` from the last to the first.
+/// Returns the numbers of `front`, followed by those of `back` in reverse order.
 fn with_reversed(alloc: Global, front: &[u32], back: &[u32]) -> Result<Vec<u32>, AllocError>
     ensures { IfOk result (λ list. list.items ≡ front.now ++ reverse back.now) }
 {

@@ -1,4 +1,4 @@
-//! The cells that give selects.
+//! The cells that drive selects.
 ghost use Rattle.std.specs.Prelude.{◌≡◌, ◌<◌, true, Contains, IfOk, length};
 ghost use Rattle.cg_model.specs.Array.{IsArch};
 ghost use Rattle.cg_netlist.specs.Forms.{begins};
@@ -17,25 +17,25 @@ use cg_names::Numbers;
 use cg_netlist::{Cell, Form};
 use std::alloc::{AllocError, Global};
 
-/// Which selects a cell gives.
+/// Which selects a cell drives.
 #[derive(Clone, Copy)]
 pub(crate) enum Given {
-    /// Those of the cycle.
+    /// The selects of the cycle.
     Now,
-    /// Those of the next cycle.
+    /// The selects of the next cycle.
     Next,
 }
 
-/// The cells that give selects.
+/// The cells that drive selects.
 #[derive(Drop)]
 pub(crate) struct Selects {
-    /// Those of the cycle.
+    /// The cells for the cycle.
     pub(crate) now: Vec<SelectCell>,
-    /// Those of the next cycle.
+    /// The cells for the next cycle.
     pub(crate) next: Vec<SelectCell>,
 }
 
-/// Returns all cells of `nets` that give selects of `arch`.
+/// Returns all cells of `nets` that drive selects of `arch`.
 pub(crate) fn all_selects(
     alloc: Global,
     arch: &Arch,
@@ -51,7 +51,7 @@ pub(crate) fn all_selects(
     Ok(Selects { now, next })
 }
 
-/// Returns the cells of `nets` that give such selects of `arch` as `given` says.
+/// Returns the cells of `nets` that drive the selects of `arch` that `given` names.
 fn selects_of(
     alloc: Global,
     arch: &Arch,
@@ -66,7 +66,8 @@ fn selects_of(
     selects_by(alloc, arch, &resources, nets, given)
 }
 
-/// Returns the cells of `nets` that give such selects of `arch` as `given` says. `resources` has its resources' numbers by name.
+/// Returns the cells of `nets` that drive the selects of `arch` that `given` names. `resources` maps the names of its
+/// resources to their numbers.
 fn selects_by(
     alloc: Global,
     arch: &Arch,
@@ -87,8 +88,8 @@ fn selects_by(
     Ok(list)
 }
 
-/// Returns `cell` of `nets`, which gives such selects of `arch` as `given` says, by numbers. `resources` has the resources'
-/// numbers by name.
+/// Returns the entry of `cell` of `nets`, which drives a select of `arch` that `given` names. `resources` maps the
+/// names of the resources to their numbers.
 fn select_cell(
     arch: &Arch,
     resources: &Numbers,
@@ -109,7 +110,8 @@ fn select_cell(
     }
 }
 
-/// Returns the number of the resource of `arch` that is called `name`. `resources` has the resources' numbers by name.
+/// Returns the number of the resource of `arch` that is called `name`. `resources` maps the names of the resources to
+/// their numbers.
 #[tactic(auto, unfolding(cg_gates::specs::Gates::resource_named))]
 fn resource_of(arch: &Arch, resources: &Numbers, name: &str) -> u32
     requires resources { AreResources resources.now arch.now.resources }
@@ -119,7 +121,7 @@ fn resource_of(arch: &Arch, resources: &Numbers, name: &str) -> u32
     number_or_all(resources, arch.resources(), name) as u32
 }
 
-/// Returns what comes after the `front` of `name`.
+/// Returns the part of `name` after `front`.
 fn stem<'a>(name: &'a str, front: &str) -> &'a str
     requires begun { begins front.now name.now ≡ true }
     requires two { length front.now ≡ 2 }
@@ -131,7 +133,7 @@ fn stem<'a>(name: &'a str, front: &str) -> &'a str
     }
 }
 
-/// Tells whether `form` is that of cells that give such selects as `given` says.
+/// Checks whether `form` is that of cells that drive the selects that `given` names.
 fn is_given(given: Given, form: Form) -> bool
     ensures { result ≡ is_given given form }
 {
@@ -141,7 +143,7 @@ fn is_given(given: Given, form: Form) -> bool
     }
 }
 
-/// Returns the letter and `_` with which the names of such cells as `given` says begin.
+/// Returns the letter and `_` with which the names of these cells begin.
 fn front_of(given: Given) -> &'static str
     ensures { result.now ≡ front_of given }
 {

@@ -1,4 +1,4 @@
-//! Where units read and write, by the numbers of their nets.
+//! The nets that units read and write, by their numbers.
 ghost use Rattle.std.specs.Prelude.{◌≡◌, ◌∷◌, [], true, IfOk, map, slice_get};
 ghost use Rattle.cg_netlist.specs.declared.parts.Pin.{Pin};
 ghost use Rattle.cg_netlist.specs.Graph.{IsNetGraph};
@@ -32,7 +32,8 @@ pub(crate) fn terminals_of(
     terminals_by(alloc, arch, nets, &cells)
 }
 
-/// Returns the nets of the cell in `nets` of each unit of `arch`. `cells` has the numbers of units' cells by name.
+/// Returns the nets of the cell in `nets` of each unit of `arch`. `cells` maps the names of units' cells to their
+/// numbers.
 fn terminals_by(
     alloc: Global,
     arch: &Arch,
@@ -51,7 +52,7 @@ fn terminals_by(
     Ok(list)
 }
 
-/// Returns the nets of the cell of `unit` in `nets`. `cells` has the numbers of units' cells by name.
+/// Returns the nets of the cell of `unit` in `nets`. `cells` maps the names of units' cells to their numbers.
 fn unit_terminals(
     alloc: Global,
     nets: &Nets<'_>,
@@ -88,7 +89,7 @@ fn cell_terminals(nets: &Nets<'_>, cell: &Cell, latency: u32) -> Terminals
     }
 }
 
-/// Returns the number of the net that is on the pin at `place` among `pins`, or how many nets there are, where there is no such pin.
+/// Returns the number of the net on the pin at `place` among `pins`, or the number of nets where there is no such pin.
 fn pin_number(nets: &Nets<'_>, pins: &[Pin], place: usize) -> u32
     ensures { result ≡ spec.pin_number nets.now (slice_get (map (λ (p : Pin). p.net) pins.now) place) }
 {

@@ -42,7 +42,7 @@ fn net_resource(alloc: Global, nets: &Nets<'_>, net: &Net) -> Result<Resource, A
     })
 }
 
-/// Returns the numbers of the nets that `pins` are on.
+/// Returns the numbers of the nets to which `pins` are connected.
 pub(crate) fn numbers_of_pins(
     alloc: Global,
     nets: &Nets<'_>,

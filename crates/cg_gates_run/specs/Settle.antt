@@ -27,13 +27,13 @@ AreSelectable C slot es size = (j : ℕ) → j < length es →
 abbrev pub GiveSelects : Config → ℕ → List SelectCell → (ℕ → ℕ) → Type 0
 GiveSelects C slot es f = (j : ℕ) → j < length es → select C (select_cell es j).resource slot ≡ f (select_cell es j).net
 
--- the nets of the first i have their words
+-- the nets of the first i entries have their words
 abbrev pub AreSelectsRight : List SelectCell → ℕ → List ℕ → (ℕ → ℕ) → Type 0
 AreSelectsRight es i words f = (j : ℕ) → j < i → slice_index words (select_cell es j).net ≡ f (select_cell es j).net
 
 -- ---- registers and muxes
 
--- the word that an entry chooses, where its select is that: 0 for none, and past the last
+-- the word that an entry chooses for that select: 0 for none, and past the last
 abbrev pub chosen_by : List ℕ → List ℕ → Choice → ℕ → ℕ
 chosen_by heard words e zero = 0
 chosen_by heard words e (suc k) = if nat_lt k e.count then slice_index words (slice_index heard (e.first + k)) else 0
@@ -52,26 +52,26 @@ pub record IsReadable (heard : List ℕ) (size : ℕ) (e : Choice) : Type 0 wher
 abbrev pub AreReadable : Choices → ℕ → Type 0
 AreReadable t size = (j : ℕ) → j < length t.entries.items → IsReadable t.heard.items size (choice t.entries.items j)
 
--- the words before give the registers theirs
+-- the words before determine those of the registers
 abbrev pub GiveRegisters : Choices → List ℕ → (ℕ → ℕ) → Type 0
 GiveRegisters t before f = (j : ℕ) → j < length t.entries.items → chosen t before j ≡ f (choice t.entries.items j).net
 
--- the nets of the first i have their words
+-- the nets of the first i entries have their words
 abbrev pub AreRight : Choices → ℕ → List ℕ → (ℕ → ℕ) → Type 0
 AreRight t i words f = (j : ℕ) → j < i → slice_index words (choice t.entries.items j).net ≡ f (choice t.entries.items j).net
 
--- each mux has the right word as soon as those before it have theirs
+-- each mux has the right word as soon as the muxes before it have theirs
 abbrev pub GiveMuxes : Choices → List ℕ → (ℕ → ℕ) → Type 0
 GiveMuxes t old f = (j : ℕ) → j < length t.entries.items → (words : List ℕ) → Keeps f old words → AreRight t j words f →
     chosen t words j ≡ f (choice t.entries.items j).net
 
 -- ---- a cycle
 
--- net i is that of a cell that gives 0
+-- net i is driven by a cell that gives 0
 abbrev pub IsZero : NetGraph → ℕ → Type 0
 IsZero N i = (c : Shape) × Contains (shapes N) c × (c.form ≡ ZeroForm) × (c.q ≡ net_name N i)
 
--- words by the numbers of nets, and one more that is 0; the nets of cells that give 0 have it
+-- words by the numbers of nets, and one more that is 0; the nets of cells that give 0 have the word 0
 pub record AreByNet (N : NetGraph) (words : List ℕ) : Type 0 where
   pub long : length words ≡ length N.nets + 1
   pub none : slice_index words (length N.nets) ≡ 0
@@ -95,7 +95,7 @@ pub record Precedes (A : Arch) (N : NetGraph) (past : List GateCycle) (k : Cours
   pub words : HaveWords N before (gates_ago past 1).nets
   pub results : (x d : ℕ) → x < length A.units → 0 < d → d ≤ 4 → result_ago k x d ≡ (gates_ago past d).results x
 
--- the words are those f of their nets
+-- the words are the values of f at their nets
 pub record IsSettled (N : NetGraph) (words : List ℕ) (f : List ℕ → ℕ) : Type 0 where
   pub by_net : AreByNet N words
   pub are : HaveWords N words f

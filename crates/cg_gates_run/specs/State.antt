@@ -1,4 +1,4 @@
--- What the fields of a run of a netlist are.
+-- The fields of a run of a netlist.
 use Rattle.std.specs.Prelude.{◌≡◌, ℕ, ◌<◌, List, [], length, slice_index_or}
 use Rattle.cg_model.specs.Array.{Arch}
 use Rattle.cg_model.specs.Config.{Config}
@@ -14,7 +14,8 @@ use Rattle.cg_gates_run.specs.Settle.{AreByNet, IsFitted, Precedes}
 abbrev pub HaveThree : List Terminals → Type 0
 HaveThree us = (x : ℕ) → x < length us → length (terminals us x).ports ≡ 3
 
--- after c cycles: the course has left what the netlist has, and the words are those of the last cycle
+-- after c cycles: the course has the same memory, streams and count as the netlist, and the words are those of the last
+-- cycle
 pub record IsState (A : Arch) (N : NetGraph) (C : Config) (n : ℕ) (image : Image) (c : ℕ) (k : Course) (words : List ℕ) : Type 0 where
   pub memory : k.memory ≡ (gates_at A N C n image c).memory
   pub sixteen : length k.streams ≡ 16

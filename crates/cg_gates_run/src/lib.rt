@@ -1,4 +1,4 @@
-//! A netlist run in the place of the array, cycle by cycle.
+//! A netlist run in place of the array, cycle by cycle.
 #![tactic(auto)]
 
 mod run;

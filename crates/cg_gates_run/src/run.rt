@@ -11,7 +11,7 @@ use std::alloc::{AllocError, Global};
 use std::marker::Model;
 use std::mem::swap;
 
-/// A run of a netlist under a configuration, from an image. Contracts see what runs and how many cycles are over.
+/// A run of a netlist under a configuration, from an image. Contracts see the run and the number of past cycles.
 #[derive(Drop)]
 pub struct GateRun<'a, C: Contexts> {
     gates: &'a Gates<'a>,
@@ -41,8 +41,8 @@ impl<'a, C: Contexts> GateRun<'a, C> {
     ghost use Rattle.cg_gates.specs.Accepts.{net_name};
     ghost use Rattle.cg_gates_run.specs.Run.{start_of, state, all_cycles};
 
-    /// Begins a run of `n` turns of `gates` under `contexts` from `image`. It takes all memory of the run; no later call takes
-    /// any.
+    /// Begins a run of `n` iterations of `gates` under `contexts` from `image`. It allocates all memory of the run; no
+    /// later call allocates any.
     pub fn new(
         alloc: Global,
         gates: &'a Gates<'a>,
@@ -61,7 +61,7 @@ impl<'a, C: Contexts> GateRun<'a, C> {
         }
     }
 
-    /// Begins the run, whose turns and image are within their limits.
+    /// Begins the run, whose number of iterations and image are within their limits.
     fn start(
         alloc: Global,
         gates: &'a Gates<'a>,
@@ -92,7 +92,7 @@ impl<'a, C: Contexts> GateRun<'a, C> {
         }
     }
 
-    /// Returns the number of cycles that are not yet run.
+    /// Returns the number of cycles still to be run.
     pub fn left(&self) -> u64
         ensures left { result ≡ all_cycles self.now - self.now.done }
         ensures within { self.now.done ≤ all_cycles self.now }
@@ -125,7 +125,8 @@ impl<'a, C: Contexts> GateRun<'a, C> {
         }
     }
 
-    /// Returns the word on net number `net`, in the order of declaration, in the last cycle that was run; 0 before the first.
+    /// Returns the word on net number `net`, in the order of declaration, in the last cycle that was run; 0 before the
+    /// first.
     pub fn value(&self, net: u32) -> u32
         requires { net < length self.now.netlist.nets }
         ensures before_the_first { self.now.done ≡ 0 → result ≡ 0 }
@@ -134,14 +135,14 @@ impl<'a, C: Contexts> GateRun<'a, C> {
         self.words[net as usize]
     }
 
-    /// Returns the number of accesses that have reached outside the memory so far.
+    /// Returns the number of accesses outside the memory so far.
     pub fn outside(&self) -> u64
         ensures { result ≡ (state self.now).outside }
     {
         self.course.outside()
     }
 
-    /// Gives away the memory and the output streams that the whole run leaves.
+    /// Returns the memory and the output streams that the whole run leaves.
     pub fn into_image(self) -> Image
         requires { self.done ≡ all_cycles self }
         ensures image { result ≡ (gates_left self.entry.arch self.entry.netlist self.entry.config self.entry.n self.entry.image).image }

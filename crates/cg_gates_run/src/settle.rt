@@ -1,4 +1,4 @@
-//! The words of a cycle by net, form by form: first what contexts and units give, then registers, then muxes.
+//! The words of a cycle by net, form by form: first those of contexts and units, then registers, then muxes.
 ghost use Rattle.std.specs.Prelude.{◌≡◌, ◌<◌, ◌≤◌, ◌+◌, ℕ, List, length, slice_index};
 ghost use Rattle.cg_cycle.specs.Course.{Keeps};
 ghost use Rattle.cg_gates.specs.Gates.{GateCycle, nets_in};
@@ -41,7 +41,7 @@ fn chosen_word(entry: Choice, heard: &[u32], words: &[u32]) -> u32
     words[net as usize]
 }
 
-/// Sets the net of each of `registers` in `words` to the word that it chose among those `before`.
+/// Sets the net of each of `registers` in `words` to the word that it chose among the words `before`.
 pub(crate) fn settle_registers(registers: &Choices, before: &[u32], words: &mut [u32])
     requires readable { AreReadable registers.now (length words.old) }
     requires before { length before.now ≡ length words.old }
@@ -54,7 +54,7 @@ pub(crate) fn settle_registers(registers: &Choices, before: &[u32], words: &mut 
     }
 }
 
-/// Sets the net of each of `muxes` in `words` to the word that it chooses, which is there by then.
+/// Sets the net of each of `muxes` in `words` to the word that it chooses, which is set by then.
 pub(crate) fn settle_muxes(muxes: &Choices, words: &mut [u32])
     requires readable { AreReadable muxes.now (length words.old) }
     ensures kept { (f : ℕ → ℕ) → GiveMuxes muxes.now words.old f → Keeps f words.old words.new }
@@ -67,8 +67,8 @@ pub(crate) fn settle_muxes(muxes: &Choices, words: &mut [u32])
     }
 }
 
-/// Sets the word of each net of `gates` in `words` to that of the next cycle of `course` under `contexts`, from the words
-/// `before` it.
+/// Sets the word of each net of `gates` in `words` to that of the next cycle of `course` under `contexts`, from the
+/// words `before` it.
 pub(crate) fn settle<C: Contexts>(
     gates: &Gates<'_>,
     contexts: &C,

@@ -5,15 +5,15 @@ use Rattle.cg_grid.specs.declared.written.Side.TheVariants.{Here, North, East, S
 use Rattle.cg_grid.specs.declared.grid.Cell.{Cell}
 use Rattle.cg_grid.specs.declared.grid.Grid.{Grid}
 
--- the number before k, of `count` ones; before the first one comes the last where they wrap, and else none
+-- the number before k, of `count` numbers; the one before the first is the last where they wrap, and else none
 abbrev pub before : Bool → ℕ → ℕ → Option ℕ
 before wraps count k = if nat_lt 0 k then Some (k - 1) else (if wraps then Some (count - 1) else None)
 
--- the number after k; after the last one comes the first where they wrap, and else none
+-- the number after k; the one after the last is the first where they wrap, and else none
 abbrev pub after : Bool → ℕ → ℕ → Option ℕ
 after wraps count k = if nat_lt (k + 1) count then Some (k + 1) else (if wraps then Some 0 else None)
 
--- the cell of that column in row r, and the one of that row in column c
+-- the cell in row r of that column, and the cell in column c of that row
 abbrev pub in_row : Cell → ℕ → Cell
 in_row cell r = record { row = r; column = cell.column }
 

@@ -24,7 +24,7 @@ abbrev pub first_part : (WrittenPart → Bool) → List Tile → Option PartPlac
 first_part test [] = None
 first_part test (t ∷ ts) = option_or (option_map (λ k. record { tile = t.letter; part = k }) (first_from (λ k p. test p) 0 t.parts)) (first_part test ts)
 
--- M6 UnknownOp: an item of a unit's `ops` names no operation
+-- M6 UnknownOp: an item of a unit's `ops` isn't the name of an operation
 abbrev pub names_no_op : Part → Bool
 names_no_op (part.Wire name from) = false
 names_no_op (part.Register name from) = false
@@ -35,7 +35,7 @@ abbrev pub applies : PartRule → WrittenPart → Bool
 applies UnknownKey p = p.other_keys
 applies UnknownOp p = names_no_op p.part
 
--- M3 UnknownKey: a key that isn't named for the file, or for a part of that shape
+-- M3 UnknownKey: a key that the format doesn't have for the file, or for a part of that shape
 abbrev pub unknown_key : WrittenArch → Option TilesPlace
 unknown_key w = if w.header.other_keys then Some place.File else option_map place.Part (first_part (applies UnknownKey) w.tiles)
 
@@ -47,22 +47,22 @@ tile_of tiles letter = first_such (λ t. eqb t.letter letter) tiles
 abbrev pub is_unknown : List Tile → ℕ → Bool
 is_unknown tiles cell = not (eqb cell 46) && is_none (tile_of tiles cell)
 
--- the first such cell, in the rows from number r on
+-- the first cell whose letter has no tile, in the rows from number r on
 abbrev pub unknown_tile : List Tile → ℕ → List (List ℕ) → Option Cell
 unknown_tile tiles r [] = None
 unknown_tile tiles r (row ∷ rows) =
     option_or (option_map (λ c. record { row = r; column = c }) (first_from (λ c cell. is_unknown tiles cell) 0 row)) (unknown_tile tiles (r + 1) rows)
 
--- the columns of a grid: the length of its first row
+-- the number of columns of a grid: the length of its first row
 abbrev pub columns : List (List ℕ) → ℕ
 columns [] = 0
 columns (row ∷ rows) = length row
 
--- M5 RaggedGrid: no row, an empty row, or one of another length than the first
+-- M5 RaggedGrid: no row, an empty row, or a row that differs in length from the first
 abbrev pub is_ragged : ℕ → List ℕ → Bool
 is_ragged most row = eqb (length row) 0 || not (eqb (length row) most)
 
--- the first such row; row 0 where there is none
+-- the first ragged row; row 0 where there is no row
 abbrev pub ragged_row : List (List ℕ) → Option ℕ
 ragged_row [] = Some 0
 ragged_row (row ∷ rows) = first_from (λ r other. is_ragged (length row) other) 0 (row ∷ rows)
@@ -75,7 +75,7 @@ has_large_grid grid = nat_lt most_side (length grid) || nat_lt most_side (column
 abbrev pub large_grid : List (List ℕ) → Option TilesFault
 large_grid grid = if has_large_grid grid then Some (fault.Parts (arch.TooLarge large.Grid)) else None
 
--- the lowest of M3 to M6 that applies, at its first place, and else A1 for the grid
+-- the lowest of M3 to M6 that applies, at its first place, or else A1 for the grid
 unfoldable pub first_fault : WrittenArch → Option TilesFault
 first_fault w = option_or
     (option_map fault.UnknownKey (unknown_key w))

@@ -1,4 +1,4 @@
--- What reports say of the faults of architecture files.
+-- The texts of the faults of architecture files in reports.
 use Rattle.std.specs.Prelude.{ℕ, List, [], ◌++◌, codes, decimal, encode_utf8}
 use Rattle.cg_parts.specs.Texts.{arch_fault_text}
 use Rattle.cg_grid.specs.declared.fault.TilesFault.{TilesFault}
@@ -21,7 +21,7 @@ place_text code (place.Part p) = part_text code p
 abbrev pub cell_text : List ℕ → Cell → List ℕ
 cell_text code cell = code ++ (codes " row " ++ (decimal cell.row ++ (codes " column " ++ decimal cell.column)))
 
--- code, name and place
+-- the code, the name and the place
 abbrev pub tiles_fault_text : TilesFault → List ℕ
 tiles_fault_text tiles.Memory = []
 tiles_fault_text tiles.NotToml = codes "M1 NotToml file"

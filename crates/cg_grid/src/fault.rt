@@ -1,4 +1,4 @@
-//! Why bytes give no architecture.
+//! Why bytes don't describe an architecture.
 
 ghost use Rattle.std.specs.Prelude.{◌≡◌};
 ghost use Rattle.cg_grid.specs.declared.fault.TilesFault.TheVariants.{Memory};
@@ -8,14 +8,14 @@ use cg_parts::ArchFault;
 use std::alloc::{AllocError, AllocFailed};
 use thiserror::Error;
 
-/// A part of a tile, counted from 0. The tile is the letter that the grid has for it.
+/// A part of a tile, counted from 0. The tile is given by its letter in the grid.
 #[derive(Clone, Copy, Debug, PartialEq, Eq)]
 pub struct PartPlace {
     pub tile: u8,
     pub part: usize,
 }
 
-/// Where a fault applies first.
+/// The first place of a fault.
 #[derive(Clone, Copy, Debug, PartialEq, Eq)]
 pub enum TilesPlace {
     /// The whole file, outside the parts of tiles.
@@ -23,7 +23,8 @@ pub enum TilesPlace {
     Part(PartPlace),
 }
 
-/// Why bytes give no architecture. The variants after `Memory` are M1 to M6, in this order, and then A1 to A9.
+/// Why bytes don't describe an architecture. The variants after `Memory` are M1 to M6, in this order, and then A1 to
+/// A9.
 #[derive(Debug, Drop, Error)]
 pub enum TilesFault {
     #[error("memory ran out")]
@@ -41,7 +42,7 @@ pub enum TilesFault {
     RaggedGrid(usize),
     #[error("unknown operation")]
     UnknownOp(PartPlace),
-    /// The grid is too large, or its parts are no architecture. The fault is never out of memory.
+    /// The grid is too large, or its parts are not a valid architecture. The fault is never out of memory.
     #[error("no architecture")]
     Parts(ArchFault),
 }

@@ -19,7 +19,7 @@ pub struct Cell {
     pub column: usize,
 }
 
-/// The neighbour of a cell on a side, none off the grid.
+/// Returns the neighbour of `cell` on `side`, None off the grid.
 pub fn neighbour(grid: Grid, cell: Cell, side: Side) -> Option<Cell>
     ensures { result ≡ spec.neighbour grid cell side }
 {
@@ -56,7 +56,7 @@ fn in_column(cell: Cell, column: Option<usize>) -> Option<Cell>
     }
 }
 
-/// The number before one of `count` numbers.
+/// Returns the number before `number`, among `count` numbers.
 fn before(wraps: bool, count: usize, number: usize) -> Option<usize>
     ensures { result ≡ spec.before wraps count number }
 {
@@ -69,7 +69,7 @@ fn before(wraps: bool, count: usize, number: usize) -> Option<usize>
     }
 }
 
-/// The number after one of `count` numbers.
+/// Returns the number after `number`, among `count` numbers.
 fn after(wraps: bool, count: usize, number: usize) -> Option<usize>
     ensures { result ≡ spec.after wraps count number }
 {

@@ -1,4 +1,4 @@
-//! Architecture files: what a TOML table of tiles on a grid writes, the faults in it, and the neighbours of cells.
+//! Architecture files: the description in a TOML table of tiles on a grid, its faults, and the neighbours of cells.
 #![tactic(auto)]
 
 mod fault;

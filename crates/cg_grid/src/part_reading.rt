@@ -1,4 +1,4 @@
-//! From TOML values to the parts of tiles.
+//! Reads the parts of tiles from TOML values.
 ghost use Rattle.std.specs.Prelude.{◌≡◌, map};
 ghost use Rattle.std.specs.Option.{option_copied};
 ghost use Rattle.toml.specs.Data as toml;
@@ -55,7 +55,7 @@ fn has(value: &Value, key: &str) -> bool
     value.get(key).is_some()
 }
 
-/// The part, with whether its table has other keys than those of its shape.
+/// Returns `part`, with whether its table has other keys than `known`, those of its shape.
 fn keyed(value: &Value, known: &[&str], part: Part) -> WrittenPart
     ensures { result ≡ spec.keyed (map (λ key. key.now) known.now) (view value.now) part }
 {
@@ -113,7 +113,7 @@ fn ports_at(alloc: Global, value: &Value) -> Result<Items<References>, Misfit<()
     all_of::<PortReader>(alloc, items)
 }
 
-/// The set of the operations that texts name.
+/// Returns the set of the operations named by `texts`.
 fn ops_named(texts: &[Name]) -> OpSet
     ensures { result ≡ spec.ops_named texts.now }
 {
@@ -126,7 +126,7 @@ fn ops_named(texts: &[Name]) -> OpSet
     ops
 }
 
-/// Whether a text names no operation.
+/// Returns whether one of `texts` isn't the name of an operation.
 fn has_other_ops(texts: &[Name]) -> bool
     ensures { result ≡ spec.has_other_ops texts.now }
 {
@@ -193,7 +193,7 @@ fn reference_of(alloc: Global, text: &str) -> Result<Reference, Misfit<()>>
     Ok(Reference { side, name })
 }
 
-/// The side that a text's front tells, and the name after it.
+/// Returns the side given by the prefix of `text`, and the name after it.
 fn sided(text: &str) -> (Side, &str)
     ensures { (result.0, result.1.now) ≡ spec.sided text.now }
 {
@@ -215,7 +215,7 @@ fn sided(text: &str) -> (Side, &str)
     (Side::Here, text)
 }
 
-/// What comes after that front of a text.
+/// Returns the rest of `text` after the prefix `front`.
 fn after_front<'a>(text: &'a str, front: &str) -> Option<&'a str>
     ensures { option_copied result ≡ spec.after_front front.now text.now }
 {

@@ -1,4 +1,4 @@
-//! From a TOML table to what it writes of an architecture.
+//! Reads the description of an architecture from a TOML table.
 ghost use Rattle.std.specs.Prelude.{◌≡◌, map, option_map, slice_index};
 ghost use Rattle.std.specs.List.{list_all};
 ghost use Rattle.toml.specs.Data as toml;
@@ -19,10 +19,10 @@ use cg_toml::{
 use std::alloc::Global;
 use toml::{Table, Value};
 
-/// A wrong shape of the file, outside of the parts of tiles.
+/// The misfit of a file that has a wrong shape outside of the parts of tiles.
 const WRONG_FILE: Misfit<TilesPlace> = Misfit::WrongShape(TilesPlace::File);
 
-/// What the table writes, or the first place of a wrong shape.
+/// Returns the description in the table, or the first place of a wrong shape.
 #[tactic(auto, unfolding(crate::specs::Written::written_of))]
 pub fn written_of(alloc: Global, value: &Value) -> Result<WrittenArch, Misfit<TilesPlace>>
     ensures { IsReadAt (spec.written_of (view value.now)) result }
@@ -45,7 +45,7 @@ fn has_format(value: &Value) -> bool
     }
 }
 
-/// What the table writes besides its tiles.
+/// Returns the description in the table except its tiles.
 fn header_in(alloc: Global, value: &Value) -> Result<Header, Misfit<()>>
     ensures { IsRead (spec.header_in (view value.now)) result }
 {
@@ -147,7 +147,7 @@ fn is_letter(byte: u8) -> bool
     matches!(byte, b'A'..=b'Z' | b'a'..=b'z')
 }
 
-/// The table `tiles`, where each key is one letter and each value an array.
+/// Returns the table `tiles`, where each key is one letter and each value an array.
 fn tiles_at(value: &Value) -> Option<&Table>
     ensures { option_map (λ tiles. table_view tiles.now) result ≡ spec.tiles_at (view value.now) }
 {
@@ -177,7 +177,7 @@ fn is_tile_key(key: &str) -> bool
     }
 }
 
-/// The tiles in the order of their letters, or the first part that is none.
+/// Returns the tiles in the order of their letters, or the first malformed part.
 fn tiles_in(alloc: Global, members: &Table) -> Result<Items<Tile>, Misfit<PartPlace>>
     ensures { IsReadAt (spec.tiles_in (table_view members.now)) result }
 {
@@ -188,7 +188,7 @@ fn tiles_in(alloc: Global, members: &Table) -> Result<Items<Tile>, Misfit<PartPl
     Ok(Items::new(tiles))
 }
 
-/// The tile at a key, or the first part that is none.
+/// Returns the tile at `key`, or the first malformed part.
 fn tile_in(alloc: Global, key: &str, value: &Value) -> Result<Tile, Misfit<PartPlace>>
     ensures { IsReadAt (spec.tile_in key.now (view value.now)) result }
 {

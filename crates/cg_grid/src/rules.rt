@@ -1,4 +1,4 @@
-//! The faults M3 to M6, and whether the grid is too large.
+//! Checks for the faults M3 to M6, and for a grid that is too large.
 ghost use Rattle.std.specs.Prelude.{◌≡◌};
 ghost use Rattle.std.specs.Option.{option_copied};
 ghost use Rattle.cg_model.specs.First.{first_from};
@@ -10,16 +10,16 @@ use crate::written::{Part, Tile, WrittenArch, WrittenPart};
 use cg_model::{MOST_SIDE, Name};
 use cg_parts::{ArchFault, TooLargePlace};
 
-/// What makes a part be at fault.
+/// Why a part is at fault.
 #[derive(Clone, Copy)]
 pub enum PartRule {
-    /// Its table has a key that no part of its shape has.
+    /// Its table has a key that isn't one of its shape.
     UnknownKey,
-    /// Its list of operations has an item that names none.
+    /// Its list of operations has an item that isn't the name of an operation.
     UnknownOp,
 }
 
-/// The lowest of M3 to M6 that applies, at its first place, and else A1 for the grid.
+/// Returns the lowest of M3 to M6 that applies, at its first place, or else A1 for the grid.
 #[tactic(auto, unfolding(crate::specs::Rules::first_fault))]
 pub fn first_fault(written: &WrittenArch) -> Option<TilesFault>
     ensures { result ≡ spec.first_fault written.now }
@@ -50,7 +50,7 @@ fn unknown_key(written: &WrittenArch) -> Option<TilesPlace>
     first_part(PartRule::UnknownKey, written.tiles.as_slice()).map(TilesPlace::Part)
 }
 
-/// The first part of that fault, in the order of the tiles.
+/// Returns the first part with the fault `rule`, in the order of the tiles.
 fn first_part(rule: PartRule, tiles: &[Tile]) -> Option<PartPlace>
     ensures { result ≡ spec.first_part (spec.applies rule) tiles.now }
 {
@@ -88,7 +88,7 @@ fn applies(rule: PartRule, part: &WrittenPart) -> bool
     }
 }
 
-/// The tile of a letter.
+/// Returns the tile of `letter`.
 pub fn tile_of(tiles: &[Tile], letter: u8) -> Option<&Tile>
     ensures { option_copied result ≡ spec.tile_of tiles.now letter }
 {
@@ -100,7 +100,7 @@ pub fn tile_of(tiles: &[Tile], letter: u8) -> Option<&Tile>
     None
 }
 
-/// The first cell with a letter that no tile has.
+/// Returns the first cell with a letter that no tile has.
 fn unknown_tile(tiles: &[Tile], grid: &[Name]) -> Option<Cell>
     ensures { result ≡ spec.unknown_tile tiles.now 0 grid.now }
 {
@@ -129,7 +129,7 @@ fn is_unknown(tiles: &[Tile], cell: u8) -> bool
     cell != b'.' && tile_of(tiles, cell).is_none()
 }
 
-/// The columns of a grid: the length of its first row.
+/// Returns the number of columns of a grid: the length of its first row.
 pub fn columns(grid: &[Name]) -> usize
     ensures { result ≡ spec.columns grid.now }
 {
@@ -139,7 +139,7 @@ pub fn columns(grid: &[Name]) -> usize
     }
 }
 
-/// The first row that is empty or has another length than the first one; row 0 where there is none.
+/// Returns the first row that is empty or differs in length from the first one; row 0 where the grid has no rows.
 fn ragged_row(grid: &[Name]) -> Option<usize>
     ensures { result ≡ spec.ragged_row grid.now }
 {

@@ -1,4 +1,4 @@
-//! What reports say of the faults of architecture files.
+//! The texts of the faults of architecture files in reports.
 ghost use Rattle.std.specs.Prelude.{◌≡◌, IfOk, string_bytes};
 ghost use Rattle.cg_grid.specs.Texts as spec;
 
@@ -7,7 +7,8 @@ use crate::grid::Cell;
 use cg_parts::arch_fault_text;
 use std::alloc::{AllocError, Global};
 
-/// Returns code, name and place of `fault`, as `M4 UnknownTile row 1 column 1`. Out of memory has none of them.
+/// Returns code, name and place of `fault`, for example `M4 UnknownTile row 1 column 1`. Out of memory has none of
+/// them.
 pub fn tiles_fault_text(alloc: Global, fault: &TilesFault) -> Result<String, AllocError>
     ensures { IfOk result (λ s. string_bytes s ≡ spec.tiles_fault_text fault.now) }
 {

@@ -1,10 +1,10 @@
-//! What an architecture file writes.
+//! The description of an architecture in its file.
 
 use cg_model::{Items, Name};
 use cg_parts::Names;
 use cg_word::OpSet;
 
-/// Where the resource of a reference lies.
+/// The location of the resource of a reference.
 #[derive(Clone, Copy, Debug, PartialEq, Eq)]
 pub enum Side {
     /// In the tile itself: `x`.
@@ -21,14 +21,14 @@ pub enum Side {
     Anywhere,
 }
 
-/// A reference to a resource: where it lies, and its name there.
+/// A reference to a resource: its location, and its name there.
 #[derive(Drop)]
 pub struct Reference {
     pub side: Side,
     pub name: Name,
 }
 
-/// The drivers that a part writes for a wire, a register or a port.
+/// The drivers written for a wire, a register or a port.
 pub type References = Items<Reference>;
 
 /// A wire, a register or a unit of a tile, by its name there.
@@ -44,30 +44,30 @@ pub enum Part {
     },
     Unit {
         name: Name,
-        /// The operations that its list names.
+        /// The operations named in its list.
         ops: OpSet,
-        /// Whether its list has an item that names none.
+        /// Whether its list has an item that isn't the name of an operation.
         other_ops: bool,
         latency: u32,
         ports: Items<References>,
     },
 }
 
-/// A part, and whether its table has a key that no part of its shape has.
+/// A part, and whether its table has a key that isn't one of its shape.
 #[derive(Drop)]
 pub struct WrittenPart {
     pub part: Part,
     pub other_keys: bool,
 }
 
-/// The parts that stand for a letter of the grid.
+/// The parts for a letter of the grid.
 #[derive(Drop)]
 pub struct Tile {
     pub letter: u8,
     pub parts: Items<WrittenPart>,
 }
 
-/// What a file writes besides its tiles.
+/// The description in a file except its tiles.
 #[derive(Drop)]
 pub struct Header {
     pub name: Name,
@@ -82,7 +82,7 @@ pub struct Header {
     pub other_keys: bool,
 }
 
-/// What a file writes: its tiles, in the order of their letters, and the rest.
+/// The description in a file: its tiles, in the order of their letters, and the rest.
 #[derive(Drop)]
 pub struct WrittenArch {
     pub header: Header,

@@ -1,5 +1,6 @@
--- The hub: registers that every unit's out and every one of them drive, and that drive every port. And the mapping that
--- takes nothing else: its nodes begin one after another, and each value waits in registers of its own.
+-- The hub: registers that every unit's out and every register of the hub drive, and that drive every port. And the
+-- mapping that uses no other resources: its nodes begin one after another, and each value waits in registers of its
+-- own.
 use Rattle.std.specs.Prelude.{◌≡◌, ℕ, zero, suc, ◌+◌, ◌-◌, ◌*◌, ◌/◌, ◌<◌, ◌≤◌, eqb, nat_lt, max, if◌then◌else◌, Bool, List, [], ◌∷◌, ◌++◌, length, map, flat_map, Option, Some, None, slice_index}
 use Rattle.std.specs.List.{range_with_len, list_all}
 use Rattle.cg_model.specs.declared.kernel.Node.{Node}
@@ -14,7 +15,8 @@ use Rattle.cg_place.specs.Placed.{offering}
 
 -- ---- registers
 
--- how many registers an operand needs for the value of node u: one more than its distance where it takes that value
+-- the number of registers that an operand needs for the value of node u: one more than its distance where it takes that
+-- value
 abbrev pub needs : ℕ → Operand → ℕ
 needs u (Constant w) = 0
 needs u (Edge s d init) = if eqb s u then suc d else 0
@@ -29,16 +31,17 @@ abbrev pub most : ℕ → List Node → ℕ
 most u [] = 0
 most u (n ∷ ns) = max (most_of u n.operands) (most u ns)
 
--- the registers of node u: one more than the greatest distance of the operands that take its value, none where no operand does
+-- the registers of node u: one more than the greatest distance of the operands that take its value, none where no
+-- operand does
 abbrev pub registers : Kernel → ℕ → ℕ
 registers K u = most u K.nodes
 
--- those of the first u nodes, and so the place in the hub of the first register of node u
+-- the number of registers of the first u nodes, and so the place in the hub of the first register of node u
 abbrev pub registers_before : Kernel → ℕ → ℕ
 registers_before K zero = 0
 registers_before K (suc u) = registers_before K u + registers K u
 
--- those of all nodes
+-- the number of registers of all nodes
 abbrev pub need : Kernel → ℕ
 need K = registers_before K (size K)
 
@@ -48,7 +51,7 @@ need K = registers_before K (size K)
 unfoldable pub host : Arch → Kernel → ℕ → ℕ
 host A K v = slice_index (offering A (node K v).op) 0
 
--- when node v begins: each of the nodes before it has taken a cycle more than the latency of its unit
+-- when node v begins: each of the nodes before it has taken one cycle more than the latency of its unit
 abbrev pub start : Arch → Kernel → ℕ → ℕ
 start A K zero = 0
 start A K (suc v) = start A K v + ((unit A (host A K v)).latency + 1)
@@ -61,7 +64,8 @@ is_served A n = nat_lt 0 (length (offering A n.op))
 unfoldable pub serial : Arch → Kernel → Option ℕ
 serial A K = if list_all (is_served A) K.nodes then Some (start A K (size K)) else None
 
--- the hub suffices at an interval of ii cycles: it has registers enough, and all nodes in turn take no longer than ii
+-- the hub suffices at an interval of ii cycles: it has enough registers, and all nodes one after another take no longer
+-- than ii
 pub record HubEnough (A : Arch) (K : Kernel) (ii : ℕ) : Type 0 where
   pub some : 0 < length A.hub
   pub enough : need K ≤ length A.hub
@@ -81,8 +85,8 @@ hub_leaves A K u = start A K u + (unit A (host A K u)).latency
 abbrev pub hub_at : Arch → Kernel → ℕ → ℕ → ℕ → ℕ
 hub_at A K ii u k = hub_register A (registers_before K u + k / ii)
 
--- the way of the value of node u to port p of node v, d turns later: from the out, in the registers of node u for all the
--- cycles between, to the port
+-- the way of the value of node u to port p of node v, d iterations later: from the out, in the registers of node u for
+-- all the cycles between, to the port
 abbrev pub hub_path : Arch → Kernel → ℕ → ℕ → ℕ → ℕ → ℕ → List ℕ
 hub_path A K ii v p u d =
     (unit A (host A K u)).out
@@ -98,13 +102,13 @@ abbrev pub hub_routes_to : Arch → Kernel → ℕ → ℕ → ℕ → List Oper
 hub_routes_to A K ii v p [] = []
 hub_routes_to A K ii v p (o ∷ os) = hub_route A K ii v p o ++ hub_routes_to A K ii v (suc p) os
 
--- those to node v
+-- the routes to node v
 abbrev pub hub_routes : Arch → Kernel → ℕ → ℕ → List Route
 hub_routes A K ii v = hub_routes_to A K ii v 0 (node K v).operands
 
 -- ---- the mapping
 
--- each node begins on its unit when the nodes before it are through
+-- each node begins on its unit when the nodes before it have finished
 abbrev pub hub_place : Arch → Kernel → ℕ → Place
 hub_place A K v = record { unit = host A K v; time = start A K v }
 

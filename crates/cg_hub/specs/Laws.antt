@@ -1,4 +1,4 @@
--- What the hub's mapping is good for.
+-- The laws of the hub's mapping.
 use Rattle.std.specs.Prelude.{ℕ}
 use Rattle.cg_model.specs.Kernel.{Kernel, IsKernel}
 use Rattle.cg_model.specs.Array.{Arch, IsArch}

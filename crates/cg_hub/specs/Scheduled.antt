@@ -1,4 +1,4 @@
--- What is kept while the mapping over the hub is made.
+-- The invariant while the mapping over the hub is made.
 use Rattle.std.specs.Prelude.{◌≡◌, ℕ, List, map}
 use Rattle.std.specs.List.{range_with_len}
 use Rattle.cg_model.specs.Kernel.{Kernel, IsKernel, size}

@@ -9,8 +9,8 @@ use crate::registers::registers_before;
 use cg_arch::Arch;
 use cg_model::Kernel;
 
-/// The cycles that all nodes of a kernel take one after another, each on the lowest-numbered unit that offers its
-/// operation and a cycle more than the latency of that unit. None where some operation is offered by no unit.
+/// Returns the cycles that all nodes of `kernel` take one after another, each on the lowest-numbered unit that offers
+/// its operation, with one cycle more than the latency of that unit. None where no unit offers some operation.
 pub fn serial(arch: &Arch, kernel: &Kernel) -> Option<u32>
     ensures value { result ≡ spec.serial arch.now kernel.now }
     ensures offered { IsSome result ↔ IsOffered arch.now kernel.now }
@@ -25,7 +25,7 @@ pub fn serial(arch: &Arch, kernel: &Kernel) -> Option<u32>
     Some(sum)
 }
 
-/// Whether the hub suffices at an interval.
+/// Checks whether the hub of `arch` suffices for `kernel` at the interval `ii`.
 pub fn hub_enough(arch: &Arch, kernel: &Kernel, ii: u32) -> bool
     ensures { IsTrue result ↔ HubEnough arch.now kernel.now ii }
 {

@@ -4,7 +4,7 @@ ghost use Rattle.cg_place.specs.Placed.{offering};
 
 use cg_arch::{Arch, Op};
 
-/// The lowest-numbered unit that offers an operation.
+/// Returns the lowest-numbered unit that offers the operation `op`.
 pub(crate) fn host(arch: &Arch, op: Op) -> Option<u32>
     ensures { result ≡ slice_get (offering arch.now op) 0 }
 {

@@ -1,12 +1,12 @@
-//! Laws of the hub. Every function here has an empty body, and its clauses speak of the definitions alone.
+//! Laws of the hub. Every function here has an empty body, and its clauses are about the definitions alone.
 ghost use Rattle.cg_hub.specs.Laws.{IsHubLegal, IsHubOffered};
 
-/// Where the hub suffices, its mapping is legal.
+/// States that the mapping of a hub that suffices is legal.
 pub fn legal()
     ensures { IsHubLegal }
 {}
 
-/// Where it suffices, each operation of the kernel is offered by some unit.
+/// States that where the hub suffices, each operation of the kernel is offered by some unit.
 pub fn offered()
     ensures { IsHubOffered }
 {}

@@ -1,5 +1,5 @@
-//! The mapping that goes over a hub alone: when an architecture's hub suffices for a kernel at an interval, and the legal
-//! mapping that it then has, without any search.
+//! The mapping through a hub alone: when an architecture's hub suffices for a kernel at an interval, and the legal
+//! mapping that then exists without any search.
 #![tactic(auto)]
 
 mod enough;

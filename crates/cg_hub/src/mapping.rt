@@ -8,7 +8,7 @@ use cg_check::LegalMapping;
 use cg_model::Kernel;
 use std::alloc::{AllocError, Global};
 
-/// The mapping over the hub, at an interval at which it suffices.
+/// Returns the mapping over the hub, at the interval `ii`, at which the hub suffices.
 pub fn hub_mapping<'a>(
     alloc: Global,
     arch: &'a Arch,

@@ -1,11 +1,11 @@
-//! The registers of the hub that values take.
+//! The hub registers that values use.
 ghost use Rattle.std.specs.Prelude.{◌≡◌, ◌≤◌};
 ghost use Rattle.cg_model.specs.Kernel.{size};
 ghost use Rattle.cg_hub.specs.Hub as spec;
 
 use cg_model::{Kernel, Node, Operand};
 
-/// How many registers an operand needs for the value of a node.
+/// Returns the number of registers that `operand` needs for the value of `node`.
 fn needs(operand: &Operand, node: u32) -> usize
     ensures { result ≡ spec.needs node operand.now }
 {
@@ -19,7 +19,7 @@ fn needs(operand: &Operand, node: u32) -> usize
     }
 }
 
-/// The most that one of these operands needs.
+/// Returns the greatest number of registers that one of `operands` needs.
 fn most_of(operands: &[Operand], node: u32) -> usize
     ensures { result ≡ spec.most_of node operands.now }
 {
@@ -30,7 +30,7 @@ fn most_of(operands: &[Operand], node: u32) -> usize
     most
 }
 
-/// The most that an operand of one of these nodes needs.
+/// Returns the greatest number of registers that an operand of one of `nodes` needs.
 fn most(nodes: &[Node], node: u32) -> usize
     ensures { result ≡ spec.most node nodes.now }
 {
@@ -41,7 +41,7 @@ fn most(nodes: &[Node], node: u32) -> usize
     most
 }
 
-/// The registers of the nodes below that number: where those of the node itself begin in the hub.
+/// Returns the number of registers of the nodes below `node`: the place in the hub where its own registers begin.
 pub(crate) fn registers_before(kernel: &Kernel, node: u32) -> usize
     requires { node ≤ size kernel.now }
     ensures { result ≡ spec.registers_before kernel.now node }

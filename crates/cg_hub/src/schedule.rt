@@ -1,4 +1,4 @@
-//! The mapping while it is made.
+//! The mapping under construction.
 ghost use Rattle.std.specs.Prelude.{◌≡◌, IfOk};
 ghost use Rattle.cg_model.specs.Kernel.{IsKernel};
 ghost use Rattle.cg_model.specs.Array.{IsArch};
@@ -59,7 +59,7 @@ impl<'a> Schedule<'a> {
         })
     }
 
-    /// The unit of a node.
+    /// Returns the unit of `node`.
     fn unit(&self, node: u32) -> &Unit
         requires { node < size self.now.kernel }
         ensures unit { result.now ≡ unit self.now.arch (spec.host self.now.arch self.now.kernel node) }
@@ -68,7 +68,7 @@ impl<'a> Schedule<'a> {
         &self.arch.units()[self.places[node as usize].unit as usize]
     }
 
-    /// When a node begins.
+    /// Returns when `node` begins.
     fn start(&self, node: u32) -> u32
         requires { node < size self.now.kernel }
         ensures { result ≡ spec.start self.now.arch self.now.kernel node }
@@ -76,7 +76,7 @@ impl<'a> Schedule<'a> {
         self.places[node as usize].time
     }
 
-    /// The way of the value of node `source` to an operand of a node, some turns later.
+    /// Returns the path of the value of node `source` to an operand of a node, a number of iterations later.
     fn path(
         &self,
         alloc: Global,
@@ -103,7 +103,7 @@ impl<'a> Schedule<'a> {
         )
     }
 
-    /// Adds the routes to a node's operands: those of the edges, in order.
+    /// Adds the routes to the operands of a node that are edges, in order.
     fn add_routes(
         &self,
         alloc: Global,
@@ -130,7 +130,7 @@ impl<'a> Schedule<'a> {
         Ok(())
     }
 
-    /// The mapping.
+    /// Returns the mapping.
     pub(crate) fn into_mapping(self, alloc: Global) -> Result<Mapping, AllocError>
         ensures { IfOk result (λ m. m ≡ spec.hub_map self.entry.arch self.entry.kernel self.entry.ii) }
     {
@@ -142,7 +142,7 @@ impl<'a> Schedule<'a> {
     }
 }
 
-/// Where and when each node begins.
+/// Returns where and when each node begins.
 fn places(alloc: Global, arch: &Arch, kernel: &Kernel, ii: u32) -> Result<Vec<Place>, AllocError>
     requires { HubEnough arch.now kernel.now ii }
     ensures arch { IsArch arch.now }

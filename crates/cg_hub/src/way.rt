@@ -4,8 +4,8 @@ ghost use Rattle.std.specs.List.{range_with_len};
 
 use std::alloc::{AllocError, Global};
 
-/// Returns the way from `out` to `port`, with `cycles` cycles between in registers of `hub`, from place `first` on,
-/// `ii` cycles in each.
+/// Returns the way from `out` to `port`, with `cycles` cycles between them in registers of `hub`, beginning at place
+/// `first`, with `ii` cycles in each register.
 pub(crate) fn way(
     alloc: Global,
     hub: &[u32],

@@ -13,7 +13,7 @@ use Rattle.cg_image_text.specs.declared.fault.TextFault.{TextFault}
 use Rattle.cg_image_text.specs.Sections as texts
 use Rattle.cg_image_text.specs.Texts.{text_fault_text}
 
--- how many words the stream of a port has, where it has any
+-- the number of words of the stream of a port, if it isn't empty
 abbrev pub count_line : ℕ → List ℕ → Bytes
 count_line port [] = []
 count_line port (word ∷ words) = line_of (codes "stream " ∷ decimal port ∷ codes " " ∷ decimal (length (word ∷ words)) ∷ [])
@@ -21,7 +21,7 @@ count_line port (word ∷ words) = line_of (codes "stream " ∷ decimal port ∷
 abbrev pub stream_line : Image → ℕ → Bytes
 stream_line image port = count_line port (slice_index_or image.streams port [])
 
--- the report: how many words the memory has, and each stream that has words
+-- the report: the number of words of the memory, and of each stream that isn't empty
 abbrev pub image_report : Image → Bytes
 image_report image = line_of (codes "memory " ∷ decimal (length image.memory) ∷ []) ++ lists_below (stream_line image) port_count
 
@@ -29,7 +29,7 @@ image_report image = line_of (codes "memory " ∷ decimal (length image.memory) 
 abbrev pub image_written : Image → Name → Outcome
 image_written image out = writes_one Done (image_report image) out (images.image_bytes image)
 
--- by what the text spells: an image, or a fault
+-- given the result of parsing the text: an image, or a fault
 abbrev pub image_by : File → Name → Result Image TextFault → Outcome
 image_by file out (Ok image) = image_written image out
 image_by file out (Err fault) = malformed_of file.name (text_fault_text fault)
@@ -38,12 +38,12 @@ image_by file out (Err fault) = malformed_of file.name (text_fault_text fault)
 abbrev pub image_of : File → Name → Outcome
 image_of file out = image_by file out (texts.answer_of file.bytes)
 
--- the bytes are a text that spells an image
+-- the bytes are a text that describes an image
 abbrev pub IsImageText : File → Type 0
 IsImageText file = (image : Image) × (texts.answer_of file.bytes ≡ Ok image)
 
--- Done: a text was read, and the image that it spells is held under the other name, as bytes that give it back. The number of
--- its words was put
+-- Done: a text was read, and the image that it describes is held under the other name, as bytes from which the image is
+-- read back. The numbers of its words were reported
 pub record IsImaged (file out : Name) (before after : Moment) : Type 0 where
   pub bytes : Bytes
   pub held : Holds before.held file bytes

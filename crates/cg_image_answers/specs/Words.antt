@@ -12,7 +12,7 @@ use Rattle.cg_pad.specs.Texts.{image_fault_text}
 use Rattle.cg_image_text.specs.Sections as texts
 use Rattle.cg_image_print.specs.Printed.{text_of}
 
--- by what the bytes give: an image, whose text is the report, or a fault
+-- given the result of parsing the bytes: an image, whose text is the report, or a fault
 abbrev pub words_by : File → Result Image ImageFault → Outcome
 words_by file (Ok image) = reports Done (text_of image)
 words_by file (Err fault) = malformed_of file.name (image_fault_text fault)
@@ -25,7 +25,7 @@ words_of file = words_by file (images.answer_of file.bytes)
 abbrev pub IsImageFile : File → Type 0
 IsImageFile file = (image : Image) × (images.answer_of file.bytes ≡ Ok image)
 
--- Done: an image was read, and its text was put, which spells it
+-- Done: an image was read, and the text that describes it was reported
 pub record IsWorded (file : Name) (before after : Moment) : Type 0 where
   pub bytes : Bytes
   pub held : Holds before.held file bytes

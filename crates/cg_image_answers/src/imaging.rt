@@ -12,7 +12,7 @@ use cg_image_text::{TextFault, read_text, text_fault_text};
 use cg_pad::{Image, PORTS, write_image};
 use std::alloc::{AllocError, Global};
 
-/// Returns the outcome of `image`: the image that the text `file` spells, to be written under the name `out`.
+/// Returns the outcome of `image`: the image that the text in `file` describes, to be written under the name `out`.
 pub fn image(alloc: Global, file: &File, out: &str) -> Result<Outcome, Stop>
     ensures { Allows (λ o. o ≡ image_of (file_of file.now) out.now) result }
 {
@@ -26,7 +26,7 @@ pub fn image(alloc: Global, file: &File, out: &str) -> Result<Outcome, Stop>
     }
 }
 
-/// Returns the outcome that writes `image` under the name `out`, and reports how many words it has.
+/// Returns the outcome that writes `image` under the name `out`, and reports the numbers of its words.
 fn written(alloc: Global, image: &Image, out: &str) -> Result<Outcome, Stop>
     requires { IsStorable image.now }
     ensures { Allows (λ o. o ≡ image_written image.now out.now) result }
@@ -36,7 +36,7 @@ fn written(alloc: Global, image: &Image, out: &str) -> Result<Outcome, Stop>
     Ok(Outcome::with_file(alloc, Status::Done, report, out, bytes)?)
 }
 
-/// Returns the report on `image`: how many words its memory has, and each stream that has words.
+/// Returns the report on `image`: the number of words of its memory, and of each stream that isn't empty.
 fn image_report(alloc: Global, image: &Image) -> Result<Vec<u8>, AllocError>
     ensures { IfOk result (λ report. report.items ≡ image_report image.now) }
 {
@@ -46,7 +46,7 @@ fn image_report(alloc: Global, image: &Image) -> Result<Vec<u8>, AllocError>
     Ok(report)
 }
 
-/// Adds to `report` how many words each stream of `image` has that has some.
+/// Adds to `report` the number of words of each stream of `image` that isn't empty.
 fn push_streams(alloc: Global, report: &mut Vec<u8>, image: &Image) -> Result<(), AllocError>
     ensures { OnOk result (report.new.items ≡ report.old.items ++ lists_below (stream_line image.now) port_count) }
 {
@@ -56,7 +56,7 @@ fn push_streams(alloc: Global, report: &mut Vec<u8>, image: &Image) -> Result<()
     Ok(())
 }
 
-/// Adds to `report` how many words the stream of `port` in `image` has, where it has any.
+/// Adds to `report` the number of words of the stream of `port` in `image`, if it isn't empty.
 fn push_stream(
     alloc: Global,
     report: &mut Vec<u8>,

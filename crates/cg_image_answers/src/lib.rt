@@ -1,4 +1,4 @@
-//! What commands on images answer: `image` and `words`, between images and their texts.
+//! The answers of the commands `image` and `words`, which convert between images and their texts.
 #![tactic(auto)]
 
 mod imaging;

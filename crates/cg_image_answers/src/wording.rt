@@ -9,7 +9,7 @@ use cg_image_print::print_text;
 use cg_pad::{ImageFault, image_fault_text, read_image};
 use std::alloc::Global;
 
-/// Returns the outcome of `words`: the image that `file` gives, as a text.
+/// Returns the outcome of `words`: the image in `file`, as text.
 pub fn words(alloc: Global, file: &File) -> Result<Outcome, Stop>
     ensures { Allows (λ o. o ≡ words_of (file_of file.now)) result }
 {

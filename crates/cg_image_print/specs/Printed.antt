@@ -1,24 +1,24 @@
--- The text of an image: the words of its memory and of its streams in decimal, eight a line, with the address of the first of them
--- behind each line.
+-- The text of an image: the words of its memory and of its streams in decimal, eight on each line, with the address of
+-- the first of them at the end of the line.
 use Rattle.std.specs.Prelude.{ℕ, ◌+◌, ◌-◌, ◌*◌, ◌/◌, ◌<◌, min, List, [], ◌∷◌, ◌++◌, length, slice_index, slice_index_or, codes, decimal}
 use Rattle.cg_word.specs.Word.{words}
 use Rattle.cg_model.specs.Limits.{port_count}
 use Rattle.cg_model.specs.Work.{Image}
 use Rattle.cg_below.specs.Below.{lists_below}
 
--- a word and the space behind it
+-- a word followed by a space
 abbrev pub word_text : ℕ → List ℕ
 word_text word = decimal word ++ codes " "
 
--- each is a word of 32 bits; past the end stands 0
+-- each item is a word of 32 bits; past the end the value is 0
 abbrev pub AreWords : List ℕ → Type 0
 AreWords list = (k : ℕ) → slice_index list k < words
 
--- the number of words in a row: eight, or what is left for it
+-- the number of words in a row: eight, or the remaining ones
 abbrev pub row_length : List ℕ → ℕ → ℕ
 row_length list row = min 8 (length list - 8 * row)
 
--- the text of one of its words
+-- the text of one word of a row
 abbrev pub row_word : List ℕ → ℕ → ℕ → List ℕ
 row_word list row k = word_text (slice_index list (8 * row + k))
 
@@ -42,7 +42,7 @@ memory_text list = codes "memory\n" ++ rows_text list
 abbrev pub stream_line : ℕ → List ℕ
 stream_line port = codes "stream " ++ (decimal port ++ codes "\n")
 
--- the section of a stream, left out where it has no words
+-- the section of a stream, omitted where it has no words
 abbrev pub stream_text : ℕ → List ℕ → List ℕ
 stream_text port [] = []
 stream_text port (word ∷ rest) = stream_line port ++ rows_text (word ∷ rest)

@@ -1,4 +1,4 @@
-//! Images of memory and streams as a text that reads back.
+//! Prints images of memory and streams as a text that reads back.
 #![tactic(auto)]
 
 mod print;

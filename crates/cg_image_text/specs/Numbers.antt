@@ -1,4 +1,4 @@
--- Numbers as fields write them: the words of 32 bits that they stand for.
+-- Numbers as written in fields: the words of 32 bits that they denote.
 use Rattle.std.specs.Prelude.{ℕ, ◌-◌, ◌%◌, ◌^◌, Bool, ◌&&◌, List, length, drop, nat_lt, nat_le, nat_eq, codes, Result, Ok, Err, if◌then◌else◌}
 use Rattle.std.specs.Char.{is_digit}
 use Rattle.std.specs.List.{list_all, starts_with}
@@ -7,16 +7,16 @@ use Rattle.cg_word.specs.Word.{words}
 use Rattle.cg_image_text.specs.declared.fault.Misread.{Misread}
 use Rattle.cg_image_text.specs.declared.fault.Misread.TheVariants.{Unknown, Large}
 
--- what is made of an answer, where there is one
+-- the function applied to a result, unless it is a fault
 abbrev pub and_then : {A B F : Type 0} → Result A F → (A → Result B F) → Result B F
 and_then (Ok x) f = f x
 and_then (Err e) f = Err e
 
--- the text begins so
+-- the text begins with these bytes
 abbrev pub begins : List ℕ → List ℕ → Bool
 begins front text = starts_with nat_eq text front
 
--- one digit of the base or more, and nothing else
+-- at least one digit of the base, and nothing else
 abbrev pub is_numeral : ℕ → List ℕ → Bool
 is_numeral base text = nat_lt 0 (length text) && list_all (λ c. is_digit c base) text
 
@@ -24,7 +24,7 @@ is_numeral base text = nat_lt 0 (length text) && list_all (λ c. is_digit c base
 abbrev pub as_word : ℕ → Result ℕ Misread
 as_word n = if nat_lt n words then Ok n else Err Large
 
--- the word that digits of the base write
+-- the word that digits of the base denote
 abbrev pub numeral : ℕ → List ℕ → Result ℕ Misread
 numeral base text = if is_numeral base text then as_word (digits_value base text) else Err Unknown
 

@@ -6,7 +6,8 @@ use Rattle.cg_image_text.specs.declared.place.Place.{Place}
 abbrev pub is_line_feed : ℕ → Bool
 is_line_feed b = b == 10
 
--- the place behind the first n bytes: line feeds among them begin lines, and the bytes after the last line feed stand in its line
+-- the place after the first n bytes: line feeds among them begin lines, and the bytes after the last line feed are in
+-- its line
 unfoldable pub place_behind : List ℕ → ℕ → Place
 place_behind text n = record {
   line = count_by is_line_feed (take n text) + 1;

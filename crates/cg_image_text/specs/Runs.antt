@@ -1,4 +1,4 @@
--- The words that a field stands for.
+-- The words that a field denotes.
 use Rattle.std.specs.Prelude.{ℕ, zero, suc, ◌+◌, ◌-◌, ◌%◌, Bool, not, ◌||◌, ◌==◌, List, [], ◌∷◌, take, drop, codes, Result, Ok, if◌then◌else◌}
 use Rattle.std.specs.List.{prefix_len}
 use Rattle.cg_word.specs.Word.{words}
@@ -6,7 +6,7 @@ use Rattle.cg_image_text.specs.declared.fault.Misread.{Misread}
 use Rattle.cg_image_text.specs.declared.run.Run.{Run}
 use Rattle.cg_image_text.specs.Numbers.{and_then, begins, numeral, number}
 
--- n words, each by the step from the one before, modulo 2^32
+-- n words, each differing from the previous one by the step, modulo 2^32
 abbrev pub words_from : ℕ → ℕ → ℕ → List ℕ
 words_from word step zero = []
 words_from word step (suc n) = word ∷ words_from ((word + step) % words) step n
@@ -35,11 +35,11 @@ repeat first count = and_then (number first) (λ word. and_then (numeral 10 coun
 abbrev pub is_in_first : ℕ → Bool
 is_in_first b = not (b == 46 || b == 42)
 
--- which of them it is, by what follows the first number
+-- the kind of field, decided by what follows the first number
 abbrev pub run_by : List ℕ → List ℕ → List ℕ → Result Run Misread
 run_by text first rest =
     if begins (codes "..") rest then span first (drop 2 rest) else (if begins (codes "*") rest then repeat first (drop 1 rest) else single text)
 
--- the words that the field stands for
+-- the words that the field denotes
 unfoldable pub run_of : List ℕ → Result Run Misread
 run_of text = let n = prefix_len is_in_first text in run_by text (take n text) (drop n text)

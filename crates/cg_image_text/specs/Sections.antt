@@ -1,4 +1,4 @@
--- What the fields of a text say, one after another: where the words that follow go, and the words.
+-- The meaning of the fields of a text, one after another: the section that receives words, and the words.
 use Rattle.std.specs.Prelude.{ℕ, ◌+◌, List, [], ◌∷◌, ◌++◌, length, replicate, slice_index_or, slice_set, nat_lt, bytes_eq, codes, Option, Some, None, Result, Ok, Err, if◌then◌else◌}
 use Rattle.cg_model.specs.Limits.{most_memory, most_stream, port_count}
 use Rattle.cg_model.specs.Work.{Image}
@@ -15,13 +15,14 @@ use Rattle.cg_image_text.specs.Numbers.{and_then, numeral}
 use Rattle.cg_image_text.specs.Places.{place_behind}
 use Rattle.cg_image_text.specs.Runs.{run_words, run_of}
 
--- what has been read: the image so far, the section that words go to, and the place of a word `stream` whose port comes next
+-- the state of reading: the image so far, the section that receives words, and the position of a word `stream` whose
+-- port comes next
 pub record Reading : Type 0 where
   pub image : Image
   pub section : Option Section
   pub open_stream : Option ℕ
 
--- before the first field: no words, and sixteen streams
+-- the state before the first field: no words, and sixteen streams
 abbrev pub begun : Reading
 begun = record { image = record { memory = []; streams = replicate port_count [] }; section = None; open_stream = None }
 
@@ -32,32 +33,32 @@ abbrev pub section_words : Image → Section → List ℕ
 section_words image Memory = image.memory
 section_words image (Stream port) = slice_index_or image.streams port []
 
--- the most words that it may have
+-- the greatest number of words of a section
 abbrev pub most_words : Section → ℕ
 most_words Memory = most_memory
 most_words (Stream port) = most_stream
 
--- the image with these words in place of the section's
+-- the image with the section's words replaced by these
 abbrev pub with_words : Image → Section → List ℕ → Image
 with_words image Memory words = record image { memory = words }
 with_words image (Stream port) words = record image { streams = slice_set image.streams port words }
 
--- a run at the end of words, up to `most` of them
+-- the words followed by a run, up to `most` of them
 abbrev pub added : ℕ → List ℕ → Place → Run → Result (List ℕ) TextFault
 added most words place run = if nat_lt most (length words + run.count) then Err (TooLarge place) else Ok (words ++ run_words run)
 
--- a run at the end of the section
+-- a run appended to the section
 abbrev pub add_to : Reading → Section → Place → Run → Result Reading TextFault
 add_to r section place run =
     and_then (added (most_words section) (section_words r.image section) place run)
     (λ words. Ok (record r { image = with_words r.image section words }))
 
--- words where a section has begun
+-- a run appended where a section has begun
 abbrev pub add_run : Reading → Option Section → Place → Run → Result Reading TextFault
 add_run r None place run = Err (NoSection place)
 add_run r (Some section) place run = add_to r section place run
 
--- words, if the field says which
+-- the words of a field appended, if the field denotes words
 abbrev pub add_words : Reading → Place → Result Run Misread → Result Reading TextFault
 add_words r place (Ok run) = add_run r r.section place run
 add_words r place (Err Unknown) = Err (UnknownWord place)
@@ -70,18 +71,18 @@ abbrev pub port_by : Result ℕ Misread → Option ℕ
 port_by (Ok n) = if nat_lt n port_count then Some n else None
 port_by (Err e) = None
 
--- the port behind the word `stream`, in decimal
+-- the port after the word `stream`, in decimal
 abbrev pub port_of : List ℕ → Option ℕ
 port_of text = port_by (numeral 10 text)
 
--- words go to the stream of the port from there on
+-- the stream of the port receives the words that follow
 abbrev pub to_stream : Reading → Place → Option ℕ → Result Reading TextFault
 to_stream r place (Some port) = Ok (record r { section = Some (Stream port); open_stream = None })
 to_stream r place None = Err (BadPort place)
 
 -- ---- fields
 
--- a field that is no port: the word `memory`, the word `stream`, or words
+-- a field that is not a port: the word `memory`, the word `stream`, or words
 abbrev pub read_plain : List ℕ → Reading → Field → Result Reading TextFault
 read_plain text r f =
     if bytes_eq f.text (codes "memory") then Ok (record r { section = Some Memory })
@@ -102,11 +103,11 @@ abbrev pub read_fields : List ℕ → Reading → List Field → Result Reading 
 read_fields text r [] = Ok r
 read_fields text r (f ∷ fields) = and_then (read_field text r f) (λ s. read_fields text s fields)
 
--- the end of the text, where no port may be missing
+-- the end of the text, where a port must not be missing
 abbrev pub ended : List ℕ → Image → Option ℕ → Result Image TextFault
 ended text image (Some stream) = Err (BadPort (place_behind text stream))
 ended text image None = Ok image
 
--- the image that the text spells, or why it spells none
+-- the image that the text describes, or why it describes none
 unfoldable pub answer_of : List ℕ → Result Image TextFault
 answer_of text = and_then (read_fields text begun (fields_of text)) (λ r. ended text r.image r.open_stream)

@@ -1,15 +1,15 @@
-//! Why a text is no image.
+//! Why a text is not an image.
 
 use crate::place::Place;
 use std::alloc::{AllocError, AllocFailed};
 use thiserror::Error;
 
-/// Why a text is no image, and the place of the field that shows it. The variants after `Memory` are T1 to T4.
+/// Why a text is not an image, and the place of the field that shows it. The variants after `Memory` are T1 to T4.
 #[derive(Clone, Copy, Debug, PartialEq, Eq, Error)]
 pub enum TextFault {
     #[error("memory ran out")]
     Memory,
-    /// A field is none that a text may have.
+    /// A field isn't one that a text may have.
     #[error("an unknown word")]
     UnknownWord(Place),
     /// Words come before any section.
@@ -23,10 +23,10 @@ pub enum TextFault {
     TooLarge(Place),
 }
 
-/// Why a field says nothing.
+/// Why a field has no meaning.
 #[derive(Clone, Copy, Debug, PartialEq, Eq, Drop)]
 pub enum Misread {
-    /// It is none that a text may have.
+    /// It isn't one that a text may have.
     Unknown,
     /// It has a number that is larger than a word.
     Large,

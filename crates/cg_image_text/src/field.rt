@@ -3,28 +3,28 @@ ghost use Rattle.std.specs.Prelude.{◌≡◌, ◌+◌, ◌≤◌, ◌<◌, [], 
 ghost use Rattle.std.specs.List.{prefix_len};
 ghost use Rattle.cg_image_text.specs.Fields.{is_blank, is_solid, is_remark, remark_length, first_field, fields_at, end_of, seen};
 
-/// A field of a text: its bytes, and the number of the first of them, from 0.
+/// A field of a text: its bytes, and the position of the first of them, counted from 0.
 #[derive(Clone, Copy)]
 pub(crate) struct Piece<'a> {
     pub text: &'a [u8],
     pub place: usize,
 }
 
-/// Tells whether `byte` is a space, a tab, a line feed or a carriage return.
+/// Returns whether `byte` is a space, a tab, a line feed or a carriage return.
 fn is_blank(byte: u8) -> bool
     ensures { result ≡ is_blank byte }
 {
     byte == b' ' || byte == b'\t' || byte == b'\n' || byte == b'\r'
 }
 
-/// Tells whether `byte` belongs to a field where it isn't in a comment.
+/// Returns whether `byte` belongs to a field where it isn't in a comment.
 fn is_solid(byte: u8) -> bool
     ensures { result ≡ is_solid byte }
 {
     !(is_blank(byte) || byte == b'#')
 }
 
-/// Returns how many of `bytes` a field goes on with.
+/// Returns the number of `bytes` with which a field continues.
 fn solid_length(bytes: &[u8]) -> usize
     ensures count { result ≡ prefix_len is_solid bytes.now }
     ensures within { result ≤ length bytes.now }
@@ -39,7 +39,7 @@ fn solid_length(bytes: &[u8]) -> usize
     count
 }
 
-/// Returns how many of `bytes` a comment goes on with.
+/// Returns the number of `bytes` with which a comment continues.
 fn comment_length(bytes: &[u8]) -> usize
     ensures count { result ≡ prefix_len is_remark bytes.now }
     ensures within { result ≤ length bytes.now }
@@ -54,7 +54,7 @@ fn comment_length(bytes: &[u8]) -> usize
     count
 }
 
-/// Returns how many of `bytes` belong to a comment after `byte`, which is in no field.
+/// Returns the number of `bytes` that belong to a comment after `byte`, which is in no field.
 #[tactic(auto, using(crate::proofs::Cutting::remark_fits))]
 fn remark_length(byte: u8, bytes: &[u8]) -> usize
     ensures count { result ≡ remark_length byte bytes.now }
@@ -77,7 +77,7 @@ fn gap_length(bytes: &[u8]) -> usize
     remark_length(bytes[0], &bytes[1..]) + 1
 }
 
-/// Returns the field at the front of `bytes`, which stand at `place`.
+/// Returns the field at the front of `bytes`, which begin at `place`.
 fn first_field(bytes: &[u8], place: usize) -> Piece<'_>
     requires { 0 < length bytes.now }
     ensures first { (b : ℕ) (rest : List ℕ) → bytes.now ≡ b ∷ rest → seen result ≡ first_field b rest place }
@@ -91,7 +91,8 @@ fn first_field(bytes: &[u8], place: usize) -> Piece<'_>
     }
 }
 
-/// Finds the first byte of a field in `bytes` from `at` on; it gives its place, or `at` or the length where there is none.
+/// Returns the position of the first byte of a field in `bytes` from `at` on, or `at` or the length where there is
+/// none.
 fn past_gaps(bytes: &[u8], at: usize) -> usize
     ensures same { fields_at bytes.now result ≡ fields_at bytes.now at }
     ensures on { at ≤ result }

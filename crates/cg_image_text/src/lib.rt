@@ -1,4 +1,4 @@
-//! Images of memory and streams out of a text: words by hand, section by section.
+//! Reads images of memory and streams from a text written by hand: sections of words.
 #![tactic(auto)]
 
 mod fault;

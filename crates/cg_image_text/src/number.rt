@@ -1,4 +1,4 @@
-//! Numbers of texts.
+//! Numbers in texts.
 ghost use Rattle.std.specs.Prelude.{◌≡◌, ◌≤◌, nat_le, nat_lt, length};
 ghost use Rattle.std.specs.Char.{digit_value, is_digit};
 ghost use Rattle.std.specs.List.{list_all};
@@ -20,7 +20,7 @@ fn digit(byte: u8) -> u32
     }
 }
 
-/// Tells whether all of `text` are digits of `base`.
+/// Returns whether all of `text` are digits of `base`.
 fn are_digits(base: u32, text: &[u8]) -> bool
     ensures { result ≡ list_all (λ c. is_digit c base) text.now }
 {
@@ -32,14 +32,14 @@ fn are_digits(base: u32, text: &[u8]) -> bool
     true
 }
 
-/// Tells whether `text` has a digit of `base`, and nothing but such digits.
+/// Returns whether `text` has a digit of `base`, and nothing but digits of `base`.
 fn is_numeral(base: u32, text: &[u8]) -> bool
     ensures { result ≡ is_numeral base text.now }
 {
     !text.is_empty() && are_digits(base, text)
 }
 
-/// Returns the word that the digits of `text` write in `base`.
+/// Returns the word that the digits of `text` denote in `base`.
 fn value(base: u32, text: &[u8]) -> Result<u32, Misread>
     requires low { 1 ≤ base }
     requires high { base ≤ 16 }
@@ -55,7 +55,7 @@ fn value(base: u32, text: &[u8]) -> Result<u32, Misread>
     Ok(value as u32)
 }
 
-/// Returns the word that `text` writes by digits of `base`.
+/// Returns the word that `text` denotes by digits of `base`.
 pub(crate) fn numeral(base: u32, text: &[u8]) -> Result<u32, Misread>
     requires low { 1 ≤ base }
     requires high { base ≤ 16 }

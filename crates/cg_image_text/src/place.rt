@@ -12,7 +12,7 @@ pub struct Place {
     pub column: usize,
 }
 
-/// Returns how many line feeds are among `bytes`.
+/// Returns the number of line feeds among `bytes`.
 fn line_feeds(bytes: &[u8]) -> usize
     ensures count { result ≡ count_by is_line_feed bytes.now }
     ensures within { result ≤ length bytes.now }
@@ -20,7 +20,7 @@ fn line_feeds(bytes: &[u8]) -> usize
     bytes.iter().filter(|byte| **byte == b'\n').count()
 }
 
-/// Returns how many of `bytes` follow the last line feed.
+/// Returns the number of `bytes` after the last line feed.
 fn last_line_length(bytes: &[u8]) -> usize
     ensures count { result ≡ suffix_len (λ b. not (is_line_feed b)) bytes.now }
     ensures within { result ≤ length bytes.now }
@@ -32,7 +32,7 @@ fn last_line_length(bytes: &[u8]) -> usize
     bytes.len() - start
 }
 
-/// Returns the place behind the first `count` bytes of `text`, or behind all where there are fewer.
+/// Returns the place after the first `count` bytes of `text`, or after all of them where there are fewer.
 #[tactic(auto, unfolding(crate::specs::Places::place_behind))]
 pub(crate) fn place_behind(text: &[u8], count: usize) -> Place
     ensures { result ≡ place_behind text.now count }

@@ -1,4 +1,4 @@
-//! Words that one field stands for.
+//! The words that one field denotes.
 ghost use Rattle.std.specs.Prelude.{◌≡◌, ◌≤◌, ◌<◌, ◌++◌, ◌^◌, OnOk, IfOk, length};
 ghost use Rattle.std.specs.List.{prefix_len};
 ghost use Rattle.cg_image_text.specs.Runs as spec;
@@ -8,14 +8,14 @@ use crate::number::{number, numeral};
 use cg_model::Words;
 use std::alloc::AllocError;
 
-/// Words one after another, each by the same step from the one before, modulo 2^32.
+/// A run of words, where each differs from the previous one by the same step, modulo 2^32.
 #[derive(Clone, Copy, Debug, PartialEq, Eq)]
 pub struct Run {
-    /// The first of them.
+    /// The first word.
     pub first: u32,
-    /// From one to the next.
+    /// The difference between consecutive words.
     pub step: u32,
-    /// How many there are.
+    /// The number of words.
     pub count: u64,
 }
 
@@ -31,7 +31,7 @@ pub(crate) fn push_run(words: &mut Words, run: Run) -> Result<(), AllocError>
     Ok(())
 }
 
-/// Returns how many bytes of `text` belong to the number that it begins with.
+/// Returns the number of bytes of `text` that belong to the number at its beginning.
 fn first_length(text: &[u8]) -> usize
     ensures count { result ≡ prefix_len spec.is_in_first text.now }
     ensures within { result ≤ length text.now }
@@ -68,7 +68,7 @@ fn span(first: &[u8], last: &[u8]) -> Result<Run, Misread>
     Ok(from_to(a, b))
 }
 
-/// Returns the word of the number `first`, as often as the decimal number `count` says.
+/// Returns the word of the number `first`, repeated `count` times, where `count` is decimal.
 fn repeat(first: &[u8], count: &[u8]) -> Result<Run, Misread>
     ensures value { result ≡ spec.repeat first.now count.now }
     ensures few { IfOk result (λ run. run.count ≤ 2 ^ 32) }
@@ -95,7 +95,8 @@ fn single(text: &[u8]) -> Result<Run, Misread>
     })
 }
 
-/// Returns the words of `text`, a field that begins with `first`, up to the first `.` or `*`, and goes on with `rest`.
+/// Returns the words of `text`, a field that begins with `first`, up to the first `.` or `*`, and continues with
+/// `rest`.
 fn run_by(text: &[u8], first: &[u8], rest: &[u8]) -> Result<Run, Misread>
     ensures value { result ≡ spec.run_by text.now first.now rest.now }
     ensures few { IfOk result (λ run. run.count ≤ 2 ^ 32) }
@@ -109,7 +110,7 @@ fn run_by(text: &[u8], first: &[u8], rest: &[u8]) -> Result<Run, Misread>
     }
 }
 
-/// Returns the words that the field `text` stands for.
+/// Returns the words that the field `text` denotes.
 #[tactic(auto, unfolding(crate::specs::Runs::run_of))]
 pub(crate) fn run_of(text: &[u8]) -> Result<Run, Misread>
     ensures value { result ≡ spec.run_of text.now }

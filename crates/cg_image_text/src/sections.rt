@@ -16,25 +16,25 @@ use cg_pad::{Image, Streams, empty_streams};
 use std::alloc::{AllocError, Global};
 use std::marker::Model;
 
-/// Where words go.
+/// The destination of words.
 #[derive(Clone, Copy, Debug, PartialEq, Eq, Drop)]
 pub enum Section {
-    /// To the memory.
+    /// The memory.
     Memory,
-    /// To the stream of that port.
+    /// The stream of that port.
     Stream(u32),
 }
 
-/// What has been read of a text.
+/// The state of reading a text.
 #[derive(Drop)]
 pub(crate) struct Reader {
     /// The words of the memory.
     memory: Words,
     /// The words of each stream.
     streams: Vec<Words>,
-    /// Where the words go that follow.
+    /// The section that receives the words that follow.
     section: Option<Section>,
-    /// The place of the word `stream`, if its port comes next.
+    /// The position of the word `stream`, if its port comes next.
     open_stream: Option<usize>,
 }
 
@@ -51,7 +51,7 @@ impl Model for Reader {
     ghost invariant = { λ r. record { sixteen : length r.streams.items ≡ port_count; port : section_port r.section < port_count } };
 }
 
-/// Returns the port that `text` writes.
+/// Returns the port that `text` denotes.
 fn port_of(text: &[u8]) -> Option<u32>
     ensures value { result ≡ port_of text.now }
     ensures small { IfSome result (λ port. port < port_count) }
@@ -62,7 +62,7 @@ fn port_of(text: &[u8]) -> Option<u32>
     }
 }
 
-/// Adds the words of `run`, which stands in `text` at `place`, to `words`, of which there may be `most`.
+/// Adds the words of `run`, which begins at `place` in `text`, to `words`, which may have at most `most` words.
 fn extend(
     words: &mut Words,
     most: u32,
@@ -90,7 +90,7 @@ impl Reader {
     ghost use Rattle.cg_image_text.specs.Sections.{begun, port_of, to_stream, read_plain, read_field, read_fields, add_words, add_run, add_to, ended};
     ghost use Rattle.cg_image_text.specs.Steps.{section_port, state_after};
 
-    /// Returns what is read before the first field.
+    /// Returns the state before the first field.
     pub(crate) fn new(alloc: Global) -> Result<Reader, AllocError>
         ensures { IfOk result (λ reader. reader ≡ begun) }
     {
@@ -139,7 +139,7 @@ impl Reader {
         }
     }
 
-    /// Goes to the stream whose port `field` of `text` is.
+    /// Selects the stream whose port is `field` of `text`.
     fn to_stream(&mut self, text: &[u8], field: Piece<'_>) -> Result<(), TextFault>
         ensures { Gives TextFault.Memory (state_after result self.new) (to_stream self.old (place_behind text.now field.entry.place) (port_of field.entry.text.now)) }
     {
@@ -153,7 +153,7 @@ impl Reader {
         }
     }
 
-    /// Reads `field` of `text`, which is no port.
+    /// Reads `field` of `text`, which is not a port.
     fn read_plain(&mut self, text: &[u8], field: Piece<'_>) -> Result<(), TextFault>
         ensures { Gives TextFault.Memory (state_after result self.new) (read_plain text.now self.old (seen field.entry)) }
     {
@@ -179,7 +179,7 @@ impl Reader {
         }
     }
 
-    /// Adds the words of `run`, which stands in `text` at `place`.
+    /// Adds the words of `run`, which begins at `place` in `text`.
     fn add_run(&mut self, text: &[u8], place: usize, run: Run) -> Result<(), TextFault>
         requires { run.count ≤ 2 ^ 32 }
         ensures { Gives TextFault.Memory (state_after result self.new) (add_run self.old self.old.section (place_behind text.now place) run) }
@@ -190,7 +190,7 @@ impl Reader {
         }
     }
 
-    /// Adds the words of `run`, which stands in `text` at `place`, to `section`.
+    /// Adds the words of `run`, which begins at `place` in `text`, to `section`.
     fn add_to(
         &mut self,
         section: Section,

@@ -1,11 +1,12 @@
-//! What reports say of the faults of texts.
+//! The texts of faults in reports.
 ghost use Rattle.std.specs.Prelude.{◌≡◌, IfOk, string_bytes};
 ghost use Rattle.cg_image_text.specs.Texts.{text_fault_text};
 
 use crate::fault::TextFault;
 use std::alloc::{AllocError, Global};
 
-/// Returns code, name and place of `fault`, as `T1 UnknownWord line 2 column 7`. Out of memory has none of them.
+/// Returns code, name and place of `fault`, for example `T1 UnknownWord line 2 column 7`. Out of memory has none of
+/// them.
 pub fn text_fault_text(alloc: Global, fault: TextFault) -> Result<String, AllocError>
     ensures { IfOk result (λ s. string_bytes s ≡ text_fault_text fault) }
 {

@@ -1,5 +1,5 @@
-//! What the files of a command give: an architecture, a kernel, a mapping, an image or a configuration, or the outcome of a
-//! refusal.
+//! What the input files of a command contain: an architecture, a kernel, a mapping, an image or a configuration, or
+//! else the outcome that refuses the file.
 #![tactic(auto)]
 
 mod readers;

@@ -1,4 +1,4 @@
-//! What a file gives. Where it gives none, the call ends by the outcome of its refusal.
+//! Readers of input files. A file that can't be parsed ends the call with the outcome that refuses it.
 ghost use Rattle.std.specs.Prelude.{◌≡◌, ◌≤◌, Ok, IfOk, IfErr, length};
 ghost use Rattle.cg_model.specs.Array.{IsArch};
 ghost use Rattle.cg_model.specs.Canonical.{IsCanonical};
@@ -24,7 +24,7 @@ use cg_tiles::{TilesFault, read_arch, tiles_fault_text};
 use cg_view::{BitsFault, ConfigView, bits_fault_text};
 use std::alloc::Global;
 
-/// Reads the architecture that `file` gives. A fault of it ends the call with status 3.
+/// Reads the architecture in `file`. A fault in it ends the call with status 3.
 pub fn arch_in(alloc: Global, file: &File) -> Result<Arch, Stop>
     ensures given { IfOk result (AreValidBytes (file_of file.now).bytes) }
     ensures refused { IfErr result (EndsBy (RefusesArch (file_of file.now))) }
@@ -40,7 +40,7 @@ pub fn arch_in(alloc: Global, file: &File) -> Result<Arch, Stop>
     }
 }
 
-/// Reads the kernel that `file` gives. A fault of it ends the call with status 3.
+/// Reads the kernel in `file`. A fault in it ends the call with status 3.
 pub fn kernel_in(alloc: Global, file: &File) -> Result<Kernel, Stop>
     ensures given { IfOk result (λ kernel. kernels.answer_of (file_of file.now).bytes ≡ Ok kernel) }
     ensures refused { IfErr result (EndsBy (RefusesKernel (file_of file.now))) }
@@ -56,7 +56,7 @@ pub fn kernel_in(alloc: Global, file: &File) -> Result<Kernel, Stop>
     }
 }
 
-/// Reads the mapping of `kernel` to `arch` that `file` gives. A fault of it ends the call with status 3.
+/// Reads the mapping of `kernel` to `arch` in `file`. A fault in it ends the call with status 3.
 pub fn mapping_in(alloc: Global, arch: &Arch, kernel: &Kernel, file: &File) -> Result<Mapping, Stop>
     ensures given { IfOk result (λ mapping.
         mappings.answer_of arch.now kernel.now (file_of file.now).bytes ≡ Ok mapping) }
@@ -73,7 +73,7 @@ pub fn mapping_in(alloc: Global, arch: &Arch, kernel: &Kernel, file: &File) -> R
     }
 }
 
-/// Reads the image that `file` gives. A fault of it ends the call with status 3.
+/// Reads the image in `file`. A fault in it ends the call with status 3.
 pub fn image_in(alloc: Global, file: &File) -> Result<Image, Stop>
     ensures given { IfOk result (λ image. images.answer_of (file_of file.now).bytes ≡ Ok image) }
     ensures refused { IfErr result (EndsBy (RefusesImage (file_of file.now))) }
@@ -89,8 +89,8 @@ pub fn image_in(alloc: Global, file: &File) -> Result<Image, Stop>
     }
 }
 
-/// Reads the configuration of `arch` that `file` gives, as a view over the file's bytes. A fault of it ends the call
-/// with status 3.
+/// Reads the configuration of `arch` in `file`, as a view over the bytes of `file`. A fault in it ends the call with
+/// status 3.
 pub fn config_in<'a>(alloc: Global, arch: &'a Arch, file: &'a File) -> Result<ConfigView<'a>, Stop>
     ensures given { IfOk result (λ config. bits.answer_of arch.now (file_of file.now).bytes ≡ Ok config) }
     ensures refused { IfErr result (EndsBy (RefusesBits arch.now (file_of file.now))) }

@@ -1,4 +1,4 @@
--- What readers of formats ask of a JSON value.
+-- Access to the parts of a JSON value, for readers of formats.
 use Rattle.std.specs.Prelude.{ℕ, ◌^◌, Bool, false, List, [], ◌∷◌, Option, Some, None, nat_lt, option_map, option_and_then, if◌then◌else◌}
 use Rattle.std.specs.Option.{option_map_or}
 use Rattle.serde_json.specs.Data.{Data, number, unsigned, Items, no_items, item, Members, no_members, member}
@@ -17,7 +17,7 @@ word_in d = option_and_then fitting (option_and_then as_u64 (as_number d))
 abbrev pub word_data : ℕ → Data
 word_data w = number (unsigned w)
 
--- the word at a key, and the default where the key is missing
+-- the word at a key, or the default where the key is missing
 abbrev pub word_or : List ℕ → ℕ → Data → Option ℕ
 word_or key default d = option_map_or word_in (get key d) (Some default)
 
@@ -42,7 +42,7 @@ items_in d = option_map listed (as_array d)
 abbrev pub items_at : List ℕ → Data → Option (List Data)
 items_at key d = option_and_then items_in (get key d)
 
--- the same, and no items where the key is missing
+-- the items of the array at a key, or no items where the key is missing
 abbrev pub items_or_none : List ℕ → Data → Option (List Data)
 items_or_none key d = option_map_or items_in (get key d) (Some [])
 
@@ -51,6 +51,6 @@ abbrev pub keys_in : Members → List (List ℕ)
 keys_in no_members = []
 keys_in (member key d ms) = key ∷ keys_in ms
 
--- an object has a key that isn't one of those
+-- an object has a key that isn't one of the known ones
 abbrev pub has_other_keys : List (List ℕ) → Data → Bool
 has_other_keys known d = option_map_or (λ ms. has_other known (keys_in ms)) (as_object d) false

@@ -1,4 +1,4 @@
-//! JSON texts: the value that bytes stand for, and what readers of formats ask of values.
+//! JSON texts: the values that bytes represent, and access to these values for readers of formats.
 #![tactic(auto)]
 
 ghost use Rattle.std.specs.Prelude.{◌≡◌, Some, None, IfOk, IsErrOf};
@@ -24,9 +24,9 @@ pub enum JsonFault {
     NotJson,
 }
 
-/// The JSON value that the bytes stand for.
+/// Returns the JSON value that `bytes` represent.
 ///
-/// A text whose values may take more than [`MOST_MEMORY`] bytes is answered by `Memory` before it is parsed.
+/// For a text whose values may take more than [`MOST_MEMORY`] bytes it returns `Memory` without parsing the text.
 pub fn json_value(alloc: Global, bytes: &[u8]) -> Result<Value, JsonFault>
     ensures ok { IfOk result (λ value. value_of bytes.now ≡ Some (view value)) }
     ensures not_json { IsErrOf result JsonFault.NotJson → value_of bytes.now ≡ None }

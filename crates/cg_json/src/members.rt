@@ -1,4 +1,4 @@
-//! What readers of formats ask of a JSON value.
+//! Access to the parts of a JSON value, for readers of formats.
 ghost use Rattle.std.specs.Prelude.{◌≡◌, map, option_map};
 ghost use Rattle.std.specs.Option.{option_copied};
 ghost use Rattle.serde_json.specs.View.{view};
@@ -8,7 +8,7 @@ use cg_reading::{ItemReader, Misfit, WRONG_SHAPE, has_other};
 use serde_json::Value;
 use std::alloc::Global;
 
-/// The text at a key.
+/// Returns the text at `key`.
 pub fn text_at<'a>(value: &'a Value, key: &str) -> Option<&'a str>
     ensures { option_copied result ≡ spec.text_at key.now (view value.now) }
 {
@@ -18,7 +18,7 @@ pub fn text_at<'a>(value: &'a Value, key: &str) -> Option<&'a str>
     }
 }
 
-/// The items of the array at a key.
+/// Returns the items of the array at `key`.
 pub fn items_at<'a>(value: &'a Value, key: &str) -> Option<&'a [Value]>
     ensures { option_map (λ items. map view items.now) result ≡ spec.items_at key.now (view value.now) }
 {
@@ -28,7 +28,7 @@ pub fn items_at<'a>(value: &'a Value, key: &str) -> Option<&'a [Value]>
     }
 }
 
-/// The items of the array at a key, none where the key is missing.
+/// Returns the items of the array at `key`, or none where the key is missing.
 pub fn items_or_none<'a>(value: &'a Value, key: &str) -> Option<&'a [Value]>
     ensures { option_map (λ items. map view items.now) result ≡ spec.items_or_none key.now (view value.now) }
 {
@@ -47,7 +47,7 @@ fn items_in(value: &Value) -> Option<&[Value]>
     }
 }
 
-/// A word: a JSON integer from 0 to 4,294,967,295.
+/// Returns `value` as a word: a JSON integer from 0 to 4,294,967,295.
 pub fn word_in(value: &Value) -> Option<u32>
     ensures { result ≡ spec.word_in (view value.now) }
 {
@@ -57,7 +57,7 @@ pub fn word_in(value: &Value) -> Option<u32>
     }
 }
 
-/// The word at a key, and the default where the key is missing.
+/// Returns the word at `key`, or `default` where the key is missing.
 pub fn word_or(value: &Value, key: &str, default: u32) -> Option<u32>
     ensures { result ≡ spec.word_or key.now default (view value.now) }
 {
@@ -67,7 +67,7 @@ pub fn word_or(value: &Value, key: &str, default: u32) -> Option<u32>
     }
 }
 
-/// The word at a key that may be missing.
+/// Returns the word at `key`, which may be missing.
 pub fn optional_word_at(value: &Value, key: &str) -> Option<Option<u32>>
     ensures { result ≡ spec.optional_word_at key.now (view value.now) }
 {
@@ -100,7 +100,7 @@ impl ItemReader for WordReader {
     }
 }
 
-/// Whether an object has a key that isn't one of these.
+/// Returns whether an object has a key that isn't one of `known`.
 pub fn has_other_keys(value: &Value, known: &[&str]) -> bool
     ensures { result ≡ spec.has_other_keys (map (λ key. key.now) known.now) (view value.now) }
 {

@@ -1,23 +1,23 @@
-//! How much memory a text can ask for.
+//! The memory that a text may take once parsed.
 
 /// The most bytes that the values of one text may take.
 pub const MOST_MEMORY: u64 = 1_000_000_000;
 
-/// How deep values may nest. The parser goes no further.
+/// The greatest depth at which values may nest. The parser goes no deeper.
 const MOST_DEPTH: u32 = 128;
 
-/// Where in a text a byte stands.
+/// The place of a byte in a text.
 #[derive(Clone, Copy, PartialEq, Eq)]
 enum Place {
     Bare,
     /// In a string.
     Text,
-    /// There, after a backslash.
+    /// In a string, after a backslash.
     Escaped,
 }
 
 impl Place {
-    /// The place after one more byte.
+    /// Returns the place after one more byte, `byte`.
     fn after(self, byte: u8) -> Place {
         match (self, byte) {
             (Place::Bare, b'"') | (Place::Escaped, _) => Place::Text,
@@ -28,7 +28,7 @@ impl Place {
     }
 }
 
-/// About how many bytes the values of a text take at most, with what a reader makes of them. An object with members
+/// Estimates the most bytes that the values of a text take, with what a reader makes of them. An object with members
 /// takes a node of a map, an array with items a list of at least four, and each item of a list its place there. What
 /// comes after too many open brackets isn't counted, since it isn't parsed.
 pub(crate) fn memory_for(bytes: &[u8]) -> u64 {
@@ -51,7 +51,7 @@ pub(crate) fn memory_for(bytes: &[u8]) -> u64 {
     memory
 }
 
-/// The bytes of memory for a byte after another, outside of strings.
+/// Returns the bytes of memory for `byte` after `before`, outside of strings.
 fn weight(before: u8, byte: u8) -> u64 {
     match (before, byte) {
         (b'{', b'}') | (b'[', b']') => 4,
@@ -62,7 +62,7 @@ fn weight(before: u8, byte: u8) -> u64 {
     }
 }
 
-/// How many brackets are open after a byte outside of strings.
+/// Returns how many brackets are open after `byte`, outside of strings.
 fn depth_after(depth: u32, byte: u8) -> u32 {
     match byte {
         b'[' | b'{' => depth.saturating_add(1),

@@ -1,4 +1,4 @@
--- The kernel that bytes spell, or why they spell none.
+-- The kernel that bytes describe, or why they describe none.
 use Rattle.std.specs.Prelude.{ℕ, List, map, Option, Some, None, Result, Ok, Err, unwrap_or}
 use Rattle.serde_json.specs.Data.{Data}
 use Rattle.cg_word.specs.declared.op.Op.TheVariants.{Const}
@@ -18,42 +18,42 @@ use Rattle.cg_kernel.specs.declared.fault.KernelFault.TheVariants as fault
 abbrev pub node_number : WrittenKernel → List ℕ → ℕ
 node_number w name = unwrap_or (number_of w.nodes name) 0
 
--- the operand that an argument writes
+-- the operand that an argument describes
 abbrev pub operand_of : WrittenKernel → WrittenArg → Operand
 operand_of w (Number c) = Constant c
 operand_of w (Source from distance init other) = Edge (node_number w from) distance init
 
--- the node that is written, with port 0 where none is
+-- the node that is described, with port 0 where none is given
 abbrev pub node_of : WrittenKernel → WrittenNode → Node
 node_of w n = record { name = n.name; op = unwrap_or (op_of w n) Const; port = unwrap_or n.port 0; operands = map (operand_of w) n.args }
 
--- the order edge that is written
+-- the order edge that is described
 abbrev pub edge_of : WrittenKernel → WrittenEdge → OrderEdge
 edge_of w e = record { from = node_number w e.from; to = node_number w e.to; distance = e.distance }
 
--- the kernel that is written: the nodes and order edges in their order
+-- the kernel that is described: the nodes and order edges in their order
 unfoldable pub kernel_of : WrittenKernel → Kernel
 kernel_of w = record { nodes = map (node_of w) w.nodes; order = map (edge_of w) w.order }
 
--- the fault, where there is one, and else the kernel
+-- the fault, if there is one, and otherwise the kernel
 abbrev pub unless : Option KernelFault → Kernel → Result Kernel KernelFault
 unless None kernel = Ok kernel
 unless (Some f) kernel = Err f
 
--- K3 to K16 in what is written, the lowest at its first place, or the kernel
+-- the lowest of K3 to K16 that applies to the description, at its first place, or the kernel
 unfoldable pub judged : WrittenKernel → Result Kernel KernelFault
 judged w = unless (first_fault all_rules w) (kernel_of w)
 
--- K2 before them
+-- K2, checked before K3 to K16
 abbrev pub answer_written : Result WrittenKernel KernelPlace → Result Kernel KernelFault
 answer_written (Err p) = Err (fault.WrongShape p)
 answer_written (Ok w) = judged w
 
--- K1 before it
+-- K1, checked before K2
 abbrev pub answer_in : Option Data → Result Kernel KernelFault
 answer_in None = Err fault.NotJson
 answer_in (Some d) = answer_written (written_of d)
 
--- the kernel that the bytes spell, or the lowest of K1 to K16 that applies, at its first place
+-- the kernel that the bytes describe, or the lowest of K1 to K16 that applies, at its first place
 unfoldable pub answer_of : List ℕ → Result Kernel KernelFault
 answer_of bytes = answer_in (value_of bytes)

@@ -24,12 +24,12 @@ use Rattle.cg_kernel.specs.declared.rule.Rule.TheVariants.{UnknownKey, TooLarge,
 abbrev pub number_of : List WrittenNode → List ℕ → Option ℕ
 number_of nodes name = numbers.number_of (λ n. Some n.name) nodes name
 
--- the first format knows the operations of codes 1 to 22, the second one all
+-- the first format has the operations with codes 1 to 22, the second one all
 abbrev pub knows : Format → Op → Bool
 knows First op = nat_le (code op) 22
 knows Second op = true
 
--- the operation of that name, where the format knows it
+-- the operation of that name, if the format has it
 abbrev pub op_in : Format → List ℕ → Option Op
 op_in format name = option_and_then (λ op. if knows format op then Some op else None) (op_named name)
 
@@ -40,9 +40,9 @@ op_of w n = op_in w.format n.op
 abbrev pub source_op : WrittenKernel → List ℕ → Option Op
 source_op w name = option_and_then (λ u. option_and_then (op_of w) (slice_get w.nodes u)) (number_of w.nodes name)
 
--- ---- one definition a number
+-- ---- one definition for each fault number
 
--- K3 UnknownKey: an object has a key that the format doesn't name for it
+-- K3 UnknownKey: an object has a key that the format doesn't have there
 abbrev pub arg_has_other_keys : WrittenArg → Bool
 arg_has_other_keys (Number c) = false
 arg_has_other_keys (Source from distance init other) = other
@@ -59,15 +59,15 @@ has_bad_name n = not (is_name longest_node_name n.name)
 abbrev pub repeats_name : WrittenKernel → ℕ → WrittenNode → Bool
 repeats_name w v n = is_before (number_of w.nodes n.name) v
 
--- K7 UnknownOp: the format knows no operation of that name
+-- K7 UnknownOp: the format has no operation of that name
 abbrev pub has_unknown_op : WrittenKernel → WrittenNode → Bool
 has_unknown_op w n = is_none (op_of w n)
 
--- K8 WrongOperandCount: the node hasn't as many arguments as its operation takes
+-- K8 WrongOperandCount: the number of the node's arguments isn't its operation's arity
 abbrev pub has_wrong_count : WrittenKernel → WrittenNode → Bool
 has_wrong_count w n = option_map_or (λ op. not (arity op == length n.args)) (op_of w n) false
 
--- K9 UnknownNode: an argument or an order edge names no node
+-- K9 UnknownNode: an argument or an order edge names a node that doesn't exist
 abbrev pub names_no_node : WrittenKernel → WrittenArg → Bool
 names_no_node w (Number c) = false
 names_no_node w (Source from distance init other) = is_none (number_of w.nodes from)
@@ -80,7 +80,7 @@ abbrev pub has_no_value : WrittenKernel → WrittenArg → Bool
 has_no_value w (Number c) = false
 has_no_value w (Source from distance init other) = option_map_or (λ op. not (has_value op)) (source_op w from) false
 
--- K11 BackEdgeWithoutDistance: an edge of distance 0 comes from no node before the one it goes to
+-- K11 BackEdgeWithoutDistance: the source of an edge of distance 0 isn't a node before its target
 abbrev pub arg_goes_back : WrittenKernel → ℕ → WrittenArg → Bool
 arg_goes_back w v (Number c) = false
 arg_goes_back w v (Source from distance init other) = (distance == 0) && not (is_before (number_of w.nodes from) v)
@@ -96,7 +96,7 @@ is_too_far (Source from distance init other) = nat_lt most_distance distance
 abbrev pub edge_is_too_far : WrittenEdge → Bool
 edge_is_too_far e = nat_lt most_order_distance e.distance
 
--- K13 InitCount: not as many initial words as the distance
+-- K13 InitCount: the number of initial words isn't the distance
 abbrev pub has_wrong_init : WrittenArg → Bool
 has_wrong_init (Number c) = false
 has_wrong_init (Source from distance init other) = not (length init == distance)
@@ -127,7 +127,7 @@ outputs_to w port n = option_map_or (λ other. other == port) (output_port w n) 
 abbrev pub repeats_port : WrittenKernel → ℕ → WrittenNode → Bool
 repeats_port w v n = option_map_or (λ port. list_any (outputs_to w port) (take v w.nodes)) (output_port w n) false
 
--- ---- where each applies
+-- ---- the places of each fault
 
 abbrev pub applies_to_arg : Rule → WrittenKernel → ℕ → WrittenArg → Bool
 applies_to_arg UnknownKey w v a = arg_has_other_keys a
@@ -162,20 +162,20 @@ applies_to_file UnknownKey w = w.other_keys
 applies_to_file TooLarge w = is_too_large w
 applies_to_file _ w = false
 
--- the first place where it applies: the file, then the nodes in order, then the order edges
+-- the first place where the fault applies: the file, then the nodes in order, then the order edges
 unfoldable pub first_place : Rule → WrittenKernel → Option KernelPlace
 first_place rule w = option_or
     (if applies_to_file rule w then Some place.File else None)
     (option_or (option_map place.Node (first_from (applies_to_node rule w) 0 w.nodes))
     (option_map place.Order (first_from (λ e edge. applies_to_edge rule w edge) 0 w.order)))
 
--- ---- the lowest of them
+-- ---- the lowest of the faults
 
--- in the order of their numbers
+-- all faults, in the order of their numbers
 abbrev pub all_rules : List Rule
 all_rules = UnknownKey ∷ TooLarge ∷ BadName ∷ RepeatedName ∷ UnknownOp ∷ WrongOperandCount ∷ UnknownNode ∷ NoValue ∷ BackEdgeWithoutDistance ∷ BadDistance ∷ InitCount ∷ TwoConstants ∷ BadPort ∷ RepeatedOutputPort ∷ []
 
--- the fault of that number, at that place
+-- the fault with that number, at that place
 abbrev pub fault_at : Rule → KernelPlace → KernelFault
 fault_at UnknownKey p = fault.UnknownKey p
 fault_at TooLarge p = fault.TooLarge

@@ -1,17 +1,17 @@
--- What reports say of the faults of kernels.
+-- The texts of kernel faults in reports.
 use Rattle.std.specs.Prelude.{ℕ, List, [], ◌++◌, codes, decimal}
 use Rattle.cg_kernel.specs.declared.fault.KernelPlace.{KernelPlace}
 use Rattle.cg_kernel.specs.declared.fault.KernelPlace.TheVariants as place
 use Rattle.cg_kernel.specs.declared.fault.KernelFault.{KernelFault}
 use Rattle.cg_kernel.specs.declared.fault.KernelFault.TheVariants as fault
 
--- where a fault is: the file, or the number of a node or order edge
+-- the place of a fault: the file, or the number of a node or order edge
 abbrev pub place_text : KernelPlace → List ℕ
 place_text place.File = codes "file"
 place_text (place.Node v) = codes "nodes " ++ decimal v
 place_text (place.Order e) = codes "order " ++ decimal e
 
--- code and name
+-- the code and the name
 abbrev pub kernel_fault_name : KernelFault → List ℕ
 kernel_fault_name fault.Memory = []
 kernel_fault_name fault.NotJson = codes "K1 NotJson"
@@ -31,7 +31,7 @@ kernel_fault_name (fault.TwoConstants p) = codes "K14 TwoConstants"
 kernel_fault_name (fault.BadPort p) = codes "K15 BadPort"
 kernel_fault_name (fault.RepeatedOutputPort p) = codes "K16 RepeatedOutputPort"
 
--- where the fault applies first: the whole file where it tells no place
+-- the first place of the fault: the whole file where the fault has no place
 abbrev pub kernel_fault_place : KernelFault → KernelPlace
 kernel_fault_place fault.Memory = place.File
 kernel_fault_place fault.NotJson = place.File
@@ -51,6 +51,6 @@ kernel_fault_place (fault.TwoConstants p) = p
 kernel_fault_place (fault.BadPort p) = p
 kernel_fault_place (fault.RepeatedOutputPort p) = p
 
--- code, name and place
+-- the code, the name and the place
 abbrev pub kernel_fault_text : KernelFault → List ℕ
 kernel_fault_text f = kernel_fault_name f ++ (codes " " ++ place_text (kernel_fault_place f))

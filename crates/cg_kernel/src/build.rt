@@ -1,4 +1,4 @@
-//! From what a file writes to its kernel.
+//! Builds the kernel that a file describes.
 ghost use Rattle.std.specs.Prelude.{◌≡◌, ◌≤◌, IfOk, length, map};
 ghost use Rattle.cg_model.specs.Limits.{most_nodes};
 ghost use Rattle.cg_model.specs.Kernel.{IsKernel};
@@ -13,7 +13,7 @@ use cg_names::{Numbers, number_in};
 use cg_word::Op;
 use std::alloc::{AllocError, Global};
 
-/// The kernel that is written, where it is valid.
+/// Returns the kernel that `written` describes, which must be valid.
 #[tactic(auto, unfolding(crate::specs::Answer::kernel_of))]
 pub fn kernel_of(
     alloc: Global,

@@ -1,4 +1,4 @@
-//! Why bytes spell no kernel.
+//! Why bytes don't describe a kernel.
 
 ghost use Rattle.std.specs.Prelude.{◌≡◌};
 ghost use Rattle.cg_kernel.specs.declared.fault.KernelFault.TheVariants.{Memory};
@@ -6,7 +6,7 @@ ghost use Rattle.cg_kernel.specs.declared.fault.KernelFault.TheVariants.{Memory}
 use std::alloc::AllocError;
 use thiserror::Error;
 
-/// Where a fault applies first: the whole file, a node or an order edge, counted from 0.
+/// The first place of a fault: the whole file, a node or an order edge, counted from 0.
 #[derive(Clone, Copy, Debug, PartialEq, Eq)]
 pub enum KernelPlace {
     File,
@@ -14,7 +14,7 @@ pub enum KernelPlace {
     Order(usize),
 }
 
-/// Why bytes spell no kernel. The variants after `Memory` are K1 to K16, in this order.
+/// Why bytes don't describe a kernel. The variants after `Memory` are K1 to K16, in this order.
 #[derive(Debug, Drop, Error)]
 pub enum KernelFault {
     #[error("memory ran out")]

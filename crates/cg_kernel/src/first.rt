@@ -10,7 +10,7 @@ use crate::rules::{applies_to_edge, applies_to_file, applies_to_node};
 use crate::written::WrittenKernel;
 use cg_names::Numbers;
 
-/// The lowest of K3 to K16 that applies, at its first place.
+/// Returns the lowest of K3 to K16 that applies, at its first place.
 pub fn first_fault(numbers: &Numbers, written: &WrittenKernel) -> Option<KernelFault>
     requires { IsIndex numbers.now written.now.nodes }
     ensures { result ≡ spec.first_fault spec.all_rules written.now }

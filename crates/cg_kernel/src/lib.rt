@@ -1,4 +1,4 @@
-//! Kernels: their file format, and what is valid.
+//! Kernels: their file format and its rules.
 #![tactic(auto)]
 
 mod build;

@@ -1,4 +1,4 @@
-//! From bytes to a kernel.
+//! Reads a kernel from bytes.
 ghost use Rattle.std.specs.Prelude.{◌≡◌, Some, None, IfOk, IsOkAnd};
 ghost use Rattle.serde_json.specs.View.{view};
 ghost use Rattle.cg_model.specs.Answers.{Gives};
@@ -19,7 +19,7 @@ use cg_reading::Misfit;
 use serde_json::Value;
 use std::alloc::Global;
 
-/// The kernel that the bytes spell, or the lowest fault that applies, at its first place.
+/// Returns the kernel that `bytes` describe, or the lowest fault that applies, at its first place.
 pub fn read_kernel(alloc: Global, bytes: &[u8]) -> Result<Kernel, KernelFault>
     ensures answer { Gives KernelFault.Memory result (answer_of bytes.now) }
     ensures valid { IfOk result IsKernel }

@@ -1,4 +1,4 @@
-//! From a JSON value to what it writes of a kernel.
+//! Reads the description of a kernel from a JSON value.
 ghost use Rattle.std.specs.Prelude.{◌≡◌, IfOk, map};
 ghost use Rattle.serde_json.specs.View.{view};
 ghost use Rattle.cg_reading.specs.Items.{all_or_first};
@@ -17,10 +17,10 @@ use cg_reading::{ItemReader, Misfit, WRONG_SHAPE, all_of, all_or_first};
 use serde_json::Value;
 use std::alloc::Global;
 
-/// A wrong shape of the file, outside of its nodes and order edges.
+/// The misfit of a file that has a wrong shape outside of its nodes and order edges.
 const WRONG_FILE: Misfit<KernelPlace> = Misfit::WrongShape(KernelPlace::File);
 
-/// Returns what `value` writes of a kernel, or the first place of a wrong shape.
+/// Returns the description of a kernel in `value`, or the first place of a wrong shape.
 pub fn written_of(alloc: Global, value: &Value) -> Result<WrittenKernel, Misfit<KernelPlace>>
     ensures value { IsReadAt (spec.written_of (view value.now)) result }
     ensures words { IfOk result HasAllWords }

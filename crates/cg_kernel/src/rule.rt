@@ -1,4 +1,4 @@
-//! The faults that are looked for in what a file writes.
+//! The faults that are checked in the description of a kernel.
 
 /// The faults K3 to K16.
 #[derive(Clone, Copy, Debug, PartialEq, Eq)]

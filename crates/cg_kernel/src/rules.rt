@@ -14,7 +14,7 @@ use cg_model::{
 use cg_names::{Numbers, is_before, number_in};
 use cg_word::Op;
 
-/// Returns the operation of `node`, where the format of `written` knows one of that name.
+/// Returns the operation of `node`, if the format of `written` has one of that name.
 pub fn op_of(written: &WrittenKernel, node: &WrittenNode) -> Option<Op>
     ensures { result ≡ spec.op_of written.now node.now }
 {

@@ -1,11 +1,11 @@
-//! What reports say of the faults of kernels.
+//! The texts of kernel faults in reports.
 ghost use Rattle.std.specs.Prelude.{◌≡◌, IfOk, string_bytes};
 ghost use Rattle.cg_kernel.specs.Texts.{kernel_fault_text, kernel_fault_name, kernel_fault_place, place_text};
 
 use crate::fault::{KernelFault, KernelPlace};
 use std::alloc::{AllocError, Global};
 
-/// Returns code, name and place of `fault`, as `K8 WrongOperandCount nodes 2`. Out of memory has none of them.
+/// Returns code, name and place of `fault`, for example `K8 WrongOperandCount nodes 2`. Out of memory has none of them.
 pub fn kernel_fault_text(alloc: Global, fault: &KernelFault) -> Result<String, AllocError>
     ensures { IfOk result (λ s. string_bytes s ≡ kernel_fault_text fault.now) }
 {

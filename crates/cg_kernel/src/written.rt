@@ -1,16 +1,16 @@
-//! A kernel as its file writes it, before names and operations are looked up.
+//! The description of a kernel in its file, before names and operations are looked up.
 
 use cg_model::{Items, Name, Words};
 use cg_names::Named;
 
-/// The format that a file names: the second one knows the guarded operations.
+/// The format that a file names: only the second one has the guarded operations.
 #[derive(Clone, Copy, Debug, PartialEq, Eq)]
 pub enum Format {
     First,
     Second,
 }
 
-/// An argument. An object says whether it has a key besides those of the format.
+/// An argument. For an object it is recorded whether it has a key that the format doesn't have.
 #[derive(Drop)]
 pub enum WrittenArg {
     Number(u32),
@@ -22,7 +22,7 @@ pub enum WrittenArg {
     },
 }
 
-/// A node as its file writes it.
+/// A node as described in its file.
 #[derive(Drop)]
 pub struct WrittenNode {
     pub name: Name,
@@ -42,7 +42,7 @@ impl Named for WrittenNode {
     }
 }
 
-/// An order edge as its file writes it.
+/// An order edge as described in its file.
 #[derive(Drop)]
 pub struct WrittenEdge {
     pub from: Name,
@@ -51,7 +51,7 @@ pub struct WrittenEdge {
     pub other_keys: bool,
 }
 
-/// A kernel as its file writes it.
+/// A kernel as described in its file.
 #[derive(Drop)]
 pub struct WrittenKernel {
     pub format: Format,

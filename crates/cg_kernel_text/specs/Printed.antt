@@ -26,11 +26,11 @@ operand_data nodes (Edge u d init) = object
 abbrev pub port_member : Node → Members
 port_member n = member (codes "port") (word_data n.port) no_members
 
--- the port, where the operation has one
+-- the port, if the operation has one
 abbrev pub port_members : Node → Members
 port_members n = if word.has_port n.op then port_member n else no_members
 
--- a node with these arguments and this port or none, with its keys in alphabetical order
+-- a node with these arguments and this optional port, with its keys in alphabetical order
 abbrev pub data_with : Data → Node → Members → Data
 data_with args n port = object
     (member (codes "args") args

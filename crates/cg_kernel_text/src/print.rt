@@ -11,7 +11,7 @@ use cg_model::{Kernel, Node, Operand, OrderEdge};
 use serde_json::{Value, json};
 use std::alloc::{AllocError, Global};
 
-/// The text of the kernel, which reads back as the same kernel.
+/// Returns the text of `kernel`, which reads back as an equal kernel.
 pub fn print_kernel(alloc: Global, kernel: &Kernel) -> Result<Vec<u8>, AllocError>
     ensures text { IfOk result (λ bytes. bytes.items ≡ spec.kernel_text kernel.now) }
     ensures reads_back { IfOk result (λ bytes. answer_of bytes.items ≡ Ok kernel.now) }

@@ -1,8 +1,8 @@
 -- The ring that a path closes.
 use Rattle.std.specs.Prelude.{◌≡◌, ℕ, ◌+◌, ◌<◌, ◌≤◌, List, ◌++◌, length, drop, reverse, slice_index, slice_range}
 
--- a ring that has the numbers of a path from one of them on, from the last back to that one, turned so
--- that the least is first
+-- a ring of the numbers of a path from one of them on, from the last back to that one, rotated so that the least is
+-- first
 pub record IsRing (path : List ℕ) (number : ℕ) (ring : List ℕ) : Type 0 where
   pub from : ℕ
   pub place : ℕ

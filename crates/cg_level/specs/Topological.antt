@@ -1,11 +1,11 @@
--- In which order the resources of an architecture have their words within a cycle: each after those
--- whose words it takes in the same cycle. There is such an order unless they form a loop.
+-- The order in which the resources of an architecture are evaluated within a cycle: each after those whose words it
+-- takes in the same cycle. An order exists unless they form a loop.
 use Rattle.std.specs.Prelude.{◌≡◌, ℕ, ◌+◌, ◌-◌, ◌<◌, ◌≤◌, List, [], length, take, Contains, slice_index, slice_index_or}
 use Rattle.cg_model.specs.declared.array.Resource.{Resource}
 use Rattle.cg_model.specs.declared.array.Kind.TheVariants.{Wire}
 use Rattle.cg_model.specs.Array.{delay_by}
 
--- resource r of a list; past the last one a wire without drivers
+-- resource r of a list; past the last one, a wire without drivers
 abbrev pub resource_at : List Resource → ℕ → Resource
 resource_at rs r = slice_index_or rs r (record { name = []; kind = Wire; drivers = [] })
 
@@ -13,13 +13,12 @@ resource_at rs r = slice_index_or rs r (record { name = []; kind = Wire; drivers
 abbrev pub AreKnown : List Resource → Type 0
 AreKnown rs = (q r : ℕ) → Contains (resource_at rs r).drivers q → q < length rs
 
--- resource q drives resource r in the same cycle: it is one of its drivers, and r is no register
+-- resource q drives resource r in the same cycle: it is one of its drivers, and r is not a register
 pub record Passes (rs : List Resource) (q r : ℕ) : Type 0 where
   pub driver : Contains (resource_at rs r).drivers q
   pub at_once : delay_by (resource_at rs r).kind ≡ 0
 
--- a list of all resources, each once, in which each stands after those that drive it in the same
--- cycle
+-- a list of all resources, each once, in which each comes after those that drive it in the same cycle
 pub record IsTopological (rs : List Resource) (order : List ℕ) : Type 0 where
   pub long : length order ≡ length rs
   pub known : (k : ℕ) → k < length order → slice_index order k < length rs

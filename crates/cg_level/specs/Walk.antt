@@ -8,7 +8,7 @@ use Rattle.cg_level.specs.declared.walk.Mark.TheVariants.{New, Open, Done}
 use Rattle.cg_level.specs.declared.walk.Walk.{Walk}
 use Rattle.cg_level.specs.Topological.{Passes, resource_at}
 
--- the mark of resource r; past the last one new
+-- the mark of resource r; past the last one, new
 abbrev pub mark : List Mark → ℕ → Mark
 mark marks r = slice_index_or marks r New
 
@@ -41,12 +41,12 @@ pub record IsPath (rs : List Resource) (path : List ℕ) : Type 0 where
   pub once : (j k : ℕ) → j < length path → k < length path → slice_index path j ≡ slice_index path k → j ≡ k
   pub links : (k : ℕ) → k + 1 < length path → Passes rs (slice_index path (k + 1)) (slice_index path k)
 
--- an order has each resource after those that drive it in the same cycle
+-- in the order each resource comes after those that drive it in the same cycle
 pub record IsClosed (rs : List Resource) (order : List ℕ) : Type 0 where
   pub known : (k : ℕ) → k < length order → slice_index order k < length rs
   pub rising : (k q : ℕ) → k < length order → Passes rs q (slice_index order k) → Contains (take k order) q
 
--- the open resources are those of the path, and the done ones those of the order
+-- the open resources are those on the path, and the done ones those in the order
 pub record AreMarks (rs : List Resource) (marks : List Mark) (path order : List ℕ) : Type 0 where
   pub long : length marks ≡ length rs
   pub opened : (k : ℕ) → k < length path → mark marks (slice_index path k) ≡ Open
@@ -54,7 +54,7 @@ pub record AreMarks (rs : List Resource) (marks : List Mark) (path order : List 
   pub in_order : (r : ℕ) → mark marks r ≡ Done → Contains order r
   pub count : count_by is_done marks ≡ length order
 
--- of each resource the drivers that were passed, counted from the first, are done
+-- for each resource, the passed drivers, counted from the first, are done
 pub record ArePassed (rs : List Resource) (passed order : List ℕ) : Type 0 where
   pub long : length passed ≡ length rs
   pub done : (r p : ℕ) → p < slice_index passed r → p < length (inputs rs r) → Contains order (slice_index (inputs rs r) p)
@@ -66,7 +66,7 @@ pub record IsWalk (rs : List Resource) (w : Walk) : Type 0 where
   pub marks : AreMarks rs w.marks.items w.path.items w.order.items
   pub passed : ArePassed rs w.passed.items w.order.items
 
--- what is left to do: each new resource is opened and closed, and each open one closed
+-- the remaining work: each new resource is opened and closed, and each open one closed
 abbrev pub left : Walk → ℕ
 left w = 2 * count_by is_new w.marks.items + length w.path.items
 
@@ -103,7 +103,7 @@ pub record IsWaiting (rs : List Resource) (w : Walk) (r q : ℕ) : Type 0 where
   pub passes : Passes rs q r
   pub waits : mark w.marks.items q ≢ Done
 
--- all that drive resource r in the same cycle are done
+-- all resources that drive resource r in the same cycle are done
 abbrev pub AreDone : List Resource → Walk → ℕ → Type 0
 AreDone rs w r = (q : ℕ) → Passes rs q r → Contains w.order.items q
 
@@ -113,7 +113,7 @@ pub record IsStep (rs : List Resource) (old new : Walk) : Type 0 where
   pub keeps : Keeps old new
   pub less : left new < left old
 
--- resource start was met, and none is on the path any more: so it is in the order
+-- resource start was met and no resource is left on the path, so start is in the order
 pub record Places (rs : List Resource) (old new : Walk) (start : ℕ) : Type 0 where
   pub walk : IsWalk rs new
   pub keeps : Keeps old new

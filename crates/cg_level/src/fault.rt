@@ -13,8 +13,8 @@ use thiserror::Error;
 pub enum OrderFault {
     #[error("memory ran out")]
     Memory,
-    /// Resources each driven by the one before it in the same cycle, and the first by the last; the one
-    /// with the least number is first.
+    /// A loop of resources, each driven in the same cycle by the one before it, and the first by the last. The loop
+    /// begins with its least number.
     #[error("a loop of resources that drive each other in the same cycle")]
     CombinationalLoop(Words),
 }

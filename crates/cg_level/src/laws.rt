@@ -1,10 +1,10 @@
-//! What orders and loops are to each other. The function here has an empty body: its clauses are laws
-//! about the definitions, for the proofs of crates above.
+//! The relation between orders and loops. The function here has an empty body: its clauses are laws about the
+//! definitions, for the proofs of crates above.
 ghost use Rattle.std.specs.Prelude.{ℕ, List};
 ghost use Rattle.cg_model.specs.declared.array.Resource.{Resource};
 ghost use Rattle.cg_level.specs.Topological.{IsTopological, IsCombinationalLoop, AreLevels};
 
-/// An order gives levels that rise from each resource to those that it drives in the same cycle. So no
+/// States that an order gives levels that rise from each resource to those that it drives in the same cycle, so that no
 /// resources have both an order and a loop.
 pub fn orders_give_levels()
     ensures levels { (rs : List Resource) (order : List ℕ) →

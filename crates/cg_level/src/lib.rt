@@ -1,5 +1,5 @@
-//! The order in which the resources of an architecture have their words within a cycle, or a loop that
-//! leaves none.
+//! The order in which the resources of an architecture are evaluated within a cycle, or a combinational loop that
+//! prevents such an order.
 #![tactic(auto)]
 
 mod fault;

@@ -8,10 +8,10 @@ use crate::walk::Walk;
 use cg_model::{Resource, Words};
 use std::alloc::Global;
 
-/// An order of all resources in which each stands after those that drive it in the same cycle. Where
-/// there is none, the fault names a loop.
+/// Returns an order of all resources in which each comes after those that drive it in the same cycle. Where there is
+/// none, the fault names a loop.
 pub fn topological_order(alloc: Global, resources: &[Resource]) -> Result<Words, OrderFault>
-    // Each has a number of 32 bits.
+    // Each number fits 32 bits.
     requires few { length resources.now ≤ 2 ^ 32 }
     requires known { AreKnown resources.now }
     ensures order { IfOk result (IsTopological resources.now) }

@@ -4,7 +4,7 @@ ghost use Rattle.cg_level.specs.Ring.{IsRing};
 
 use std::alloc::{AllocError, Global};
 
-/// The place of a number in a path, or the path's length where it isn't there.
+/// Returns the position of `number` in `path`, or the path's length where it isn't there.
 fn place_of(path: &[u32], number: u32) -> usize
     ensures within { result ≤ length path.now }
     ensures before { (k : ℕ) → k < result → slice_index path.now k ≢ number }
@@ -18,7 +18,7 @@ fn place_of(path: &[u32], number: u32) -> usize
     path.len()
 }
 
-/// The place of the least number of a path from a place on.
+/// Returns the position of the least number of `path` from position `from` on.
 fn least_place(path: &[u32], from: usize) -> usize
     requires { from < length path.now }
     ensures after { from ≤ result }
@@ -34,7 +34,8 @@ fn least_place(path: &[u32], from: usize) -> usize
     least
 }
 
-/// The numbers of a path from a place back to another, and then those from its end back to the first place.
+/// Returns the numbers of `path` before position `end` back to position `from`, and then those from its end back to
+/// position `end`.
 fn turned(alloc: Global, path: &[u32], from: usize, end: usize) -> Result<Vec<u32>, AllocError>
     requires order { from ≤ end }
     requires within { end ≤ length path.now }
@@ -45,7 +46,8 @@ fn turned(alloc: Global, path: &[u32], from: usize, end: usize) -> Result<Vec<u3
     front.chain(back).copied().collect(alloc)
 }
 
-/// The ring of a path from a number of it on, where that drives the last one.
+/// Returns the ring that `path` closes, from `number` in it to its end, where `number` drives the last resource of the
+/// path.
 pub(crate) fn ring_of(alloc: Global, path: &[u32], number: u32) -> Result<Vec<u32>, AllocError>
     requires { Contains path.now number }
     ensures { IfOk result (λ ring. IsRing path.now number ring.items) }

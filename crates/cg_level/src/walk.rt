@@ -10,7 +10,7 @@ use crate::ring::ring_of;
 use cg_model::{Kind, Resource, Words};
 use std::alloc::{AllocError, Global};
 
-/// How far the walk is with a resource.
+/// The state of a resource in the walk.
 #[derive(Clone, Copy, Debug, PartialEq, Eq)]
 pub(crate) enum Mark {
     /// It wasn't met yet.
@@ -26,7 +26,7 @@ pub(crate) enum Mark {
 pub(crate) struct Walk {
     /// A mark for each resource.
     pub(crate) marks: Vec<Mark>,
-    /// How many drivers of each resource are known to be done.
+    /// The number of drivers of each resource that are known to be done.
     pub(crate) passed: Vec<usize>,
     /// The open resources, each driven by the next one.
     pub(crate) path: Vec<u32>,
@@ -34,7 +34,7 @@ pub(crate) struct Walk {
     pub(crate) order: Vec<u32>,
 }
 
-/// The drivers whose words a resource takes in the same cycle: a register takes none.
+/// Returns the drivers whose words `resource` takes in the same cycle: a register takes none.
 fn inputs(resource: &Resource) -> &[u32]
     ensures { result.now ≡ taken resource.now.kind resource.now.drivers }
 {
@@ -44,7 +44,7 @@ fn inputs(resource: &Resource) -> &[u32]
     }
 }
 
-/// The place of the first driver that isn't done, from a place on, or the number of drivers.
+/// Returns the position of the first of `drivers` that isn't done, from position `from` on, or the number of drivers.
 fn first_waiting(marks: &[Mark], drivers: &[u32], from: usize) -> usize
     requires { (k : ℕ) → k < length drivers.now → slice_index drivers.now k < length marks.now }
     ensures within { result ≤ length drivers.now }
@@ -75,7 +75,7 @@ impl Walk {
         })
     }
 
-    /// Opens a resource.
+    /// Opens `resource`.
     fn open(&mut self, resource: u32) -> Result<(), AllocError>
         requires { resource < length self.old.marks.items }
         ensures { OnOk result (Opens self.old self.new resource) }
@@ -85,7 +85,7 @@ impl Walk {
         Ok(())
     }
 
-    /// Closes the last resource of the path.
+    /// Closes `resource`, the last one of the path.
     fn close(&mut self, resource: u32) -> Result<(), AllocError>
         requires known { resource < length self.old.marks.items }
         requires last { IsLast self.old.path.items resource }
@@ -97,7 +97,7 @@ impl Walk {
         Ok(())
     }
 
-    /// The next driver of a resource that isn't done, where there is one.
+    /// Returns the next driver of `resource` that isn't done, if there is one.
     fn next_driver(&mut self, resources: &[Resource], resource: u32) -> Option<u32>
         requires known { AreKnown resources.now }
         requires resource { resource < length resources.now }
@@ -117,7 +117,8 @@ impl Walk {
         }
     }
 
-    /// Goes on from the last resource of the path: to a driver that isn't done, or back where each is.
+    /// Continues from the last resource of the path: opens a driver that isn't done, or closes the resource where all
+    /// are done.
     fn step(&mut self, alloc: Global, resources: &[Resource]) -> Result<(), OrderFault>
         requires known { AreKnown resources.now }
         requires walk { IsWalk resources.now self.old }
@@ -139,7 +140,7 @@ impl Walk {
         Ok(())
     }
 
-    /// Places a resource in the order, and before it those that it needs there.
+    /// Adds `start` to the order, after the resources that must come before it.
     pub(crate) fn place(
         &mut self,
         alloc: Global,

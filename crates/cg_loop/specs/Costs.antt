@@ -1,4 +1,4 @@
--- How many nodes a guard has.
+-- The number of nodes of a guard.
 use Rattle.std.specs.Prelude.{ℕ, Option, Some, None}
 use Rattle.cg_loop_syntax.specs.Loop.{Expr}
 use Rattle.cg_loop_laws.specs.Translate.{cost}

@@ -7,7 +7,7 @@ use Rattle.cg_loop_syntax.specs.declared.fault.Excess.TheVariants.{Nodes, Order}
 use Rattle.cg_loop_syntax.specs.declared.fault.LoopFault.{LoopFault}
 use Rattle.cg_loop_syntax.specs.declared.fault.LoopFault.TheVariants.{Memory, TooLarge}
 
--- what it has too many of, and their number: nodes, or else order edges
+-- what it has too many of, with their number: nodes, or else order edges
 abbrev pub excess_of : Kernel → Option Excess
 excess_of K =
     if nat_lt most_nodes (size K) then Some (Nodes (size K))

@@ -1,4 +1,4 @@
--- What the names of a body stand for.
+-- The values of the names of a body.
 use Rattle.std.specs.Prelude.{ℕ, ◌+◌, List, [], ◌∷◌, ◌++◌, map, reverse}
 use Rattle.std.specs.List.{flat_map}
 use Rattle.cg_model.specs.declared.kernel.Operand.{Operand}
@@ -20,7 +20,7 @@ operand_of (values.Const w) = Constant w
 operand_of (values.Node u) = here u
 operand_of (values.Carried u start) = Edge u 1 (start ∷ [])
 
--- a name, and what it stands for
+-- a name, and its value
 pub record Known : Type 0 where
   pub name : List ℕ
   pub operand : Operand
@@ -28,7 +28,7 @@ pub record Known : Type 0 where
 abbrev pub known_of : Named → Known
 known_of n = record { name = n.name.now; operand = operand_of n.value }
 
--- what names stand for behind these: the last of a name counts
+-- the values of names after these: the last of a name counts
 abbrev pub env_from : Env → List Known → Env
 env_from V [] = V
 env_from V (k ∷ ks) = env_from (updated V k.name k.operand) ks
@@ -36,7 +36,7 @@ env_from V (k ∷ ks) = env_from (updated V k.name k.operand) ks
 abbrev pub env_of : List Known → Env
 env_of ks = env_from (λ y. Constant 0) ks
 
--- what statements bind, of which the first begins at `at`
+-- the bindings of statements, the first of which begins at `at`
 abbrev pub stmt_bindings : ℕ → Stmt → List Known
 stmt_bindings at (Bind x e) = record { name = x; operand = here (own_node at e) } ∷ []
 stmt_bindings at (Assign x e) = record { name = x; operand = here (own_node at e) } ∷ []
@@ -47,7 +47,7 @@ abbrev pub bindings : ℕ → List Stmt → List Known
 bindings at [] = []
 bindings at (s ∷ ss) = stmt_bindings at s ++ bindings (at + stmt_cost s) ss
 
--- what the carries stand for before the first statement, where the body binds `bs`
+-- the values of the carries before the first statement, where the body binds `bs`
 abbrev pub decl_known : List Known → Decl → List Known
 decl_known bs (Array x at len) = []
 decl_known bs (Carry x start) = record { name = x; operand = Edge (source_of (env_of bs x)) 1 (start ∷ []) } ∷ []
@@ -56,7 +56,7 @@ decl_known bs (Carry x start) = record { name = x; operand = Edge (source_of (en
 abbrev pub carries : List Known → List Decl → List Known
 carries bs ds = reverse (flat_map (decl_known bs) ds)
 
--- ---- at a place
+-- ---- at a point of a loop
 
 abbrev pub env_in : Scope → Env
 env_in s = env_of (map known_of s.known.now)

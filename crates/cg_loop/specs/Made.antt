@@ -1,4 +1,4 @@
--- What is made of a body.
+-- The nodes and accesses that are made of a body.
 use Rattle.std.specs.Prelude.{◌≡◌, ℕ, ◌+◌, List, [], ◌∷◌, ◌++◌, length, Option, Some, None}
 use Rattle.std.specs.Option.{option_map}
 use Rattle.cg_word.specs.declared.op.Op.TheVariants as ops
@@ -21,7 +21,7 @@ pub record Made : Type 0 where
 abbrev pub access_of : WrittenAccess → Access
 access_of a = record { node = a.node; array = a.array.now; writes = a.writes }
 
--- behind `old` stands the code of an expression, which has the value `v`
+-- after `old` comes the code of an expression, which has the value `v`
 pub record Computes (s : Scope) (old new : Made) (e : Expr) (v : Value) : Type 0 where
   pub nodes : new.nodes ≡ old.nodes ++ code (extent s.decls.now) (env_in s) (length old.nodes) e
   pub accesses : new.accesses ≡ old.accesses ++ reads (length old.nodes) e
@@ -67,13 +67,13 @@ allowed_cost (Some g) = 2
 abbrev pub store_cost : {A : Type 0} → Option A → ℕ
 store_cost g = allowed_cost g + 3
 
--- behind `old` stands the code of a statement
+-- after `old` comes the code of a statement
 pub record Executes (s : Scope) (old new : Made) (st : Stmt) : Type 0 where
   pub nodes : new.nodes ≡ old.nodes ++ stmt_code (extent s.decls.now) (env_in s) (length old.nodes) st
   pub accesses : new.accesses ≡ old.accesses ++ stmt_accesses (length old.nodes) st
   pub size : length new.nodes ≡ length old.nodes + stmt_cost st
 
--- whether a store acts, where `inside` tells whether its index is inside the array
+-- whether a store takes effect, where `inside` says whether its index is inside the array
 abbrev pub allowed_nodes : ℕ → Operand → Option Operand → List Node
 allowed_nodes p inside None = []
 allowed_nodes p inside (Some g) = plain p ops.Ne (g ∷ Constant 0 ∷ []) ∷ plain (p + 1) ops.And (inside ∷ here p ∷ []) ∷ []

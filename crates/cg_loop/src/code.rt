@@ -1,4 +1,4 @@
-//! Nodes and accesses to arrays that are made one after the other.
+//! Nodes and accesses to arrays, which are made one by one.
 ghost use Rattle.std.specs.Prelude.{◌≡◌, IfOk, map};
 ghost use Rattle.cg_loop.specs.Known.{operand_of};
 
@@ -17,7 +17,7 @@ pub(crate) struct Access<'b> {
     pub writes: bool,
 }
 
-/// The nodes that were made so far, and the accesses among them.
+/// The nodes made so far, and the accesses among them.
 #[derive(Drop)]
 pub(crate) struct Code<'b> {
     alloc: Global,
@@ -40,7 +40,7 @@ impl<'b> Code<'b> {
     ghost use Rattle.cg_loop.specs.Known.{operand_of};
     ghost use Rattle.cg_loop.specs.Made.{access_of};
 
-    /// Returns code of no node.
+    /// Returns code without nodes.
     pub fn new(alloc: Global) -> Code<'b>
         ensures { result ≡ record { nodes = []; accesses = [] } }
     {
@@ -58,7 +58,7 @@ impl<'b> Code<'b> {
         self.nodes.len()
     }
 
-    /// Lends the accesses, in order.
+    /// Borrows the accesses, in order.
     pub fn accesses(&self) -> &[Access<'b>]
         ensures { map access_of result.now ≡ self.now.accesses }
     {
@@ -72,7 +72,7 @@ impl<'b> Code<'b> {
         self.nodes
     }
 
-    /// Adds a node of the operation `op` and of the stream of `port`, and returns its value.
+    /// Adds a node of the operation `op` on the stream of `port`, and returns its value.
     pub fn add_ported(&mut self, op: Op, port: u32, operands: &[Value]) -> Result<Value, AllocError>
         requires { length self.old.nodes < 1024 }
         ensures value { IfOk result (λ value. operand_of value ≡ here (length self.old.nodes)) }
@@ -100,7 +100,7 @@ impl<'b> Code<'b> {
         self.add_ported(op, 0, operands)
     }
 
-    /// Adds that the last node accesses `array`.
+    /// Records that the last node accesses `array`.
     pub fn add_access(&mut self, array: &'b Name, writes: bool) -> Result<(), AllocError>
         requires some { 1 ≤ length self.old.nodes }
         requires small { length self.old.nodes ≤ 1024 }

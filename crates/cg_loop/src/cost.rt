@@ -1,4 +1,4 @@
-//! How many nodes the parts of a loop have.
+//! The numbers of nodes of the parts of a loop.
 ghost use Rattle.std.specs.Prelude.{◌≡◌, ◌+◌, IfOk, map};
 ghost use Rattle.cg_word.specs.declared.op.Op.{Op};
 ghost use Rattle.cg_loop_syntax.specs.Grouped.{expr_of, sum_of, whole_prod, atom_of, applied, guard_of, stmt_of};
@@ -8,14 +8,14 @@ ghost use Rattle.cg_loop_laws.specs.Translate.{cost, own_cost, stmt_cost, body_c
 use cg_loop_syntax::{Atom, Expr, Prod, Stmt, Sum};
 use std::alloc::AllocError;
 
-/// Returns the sum of `a` and `b`; an error where it doesn't fit.
+/// Returns the sum of `a` and `b`, or an error if it overflows.
 pub(crate) fn plus(a: usize, b: usize) -> Result<usize, AllocError>
     ensures { IfOk result (λ n. n ≡ a + b) }
 {
     a.checked_add(b).ok_or(AllocError)
 }
 
-/// Returns the number of nodes of an operation whose operands have `a` and `b`.
+/// Returns the number of nodes of an operation whose operands have `a` and `b` nodes.
 fn pair_cost(a: usize, b: usize) -> Result<usize, AllocError>
     ensures { IfOk result (λ n. n ≡ a + b + 1) }
 {
@@ -77,7 +77,7 @@ fn atom_cost(atom: &Atom) -> Result<usize, AllocError>
     }
 }
 
-/// Returns the number of nodes of an operation of `operands`.
+/// Returns the number of nodes of an operation on `operands`.
 #[cycle(cost)]
 fn applied_cost(operands: &[Expr]) -> Result<usize, AllocError>
     ensures { IfOk result (λ n. (op : Op) → n ≡ cost (applied op (map expr_of operands.now))) }
@@ -89,14 +89,14 @@ fn applied_cost(operands: &[Expr]) -> Result<usize, AllocError>
     }
 }
 
-/// Returns the number of nodes of a value with a node of its own, that of `expr`.
+/// Returns the number of nodes of the value of `expr`, when the value gets a node of its own.
 pub(crate) fn own_cost(expr: &Expr) -> Result<usize, AllocError>
     ensures { IfOk result (λ n. n ≡ own_cost (expr_of expr.now)) }
 {
     Ok(expr_cost(expr)?.max(1))
 }
 
-/// Returns the number of nodes of `guard`; 0 where there is none.
+/// Returns the number of nodes of `guard`; 0 if it is absent.
 fn guard_cost(guard: &Option<Expr>) -> Result<usize, AllocError>
     ensures { IfOk result (λ n. n ≡ guard_cost (guard_of guard.now)) }
 {

@@ -48,7 +48,7 @@ fn sum_code<'b>(scope: &Scope, sum: &'b Sum, code: &mut Code<'b>) -> Result<Valu
     Ok(value)
 }
 
-/// Adds the code of `prod` to `code`, and returns its value. A product of no atom is 0.
+/// Adds the code of `prod` to `code`, and returns its value. The value of a product without atoms is 0.
 #[cycle(exprs)]
 fn prod_code<'b>(scope: &Scope, prod: &'b Prod, code: &mut Code<'b>) -> Result<Value, AllocError>
     requires { length code.old.nodes + cost (whole_prod prod.now) ≤ 1024 }
@@ -87,7 +87,8 @@ fn atom_code<'b>(scope: &Scope, atom: &'b Atom, code: &mut Code<'b>) -> Result<V
     }
 }
 
-/// Adds the code of the operation `op` of `operands` to `code`, and returns its value. With another number of operands than two or three it is 0.
+/// Adds the code of the operation `op` on `operands` to `code`, and returns its value. If the operands aren't two or
+/// three, the value is 0.
 #[cycle(exprs)]
 fn applied_code<'b>(
     scope: &Scope,
@@ -114,7 +115,7 @@ fn applied_code<'b>(
     }
 }
 
-/// Adds the load of a word of `array` to `code`, and returns its value, where `index` is its index.
+/// Adds the load of the word of `array` at `index` to `code`, and returns its value.
 fn load_code<'b>(
     scope: &Scope,
     array: &'b Name,
@@ -132,7 +133,7 @@ fn load_code<'b>(
     Ok(value)
 }
 
-/// An address of a word of an array.
+/// The address of a word of an array.
 #[derive(Clone, Copy)]
 pub(crate) struct Address {
     /// Whether the index is inside the array.
@@ -140,7 +141,7 @@ pub(crate) struct Address {
     pub word: Value,
 }
 
-/// Adds the address of a word of an array that stands at `extent` to `code`, where `index` is its index.
+/// Adds the address of the word at `index` of an array at `extent` to `code`.
 pub(crate) fn address_code(
     extent: Extent,
     index: Value,

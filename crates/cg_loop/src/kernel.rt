@@ -13,13 +13,14 @@ use cg_loop_syntax::{Excess, LoopBody, LoopFault};
 use cg_model::{Kernel, MOST_NODES, MOST_ORDER_EDGES};
 use std::alloc::Global;
 
-/// Returns the kernel of the loop `body`: its nodes in the order of the text, and the order edges that its accesses to arrays need.
+/// Returns the kernel of the loop `body`: its nodes in the order of the text, and the order edges that its accesses to
+/// arrays need.
 pub fn loop_kernel(alloc: Global, body: &LoopBody) -> Result<Kernel, LoopFault>
-    // It is the kernel of the loop.
+    // The result is the kernel of the loop.
     ensures found { IfOk result (λ kernel. kernel ≡ loop_kernel_of (body_of body.now)) }
-    // Which fault it is.
+    // The fault is one that applies to the kernel.
     ensures fault { IfErr result (λ e. IsKernelFault e (loop_kernel_of (body_of body.now))) }
-    // A kernel that is too large is refused, with the number, unless memory runs out.
+    // A kernel that is too large is refused, with the number of its nodes or order edges, unless memory runs out.
     ensures exact { (x : excesses.Excess) → excess_of (loop_kernel_of (body_of body.now)) ≡ Some x → GivesExcess x result }
 {
     let size = body_cost(body.stmts.as_slice())?;

@@ -1,4 +1,4 @@
-//! The kernel of a loop as it is written.
+//! The kernel of a loop body.
 #![tactic(auto)]
 
 mod code;

@@ -1,4 +1,4 @@
-//! What the names of a loop stand for.
+//! The values of the names of a loop.
 ghost use Rattle.std.specs.Prelude.{◌≡◌, ◌++◌, ◌+◌, ◌≤◌, ℕ, IfOk, map};
 ghost use Rattle.cg_loop_syntax.specs.Grouped.{stmt_of};
 ghost use Rattle.cg_loop_laws.specs.Translate.{body_cost, stmt_cost, source_of};
@@ -8,25 +8,25 @@ use crate::cost::{plus, stmt_cost};
 use cg_loop_syntax::{Decl, Name, Stmt};
 use std::alloc::{AllocError, Global};
 
-/// What an operand is.
+/// The value of an operand.
 #[derive(Clone, Copy)]
 pub(crate) enum Value {
     /// A word.
     Const(u32),
     /// The value of the node of that number.
     Node(u32),
-    /// The value of a node in the turn before, and `start` in the first turn.
+    /// The value of a node in the iteration before, and `start` in the first iteration.
     Carried { node: u32, start: u32 },
 }
 
-/// A name and what it stands for.
+/// A name and its value.
 #[derive(Drop)]
 pub(crate) struct Named<'b> {
     pub name: &'b Name,
     pub value: Value,
 }
 
-/// Returns what `name` stands for behind `known`: the last of that name, or else 0.
+/// Returns the value of `name` after `known`: the last one of that name, or 0 if there is none.
 pub(crate) fn value_of(known: &[Named], name: &Name) -> Value
     ensures { operand_of result ≡ env_of (map known_of known.now) name.now }
 {
@@ -39,7 +39,8 @@ pub(crate) fn value_of(known: &[Named], name: &Name) -> Value
     value
 }
 
-/// Returns what names stand for before the first statement of a loop of the declarations `decls` and the statements `stmts`.
+/// Returns the values of names before the first statement of a loop of the declarations `decls` and the statements
+/// `stmts`.
 pub(crate) fn first_known<'b>(
     alloc: Global,
     decls: &'b [Decl],
@@ -52,7 +53,7 @@ pub(crate) fn first_known<'b>(
     carries_of(alloc, decls, &bindings)
 }
 
-/// Returns what `stmts` bind, in order.
+/// Returns the bindings of `stmts`, in order.
 fn bindings_of<'b>(alloc: Global, stmts: &'b [Stmt]) -> Result<Vec<Named<'b>>, AllocError>
     requires { body_cost (map stmt_of stmts.now) ≤ 1024 }
     ensures { IfOk result (λ all. map known_of all.items ≡ bindings 0 (map stmt_of stmts.now)) }
@@ -66,7 +67,7 @@ fn bindings_of<'b>(alloc: Global, stmts: &'b [Stmt]) -> Result<Vec<Named<'b>>, A
     Ok(bindings)
 }
 
-/// Adds to `known` what `stmt` binds, the last of whose nodes is the one before `end`.
+/// Adds to `known` the binding of `stmt`, if any. The last node of `stmt` is the one before `end`.
 pub(crate) fn bind<'b>(
     known: &mut Vec<Named<'b>>,
     stmt: &'b Stmt,
@@ -88,7 +89,8 @@ pub(crate) fn bind<'b>(
     }
 }
 
-/// Returns what the carries of `decls` stand for before the first statement, where `bindings` are those of the whole loop.
+/// Returns the values of the carries of `decls` before the first statement, where `bindings` are those of the whole
+/// loop.
 fn carries_of<'b>(
     alloc: Global,
     decls: &'b [Decl],
@@ -113,7 +115,7 @@ fn carries_of<'b>(
     Ok(carries)
 }
 
-/// Returns the node whose value `value` is; 0 where it is a word.
+/// Returns the node whose value `value` is; 0 if it is a word.
 fn source_of(value: Value) -> u32
     ensures { result ≡ source_of (operand_of value) }
 {

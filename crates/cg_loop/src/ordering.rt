@@ -9,7 +9,7 @@ use cg_loop_syntax::{Decl, Name};
 use cg_model::OrderEdge;
 use std::alloc::{AllocError, Global};
 
-/// Returns the order edges of a loop of the declarations `decls` and of the accesses `accesses`.
+/// Returns the order edges of a loop with the declarations `decls` and the accesses `accesses`.
 pub(crate) fn order_edges(
     alloc: Global,
     decls: &[Decl],
@@ -26,7 +26,7 @@ pub(crate) fn order_edges(
     Ok(edges)
 }
 
-/// Adds to `edges` those between the accesses of `accesses` to `array`.
+/// Adds to `edges` the order edges between the accesses of `accesses` to `array`.
 fn add_edges(
     accesses: &[Access],
     array: &Name,
@@ -42,7 +42,7 @@ fn add_edges(
     Ok(())
 }
 
-/// Adds to `edges` those between the access `first` and the ones of `later` to `array`.
+/// Adds to `edges` the order edges between the access `first` and those of `later` to `array`.
 fn add_edges_from(
     first: &Access,
     later: &[Access],
@@ -59,7 +59,8 @@ fn add_edges_from(
     Ok(())
 }
 
-/// Adds to `edges` those between the accesses `first` and `second`: where one of them writes, the second comes after the first in each turn, and the first after the second of the turn before.
+/// Adds to `edges` the order edges between the accesses `first` and `second`: if one of them writes, the second comes
+/// after the first in each iteration, and the first after the second of the iteration before.
 fn add_pair(first: &Access, second: &Access, edges: &mut Vec<OrderEdge>) -> Result<(), AllocError>
     ensures { IfOk result (λ u. edges.new.items ≡ edges.old.items ++ pair_edges (access_of first.now) (access_of second.now)) }
 {

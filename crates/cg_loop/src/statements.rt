@@ -60,7 +60,7 @@ pub(crate) fn stmt_code<'b>(
     }
 }
 
-/// Adds the code of a value with a node of its own, that of `expr`, to `code`.
+/// Adds the code of the value of `expr` to `code`, with a node of its own for the value.
 fn own_code<'b>(scope: &Scope, expr: &'b Expr, code: &mut Code<'b>) -> Result<(), AllocError>
     requires { length code.old.nodes + own_cost (expr_of expr.now) ≤ 1024 }
     ensures { IfOk result (λ u. Owns scope.now code.old code.new (expr_of expr.now)) }
@@ -73,7 +73,7 @@ fn own_code<'b>(scope: &Scope, expr: &'b Expr, code: &mut Code<'b>) -> Result<()
     Ok(())
 }
 
-/// Adds the code of `guard` to `code`, and returns its value; None where there is none.
+/// Adds the code of `guard` to `code`, and returns its value; `None` if it is absent.
 fn guard_code<'b>(
     scope: &Scope,
     guard: &'b Option<Expr>,
@@ -100,7 +100,8 @@ fn store_code<'b>(scope: &Scope, store: &Store<'b>, code: &mut Code<'b>) -> Resu
     code.add_access(store.array, true)
 }
 
-/// Adds to `code` the test of `guard`, where there is one, beside `inside`; returns the value that tells whether a store acts.
+/// Adds to `code` the conjunction of `inside` and `guard`, if there is a guard; returns the value that says whether a
+/// store takes effect.
 fn allowed_code(inside: Value, guard: Option<Value>, code: &mut Code) -> Result<Value, AllocError>
     requires { length code.old.nodes + allowed_cost guard ≤ 1024 }
     ensures nodes { IfOk result (λ value. code.new.nodes ≡ code.old.nodes ++ allowed_nodes (length code.old.nodes) (operand_of inside) (option_map operand_of guard)) }

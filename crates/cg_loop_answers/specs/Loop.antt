@@ -21,16 +21,16 @@ use Rattle.cg_loop_reader.specs.FaultText.{loop_fault_text}
 use Rattle.cg_loop.specs.Excess.{excess_of}
 use Rattle.cg_inputs.specs.Refused.{Tells}
 
--- what the bytes give: the loop body that they spell, or a fault that they have
+-- the result of parsing the bytes: the loop body that they describe, or a fault in them
 abbrev pub IsReading : Bytes → Result Body LoopFault → Type 0
 IsReading bytes (Ok P) = Spells bytes P
 IsReading bytes (Err e) = IsFault e bytes
 
--- the file gives no loop body
+-- the file contains no valid loop body
 abbrev pub RefusesLoop : File → Outcome → Type 0
 RefusesLoop file o = Tells (IsReading file.bytes) Memory loop_fault_text file.name o
 
--- the report: how many nodes and order edges there are
+-- the report: the numbers of nodes and order edges
 abbrev pub loop_report : Kernel → Bytes
 loop_report K = line_then (codes "nodes " ∷ decimal (size K) ∷ []) (line_of (codes "order " ∷ decimal (length K.order) ∷ []))
 
@@ -42,7 +42,7 @@ kernel_written K out = writes_one Done (loop_report K) out (kernel_text K)
 abbrev pub kernel_refused : Name → Excess → Outcome
 kernel_refused file x = malformed_of file (loop_fault_text (TooLarge x))
 
--- one or the other, by what K has too many of
+-- `kernel_written` or `kernel_refused`, by what K has too many of
 abbrev pub kernel_outcome_by : Name → Name → Kernel → Option Excess → Outcome
 kernel_outcome_by file out K None = kernel_written K out
 kernel_outcome_by file out K (Some x) = kernel_refused file x
@@ -50,7 +50,7 @@ kernel_outcome_by file out K (Some x) = kernel_refused file x
 abbrev pub kernel_outcome : Name → Name → Kernel → Outcome
 kernel_outcome file out K = kernel_outcome_by file out K (excess_of K)
 
--- the outcome by what the file gives: a loop body, or a fault
+-- the outcome for the result of parsing the file: a loop body, or a fault
 abbrev pub loop_outcome : File → Name → Result Body LoopFault → Outcome
 loop_outcome file out (Ok P) = kernel_outcome file.name out (loop_kernel_of P)
 loop_outcome file out (Err e) = malformed_of file.name (loop_fault_text e)
@@ -61,16 +61,17 @@ pub record IsLoopOf (file : File) (out : Name) (o : Outcome) : Type 0 where
   pub no_memory : given ≢ Err Memory
   pub outcome : o ≡ loop_outcome file out given
 
--- the bytes spell a loop body whose kernel is no larger than kernels may be
+-- the bytes describe a loop body whose kernel is within the limits on kernels
 pub record IsTranslatable (file : File) : Type 0 where
   pub body : Body
   pub spelled : Spells file.bytes body
   pub few : size (loop_kernel_of body) ≤ most_nodes
   pub few_edges : length (loop_kernel_of body).order ≤ most_order_edges
 
--- Done: a loop body was read; the text of its kernel is held under the other name, and its numbers were put. The kernel is
--- valid, and its turns do what the loop does on each image whose memory has the words of all arrays. No run of it leaves
--- accesses unordered that matter, whatever the image: so what holds of its mappings needs no premise on the image
+-- Done: a loop body was read; the text of its kernel is held under the other name, and its numbers of nodes and order
+-- edges were reported. The kernel is valid, and its iterations do what the loop does on each image whose memory has the
+-- words of all arrays. No run of it leaves accesses unordered that matter, whatever the image: so what holds of its
+-- mappings needs no premise on the image
 pub record IsLooped (file out : Name) (before after : Moment) : Type 0 where
   pub bytes : Bytes
   pub held : Holds before.held file bytes

@@ -1,4 +1,4 @@
-//! What `loop` answers: the kernel of a loop as one writes it.
+//! The answer of `loop`, which translates the source text of a loop to a kernel.
 #![tactic(auto)]
 
 mod looping;

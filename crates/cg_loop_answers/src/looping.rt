@@ -13,7 +13,7 @@ use cg_loop::{LoopBody, LoopFault, loop_fault_text, loop_kernel};
 use cg_model::Kernel;
 use std::alloc::{AllocError, Global};
 
-/// Returns the outcome of `loop`: the kernel of the loop body that `file` spells, to be written under the name `out`.
+/// Returns the outcome of `loop`: the kernel of the loop body in `file`, to be written under the name `out`.
 pub fn loop_answer(alloc: Global, file: &File, out: &str) -> Result<Outcome, Stop>
     ensures { Allows (IsLoopOf (file_of file.now) out.now) result }
 {
@@ -21,7 +21,7 @@ pub fn loop_answer(alloc: Global, file: &File, out: &str) -> Result<Outcome, Sto
     translated(alloc, file, &body, out)
 }
 
-/// Returns the outcome for the loop `body`, which `file` spells.
+/// Returns the outcome for the loop `body`, which was read from `file`.
 fn translated(alloc: Global, file: &File, body: &LoopBody, out: &str) -> Result<Outcome, Stop>
     ensures { Allows (λ o. o ≡ kernel_outcome (file_of file.now).name out.now (loop_kernel_of (body_of body.now))) result }
 {
@@ -35,7 +35,7 @@ fn translated(alloc: Global, file: &File, body: &LoopBody, out: &str) -> Result<
     }
 }
 
-/// Returns the outcome that writes `kernel` under the name `out`, and reports how large it is.
+/// Returns the outcome that writes `kernel` under the name `out`, and reports its size.
 fn written(alloc: Global, kernel: &Kernel, out: &str) -> Result<Outcome, Stop>
     ensures { Allows (λ o. o ≡ kernel_written kernel.now out.now) result }
 {
@@ -44,7 +44,7 @@ fn written(alloc: Global, kernel: &Kernel, out: &str) -> Result<Outcome, Stop>
     Ok(Outcome::with_file(alloc, Status::Done, report, out, text)?)
 }
 
-/// Returns the report on `kernel`: how many nodes and order edges it has.
+/// Returns the report on `kernel`: the numbers of its nodes and order edges.
 fn loop_report(alloc: Global, kernel: &Kernel) -> Result<Vec<u8>, AllocError>
     ensures { IfOk result (λ v. v.items ≡ loop_report kernel.now) }
 {

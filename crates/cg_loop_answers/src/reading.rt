@@ -1,4 +1,4 @@
-//! The loop body that a file gives. Where it gives none, the call ends by the outcome of its refusal.
+//! Reads the loop body in a file. A file without a valid loop body ends the call with the outcome that refuses it.
 ghost use Rattle.std.specs.Prelude.{IfOk, IfErr};
 ghost use Rattle.cg_ending.specs.Allowed.{EndsBy};
 ghost use Rattle.cg_ending.specs.Outcome.{file_of};
@@ -10,7 +10,7 @@ use cg_ending::{File, Stop, refusal};
 use cg_loop::{LoopBody, LoopFault, loop_fault_text, read_loop};
 use std::alloc::Global;
 
-/// Reads the loop body that `file` spells. A fault of it ends the call with status 3.
+/// Reads the loop body in `file`. A fault in it ends the call with status 3.
 pub(crate) fn body_in(alloc: Global, file: &File) -> Result<LoopBody, Stop>
     ensures spelled { IfOk result (λ body. Spells (file_of file.now).bytes (body_of body)) }
     ensures refused { IfErr result (EndsBy (RefusesLoop (file_of file.now))) }

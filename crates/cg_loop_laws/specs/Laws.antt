@@ -1,4 +1,4 @@
--- What is proved of loops: their kernels are kernels, do what the loops do, and leave no access open.
+-- What is proved of loops: their kernels are valid, do what the loops do, and have no aliased accesses.
 use Rattle.std.specs.Prelude.{◌≡◌, ℕ, ◌+◌, ◌<◌, ◌≤◌, Bool, true, ◌&&◌, eqb, nat_lt, List, Option, Some, None, length, map, slice_index}
 use Rattle.std.specs.List.{list_all, range_with_len}
 use Rattle.cg_word.specs.Word.{words, arity}
@@ -19,7 +19,7 @@ use Rattle.cg_loop_laws.specs.Translate.{loop_kernel_of}
 
 -- ---- which bodies
 
--- numbers are words, and operations are those of words, with their operands
+-- numbers are words, and operations are those on words, with their operands
 abbrev pub is_sound : Expr → Bool
 is_sound (Num w) = nat_lt w words
 is_sound Turn = true
@@ -43,19 +43,19 @@ abbrev pub is_sound_decl : Decl → Bool
 is_sound_decl (Array x at len) = true
 is_sound_decl (Carry x start) = nat_lt start words
 
--- a body that a text of the language may be
+-- a body that a text of the language may encode
 pub record IsLoop (P : Body) : Type 0 where
   pub decls : list_all is_sound_decl P.decls ≡ true
   pub stmts : list_all is_sound_stmt P.stmts ≡ true
   pub ruled : is_ruled P ≡ true
 
--- so is what a loop body of the program stands for
+-- the body of each loop body of the program is a loop
 abbrev pub AreLoops : Type 0
 AreLoops = (b : LoopBody) → IsLoop (body_of b)
 
--- ---- what their kernels are and do
+-- ---- validity and effect of their kernels
 
--- within the limits they are kernels
+-- within the limits they are valid kernels
 abbrev pub AreKernels : Type 0
 AreKernels = (P : Body) → IsLoop P → size (loop_kernel_of P) ≤ most_nodes → length (loop_kernel_of P).order ≤ most_order_edges → IsKernel (loop_kernel_of P)
 
@@ -66,7 +66,8 @@ HasRoom P image = (a : List ℕ) → (extent P.decls a).at + (extent P.decls a).
 abbrev pub IsInside : Extent → ℕ → Type 0
 IsInside r x = (r.at ≤ x) × (x < r.at + r.len)
 
--- the turns of the kernel leave each array as the loop does, the rest of the memory as it was, the loop's outputs, and no access outside the memory
+-- the iterations of the kernel leave each array as the loop does, the rest of the memory unchanged, the loop's outputs,
+-- and no access outside the memory
 pub record LeavesLoop (P : Body) (n : ℕ) (image : Image) : Type 0 where
   pub size : length (turns_left (loop_kernel_of P) n image).image.memory ≡ length image.memory
   pub lengths : (a : List ℕ) → length ((loop_left P n image).arrays a) ≡ (extent P.decls a).len
@@ -80,6 +81,6 @@ pub record LeavesLoop (P : Body) (n : ℕ) (image : Image) : Type 0 where
 abbrev pub DoLoops : Type 0
 DoLoops = (P : Body) (n : ℕ) (image : Image) → IsLoop P → HasRoom P image → LeavesLoop P n image
 
--- no run of the kernel leaves two accesses open, whatever the image
+-- no run of the kernel has two aliased accesses, whatever the image
 abbrev pub AreUnaliased : Type 0
 AreUnaliased = (P : Body) (n : ℕ) (image : Image) → IsLoop P → IsUnaliased (loop_kernel_of P) n image

@@ -1,4 +1,4 @@
--- What a loop does, turn by turn: no nodes, edges or addresses.
+-- What a loop does, iteration by iteration: no nodes, edges or addresses.
 use Rattle.std.specs.Prelude.{ℕ, zero, suc, ◌%◌, bytes_eq, eqb, nat_lt, if◌then◌else◌, Bool, true, List, [], ◌∷◌, ◌++◌, Option, Some, None, take, drop, slice_index, slice_index_or, slice_set}
 use Rattle.cg_word.specs.Word.{words, apply_of}
 use Rattle.cg_model.specs.Work.{Image}
@@ -18,7 +18,7 @@ updated f x v y = if bytes_eq y x then v else f y
 abbrev pub sent_to : (ℕ → List ℕ) → ℕ → ℕ → ℕ → List ℕ
 sent_to outs p w q = if eqb q p then outs q ++ w ∷ [] else outs q
 
--- an expression's value in turn i
+-- an expression's value in iteration i
 abbrev pub eval : Image → ℕ → State → Expr → ℕ
 eval image i s (Num w) = w
 eval image i s Turn = i % words
@@ -33,7 +33,7 @@ abbrev pub allows : Image → ℕ → State → Option Expr → Bool
 allows image i s None = true
 allows image i s (Some g) = nat_lt 0 (eval image i s g)
 
--- a store sets the word at its index where that is inside the array
+-- a store sets the word at its index if that is inside the array
 abbrev pub exec : Image → ℕ → State → Stmt → State
 exec image i s (Bind x e) = record s { scalars = updated s.scalars x (eval image i s e) }
 exec image i s (Assign x e) = record s { scalars = updated s.scalars x (eval image i s e) }
@@ -62,11 +62,11 @@ start P image =
       outs = λ p. [];
     }
 
--- only carries keep their words from turn to turn
+-- only carries keep their words from iteration to iteration
 abbrev pub next_turn : Body → State → State
 next_turn P s = record s { scalars = λ x. if_some (carry P.decls x) (s.scalars x) }
 
--- what n turns leave
+-- what n iterations leave
 unfoldable pub loop_left : Body → ℕ → Image → State
 loop_left P zero image = start P image
 loop_left P (suc n) image = next_turn P (exec_all image n (loop_left P n image) P.stmts)

@@ -1,4 +1,5 @@
--- The kernel of a loop body. Code begins at a given node number; an environment has the operand of each name.
+-- The kernel of a loop body. The nodes are numbered from a given number on; an environment has the operand of each
+-- name.
 use Rattle.std.specs.Prelude.{ℕ, ◌+◌, bytes_eq, if◌then◌else◌, Bool, true, false, ◌||◌, List, [], ◌∷◌, ◌++◌, Option, Some, None, filter, codes, decimal}
 use Rattle.std.specs.List.{flat_map}
 use Rattle.cg_word.specs.declared.op.Op.{Op}
@@ -20,20 +21,20 @@ Env = List ℕ → Operand
 abbrev pub node_name : ℕ → List ℕ
 node_name at = codes "n" ++ decimal at
 
--- the node of number `at`: of an operation without a port, and with one
+-- the node number `at`: of an operation without a port, and with one
 abbrev pub plain : ℕ → Op → List Operand → Node
 plain at op operands = record { name = node_name at; op = op; port = 0; operands = operands }
 
 abbrev pub ported : ℕ → Op → ℕ → List Operand → Node
 ported at op port operands = record { name = node_name at; op = op; port = port; operands = operands }
 
--- the value of node u in this turn
+-- the value of node u in this iteration
 abbrev pub here : ℕ → Operand
 here u = Edge u 0 []
 
 -- ---- expressions
 
--- the number of nodes
+-- the number of nodes of an expression
 abbrev pub cost : Expr → ℕ
 cost (Num w) = 1
 cost Turn = 1
@@ -43,7 +44,7 @@ cost (Item a e) = cost e + 3
 cost (Two op a b) = cost a + cost b + 1
 cost (Three op a b c) = cost a + cost b + cost c + 1
 
--- the operand that has the value
+-- the operand that holds the value
 abbrev pub result : Env → ℕ → Expr → Operand
 result V at (Num w) = here at
 result V at Turn = here at
@@ -142,11 +143,11 @@ abbrev pub source_of : Operand → ℕ
 source_of (Constant w) = 0
 source_of (Edge u d init) = u
 
--- the node of the value that a name has at the end of a turn
+-- the node of the value that a name has at the end of an iteration
 abbrev pub ends : List Stmt → List ℕ → ℕ
 ends ss x = source_of (body_env (λ y. Constant 0) 0 ss x)
 
--- before its assignment a carry is the value at the end of the turn before
+-- before its assignment a carry is the value at the end of the iteration before
 abbrev pub carried : ℕ → Option ℕ → Operand
 carried u None = Constant 0
 carried u (Some w) = Edge u 1 (w ∷ [])
@@ -156,7 +157,7 @@ first_env P x = carried (ends P.stmts x) (carry P.decls x)
 
 -- ---- order edges
 
--- accesses, in order
+-- accesses to arrays, in order
 pub record Access : Type 0 where
   pub node : ℕ
   pub array : List ℕ
@@ -181,7 +182,7 @@ abbrev pub accesses : ℕ → List Stmt → List Access
 accesses at [] = []
 accesses at (s ∷ ss) = stmt_accesses at s ++ accesses (at + stmt_cost s) ss
 
--- one before the other in the same turn, the other before the one in the next
+-- one before the other in the same iteration, the other before the one in the next
 abbrev pub pair_edges : Access → Access → List OrderEdge
 pair_edges u v =
     if u.writes || v.writes

@@ -1,4 +1,4 @@
--- What judging the names and the ports of a text answers.
+-- The result of checking the names and the ports of a text.
 use Rattle.std.specs.Prelude.{◌≡◌, Option, Some}
 use Rattle.cg_loop_syntax.specs.declared.fault.LoopFault.{LoopFault}
 use Rattle.cg_loop_syntax.specs.declared.fault.LoopFault.TheVariants.{Memory}

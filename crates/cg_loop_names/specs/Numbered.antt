@@ -4,7 +4,7 @@ use Rattle.cg_loop_syntax.specs.Uses as uses
 use Rattle.cg_loop_names.specs.declared.numbering.NumberedUse.{NumberedUse}
 use Rattle.cg_loop_names.specs.declared.numbering.NumberedUses.{NumberedUses}
 
--- a use whose name is its number alone
+-- a use whose name is its number
 abbrev pub numbered_use : NumberedUse → uses.Use
 numbered_use u = record { role = u.role; name = u.name ∷ []; place = u.place }
 

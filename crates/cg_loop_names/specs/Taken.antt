@@ -9,7 +9,7 @@ abbrev pub has_word : ℕ → Role → Bool
 has_word word (roles.Array at len) = nat_le at word && nat_lt word (at + len)
 has_word word _ = false
 
--- there is a word, none past the end, and none is taken
+-- there is at least one word, none past the end, and none is taken
 abbrev pub are_free : List Bool → ℕ → ℕ → Bool
 are_free taken start end = nat_lt start end && (nat_le end (length taken) && not (list_any (λ word. word) (slice_range taken start end)))
 

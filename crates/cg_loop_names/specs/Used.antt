@@ -1,4 +1,4 @@
--- A use of the program.
+-- The use that a `Use` of the program denotes.
 use Rattle.cg_loop_syntax.specs.Uses as uses
 use Rattle.cg_loop_names.specs.declared.uses.Use.{Use}
 

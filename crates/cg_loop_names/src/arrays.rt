@@ -1,4 +1,4 @@
-//! Arrays that have no place of their own.
+//! Arrays that are misplaced.
 ghost use Rattle.std.specs.Prelude.{◌≡◌, ◌≤◌, ℕ, ◌&&◌, ◌||◌, nat_le, nat_lt, false, [], length, IfOk, slice_index_or};
 ghost use Rattle.std.specs.List.{list_any};
 ghost use Rattle.cg_loop_syntax.specs.Uses as spec;
@@ -10,7 +10,7 @@ use cg_loop_syntax::Role;
 use cg_model::MOST_MEMORY;
 use std::alloc::{AllocError, Global};
 
-/// Makes a memory of `count` words, none of which is taken.
+/// Allocates a memory of `count` words, none of which is taken.
 fn free_words(alloc: Global, count: usize) -> Result<Vec<bool>, AllocError>
     ensures length { IfOk result (λ taken. length taken.items ≡ count) }
     ensures free { IfOk result (λ taken. (word : ℕ) → slice_index_or taken.items word false ≡ false) }
@@ -18,21 +18,21 @@ fn free_words(alloc: Global, count: usize) -> Result<Vec<bool>, AllocError>
     vec![in alloc; false; count]
 }
 
-/// Tells whether one of the words is taken.
+/// Returns whether one of `words` is taken.
 fn is_taken(words: &[bool]) -> bool
     ensures { result ≡ list_any (λ word. word) words.now }
 {
     words.iter().any(|word| *word)
 }
 
-/// Tells whether there is a word from `start` on before `end`, none of them past the last, and none taken.
+/// Returns whether the words from `start` to before `end` are at least one, lie within `taken`, and are all free.
 fn are_free(taken: &[bool], start: usize, end: usize) -> bool
     ensures { result ≡ are_free taken.now start end }
 {
     start < end && end <= taken.len() && !is_taken(&taken[start..end])
 }
 
-/// Tells whether a role is that of an array whose words are not all free.
+/// Returns whether `role` declares an array whose words are not all free.
 fn has_no_place(taken: &[bool], role: Role) -> bool
     ensures { result ≡ has_no_place taken.now role }
 {
@@ -45,7 +45,7 @@ fn has_no_place(taken: &[bool], role: Role) -> bool
     }
 }
 
-/// Takes the words from `start` on before `end`.
+/// Marks the words from `start` to before `end` as taken.
 fn take_words(taken: &mut [bool], start: usize, end: usize)
     requires order { start ≤ end }
     requires within { end ≤ length taken.old }
@@ -54,7 +54,7 @@ fn take_words(taken: &mut [bool], start: usize, end: usize)
     taken[start..end].fill(true);
 }
 
-/// Takes the words of an array, which are free.
+/// Marks the words of the array that `role` declares, which are free, as taken.
 fn take(taken: &mut [bool], role: Role)
     requires { has_no_place taken.old role ≡ false }
     ensures { (word : ℕ) → slice_index_or taken.new word false ≡ (slice_index_or taken.old word false || has_word word role) }
@@ -65,7 +65,7 @@ fn take(taken: &mut [bool], role: Role)
     }
 }
 
-/// Finds the first array of no word, or with words past the greatest address, or one that meets an earlier array.
+/// Finds the first array of no word, or with words past the greatest address, or one that overlaps an earlier array.
 pub(crate) fn first_misplaced(
     alloc: Global,
     numbered: &NumberedUses,

@@ -1,4 +1,4 @@
-//! Carries that are not assigned once.
+//! Carries that are not assigned exactly once.
 ghost use Rattle.std.specs.Prelude.{◌≡◌, ◌<◌, ℕ, ◌&&◌, ◌||◌, not, false, [], length, drop, IfOk, None, Some, map, nat_eq, slice_index_or, if◌then◌else◌, EachIndex};
 ghost use Rattle.std.specs.List.{list_any};
 ghost use Rattle.cg_loop_syntax.specs.Uses as spec;
@@ -9,7 +9,7 @@ use crate::numbering::{NumberedUse, NumberedUses};
 use cg_loop_syntax::Role;
 use std::alloc::{AllocError, Global};
 
-/// Tells whether a place that was looked for is there, and behind `index`.
+/// Returns whether `found` is an index after `index`.
 fn is_behind(found: Option<usize>, index: usize) -> bool
     ensures { result ≡ is_behind found index }
 {
@@ -19,7 +19,7 @@ fn is_behind(found: Option<usize>, index: usize) -> bool
     }
 }
 
-/// Notes that `used`, the use at `index`, may be the last assignment of its name.
+/// Records that `used`, the use at `index`, may be the last assignment of its name.
 fn note_last(last: &mut Vec<Option<usize>>, index: usize, used: NumberedUse)
     requires { used.name < length last.old.items }
     ensures length { length last.new.items ≡ length last.old.items }
@@ -43,7 +43,7 @@ fn last_assigned(alloc: Global, numbered: &NumberedUses) -> Result<Vec<Option<us
     Ok(last)
 }
 
-/// Notes what `used` assigns.
+/// Marks the name that `used` assigns, if any, as assigned.
 fn assign(assigned: &mut Vec<bool>, used: NumberedUse)
     requires { used.name < length assigned.old.items }
     ensures length { length assigned.new.items ≡ length assigned.old.items }
@@ -54,7 +54,8 @@ fn assign(assigned: &mut Vec<bool>, used: NumberedUse)
     }
 }
 
-/// Tells whether a use in this role is wrong, where its name is or is not assigned before it and behind it.
+/// Returns whether a use in the role `role` is at fault, where `before` and `behind` say whether its name is assigned
+/// before and after it.
 fn is_misassigned(role: Role, before: bool, behind: bool) -> bool
     ensures { result ≡ ((spec.is_carry (Some role) && not behind) || (spec.is_assign role && before)) }
 {
@@ -65,7 +66,7 @@ fn is_misassigned(role: Role, before: bool, behind: bool) -> bool
     }
 }
 
-/// Finds the first carry that is not assigned behind it, or assignment of a carry that is assigned before.
+/// Finds the first carry that is not assigned after its declaration, or assignment of a carry that is assigned before.
 pub(crate) fn first_misassigned(
     alloc: Global,
     numbered: &NumberedUses,

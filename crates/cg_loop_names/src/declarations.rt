@@ -8,14 +8,14 @@ use crate::numbering::{NumberedUse, NumberedUses};
 use cg_loop_syntax::Role;
 use std::alloc::{AllocError, Global};
 
-/// Tells whether a role declares its name.
+/// Returns whether `role` declares its name.
 fn declares(role: Role) -> bool
     ensures { result ≡ spec.declares role }
 {
     matches!(role, Role::Array { .. } | Role::Carry | Role::Bind)
 }
 
-/// Tells whether a name that is declared in the role `known` may be used in the role `role`.
+/// Returns whether a name that is declared in the role `known` may be used in the role `role`.
 fn may(role: Role, known: Option<Role>) -> bool
     ensures { result ≡ spec.may role known }
 {
@@ -27,14 +27,14 @@ fn may(role: Role, known: Option<Role>) -> bool
     }
 }
 
-/// Tells whether a role declares a name again that is declared in the role `known`.
+/// Returns whether `role` redeclares a name that is declared in the role `known`.
 fn repeats(role: Role, known: Option<Role>) -> bool
     ensures { result ≡ (spec.declares role && is_some known) }
 {
     declares(role) && known.is_some()
 }
 
-/// Notes what `used` declares, where its name is not declared before.
+/// Records what `used` declares, if its name is not declared before.
 fn declare(known: &mut Vec<Option<Role>>, used: NumberedUse)
     requires { used.name < length known.old.items }
     ensures length { length known.new.items ≡ length known.old.items }
@@ -46,7 +46,7 @@ fn declare(known: &mut Vec<Option<Role>>, used: NumberedUse)
     }
 }
 
-/// Finds the first name that is not declared before, or not for what it is used as.
+/// Finds the first name that is not declared before, or is declared for another use.
 pub(crate) fn first_unknown(
     alloc: Global,
     numbered: &NumberedUses,

@@ -1,4 +1,4 @@
-//! What is wrong with the names and the ports of a text.
+//! The faults in the names and the ports of a text.
 ghost use Rattle.std.specs.Prelude.{◌≡◌, None, map, IfErr, OnOk};
 ghost use Rattle.cg_loop_syntax.specs.Uses.{fault_of};
 ghost use Rattle.cg_loop_names.specs.Used.{use_of};
@@ -13,7 +13,8 @@ use crate::uses::Use;
 use cg_loop_syntax::LoopFault;
 use std::alloc::Global;
 
-/// Judges `uses`, the names and ports of a text in order: the fault of the lowest number, at its first place.
+/// Checks `uses`, the names and ports of a text in order. The fault is the one of the lowest number, at its first
+/// place.
 pub fn judge(alloc: Global, uses: &[Use<'_>]) -> Result<(), LoopFault>
     ensures ok { OnOk result (fault_of (map use_of uses.now) ≡ None) }
     ensures fault { IfErr result (λ e. IsFaultOf e (fault_of (map use_of uses.now))) }

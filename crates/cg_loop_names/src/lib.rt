@@ -1,4 +1,4 @@
-//! What a text does with names and ports, and what is wrong with it.
+//! The uses that a text makes of names and ports, and their faults.
 #![tactic(auto)]
 
 mod arrays;

@@ -9,7 +9,7 @@ use crate::uses::Use;
 use indexmap::IndexSet;
 use std::alloc::{AllocError, Global};
 
-/// Numbers the names of `uses` in the order in which they come.
+/// Numbers the names of `uses` in the order of their first occurrence.
 pub(crate) fn number_names(alloc: Global, uses: &[Use<'_>]) -> Result<NumberedUses, AllocError>
     ensures { IfOk result (λ numbered. fault_of (uses_of numbered) ≡ fault_of (map use_of uses.now)) }
 {

@@ -4,7 +4,7 @@ ghost use Rattle.cg_loop_names.specs.Below.{AreBelow};
 
 use cg_loop_syntax::Role;
 
-/// What a text does with a name or a port at one place.
+/// The use that a text makes of a name or a port at one place.
 #[derive(Clone, Copy)]
 pub(crate) struct NumberedUse {
     pub role: Role,
@@ -14,11 +14,11 @@ pub(crate) struct NumberedUse {
     pub place: usize,
 }
 
-/// What a text does with names and ports, in order.
+/// The uses that a text makes of names and ports, in order.
 #[derive(Drop)]
 pub(crate) struct NumberedUses {
     pub uses: Vec<NumberedUse>,
-    /// How many names there are.
+    /// The number of names.
     pub names: usize,
     ghost below: { AreBelow names uses.items },
 }

@@ -1,4 +1,4 @@
-//! Ports that are not there or not free.
+//! Ports that don't exist or are already used.
 ghost use Rattle.std.specs.Prelude.{◌≡◌, ◌<◌, ℕ, ◌||◌, [], length, false, slice_index_or};
 ghost use Rattle.cg_loop_syntax.specs.Uses as spec;
 ghost use Rattle.cg_loop_names.specs.Numbered.{uses_of};
@@ -8,7 +8,7 @@ use crate::numbering::NumberedUses;
 use cg_loop_syntax::Role;
 use cg_model::{LAST_PORT, PORTS};
 
-/// Tells whether a role has a port that is not there, or is an output to one that is written already.
+/// Returns whether `role` has a port that doesn't exist, or is an output to one that is already marked in `written`.
 fn is_bad(role: Role, written: &[bool]) -> bool
     requires { length written.now ≡ 16 }
     ensures { result ≡ is_bad written.now role }
@@ -20,7 +20,7 @@ fn is_bad(role: Role, written: &[bool]) -> bool
     }
 }
 
-/// Notes the port that an output writes.
+/// Marks the port to which an output writes in `written`.
 fn write(written: &mut [bool], role: Role)
     ensures { (port : ℕ) → port < length written.old → slice_index_or written.new port false ≡ (slice_index_or written.old port false || spec.emits port role) }
 {
@@ -31,7 +31,7 @@ fn write(written: &mut [bool], role: Role)
     }
 }
 
-/// Finds the first port that is not there, or second output to one port.
+/// Finds the first port that doesn't exist, or the second output to one port.
 pub(crate) fn first_bad_port(numbered: &NumberedUses) -> Option<usize>
     ensures { result ≡ spec.first_where spec.is_bad_port [] (uses_of numbered.now) }
 {

@@ -1,4 +1,4 @@
--- What bytes spell, and what is wrong with those that spell no loop body.
+-- The loop body that bytes encode, and the fault of bytes that encode none.
 use Rattle.std.specs.Prelude.{◌≡◌, ℕ, List, length, Some, None, Result, Ok, Err}
 use Rattle.cg_tokens.specs.Faults.{FaultAt}
 use Rattle.cg_tokens.specs.Tokens.{Placed, tokens_of, place_of}
@@ -20,27 +20,29 @@ pub record IsTree (bytes : List ℕ) (text : grammar.Text) : Type 0 where
   pub is : IsText text
   pub tokens : tokens_of double bytes ≡ text_tokens text
 
--- the bytes spell the body: their tree stands for it, and nothing is wrong with its names and ports
+-- the bytes encode the body: their tree denotes it, and its names and ports have no fault
 pub record Spells (bytes : List ℕ) (P : Body) : Type 0 where
   pub text : grammar.Text
   pub tree : IsTree bytes text
   pub body : P ≡ text_body text
   pub ruled : fault_of (text_uses text) ≡ None
 
--- the parts were read to the end of the bytes, and these uses were noted
+-- the parts were read to the end of the bytes, and these uses were recorded
 pub record IsReadTo (parts : Parts) (bytes : List ℕ) (noted : List Use) : Type 0 where
   pub text : grammar.Text
   pub tree : IsTree bytes text
   pub uses : noted ≡ text_uses text
   pub stand : ArePartsOf text parts
 
--- Q1: the bytes have no tree, and this is the place of the first token that no text goes on with, or their length where they end early
+-- Q1: the bytes have no tree, and this is the place of the first token with which no loop body continues, or their
+-- length if they end early
 pub record FaultIn (bytes : List ℕ) (place : ℕ) : Type 0 where
   pub rest : List Placed
   pub fault : FaultAt IsFile (tokens_of double bytes) rest
   pub at : place ≡ place_of (length bytes) rest
 
--- Q2 to Q6: the bytes have a tree, and this is the fault of the lowest number of its names and ports, at its first place
+-- Q2 to Q6: the bytes have a tree, and this is the fault of the lowest number of its names and ports, at its first
+-- place
 pub record IsUseFault (e : LoopFault) (bytes : List ℕ) : Type 0 where
   pub text : grammar.Text
   pub tree : IsTree bytes text

@@ -1,4 +1,4 @@
--- The byte of which two are one token.
+-- The byte that is one token when doubled.
 use Rattle.std.specs.Prelude.{ℕ, Option, Some}
 
 -- =

@@ -1,4 +1,4 @@
--- What reports say of the faults of loop bodies: code, name and place.
+-- The report texts of the faults of loop bodies: code, name and place.
 use Rattle.std.specs.Prelude.{ℕ, List, [], ◌++◌, codes, decimal}
 use Rattle.cg_loop_syntax.specs.declared.fault.Excess.TheVariants as excess
 use Rattle.cg_loop_syntax.specs.declared.fault.LoopFault.{LoopFault}

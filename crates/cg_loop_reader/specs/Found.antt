@@ -1,4 +1,4 @@
--- What reading finds: parts of a loop body, the trees of their tokens, and what these do with names and ports.
+-- What reading finds: parts of a loop body, the trees of their tokens, and their uses of names and ports.
 use Rattle.std.specs.Prelude.{◌≡◌, ℕ, true, ◌&&◌, codes, List, ◌∷◌, ◌++◌, map}
 use Rattle.std.specs.List.{list_all}
 use Rattle.cg_loop_syntax.specs.declared.syntax.Atom.{Atom}
@@ -29,7 +29,7 @@ pub record FindsAtom (room : ℕ) (a : Atom) (old new : Reader) : Type 0 where
   pub well : is_well_atom room a ≡ true
   pub ran : read.ReadsAtom room (left old) (left new)
 
--- behind a name its index, or nothing, is read
+-- after a name its index, or nothing, is read
 pub record FindsIndex (room : ℕ) (name : Token) (a : Atom) (old new : Reader) : Type 0 where
   pub tree : grammar.Atom
   pub is : IsAtom room tree
@@ -79,7 +79,7 @@ pub record FindsExpr (room : ℕ) (e : Expr) (old new : Reader) : Type 0 where
   pub well : is_well_expr room e ≡ true
   pub ran : read.ReadsExpr room (left old) (left new)
 
--- n operands more than one are read, and the bracket behind them
+-- an operand and n more are read, and the bracket after them
 pub record FindsOperands (room n : ℕ) (before after : List Expr) (old new : Reader) : Type 0 where
   pub tree : grammar.Args
   pub closing : Placed

@@ -1,4 +1,4 @@
--- Numbers, and what an operand begins with.
+-- Numbers, and the kinds of token with which an operand begins.
 use Rattle.std.specs.Prelude.{ℕ, List, if◌then◌else◌, codes, bytes_eq, Option, Some, None}
 use Rattle.cg_loop_syntax.specs.Well.{is_loop_name}
 use Rattle.cg_loop_text.specs.Words.{is_number, number_of}

@@ -1,4 +1,4 @@
--- What a reader has left of its text, and what it has noted of names and ports.
+-- The tokens that a reader has left of its text, and the uses of names and ports that it has recorded.
 use Rattle.std.specs.Prelude.{◌≡◌, ◌≤◌, ℕ, List, [], ◌∷◌, ◌++◌, length, map, true, Option, Some}
 use Rattle.cg_word.specs.declared.op.Op.{Op}
 use Rattle.cg_tokens.specs.declared.token.Token.{Token}
@@ -15,7 +15,7 @@ use Rattle.cg_loop_reader.specs.declared.fault.Misfit.{Misfit}
 use Rattle.cg_loop_reader.specs.declared.fault.Misfit.TheVariants.{Memory, Text}
 use Rattle.cg_loop_reader.specs.Doubled.{double}
 
--- the token behind the last: of no byte
+-- the token after the last one, which has no bytes
 abbrev pub last_token : List ℕ → Placed
 last_token bytes = record { text = []; place = length bytes }
 
@@ -30,19 +30,19 @@ pub record IsNext (r : Reader) (token : Token) : Type 0 where
   pub next : tokens_at double r.bytes.now r.at ≡ seen token ∷ tokens_at double r.bytes.now (end_of (seen token))
   pub within : end_of (seen token) ≤ length r.bytes.now
 
--- nothing is noted meanwhile
+-- no use is recorded meanwhile
 pub record Keeps (old new : Reader) : Type 0 where
   pub bytes : new.bytes ≡ old.bytes
   pub noted : noted new ≡ noted old
 
--- a token of this text is taken
+-- a token of the given text is taken
 pub record Takes (text : List ℕ) (old new : Reader) : Type 0 where
   pub token : Placed
   pub is : token.text ≡ text
   pub spelled : left old ≡ token ∷ left new
   pub kept : Keeps old new
 
--- a sign of this operation is taken
+-- a sign of the given operation is taken
 pub record TakesSign (by : List ℕ → Option Op) (op : Op) (old new : Reader) : Type 0 where
   pub token : Placed
   pub is : by token.text ≡ Some op
@@ -64,7 +64,7 @@ pub record TakesNumber (number : Numeral) (old new : Reader) : Type 0 where
   pub spelled : left old ≡ token ∷ left new
   pub kept : Keeps old new
 
--- the use `more` is noted after the others
+-- the use `more` is recorded after the others
 pub record Notes (more : uses.Use) (old new : Reader) : Type 0 where
   pub noted : noted new ≡ noted old ++ more ∷ []
   pub left : left new ≡ left old

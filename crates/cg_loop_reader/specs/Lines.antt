@@ -1,4 +1,4 @@
--- What reading finds: values with what stands around them, statements and declarations.
+-- What reading finds: values with the tokens around them, statements and declarations.
 use Rattle.std.specs.Prelude.{◌≡◌, true, false, ◌⊎◌, codes, List, [], ◌∷◌, ◌++◌, map, Option}
 use Rattle.std.specs.List.{list_all, flat_map, AllByRecursion}
 use Rattle.cg_tokens.specs.Tokens.{Placed, seen}
@@ -70,7 +70,7 @@ pub record FindsPlace (e : Expr) (old new : Reader) : Type 0 where
   pub index : FindsExpr 31 e inside end
   pub closes : Takes (codes "]") end new
 
--- behind a name what a statement that begins with it goes on with
+-- after a name the rest of a statement that begins with it
 pub record FindsChange (name : Token) (s : Stmt) (old new : Reader) : Type 0 where
   pub tree : grammar.Stmt
   pub is : IsStmt tree

@@ -16,7 +16,7 @@ use Rattle.cg_loop_reader.specs.declared.fault.Misfit.TheVariants.{Memory, Text}
 use Rattle.cg_loop_reader.specs.Doubled.{double}
 use Rattle.cg_loop_reader.specs.Left.{left, noted}
 
--- the parts stand for the tree, and keep the rules
+-- the parts are those of the tree, and keep the rules
 pub record ArePartsOf (tree : grammar.Text) (parts : Parts) : Type 0 where
   pub decls : parts.decls.items ≡ map decl_value tree.decls
   pub stmts : map stmt_of parts.stmts.items ≡ map stmt_value tree.stmts

@@ -21,7 +21,7 @@ impl<'a> Reader<'a> {
     ghost use Rattle.cg_loop_reader.specs.Left.{left, noted, IsNext, TakesSign};
     ghost use Rattle.cg_loop_reader.specs.Found.{FindsAtom, FindsIndex, FindsProduct, FindsTerms, FindsSum, FindsExpr, FindsOperands, MissesAtom, MissesIndex, MissesExpr, MissesArgs};
 
-    /// Takes the next token, if it is a `+` or a `-`, and returns its operation.
+    /// Reads the next token, if it is `+` or `-`, and returns its operation.
     fn adding(&mut self) -> Option<Op>
         ensures taken { IfSome result (λ op. TakesSign words.added_by op self.old self.new) }
         ensures none { IfNone result ((self.new ≡ self.old) × (begins_adding (left self.old) ≡ false)) }
@@ -37,7 +37,7 @@ impl<'a> Reader<'a> {
         }
     }
 
-    /// Takes the next token, if it is a `==` or a `<`, and returns its operation.
+    /// Reads the next token, if it is `==` or `<`, and returns its operation.
     fn comparing(&mut self) -> Option<Op>
         ensures taken { IfSome result (λ op. TakesSign words.compared_by op self.old self.new) }
         ensures none { IfNone result ((self.new ≡ self.old) × (begins_comparing (left self.old) ≡ false)) }
@@ -53,7 +53,7 @@ impl<'a> Reader<'a> {
         }
     }
 
-    /// Takes the number `value`, which the next token, `token`, spells; `room` more brackets may be opened.
+    /// Reads `token`, the next token, as the number `value`; `room` more brackets may be opened.
     fn number_atom(&mut self, token: Token<'a>, value: u32, room: u32) -> Result<Atom, Misfit>
         requires next { IsNext self.old token }
         requires is { words.is_number token.text.now ≡ true }
@@ -66,7 +66,8 @@ impl<'a> Reader<'a> {
         Ok(Atom::Num(value))
     }
 
-    /// Takes the word for the turn, which is the next token, `token`; `room` more brackets may be opened.
+    /// Reads `token`, the next token, which is the keyword for the iteration's number; `room` more brackets may be
+    /// opened.
     fn turn_atom(&mut self, token: Token<'a>, room: u32) -> Result<Atom, Misfit>
         requires next { IsNext self.old token }
         requires is { token.text.now ≡ codes "turn" }
@@ -78,7 +79,8 @@ impl<'a> Reader<'a> {
         Ok(Atom::Turn)
     }
 
-    /// Takes the word for an input, which is the next token, `token`, and the port's number; `room` more brackets may be opened.
+    /// Reads `token`, the next token, which is the keyword for an input, and the port's number; `room` more brackets
+    /// may be opened.
     fn input_atom(&mut self, token: Token<'a>, room: u32) -> Result<Atom, Misfit>
         requires next { IsNext self.old token }
         requires is { token.text.now ≡ codes "in" }
@@ -92,7 +94,7 @@ impl<'a> Reader<'a> {
         Ok(Atom::Input(port.value))
     }
 
-    /// Takes an atom, while `room` more brackets may be opened.
+    /// Reads an atom, in which `room` more brackets may be opened.
     #[cycle(reading)]
     pub fn atom(&mut self, alloc: Global, room: u32) -> Result<Atom, Misfit>
         requires { room ≤ 32 }
@@ -112,7 +114,8 @@ impl<'a> Reader<'a> {
         }
     }
 
-    /// Takes the name `name`, which is the next token, and its index, if there is one; `room` more brackets may be opened.
+    /// Reads the name `name`, which is the next token, and its index, if there is one; `room` more brackets may be
+    /// opened.
     #[cycle(reading)]
     fn named(&mut self, alloc: Global, room: u32, name: Token<'a>) -> Result<Atom, Misfit>
         requires room { room ≤ 32 }
@@ -127,7 +130,8 @@ impl<'a> Reader<'a> {
         self.index(alloc, room, name, own)
     }
 
-    /// Takes the index behind the name `name`, whose copy is `own`, if there is one; `room` more brackets may be opened.
+    /// Reads the index after the name `name`, if there is one; `own` is a copy of the name, and `room` more brackets
+    /// may be opened.
     #[cycle(reading)]
     fn index(
         &mut self,
@@ -150,7 +154,8 @@ impl<'a> Reader<'a> {
         }
     }
 
-    /// Notes the scalar `name`, whose copy is `own`, and behind which no index stands; `room` more brackets may be opened.
+    /// Records the use of the scalar `name`, which no index follows; `own` is a copy of the name, and `room` more
+    /// brackets may be opened.
     fn scalar(&mut self, room: u32, name: Token<'a>, own: Name) -> Result<Atom, Misfit>
         requires is { is_loop_name name.text.now ≡ true }
         requires own { own ≡ name.text.now }
@@ -163,7 +168,8 @@ impl<'a> Reader<'a> {
         Ok(Atom::Scalar(own))
     }
 
-    /// Takes the index behind the name `name` of an array, whose copy is `own`; `room` more brackets may be opened.
+    /// Reads the index after the name `name` of an array; `own` is a copy of the name, and `room` more brackets may be
+    /// opened.
     #[cycle(reading)]
     fn item(&mut self, alloc: Global, room: u32, name: Token<'a>, own: Name) -> Result<Atom, Misfit>
         requires room { room ≤ 32 }
@@ -184,7 +190,8 @@ impl<'a> Reader<'a> {
         Ok(Atom::Item(own, Box::new(alloc, index)?))
     }
 
-    /// Takes an atom that begins with the next token, `next`, which is no number, name or word; `room` more brackets may be opened.
+    /// Reads an atom that begins with the next token, `next`, which is not a number, a name or a keyword; `room` more
+    /// brackets may be opened.
     #[cycle(reading)]
     fn opened(&mut self, alloc: Global, room: u32, next: Token<'a>) -> Result<Atom, Misfit>
         requires room { room ≤ 32 }
@@ -206,7 +213,7 @@ impl<'a> Reader<'a> {
         }
     }
 
-    /// Takes an expression in the brackets of which `token`, the next token, is the first; `room` more may be opened.
+    /// Reads an expression in brackets, which `token`, the next token, opens; `room` more brackets may be opened.
     #[cycle(reading)]
     fn bracket(&mut self, alloc: Global, room: u32, token: Token<'a>) -> Result<Atom, Misfit>
         requires some { 0 < room }
@@ -223,7 +230,8 @@ impl<'a> Reader<'a> {
         Ok(Atom::Bracket(Box::new(alloc, inner)?))
     }
 
-    /// Takes the operation `op`, which `token`, the next token, calls, and its operands; `room` more brackets may be opened.
+    /// Reads a call of the operation `op` by `token`, the next token, and its operands; `room` more brackets may be
+    /// opened.
     #[cycle(reading)]
     fn apply(&mut self, alloc: Global, room: u32, token: Token<'a>, op: Op) -> Result<Atom, Misfit>
         requires some { 0 < room }
@@ -241,7 +249,8 @@ impl<'a> Reader<'a> {
         Ok(Atom::Apply(op, operands))
     }
 
-    /// Takes an operand, `count` more, and the bracket behind them, and adds the operands to `operands`; `room` more brackets may be opened.
+    /// Reads an operand, `count` more, and the bracket after them, and adds the operands to `operands`; `room` more
+    /// brackets may be opened.
     #[cycle(reading)]
     fn operands(
         &mut self,
@@ -267,7 +276,7 @@ impl<'a> Reader<'a> {
         Ok(())
     }
 
-    /// Takes a product, while `room` more brackets may be opened.
+    /// Reads a product, in which `room` more brackets may be opened.
     #[cycle(reading)]
     fn prod(&mut self, alloc: Global, room: u32) -> Result<Prod, Misfit>
         requires { room ≤ 32 }
@@ -284,7 +293,7 @@ impl<'a> Reader<'a> {
         Ok(Prod { atoms })
     }
 
-    /// Takes a sum, while `room` more brackets may be opened.
+    /// Reads a sum, in which `room` more brackets may be opened.
     #[cycle(reading)]
     fn sum(&mut self, alloc: Global, room: u32) -> Result<Sum, Misfit>
         requires { room ≤ 32 }
@@ -302,7 +311,7 @@ impl<'a> Reader<'a> {
         Ok(Sum { first, rest })
     }
 
-    /// Takes an expression, while `room` more brackets may be opened.
+    /// Reads an expression, in which `room` more brackets may be opened.
     #[cycle(reading)]
     pub fn expr(&mut self, alloc: Global, room: u32) -> Result<Expr, Misfit>
         requires { room ≤ 32 }

@@ -1,14 +1,14 @@
-//! Why a step of reading stops.
+//! Why a step of reading fails.
 ghost use Rattle.std.specs.Prelude.{◌≡◌};
 ghost use Rattle.cg_loop_reader.specs.declared.fault.Misfit.TheVariants.{Memory};
 
 use std::alloc::{AllocError, AllocFailed};
 
-/// Why a step of reading stops.
+/// Why a step of reading fails.
 #[derive(Drop)]
 pub(crate) enum Misfit {
     Memory,
-    /// No text goes on so.
+    /// No loop body continues like this.
     Text,
 }
 

@@ -1,4 +1,4 @@
-//! Loop bodies out of their texts.
+//! Reading loop bodies from their texts.
 #![tactic(auto)]
 
 mod expressions;

@@ -8,10 +8,10 @@ use cg_loop_syntax::{Decl, Expr, Role, Stmt};
 use cg_tokens::Token;
 use std::alloc::Global;
 
-/// The greatest number of brackets that may be open at any place.
+/// The greatest number of brackets that may be open at once.
 const MOST_OPEN: u32 = 32;
 
-/// A value, and the guard behind it, if there is one.
+/// A value, and the guard after it, if there is one.
 #[derive(Drop)]
 pub(crate) struct Guarded {
     pub value: Expr,
@@ -28,7 +28,7 @@ impl<'a> Reader<'a> {
     ghost use Rattle.cg_loop_reader.specs.Left.{left, IsNext, Misses};
     ghost use Rattle.cg_loop_reader.specs.Lines.{FindsValue, FindsGuard, FindsGuarded, FindsPlace, FindsStmt, FindsStmts, FindsChange, FindsDecl, FindsDecls, MissesGuard, IsDeclWord};
 
-    /// Takes a `=`, a value, and a `;`, and returns the value.
+    /// Reads a `=`, a value, and a `;`, and returns the value.
     fn value(&mut self, alloc: Global) -> Result<Expr, Misfit>
         ensures ok { IfOk result (λ value. FindsValue value self.old self.new) }
         ensures misses { IfErr result (λ e. Misses e (Exactly (codes "=") ∷ Operand Semicolon false most_open ∷ []) self.old self.new) }
@@ -40,7 +40,7 @@ impl<'a> Reader<'a> {
         Ok(value)
     }
 
-    /// Takes a guard, if there is one, and returns it.
+    /// Reads a guard, if there is one, and returns it.
     fn guard(&mut self, alloc: Global) -> Result<Option<Expr>, Misfit>
         ensures ok { IfOk result (λ guard. FindsGuard guard self.old self.new) }
         ensures misses { IfErr result (λ e. MissesGuard e self.old self.new) }
@@ -54,7 +54,7 @@ impl<'a> Reader<'a> {
         }
     }
 
-    /// Takes a `=`, a value, a guard, if there is one, and a `;`, and returns the value and the guard.
+    /// Reads a `=`, a value, a guard, if there is one, and a `;`, and returns the value and the guard.
     fn guarded(&mut self, alloc: Global) -> Result<Guarded, Misfit>
         ensures ok { IfOk result (λ value. FindsGuarded value self.old self.new) }
         ensures misses { IfErr result (λ e. Misses e (Exactly (codes "=") ∷ Operand GuardedCloser false most_open ∷ []) self.old self.new) }
@@ -67,7 +67,7 @@ impl<'a> Reader<'a> {
         Ok(Guarded { value, guard })
     }
 
-    /// Takes the declaration of an array that begins with `token`, the next token.
+    /// Reads the declaration of an array that begins with `token`, the next token.
     fn array(&mut self, alloc: Global, token: Token<'a>) -> Result<Decl, Misfit>
         requires next { IsNext self.old token }
         requires is { token.text.now ≡ codes "array" }
@@ -87,7 +87,7 @@ impl<'a> Reader<'a> {
         Ok(Decl::Array { name, at, len })
     }
 
-    /// Takes the declaration of a carry that begins with `token`, the next token.
+    /// Reads the declaration of a carry that begins with `token`, the next token.
     fn carry(&mut self, alloc: Global, token: Token<'a>) -> Result<Decl, Misfit>
         requires next { IsNext self.old token }
         requires is { token.text.now ≡ codes "carry" }
@@ -122,7 +122,7 @@ impl<'a> Reader<'a> {
         }
     }
 
-    /// Takes the declaration that begins with `token`, the next token.
+    /// Reads the declaration that begins with `token`, the next token.
     fn decl(&mut self, alloc: Global, token: Token<'a>) -> Result<Decl, Misfit>
         requires next { IsNext self.old token }
         requires is { IsDeclWord token }
@@ -137,7 +137,7 @@ impl<'a> Reader<'a> {
         }
     }
 
-    /// Takes the declarations.
+    /// Reads the declarations.
     pub fn decls(&mut self, alloc: Global) -> Result<Vec<Decl>, Misfit>
         ensures ok { IfOk result (λ decls. FindsDecls decls.items self.old self.new) }
         ensures ends { OnOk result ((begins_with (codes "array") (left self.new) ≡ false) × (begins_with (codes "carry") (left self.new) ≡ false)) }
@@ -151,7 +151,7 @@ impl<'a> Reader<'a> {
         Ok(decls)
     }
 
-    /// Takes the `let` that begins with `token`, the next token.
+    /// Reads the `let` that begins with `token`, the next token.
     fn bind(&mut self, alloc: Global, token: Token<'a>) -> Result<Stmt, Misfit>
         requires next { IsNext self.old token }
         requires is { token.text.now ≡ codes "let" }
@@ -167,7 +167,7 @@ impl<'a> Reader<'a> {
         Ok(Stmt::Bind { name, value })
     }
 
-    /// Takes the output that begins with `token`, the next token.
+    /// Reads the output that begins with `token`, the next token.
     fn emit(&mut self, alloc: Global, token: Token<'a>) -> Result<Stmt, Misfit>
         requires next { IsNext self.old token }
         requires is { token.text.now ≡ codes "out" }
@@ -183,7 +183,7 @@ impl<'a> Reader<'a> {
         Ok(Stmt::Emit { port, value, guard })
     }
 
-    /// Takes what follows the name `name` that a statement begins with, and is no index.
+    /// Reads the rest of the assignment that begins with the name `name`. No index follows the name.
     fn assign(&mut self, alloc: Global, name: Token<'a>) -> Result<Stmt, Misfit>
         requires is { is_loop_name name.text.now ≡ true }
         requires alone { begins_with (codes "[") (left self.old) ≡ false }
@@ -197,7 +197,7 @@ impl<'a> Reader<'a> {
         Ok(Stmt::Assign { name, value })
     }
 
-    /// Takes a `[`, the index of the word that a statement stores, and a `]`, and returns the index.
+    /// Reads a `[`, the index of the word that a statement stores, and a `]`, and returns the index.
     fn place_index(&mut self, alloc: Global) -> Result<Expr, Misfit>
         ensures ok { IfOk result (λ index. FindsPlace index self.old self.new) }
         ensures misses { IfErr result (λ e. Misses e (Exactly (codes "[") ∷ Operand Square false 31 ∷ []) self.old self.new) }
@@ -209,7 +209,7 @@ impl<'a> Reader<'a> {
         Ok(index)
     }
 
-    /// Takes the index and the value behind the name `name` of an array that a statement begins with.
+    /// Reads the rest of the store that begins with the name `name` of an array: the index and the value.
     fn store(&mut self, alloc: Global, name: Token<'a>) -> Result<Stmt, Misfit>
         requires is { is_loop_name name.text.now ≡ true }
         requires opens { begins_with (codes "[") (left self.old) ≡ true }
@@ -229,7 +229,7 @@ impl<'a> Reader<'a> {
         })
     }
 
-    /// Takes what follows the name `name` that a statement begins with.
+    /// Reads the rest of the statement that begins with the name `name`.
     fn target(&mut self, alloc: Global, name: Token<'a>) -> Result<Stmt, Misfit>
         requires is { is_loop_name name.text.now ≡ true }
         ensures ok { IfOk result (λ stmt. FindsChange name.entry stmt self.old self.new) }
@@ -243,7 +243,7 @@ impl<'a> Reader<'a> {
         }
     }
 
-    /// Takes the statement that begins with the name `token`, the next token.
+    /// Reads the statement that begins with the name `token`, the next token.
     fn change(&mut self, alloc: Global, token: Token<'a>) -> Result<Stmt, Misfit>
         requires next { IsNext self.old token }
         requires is { is_loop_name token.text.now ≡ true }
@@ -255,7 +255,7 @@ impl<'a> Reader<'a> {
         self.target(alloc, token)
     }
 
-    /// Takes the statement that begins with `token`, the next token.
+    /// Reads the statement that begins with `token`, the next token.
     fn stmt(&mut self, alloc: Global, token: Token<'a>) -> Result<Stmt, Misfit>
         requires { IsNext self.old token }
         ensures ok { IfOk result (λ stmt. FindsStmt stmt self.old self.new) }
@@ -273,7 +273,7 @@ impl<'a> Reader<'a> {
         }
     }
 
-    /// Takes the statements, up to the end of the text.
+    /// Reads the statements, up to the end of the text.
     pub fn stmts(&mut self, alloc: Global) -> Result<Vec<Stmt>, Misfit>
         ensures ok { IfOk result (λ stmts. FindsStmts stmts.items self.old self.new) }
         ensures ends { OnOk result (tokens_at double self.new.bytes.now self.new.at ≡ []) }

@@ -1,4 +1,4 @@
-//! Loop bodies from texts.
+//! Reading loop bodies from bytes.
 ghost use Rattle.std.specs.Prelude.{◌≡◌, ◌≢◌, [], IfOk, IfErr};
 ghost use Rattle.cg_loop_syntax.specs.declared.fault.LoopFault as faults;
 ghost use Rattle.cg_loop_syntax.specs.Loop as loops;
@@ -15,21 +15,21 @@ use cg_loop_syntax::{Decl, LoopBody, LoopFault, Stmt};
 use cg_model::Items;
 use std::alloc::Global;
 
-/// Reads the loop body that `bytes` spell.
+/// Reads the loop body that `bytes` encode.
 pub fn read_loop(alloc: Global, bytes: &[u8]) -> Result<LoopBody, LoopFault>
-    // What is read is spelled so.
+    // The bytes encode the result.
     ensures found { IfOk result (λ body. spec.Spells bytes.now (body_of body)) }
-    // What is spelled so is read, unless memory runs out.
+    // A body that the bytes encode is the result, unless memory runs out.
     ensures only { (P : loops.Body) → spec.Spells bytes.now P → spec.Gives P result }
-    // Which fault it is.
+    // The fault is one that applies to the bytes.
     ensures fault { IfErr result (λ e. spec.IsFault e bytes.now) }
-    // A fault that applies is the answer, unless memory runs out.
+    // A fault that applies is the result, unless memory runs out.
     ensures exact { (e : faults.LoopFault) → e ≢ LoopFault.Memory → spec.IsFault e bytes.now → spec.GivesFault e result }
 {
     read(alloc, bytes)
 }
 
-/// Reads the loop body that `bytes` spell. The clauses of `read_loop` follow from these two.
+/// Reads the loop body that `bytes` encode. The contract of `read_loop` follows from these two clauses.
 fn read(alloc: Global, bytes: &[u8]) -> Result<LoopBody, LoopFault>
     ensures found { IfOk result (λ body. spec.Spells bytes.now (body_of body)) }
     ensures fault { IfErr result (λ e. spec.IsFault e bytes.now) }
@@ -52,7 +52,7 @@ pub(crate) struct Parts {
     pub stmts: Vec<Stmt>,
 }
 
-/// Returns the loop body of `parts`, where nothing is wrong with the names and the ports that `reader` noted in `bytes`.
+/// Returns the loop body of `parts`, if the names and the ports that `reader` recorded in `bytes` have no fault.
 fn judged(
     alloc: Global,
     reader: &Reader<'_>,
@@ -74,7 +74,7 @@ impl<'a> Reader<'a> {
     ghost use Rattle.std.specs.Prelude.{◌≡◌, IfOk, IfErr};
     ghost use Rattle.cg_loop_reader.specs.Whole.{FindsText, MissesText};
 
-    /// Takes a whole text, and returns its declarations and statements.
+    /// Reads a whole text, and returns its declarations and statements.
     fn text(&mut self, alloc: Global) -> Result<Parts, Misfit>
         ensures ok { IfOk result (λ parts. FindsText parts self.old self.new) }
         ensures misses { IfErr result (λ e. MissesText e self.old self.new) }

@@ -1,4 +1,4 @@
-//! Reading the tokens of a text one after another.
+//! Reading the tokens of a text one by one.
 ghost use Rattle.std.specs.Prelude.{◌≡◌};
 ghost use Rattle.cg_tokens.specs.Faults.{AreLast};
 ghost use Rattle.cg_tokens.specs.Tokens.{tokens_at, tokens_of};
@@ -12,17 +12,17 @@ use cg_loop_syntax::Role;
 use cg_tokens::{Token, next_token, past_blanks};
 use std::alloc::Global;
 
-/// The byte of which two are one token.
+/// The byte that is one token when doubled.
 const DOUBLE: Option<u8> = Some(b'=');
 
-/// A number, and the place where it stands.
+/// A number, and its place in the text.
 #[derive(Clone, Copy)]
 pub(crate) struct Numeral {
     pub value: u32,
     pub place: usize,
 }
 
-/// A text, the place behind the tokens that are read, and what these do with names and ports.
+/// A text, the position after the tokens that are read, and their uses of names and ports.
 #[derive(Drop)]
 pub(crate) struct Reader<'a> {
     pub bytes: &'a [u8],
@@ -40,7 +40,7 @@ impl<'a> Reader<'a> {
     ghost use Rattle.cg_loop_reader.specs.Doubled.{double};
     ghost use Rattle.cg_loop_reader.specs.Left.{left, noted, last_token, IsNext, Takes, TakesName, TakesNumber, Notes, Misses, Keeps};
 
-    /// Returns a reader that stands at the first token of `bytes`.
+    /// Returns a reader at the first token of `bytes`.
     pub fn new(alloc: Global, bytes: &'a [u8]) -> Self
         ensures all { left result ≡ tokens_of double bytes.now ++ last_token bytes.now ∷ [] }
         ensures bytes { result.bytes.now ≡ bytes.now }
@@ -69,7 +69,7 @@ impl<'a> Reader<'a> {
         self.at = past_blanks(self.bytes, token.place + token.text.len());
     }
 
-    /// Returns the place of the next token, or the length of the text where there is none.
+    /// Returns the place of the next token, or the length of the text if there is none.
     pub fn place(&self) -> usize
         ensures { result ≡ place_of (length self.now.bytes.now) (tokens_at double self.now.bytes.now self.now.at) }
     {
@@ -79,7 +79,7 @@ impl<'a> Reader<'a> {
         }
     }
 
-    /// Tells whether the next token is `text`.
+    /// Returns whether the next token is `text`.
     pub fn next_is(&self, text: &[u8]) -> bool
         requires { 0 < length text.now }
         ensures { result ≡ begins_with text.now (left self.now) }
@@ -90,7 +90,7 @@ impl<'a> Reader<'a> {
         }
     }
 
-    /// Takes the token `text` if it is the next, and tells whether it is.
+    /// Takes the token `text` if it is the next, and returns whether it is.
     pub fn skip(&mut self, text: &[u8]) -> bool
         requires { 0 < length text.now }
         ensures taken { IsTrue result → Takes text.now self.old self.new }
@@ -167,7 +167,7 @@ impl<'a> Reader<'a> {
         }
     }
 
-    /// Notes that the name of `token` is used in the role `role`.
+    /// Records that the name of `token` is used in the role `role`.
     pub fn note(&mut self, role: Role, token: Token<'a>) -> Result<(), Misfit>
         ensures ok { OnOk result (Notes (record { role = role; name = token.entry.text.now; place = token.entry.place }) self.old self.new) }
         ensures misses { IfErr result (λ e. e ≡ Memory) }
@@ -181,7 +181,7 @@ impl<'a> Reader<'a> {
         Ok(())
     }
 
-    /// Notes that a port, whose number stands at `place`, is used in the role `role`.
+    /// Records that a port, whose number is at `place`, is used in the role `role`.
     pub fn note_port(&mut self, role: Role, place: usize) -> Result<(), Misfit>
         ensures ok { OnOk result (Notes (record { role = role; name = []; place = place }) self.old self.new) }
         ensures misses { IfErr result (λ e. e ≡ Memory) }

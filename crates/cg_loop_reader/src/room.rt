@@ -1,11 +1,12 @@
-//! Whether the values of a text have room in memory.
+//! The memory that the values of a text may take.
 
 /// The greatest number of bytes that the values of a text may take.
 const MOST_BYTES: usize = 1 << 30;
 
-/// Tells whether the values of the loop body that `bytes` spell take no more memory than they may, by the signs among its tokens.
+/// Returns whether the values of the loop body that `bytes` encode take no more memory than the limit, by the signs
+/// among its tokens.
 ///
-/// Each statement has a `=`, and each operand but the first of an expression stands behind a sign.
+/// Each statement has a `=`, and each operand of an expression except the first follows a sign.
 pub(crate) fn has_room(bytes: &[u8]) -> bool {
     let mut taken: usize = 0;
     for byte in bytes {
@@ -14,7 +15,7 @@ pub(crate) fn has_room(bytes: &[u8]) -> bool {
     taken <= MOST_BYTES
 }
 
-/// Returns how many bytes the values of a token that begins with `byte` take at most.
+/// Returns the greatest number of bytes that the values of a token take that begins with `byte`.
 fn bytes_for(byte: u8) -> usize {
     match byte {
         b'=' => 1600,

@@ -1,11 +1,12 @@
-//! What reports say of the faults of loop bodies.
+//! The report texts of the faults of loop bodies.
 ghost use Rattle.std.specs.Prelude.{◌≡◌, IfOk, string_bytes};
 ghost use Rattle.cg_loop_reader.specs.FaultText as spec;
 
 use cg_loop_syntax::{Excess, LoopFault};
 use std::alloc::{AllocError, Global};
 
-/// Returns code, name and place of `fault`, as `Q2 UnknownName byte 31`. Out of memory has none of them.
+/// Returns code, name and place of `fault`, as `Q2 UnknownName byte 31`. Out of memory has none of them, and its text
+/// is empty.
 pub fn loop_fault_text(alloc: Global, fault: &LoopFault) -> Result<String, AllocError>
     ensures { IfOk result (λ s. string_bytes s ≡ spec.loop_fault_text fault.now) }
 {

@@ -11,7 +11,7 @@ ghost use Rattle.cg_loop_reader.specs.Kinds as kinds;
 use cg_loop_syntax::{Name, Op};
 use std::alloc::{AllocError, Global};
 
-/// The kinds of token that an operand may begin with.
+/// The kinds of token with which an operand may begin.
 #[derive(Clone, Copy, Drop)]
 pub(crate) enum Beginning {
     /// A number of this value.
@@ -23,35 +23,35 @@ pub(crate) enum Beginning {
     Other,
 }
 
-/// Tells whether the texts `left` and `right` are equal.
+/// Returns whether the texts `left` and `right` are equal.
 pub(crate) fn same(left: &[u8], right: &[u8]) -> bool
     ensures { result ≡ bytes_eq left.now right.now }
 {
     left == right
 }
 
-/// Tells whether a name may begin with `byte`.
+/// Returns whether a name may begin with `byte`.
 fn begins_name(byte: u8) -> bool
     ensures { result ≡ names.begins_name byte }
 {
     matches!(byte, b'A'..=b'Z' | b'a'..=b'z' | b'_')
 }
 
-/// Tells whether `byte` may stand in a name.
+/// Returns whether `byte` may occur in a name.
 fn within_name(byte: u8) -> bool
     ensures { result ≡ names.within_name byte }
 {
     begins_name(byte) || byte.is_ascii_digit()
 }
 
-/// Tells whether all bytes of `text` may stand in a name.
+/// Returns whether all bytes of `text` may occur in a name.
 fn are_within_name(text: &[u8]) -> bool
     ensures { result ≡ list_all names.within_name text.now }
 {
     text.iter().all(|byte| within_name(*byte))
 }
 
-/// Tells whether `text` is a letter or `_`, and then letters, digits and `_`.
+/// Returns whether `text` is a letter or `_`, followed by letters, digits and `_`.
 fn is_identifier(text: &[u8]) -> bool
     ensures { result ≡ names.is_identifier text.now }
 {
@@ -61,7 +61,7 @@ fn is_identifier(text: &[u8]) -> bool
     }
 }
 
-/// Tells whether `text` is a word of the language itself.
+/// Returns whether `text` is a keyword of the language.
 fn is_keyword(text: &[u8]) -> bool
     ensures { result ≡ rules.is_keyword text.now }
 {
@@ -77,14 +77,14 @@ fn is_keyword(text: &[u8]) -> bool
         || same(text, b"turn")
 }
 
-/// Tells whether an expression may use `op`, by its name or as a sign.
+/// Returns whether an expression may use `op`, by its name or as a sign.
 fn is_word_op(op: Op) -> bool
     ensures { result ≡ rules.is_word_op op }
 {
     4 <= op.code() && op.code() <= 19
 }
 
-/// Finds the operation that an expression may call by `text`.
+/// Finds the operation that `text` names in an expression.
 pub(crate) fn op_called(text: &[u8]) -> Option<Op>
     ensures { result ≡ spec.op_called text.now }
 {
@@ -106,7 +106,7 @@ pub(crate) fn further_operands(op: Op) -> u32
     }
 }
 
-/// Tells whether `text` may be a name of a body's own.
+/// Returns whether a body may declare `text` as a name.
 #[tactic(auto, using(crate::proofs::Called::called_is))]
 pub(crate) fn is_name(text: &[u8]) -> bool
     ensures { result ≡ rules.is_loop_name text.now }
@@ -133,14 +133,14 @@ pub(crate) fn name_of(alloc: Global, name: &[u8]) -> Result<Name, AllocError>
     Name::copy_of(alloc, text_of(name))
 }
 
-/// Tells whether all bytes of `text` are digits.
+/// Returns whether all bytes of `text` are digits.
 fn are_digits(text: &[u8]) -> bool
     ensures { result ≡ list_all is_ascii_digit text.now }
 {
     text.iter().all(|byte| byte.is_ascii_digit())
 }
 
-/// Returns the number that the digits of `text` spell, where there are one to ten of them, and it is a word.
+/// Returns the number that the digits of `text` denote, if there are one to ten of them, and the number is a word.
 pub(crate) fn number_of(text: &[u8]) -> Option<u32>
     ensures { result ≡ kinds.number_in text.now }
 {
@@ -150,7 +150,7 @@ pub(crate) fn number_of(text: &[u8]) -> Option<u32>
     u32::try_from(value_of(text)).ok()
 }
 
-/// Returns the number that the digits of `text` spell.
+/// Returns the number that the digits of `text` denote.
 fn value_of(text: &[u8]) -> u64
     requires digits { list_all is_ascii_digit text.now ≡ true }
     requires few { length text.now ≤ 10 }

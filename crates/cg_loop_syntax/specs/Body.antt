@@ -1,4 +1,4 @@
--- What a loop body of the program stands for.
+-- The meaning of a loop body of the program.
 use Rattle.cg_loop_syntax.specs.declared.body.LoopBody.{LoopBody}
 use Rattle.cg_loop_syntax.specs.Loop.{Body}
 use Rattle.cg_loop_syntax.specs.Grouped.{grouped}

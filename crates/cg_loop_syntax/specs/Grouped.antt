@@ -1,4 +1,5 @@
--- Loop bodies as they are written, with their operators grouped: to the left, products before sums, sums before comparisons; brackets are dropped.
+-- Loop bodies as they are written, with their operators grouped: to the left, products before sums, sums before
+-- comparisons; brackets are dropped.
 use Rattle.std.specs.Prelude.{List, [], ◌∷◌, map, Option, Some, None}
 use Rattle.cg_word.specs.declared.op.Op.{Op}
 use Rattle.cg_word.specs.declared.op.Op.TheVariants.{Mul}
@@ -72,7 +73,7 @@ stmt_of (stmts.Emit p v g) = Emit p (expr_of v) (guard_of g)
 abbrev pub grouped : List Decl → List WrittenStmt → Body
 grouped decls stmts = record { decls = decls; stmts = map stmt_of stmts }
 
--- a product and a sum, by the lists that the types hold
+-- a product and a sum, over the lists in the types
 abbrev pub factors : Expr → List Atom → Expr
 factors e [] = e
 factors e (a ∷ rest) = factors (Two Mul e (atom_of a)) rest

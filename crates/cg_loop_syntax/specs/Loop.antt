@@ -4,8 +4,8 @@ use Rattle.cg_word.specs.declared.op.Op.{Op}
 pub use Rattle.cg_loop_syntax.specs.declared.body.Decl.{Decl}
 pub use Rattle.cg_loop_syntax.specs.declared.body.Decl.TheVariants.{Array, Carry}
 
--- a number; the turn; the word of this turn of an input stream; the word of a carry or of a `let`;
--- a word of an array; an operation of two or of three operands
+-- a number; the number of the iteration; the word of this iteration in an input stream; the word of a carry or of a
+-- `let`; a word of an array; an operation of two or of three operands
 pub data Expr : Type 0 where
   Num : (word : ℕ) → Expr
   Turn : Expr
@@ -26,18 +26,18 @@ pub record Body : Type 0 where
   pub decls : List Decl
   pub stmts : List Stmt
 
--- where an array stands
+-- the place of an array in the memory
 pub record Extent : Type 0 where
   pub at : ℕ
   pub len : ℕ
 
--- where the array of that name stands; no words where there is none
+-- the place of the array of the given name; no words if there is none
 abbrev pub extent : List Decl → List ℕ → Extent
 extent [] x = record { at = 0; len = 0 }
 extent (Array y at len ∷ ds) x = if bytes_eq x y then record { at = at; len = len } else extent ds x
 extent (Carry y start ∷ ds) x = extent ds x
 
--- the declared word of the carry of that name
+-- the declared word of the carry of the given name
 abbrev pub carry : List Decl → List ℕ → Option ℕ
 carry [] x = None
 carry (Array y at len ∷ ds) x = carry ds x

@@ -1,4 +1,4 @@
--- What a body does with names and ports, in the order of its text, and what is wrong with that.
+-- The uses that a body makes of names and ports, in the order of its text, and the faults of these uses.
 use Rattle.std.specs.Prelude.{ℕ, ◌+◌, eqb, nat_lt, if◌then◌else◌, bytes_eq, Bool, true, false, ◌&&◌, ◌||◌, not, List, [], ◌∷◌, ◌++◌, Option, Some, None, is_some, is_none}
 use Rattle.std.specs.List.{list_any, flat_map}
 use Rattle.std.specs.Option.{option_map, option_or}
@@ -9,13 +9,13 @@ use Rattle.cg_loop_syntax.specs.declared.fault.LoopFault.{LoopFault}
 use Rattle.cg_loop_syntax.specs.declared.fault.LoopFault.TheVariants.{UnknownName, RepeatedName, CarryAssign, BadArray, BadPort}
 use Rattle.cg_loop_syntax.specs.Loop.{Expr, Num, Turn, In, Scalar, Item, Two, Three, Stmt, Bind, Assign, Put, Emit, Decl, Array, Carry, Body}
 
--- what is done with a name, or with a port, which has no name; and the place of the name or of the port's number in a text
+-- the use of a name, or of a port, which has no name; and the place of the name or of the port's number in a text
 pub record Use : Type 0 where
   pub role : Role
   pub name : List ℕ
   pub place : ℕ
 
--- ---- the uses of a body, of which no text is known
+-- ---- the uses of a body without a text
 
 abbrev pub of_name : Role → List ℕ → Use
 of_name role x = record { role = role; name = x; place = 0 }
@@ -36,7 +36,7 @@ abbrev pub guard_uses : Option Expr → List Use
 guard_uses None = []
 guard_uses (Some g) = expr_uses g
 
--- a `let` declares its name behind its value
+-- a `let` declares its name after its value
 abbrev pub stmt_uses : Stmt → List Use
 stmt_uses (Bind x e) = expr_uses e ++ of_name roles.Bind x ∷ []
 stmt_uses (Assign x e) = of_name roles.Assign x ∷ expr_uses e
@@ -54,7 +54,7 @@ decls_uses (d ∷ ds) = decl_use d ∷ decls_uses ds
 abbrev pub body_uses : Body → List Use
 body_uses P = decls_uses P.decls ++ flat_map stmt_uses P.stmts
 
--- ---- what is wrong with a use, by the uses before it and behind it
+-- ---- the faults of a use, by the uses before it and after it
 
 -- the first declaration of a name
 abbrev pub declares : Role → Bool
@@ -67,7 +67,7 @@ abbrev pub declared : List Use → List ℕ → Option Role
 declared [] x = None
 declared (u ∷ us) x = if declares u.role && bytes_eq u.name x then Some u.role else declared us x
 
--- what is declared so may be used so
+-- which uses a declaration allows
 abbrev pub is_array : Option Role → Bool
 is_array (Some (roles.Array at len)) = true
 is_array _ = false
@@ -87,7 +87,7 @@ may roles.Item known = is_array known
 may roles.Assign known = is_carry known
 may _ known = true
 
--- Q2: a name that is not declared before, or not for this use
+-- Q2: a name that is not declared before, or is declared for another use
 abbrev pub is_unknown : List Use → Use → List Use → Bool
 is_unknown before u rest = not (may u.role (declared before u.name))
 
@@ -95,7 +95,7 @@ is_unknown before u rest = not (may u.role (declared before u.name))
 abbrev pub is_repeated : List Use → Use → List Use → Bool
 is_repeated before u rest = declares u.role && is_some (declared before u.name)
 
--- an assignment of the carry of that name
+-- an assignment of the carry of the given name
 abbrev pub is_assign : Role → Bool
 is_assign roles.Assign = true
 is_assign _ = false
@@ -103,7 +103,7 @@ is_assign _ = false
 abbrev pub assigns : List ℕ → Use → Bool
 assigns x u = is_assign u.role && bytes_eq u.name x
 
--- Q4: a carry that is not assigned behind it, and an assignment of a carry that is assigned before
+-- Q4: a carry that is not assigned after its declaration, and an assignment of a carry that is assigned before
 abbrev pub is_misassigned : List Use → Use → List Use → Bool
 is_misassigned before u rest =
     (is_carry (Some u.role) && not (list_any (assigns u.name) rest)) || (is_assign u.role && list_any (assigns u.name) before)
@@ -117,7 +117,7 @@ abbrev pub misplaced : List Use → Role → Bool
 misplaced before (roles.Array at len) = eqb len 0 || (nat_lt most_memory (at + len) || list_any (λ u. meets at len u.role) before)
 misplaced before _ = false
 
--- Q5: an array of no word, or with words past the greatest address, or one that meets an earlier array
+-- Q5: an array of no word, or with words past the greatest address, or one that overlaps an earlier array
 abbrev pub is_misplaced : List Use → Use → List Use → Bool
 is_misplaced before u rest = misplaced before u.role
 
@@ -130,13 +130,13 @@ bad_port before (roles.Input p) = nat_lt last_port p
 bad_port before (roles.Output p) = nat_lt last_port p || list_any (λ u. emits p u.role) before
 bad_port before _ = false
 
--- Q6: a port that isn't there, and a second output to one port
+-- Q6: a port that doesn't exist, and a second output to one port
 abbrev pub is_bad_port : List Use → Use → List Use → Bool
 is_bad_port before u rest = bad_port before u.role
 
 -- ---- the first fault
 
--- the place of the first use of which a test is true
+-- the place of the first use for which a test is true
 abbrev pub first_where : (List Use → Use → List Use → Bool) → List Use → List Use → Option ℕ
 first_where test before [] = None
 first_where test before (u ∷ rest) = if test before u rest then Some u.place else first_where test (before ++ u ∷ []) rest

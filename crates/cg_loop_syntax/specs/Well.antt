@@ -1,4 +1,5 @@
--- What a loop body keeps: what the grammar allows of names, operations, operands and brackets, and that none of Q2 to Q6 applies.
+-- The rules of a loop body: those of the grammar for names, operations, operands and brackets, and that none of Q2 to
+-- Q6 applies.
 use Rattle.std.specs.Prelude.{◌≡◌, ℕ, suc, ◌-◌, eqb, nat_le, nat_lt, Bool, true, false, ◌&&◌, ◌||◌, not, List, [], ◌∷◌, codes, bytes_eq, Option, Some, None}
 use Rattle.std.specs.List.{list_all, list_any, AllPass}
 use Rattle.cg_word.specs.declared.op.Op.{Op}
@@ -18,11 +19,11 @@ use Rattle.cg_loop_syntax.specs.declared.body.Stmt.TheVariants.{Bind, Assign, Pu
 use Rattle.cg_loop_syntax.specs.Grouped.{grouped}
 use Rattle.cg_loop_syntax.specs.Uses.{is_ruled}
 
--- the operations that an expression may name, or write as a sign: those of words alone
+-- the operations that an expression may name, or write as a sign: those on words alone
 abbrev pub is_word_op : Op → Bool
 is_word_op op = nat_le 4 (code op) && nat_le (code op) 19
 
--- the words of the language itself
+-- the keywords of the language
 abbrev pub is_keyword : List ℕ → Bool
 is_keyword t =
     bytes_eq t (codes "cgl1") || bytes_eq t (codes "array") || bytes_eq t (codes "at") || bytes_eq t (codes "len") || bytes_eq t (codes "carry")
@@ -32,11 +33,11 @@ is_keyword t =
 abbrev pub is_op_name : List ℕ → Bool
 is_op_name t = list_any (λ op. is_word_op op && bytes_eq (name_of op) t) all_ops
 
--- a name that a body may give
+-- a name that a body may declare
 abbrev pub is_loop_name : List ℕ → Bool
 is_loop_name t = is_identifier t && not (is_keyword t || is_op_name t)
 
--- how many brackets may be open at a place
+-- the greatest number of brackets that may be open at once
 abbrev pub most_open : ℕ
 most_open = 32
 
@@ -95,7 +96,7 @@ abbrev mutual
   are_well_exprs room end_of-Expr = true
   are_well_exprs room (more_of-Expr e rest) = is_well_expr room e && are_well_exprs room rest
 
--- ---- by the lists that the types hold
+-- ---- over the lists in the types
 
 abbrev pub has_atom : List Atom → Bool
 has_atom [] = false
@@ -114,7 +115,7 @@ abbrev pub is_well_guard : Option Expr → Bool
 is_well_guard None = true
 is_well_guard (Some g) = is_well_expr most_open g
 
--- the index of a store stands in a bracket
+-- the index of a store is inside a bracket
 abbrev pub is_well_stmt : Stmt → Bool
 is_well_stmt (Bind x e) = is_loop_name x && is_well_expr most_open e
 is_well_stmt (Assign x e) = is_loop_name x && is_well_expr most_open e

@@ -1,4 +1,4 @@
-//! Loop bodies as they are written: declarations, statements, and expressions whose brackets alone nest.
+//! Loop bodies as they are written: declarations, statements, and expressions, which nest by brackets alone.
 #![tactic(auto)]
 
 mod body;

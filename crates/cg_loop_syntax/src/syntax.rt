@@ -19,7 +19,7 @@ pub struct Compare {
     pub second: Sum,
 }
 
-/// A product, and further ones that are added or subtracted from the left.
+/// A product, followed by products that are added or subtracted from left to right.
 #[cycle(syntax)]
 #[derive(Drop)]
 pub struct Sum {
@@ -36,22 +36,22 @@ pub struct Term {
     pub prod: Prod,
 }
 
-/// Atoms that are multiplied from the left, at least one.
+/// Atoms that are multiplied from left to right, at least one.
 #[cycle(syntax)]
 #[derive(Drop)]
 pub struct Prod {
     pub atoms: Vec<Atom>,
 }
 
-/// What operators join.
+/// An operand of the operators.
 #[cycle(syntax)]
 #[derive(Drop)]
 pub enum Atom {
     /// A word.
     Num(u32),
-    /// The turn's number.
+    /// The number of the iteration.
     Turn,
-    /// The word of this turn of the input stream of that port.
+    /// The word of this iteration in the input stream of the given port.
     Input(u32),
     /// The word of a carry or of a `let`.
     Scalar(Name),
@@ -59,6 +59,6 @@ pub enum Atom {
     Item(Name, Box<Expr>),
     /// An expression in round brackets.
     Bracket(Box<Expr>),
-    /// An operation by its name, with as many operands as its arity.
+    /// An operation by its name, with its operands, whose number is its arity.
     Apply(Op, Vec<Expr>),
 }

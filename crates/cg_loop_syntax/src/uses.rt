@@ -1,6 +1,6 @@
-//! What a body does with a name or a port.
+//! The uses that a body makes of names and ports.
 
-/// What a body does with a name or a port.
+/// The use that a body makes of a name or a port.
 #[derive(Clone, Copy, Debug, PartialEq, Eq, Drop)]
 pub enum Role {
     /// Declares the name for an array of `len` words from the address `at` on.

@@ -50,7 +50,8 @@ pub data Guard : Type 0 where
   NoGuard : Guard
   If : (if_word : Placed) → Expr → Guard
 
--- "let" NAME "=" expr ";" | NAME "=" expr ";" | NAME "[" expr "]" "=" expr ["if" expr] ";" | "out" NUM "=" expr ["if" expr] ";"
+-- "let" NAME "=" expr ";" | NAME "=" expr ";" | NAME "[" expr "]" "=" expr ["if" expr] ";" |
+-- "out" NUM "=" expr ["if" expr] ";"
 pub data Stmt : Type 0 where
   Let : (let_word name sign : Placed) → Expr → (end : Placed) → Stmt
   Assign : (name sign : Placed) → Expr → (end : Placed) → Stmt
@@ -69,7 +70,7 @@ pub record Text : Type 0 where
   pub decls : List Decl
   pub stmts : List Stmt
 
--- ---- the tokens that they spell
+-- ---- the tokens of a tree
 
 abbrev mutual
   pub expr_tokens : Expr → List Placed
@@ -120,7 +121,7 @@ decl_tokens (Carry word name sign start end) = word ∷ name ∷ sign ∷ start 
 abbrev pub text_tokens : Text → List Placed
 text_tokens t = t.format ∷ t.end ∷ (flat_map decl_tokens t.decls ++ flat_map stmt_tokens t.stmts)
 
--- ---- which trees the grammar allows
+-- ---- the trees that the grammar allows
 
 abbrev pub Is : Placed → List ℕ → Type 0
 Is t s = t.text ≡ s
@@ -131,7 +132,8 @@ IsName t = is_loop_name t.text ≡ true
 abbrev pub IsNumber : Placed → Type 0
 IsNumber t = is_number t.text ≡ true
 
--- the words and signs are those that the grammar names, an operation has its operands, and `room` more brackets may be open at once
+-- the words and signs are those of the grammar, an operation has its operands, and at most `room` more brackets are
+-- open at once
 abbrev mutual
   pub IsExpr : ℕ → Expr → Type 0
   IsExpr room (Plain s) = IsSum room s
@@ -170,7 +172,7 @@ abbrev pub IsGuard : Guard → Type 0
 IsGuard NoGuard = Unit {0}
 IsGuard (If word e) = Is word (codes "if") × IsExpr most_open e
 
--- the index of a store stands in a bracket
+-- the index of a store is inside a bracket
 abbrev pub IsStmt : Stmt → Type 0
 IsStmt (Let word name sign e end) = Is word (codes "let") × IsName name × Is sign (codes "=") × IsExpr most_open e × Is end (codes ";")
 IsStmt (Assign name sign e end) = IsName name × Is sign (codes "=") × IsExpr most_open e × Is end (codes ";")
@@ -189,6 +191,6 @@ pub record IsText (t : Text) : Type 0 where
   pub decls : AllByRecursion IsDecl t.decls
   pub stmts : AllByRecursion IsStmt t.stmts
 
--- the tokens are a file
+-- the tokens are those of a file
 abbrev pub IsFile : List Placed → Type 0
 IsFile tokens = (t : Text) × IsText t × (tokens ≡ text_tokens t)

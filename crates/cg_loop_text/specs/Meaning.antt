@@ -1,4 +1,4 @@
--- What a text stands for: a loop body, and what it does with names and ports at which places.
+-- The meaning of a text: a loop body, and its uses of names and ports with their places.
 use Rattle.std.specs.Prelude.{List, [], ◌∷◌, ◌++◌, map, Option, Some, None}
 use Rattle.std.specs.List.{flat_map}
 use Rattle.cg_word.specs.declared.op.Op.TheVariants.{Mul}
@@ -108,7 +108,7 @@ abbrev pub guard_uses : Guard → List Use
 guard_uses NoGuard = []
 guard_uses (If word e) = expr_uses e
 
--- a `let` declares its name behind its value
+-- a `let` declares its name after its value
 abbrev pub stmt_uses : Stmt → List Use
 stmt_uses (Let word name sign e end) = expr_uses e ++ of_name roles.Bind name ∷ []
 stmt_uses (Assign name sign e end) = of_name roles.Assign name ∷ expr_uses e
@@ -126,6 +126,6 @@ decls_uses (d ∷ ds) = decl_use d ∷ decls_uses ds
 abbrev pub text_uses : Text → List Use
 text_uses t = decls_uses t.decls ++ flat_map stmt_uses t.stmts
 
--- the same use, of which no place is known
+-- the same use, without its place
 abbrev pub forget : Use → Use
 forget u = record u { place = 0 }

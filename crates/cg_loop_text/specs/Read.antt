@@ -1,4 +1,4 @@
--- What reading says of the tokens that it found and left.
+-- What reading guarantees of the tokens before and after it.
 use Rattle.std.specs.Prelude.{◌≡◌, ℕ, ◌<◌, length, Bool, false, List, [], ◌∷◌, ◌++◌, codes, Some, is_some}
 use Rattle.cg_tokens.specs.Table.{run}
 use Rattle.cg_tokens.specs.Tokens.{Placed}
@@ -18,21 +18,21 @@ abbrev pub begins_comparing : List Placed → Bool
 begins_comparing [] = false
 begins_comparing (t ∷ rest) = is_some (compared_by t.text)
 
--- the first token has that text, and new is what follows it
+-- the first token has the given text, and new is what follows it
 pub record Takes (text : List ℕ) (old new : List Placed) : Type 0 where
   pub token : Placed
   pub is : token.text ≡ text
   pub whole : old ≡ token ∷ new
 
--- whatever has to follow the symbols, the tokens are read as them up to new
+-- whatever follows the symbols on the stack, the tokens are read as the symbols up to new
 pub record Reads (symbols : List Symbol) (old new : List Placed) : Type 0 where
   pub ran : (stack : List Symbol) → run rule (symbols ++ stack) old ≡ run rule stack new
 
--- whatever has to follow the symbols, the tokens go on with them up to new, and no further
+-- whatever follows the symbols on the stack, the tokens continue the symbols up to new, and no further
 pub record Stops (symbols : List Symbol) (old new : List Placed) : Type 0 where
   pub ran : (stack : List Symbol) → run rule (symbols ++ stack) old ≡ Some new
 
--- whatever ends the expression and has to follow it, an operand is read up to new
+-- whatever closes the expression and follows it, an operand is read up to new
 pub record ReadsAtom (room : ℕ) (old new : List Placed) : Type 0 where
   pub ran : (c : Closer) (compared : Bool) (stack : List Symbol) → run rule (Operand c compared room ∷ stack) old ≡ run rule (After c compared room ∷ stack) new
 

@@ -1,4 +1,6 @@
--- The grammar as a table: each rule begins with a token. A symbol knows what ends its expression, whether it is compared already, and how many brackets may still be opened. Behind the last token of a file stands one more, of no byte.
+-- The grammar as a table: each rule begins with a token. A symbol has what ends its expression, whether it is already
+-- compared, and how many more brackets may be opened. The last token of a file is followed by one more, which has no
+-- bytes.
 use Rattle.std.specs.Prelude.{◌≡◌, ℕ, zero, suc, Bool, true, false, ◌&&◌, ◌||◌, not, List, [], ◌∷◌, ◌++◌, codes, bytes_eq, Option, Some, None, is_some, if◌then◌else◌}
 use Rattle.std.specs.List.{flat_map, AllByRecursion}
 use Rattle.cg_word.specs.declared.op.Op.{Op}
@@ -13,8 +15,9 @@ pub data Closer : Type 0 where
   Round Square Semicolon Guarded : Closer
   Further : ℕ → Closer
 
--- a token, any name, any number; an operand and what follows it; what follows a name; what follows an operand; the end of an expression;
--- what follows the name that a statement begins with; the lines of a file, with declarations or without, and its end
+-- a token, any name, any number; an operand and what follows it; what follows a name; what follows an operand; the end
+-- of an expression; what follows the name that a statement begins with; the lines of a file, with declarations or
+-- without, and its end
 pub data Symbol : Type 0 where
   Exactly : List ℕ → Symbol
   Name Digits : Symbol
@@ -49,7 +52,7 @@ abbrev pub less_one : ℕ → Option ℕ
 less_one zero = None
 less_one (suc n) = Some n
 
--- how many operands an operation has after its first
+-- the number of operands that an operation has after its first
 abbrev pub further_of : Option Op → Option ℕ
 further_of None = None
 further_of (Some op) = less_one (arity op)
@@ -81,7 +84,7 @@ let_rule = Name ∷ Exactly (codes "=") ∷ Operand Semicolon false most_open �
 abbrev pub out_rule : List Symbol
 out_rule = Digits ∷ Exactly (codes "=") ∷ Operand Guarded false most_open ∷ []
 
--- a store behind its [
+-- a store after its [
 abbrev pub store_rule : List Symbol
 store_rule = Operand Square false 31 ∷ Exactly (codes "=") ∷ Operand Guarded false most_open ∷ []
 
@@ -119,7 +122,7 @@ rule s t = rule_of s t.text
 abbrev pub start : List Symbol
 start = Exactly (codes "cgl1") ∷ Exactly (codes ";") ∷ Lines true ∷ []
 
--- ---- what each symbol spells
+-- ---- the tokens of each symbol
 
 pub data Compare : Type 0 where
   NoCompare : Compare

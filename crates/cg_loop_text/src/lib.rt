@@ -1,4 +1,5 @@
-//! The text of a loop body: the tokens that it spells, what it stands for, and the first token that no text goes on with.
+//! The text of a loop body: its tokens, the loop body that it denotes, and the first token with which no loop body
+//! continues.
 //!
-//! All is said of values of definitions.
+//! The laws are about values of definitions.
 #![tactic(auto)]

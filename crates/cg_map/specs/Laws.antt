@@ -1,4 +1,4 @@
--- The laws of what a search answers.
+-- The laws of the answers of a search.
 use Rattle.std.specs.Prelude.{◌≡◌, ℕ, Option}
 use Rattle.cg_model.specs.Kernel.{Kernel, IsKernel}
 use Rattle.cg_model.specs.Array.{Arch, IsArch}
@@ -31,7 +31,7 @@ IsAlwaysAnswered =
     (A : Arch) (K : Kernel) (asked : Option ℕ) (seed moves : ℕ) → IsArch A → IsKernel K → IsAsked A asked →
     (a : Answer) × IsAnswer A K asked seed moves a
 
--- a mapping that is answered is one of the kernel on the architecture, and legal
+-- a mapping in an answer is one of the kernel on the architecture, and legal
 abbrev pub IsLegalAnswer : Type 0
 IsLegalAnswer =
     (A : Arch) (K : Kernel) (asked : Option ℕ) (seed moves : ℕ) (m : MappedValue) (found_by : FoundBy) → IsArch A → IsKernel K →

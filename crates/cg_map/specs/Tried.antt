@@ -1,4 +1,4 @@
--- What a search for a mapping answers: the intervals that are tried, what comes of each, and the first mapping.
+-- The answer of a search for a mapping: the intervals that are tried, the result of each, and the first mapping.
 use Rattle.std.specs.Prelude.{◌≡◌, ℕ, ◌+◌, ◌≤◌, List, [], ◌∷◌, length, Option}
 use Rattle.cg_model.specs.Kernel.{Kernel}
 use Rattle.cg_model.specs.Array.{Arch}
@@ -16,14 +16,14 @@ use Rattle.cg_task.specs.declared.answering.Answer.{Answer}
 use Rattle.cg_task.specs.declared.answering.Answer.TheVariants.{Impossible, Mapped, Spent}
 
 module _ (A : Arch) (K : Kernel) (seed moves : ℕ) where
-  -- what comes of an interval: the hub's mapping where the hub suffices, else what the walk of that seed comes to, with so
-  -- many moves at most
+  -- the result of an interval: the hub's mapping where the hub suffices, else the result of the walk with that seed and
+  -- at most `moves` moves
   abbrev pub IsAttempt : ℕ → Attempt → Type 0
   IsAttempt ii (at.Mapped m Hub) = HubEnough A K ii × (m ≡ record { arch = A; kernel = K; mapping = hub_map A K ii })
   IsAttempt ii (at.Mapped m (Moves k)) = (HubEnough A K ii → ⊥) × IsWalked A K ii seed moves (found.Mapped m k)
   IsAttempt ii (at.Left cost) = (HubEnough A K ii → ⊥) × IsWalked A K ii seed moves (found.Spent cost)
 
-  -- from that interval on no mapping is found, and these costs are left
+  -- no mapping is found from that interval on, and these costs are left
   abbrev pub AreLeft : ℕ → List ℕ → Type 0
   AreLeft ii [] = Unit {0}
   AreLeft ii (cost ∷ costs) = IsAttempt ii (at.Left cost) × AreLeft (ii + 1) costs
@@ -38,17 +38,18 @@ module _ (A : Arch) (K : Kernel) (asked : Option ℕ) (seed moves : ℕ) where
     pub within : first + length costs ≤ last_tried A asked
     pub attempt : IsAttempt A K seed moves (first + length costs) (at.Mapped m found_by)
 
-  -- none is found at any
+  -- no mapping is found at any interval
   pub record AreAllLeft (first : ℕ) (costs : List ℕ) : Type 0 where
     pub left : AreLeft A K seed moves first costs
     pub all : first + length costs ≡ last_tried A asked + 1
 
-  -- what comes of the intervals from the first one on
+  -- the result of the intervals from the first one on
   abbrev pub IsTried : ℕ → Answer → Type 0
   IsTried first (Impossible certificate) = ⊥
   IsTried first (Mapped m found_by) = IsFirstMapping first m found_by
   IsTried first (Spent f left) = (f ≡ first) × AreAllLeft first left.items
 
-  -- why the last interval is impossible, where a recurrence or an overfull set forbids it; what comes of the intervals else
+  -- why the last interval is impossible, where a recurrence or an overfull set forbids it; else the result of the
+  -- intervals
   abbrev pub IsAnswer : Answer → Type 0
   IsAnswer = answers.IsAnswer A K asked IsTried

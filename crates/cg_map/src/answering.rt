@@ -14,8 +14,8 @@ use cg_model::{Kernel, Request};
 use cg_task::{Answer, Task, first_tried, last_tried};
 use std::alloc::{AllocError, Global};
 
-/// Searches a mapping of `kernel` on `arch`, at the interval that `request` asks for, or at each from the least one
-/// that nothing forbids to as many cycles as the architecture has contexts. `aside` takes the progress.
+/// Searches a mapping of `kernel` on `arch`, at the interval that `request` asks for, or at each interval from the
+/// least one that no bound forbids up to the number of the architecture's contexts. `aside` takes the progress.
 pub fn map_answer<'a>(
     alloc: Global,
     arch: &'a Arch,

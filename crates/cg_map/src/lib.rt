@@ -1,4 +1,4 @@
-//! What a search for a mapping answers: the intervals that are tried, what comes of each, and the first mapping.
+//! The answer of a search for a mapping: the intervals that are tried, the result of each, and the first mapping.
 #![tactic(auto)]
 
 mod answering;

@@ -1,4 +1,4 @@
-//! What is tried at an interval.
+//! The attempt at an interval.
 ghost use Rattle.std.specs.Prelude.{◌≤◌, IfOk};
 ghost use Rattle.cg_model.specs.Limits.{most_moves};
 ghost use Rattle.cg_map.specs.Tried.{IsAttempt};
@@ -11,17 +11,17 @@ use cg_model::Request;
 use cg_task::{FoundBy, Task};
 use std::alloc::{AllocError, Global};
 
-/// What comes of an interval.
+/// The result of an attempt at an interval.
 #[derive(Drop)]
 pub enum Attempt<'a> {
     /// A legal mapping.
     Mapped(LegalMapping<'a>, FoundBy),
-    /// None: the cost at which the walk ends.
+    /// No mapping: the cost at which the walk ends.
     Left(u64),
 }
 
 /// Tries the interval of `task`: the hub where it suffices, else the walk with the seed of `request` and at most its
-/// moves. `aside` takes the progress.
+/// number of moves. `aside` takes the progress.
 pub fn try_task<'a>(
     alloc: Global,
     task: &Task<'a>,

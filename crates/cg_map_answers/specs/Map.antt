@@ -15,11 +15,11 @@ use Rattle.cg_task_answers.specs.Searches.{IsSearchOver, is_above}
 use Rattle.cg_task_answers.specs.Answered.{IsAnswered, left_report}
 use Rattle.cg_task_answers.specs.Runs.{IsFoundRun, IsLeftRun}
 
--- it finds mappings by the walk
+-- the word for how `map` finds mappings: by the walk
 abbrev pub word : Bytes
 word = codes "walk"
 
--- and reports the costs that are left
+-- the report of `map` is the costs that are left
 abbrev pub IsCostReport : Pair → ℕ → List ℕ → Bytes → Type 0
 IsCostReport p first costs report = report ≡ left_report (codes "cost") first costs
 
@@ -31,14 +31,14 @@ IsAnswerOf s p a = IsAnswer p.arch p.kernel s.ii s.seed s.moves a
 abbrev pub IsWalk : Request → List Name → Pair → Outcome → Type 0
 IsWalk s outs p o = IsAnswered word IsCostReport s outs p (IsAnswerOf s p) o
 
--- by what the files give
+-- given the contents of the files
 abbrev pub IsMap : Request → File → File → List Name → Outcome → Type 0
 IsMap s arch kernel outs o = IsSearchOver (IsWalk s outs) s arch kernel o
 
 -- ---- what is accepted, and what is left
 
--- the files give an architecture and a kernel, and the hub suffices at the last interval that is tried, or the answer of the
--- search is a mapping
+-- the files contain an architecture and a kernel, and the hub suffices at the last interval that is tried, or the
+-- answer of the search is a mapping
 pub record IsMappable (s : Request) (arch kernel : File) : Type 0 where
   pub pair : Pair
   pub given : GivesPair arch.bytes kernel.bytes pair
@@ -46,12 +46,12 @@ pub record IsMappable (s : Request) (arch kernel : File) : Type 0 where
   pub mappable : HubEnough pair.arch pair.kernel (last_tried pair.arch s.ii)
       ⊎ ((mapped : Mapped) × (found_by : FoundBy) × IsAnswerOf s pair (answer.Mapped mapped found_by))
 
--- the mapping is that of the first interval at which one is found: the search finds no other
+-- the mapping is the one at the first interval at which one is found: the search finds no other
 pub record IsOnlyMapping (s : Request) (p : Pair) (m : Mapped) (found_by : FoundBy) : Type 0 where
   pub found : IsAnswerOf s p (answer.Mapped m found_by)
   pub only : (other : Mapped) (by : FoundBy) → IsAnswerOf s p (answer.Mapped other by) → (other ≡ m) × (by ≡ found_by)
 
--- Done: that mapping
+-- Done: the only mapping of the search is written
 abbrev pub IsMapRun : Request → Name → Name → List Name → Moment → Moment → Type 0
 IsMapRun s arch kernel outs before after = IsFoundRun word (IsOnlyMapping s) s arch kernel outs before after
 
@@ -60,6 +60,6 @@ abbrev pub AreCosts : Request → Pair → ℕ → List ℕ → Type 0
 AreCosts s p first costs =
     IsFirst p.arch p.kernel s.ii first × AreAllLeft p.arch p.kernel s.ii s.seed s.moves first costs
 
--- BudgetSpent: those costs
+-- BudgetSpent: the costs that are left are reported
 abbrev pub IsSpentRun : Request → Name → Name → Moment → Moment → Type 0
 IsSpentRun s arch kernel before after = IsLeftRun IsCostReport (AreCosts s) s arch kernel before after

@@ -1,4 +1,4 @@
-//! What the command `map` answers: from the bytes of its input files to an outcome.
+//! The answer of the command `map`: from the bytes of its input files to an outcome.
 #![tactic(auto)]
 
 mod mapping;

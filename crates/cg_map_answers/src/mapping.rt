@@ -16,8 +16,9 @@ use cg_task::Answer;
 use cg_task_answers::{above, asks_above, found, impossible, left_report, spent};
 use std::alloc::{AllocError, Global};
 
-/// Searches a mapping of the kernel that the file `kernel` gives on the architecture that `arch` gives. Its bits are to
-/// be written under the first name of `outputs`, and the mapping under the second, where there is one. `aside` takes the progress.
+/// Searches for a mapping of the kernel in the file `kernel` to the architecture in `arch`, and returns the outcome.
+/// The bits are to be written under the first name in `outputs`, and the mapping under the second, if there is one.
+/// `aside` receives the progress.
 pub fn map(
     alloc: Global,
     request: Request,
@@ -36,8 +37,8 @@ pub fn map(
     Ok(outcome)
 }
 
-/// Searches a mapping of `kernel` on `arch`, which was read from the file `name`, and returns the outcome. `aside`
-/// takes the progress.
+/// Searches for a mapping of `kernel` to `arch`, which was read from the file `name`, and returns the outcome. `aside`
+/// receives the progress.
 fn searched(
     alloc: Global,
     request: Request,

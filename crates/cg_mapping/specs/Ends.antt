@@ -1,4 +1,4 @@
--- Edge operands as the code keeps them, and the numbers by which places and routes are told apart.
+-- Edge operands as the code keeps them, and the numbers that distinguish places and routes.
 use Rattle.std.specs.Prelude.{◌≡◌, ℕ, ◌+◌, ◌*◌, ◌<◌, List, Some, slice_get}
 use Rattle.cg_model.specs.Mapping.{End}
 use Rattle.cg_model.specs.declared.mapping.Route.{Route}
@@ -15,11 +15,11 @@ node_of p = p.node
 abbrev pub slot_of : Route → ℕ
 slot_of r = 3 * r.node + r.arg
 
--- three operands a node are enough for these routes
+-- three operands for each node are enough for these routes
 pub record AreShort (routes : List Route) : Type 0 where
   pub short : (i : ℕ) (r : Route) → slice_get routes i ≡ Some r → r.arg < 3
 
--- and three operands a node, and `size` nodes, are enough for these edge operands
+-- three operands for each node, and `size` nodes, are enough for these edge operands
 pub record AreWithin (size : ℕ) (ends : List EdgeOperand) : Type 0 where
   pub nodes : (i : ℕ) (e : EdgeOperand) → slice_get ends i ≡ Some e → e.node < size
   pub args : (i : ℕ) (e : EdgeOperand) → slice_get ends i ≡ Some e → e.arg < 3

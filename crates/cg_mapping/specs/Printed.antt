@@ -14,7 +14,7 @@ use Rattle.cg_model.specs.declared.mapping.Place.{Place}
 use Rattle.cg_model.specs.declared.mapping.Route.{Route}
 use Rattle.cg_mapping.specs.Complete.{name_at}
 
--- the name of unit x, and of resource r
+-- the name of unit x, and the name of resource r
 abbrev pub unit_name : List Unit → ℕ → List ℕ
 unit_name units x = (slice_index_or units x (record { name = []; ops = []; latency = 1; ports = []; out = 0 })).name
 

@@ -1,4 +1,4 @@
--- Where unknown keys and numbers that are too large stand first: in the file, in a place, in a route.
+-- The first places of unknown keys and of numbers that are too large: in the file, in a place, in a route.
 use Rattle.std.specs.Prelude.{ℕ, Bool, List, length, Option, Some, None, nat_lt, option_map, if◌then◌else◌}
 use Rattle.std.specs.Option.{option_or}
 use Rattle.std.specs.List.{position_from}
@@ -10,14 +10,14 @@ use Rattle.cg_mapping.specs.declared.fault.MappingPlace.TheVariants as at
 pub use Rattle.cg_mapping.specs.declared.named.NodePlace.{NodePlace}
 pub use Rattle.cg_mapping.specs.declared.named.NamedMapping.{NamedMapping}
 
--- the file where a fault applies to it, else the first place to which it does, else the first route
+-- the file where a fault applies to it, else the first place to which it applies, else the first such route
 abbrev pub first_of : Bool → Option ℕ → Option ℕ → Option MappingPlace
 first_of file place route = option_or (if file then Some at.File else None) (option_or (option_map at.Place place) (option_map at.Route route))
 
 abbrev pub first_place : {P R : Type 0} → Bool → (P → Bool) → List P → (R → Bool) → List R → Option MappingPlace
 first_place file in_place places in_route routes = first_of file (position_from in_place 0 places) (position_from in_route 0 routes)
 
--- P3 UnknownKey: an object has a key that the format doesn't name for it
+-- P3 UnknownKey: an object has a key that the format doesn't have there
 abbrev pub place_has_other : WrittenPlace → Bool
 place_has_other p = p.other_keys
 

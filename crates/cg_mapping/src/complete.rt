@@ -1,4 +1,4 @@
-//! One place a node, and one route an edge operand.
+//! Checks for one place for each node, and one route for each edge operand.
 ghost use Rattle.std.specs.Prelude.{◌≡◌, ◌≢◌, ◌<◌, ◌*◌, IfOk, length, map};
 ghost use Rattle.cg_model.specs.Answers.{Gives};
 ghost use Rattle.cg_mapping.specs.Ends.{as_end, node_of, slot_of, AreShort, AreWithin};
@@ -12,10 +12,10 @@ use crate::tally::{Seen, picked, tally};
 use cg_model::{Items, Kernel, Mapping, Name, Node, Place, Route, Words};
 use std::alloc::{AllocError, Global};
 
-/// The most operands of a node.
+/// The greatest number of operands of a node.
 const MOST_OPERANDS: usize = 3;
 
-/// The mapping with its places and routes in order, or P6 where it isn't complete.
+/// Returns the mapping with its places and routes in order, or P6 where it isn't complete.
 pub fn mapping_of(
     alloc: Global,
     kernel: &Kernel,
@@ -29,7 +29,7 @@ pub fn mapping_of(
     Ok(Mapping::new(named.ii, places.into_vec(), routes.into_vec()))
 }
 
-/// The place of each node in order.
+/// Returns the place of each node in order.
 #[tactic(auto, unfolding(crate::specs::Complete::places_of))]
 fn places_of(
     alloc: Global,
@@ -63,7 +63,7 @@ fn each_place(
     Ok(Items::new(places))
 }
 
-/// The route to each edge operand in the order of nodes and operands.
+/// Returns the route to each edge operand in the order of nodes and operands.
 #[tactic(auto, unfolding(crate::specs::Complete::routes_of))]
 fn routes_of(alloc: Global, kernel: &Kernel, named: &[Route]) -> Result<Items<Route>, MappingFault>
     requires { AreShort named.now }
@@ -109,7 +109,7 @@ fn copy_of(alloc: Global, route: &Route) -> Result<Route, AllocError>
     })
 }
 
-/// The number of each place's node.
+/// Returns the node number of each place.
 fn nodes_of(alloc: Global, named: &[NodePlace]) -> Result<Vec<usize>, AllocError>
     ensures { IfOk result (λ keys. keys.items ≡ map node_of named.now) }
 {
@@ -120,7 +120,7 @@ fn nodes_of(alloc: Global, named: &[NodePlace]) -> Result<Vec<usize>, AllocError
     Ok(keys)
 }
 
-/// A number of its own for the end of each route.
+/// Returns a distinct number for the end of each route.
 fn slots_of(alloc: Global, named: &[Route]) -> Result<Vec<usize>, AllocError>
     ensures { IfOk result (λ keys. keys.items ≡ map slot_of named.now) }
 {
@@ -131,7 +131,7 @@ fn slots_of(alloc: Global, named: &[Route]) -> Result<Vec<usize>, AllocError>
     Ok(keys)
 }
 
-/// A node without exactly one place.
+/// Returns the fault of a node without exactly one place.
 fn node_fault(alloc: Global, nodes: &[Node], node: usize) -> MappingFault
     ensures { result ≢ MappingFault.Memory → result ≡ spec.node_fault nodes.now node }
 {
@@ -141,7 +141,7 @@ fn node_fault(alloc: Global, nodes: &[Node], node: usize) -> MappingFault
     }
 }
 
-/// An edge operand without exactly one route.
+/// Returns the fault of an edge operand without exactly one route.
 fn arg_fault(alloc: Global, nodes: &[Node], end: &EdgeOperand) -> MappingFault
     ensures { result ≢ MappingFault.Memory → result ≡ spec.arg_fault nodes.now (as_end end.now) }
 {
@@ -151,7 +151,7 @@ fn arg_fault(alloc: Global, nodes: &[Node], end: &EdgeOperand) -> MappingFault
     }
 }
 
-/// The name of a node.
+/// Returns the name of node `number`.
 pub fn name_at(nodes: &[Node], number: usize) -> &str
     ensures { result.now ≡ spec.name_at nodes.now number }
 {

@@ -6,14 +6,14 @@ use cg_names::{Numbers, add_first, number_in};
 use std::alloc::{AllocError, Global};
 use std::marker::Model;
 
-/// What has a name of its own.
+/// An item with a name of its own.
 trait Called {
     ghost use Rattle.std.specs.Prelude.{◌≡◌, ℕ, List};
 
     // Its name.
     ghost own_name: { Self → List ℕ };
 
-    /// Its name.
+    /// Returns its name.
     fn name(&self) -> &str
         ensures { result.now ≡ own_name self.now };
 }
@@ -45,7 +45,7 @@ impl Called for Resource {
 ghost use Rattle.std.specs.Prelude.{Some, IfOk};
 ghost use Rattle.cg_names.specs.Numbers.{IsNumbering};
 
-/// The number of the first item of each name.
+/// Returns the number of the first item of each name.
 fn numbers_of<T: Called>(alloc: Global, items: &[T]) -> Result<Numbers, AllocError>
     ensures { IfOk result (λ numbers. IsNumbering numbers (λ item. Some (T.own_name item)) items.now) }
 {
@@ -56,7 +56,8 @@ fn numbers_of<T: Called>(alloc: Global, items: &[T]) -> Result<Numbers, AllocErr
     Ok(numbers)
 }
 
-/// An architecture and a kernel, with the numbers of their parts by name. Contracts see it as the two.
+/// An architecture and a kernel, with the numbers of their parts by name. Contracts see it as the architecture and the
+/// kernel.
 #[derive(Drop)]
 pub struct Directory<'a> {
     arch: &'a Arch,
@@ -82,7 +83,7 @@ impl<'a> Directory<'a> {
     ghost use Rattle.cg_model.specs.Kernel.{IsKernel};
     ghost use Rattle.cg_mapping.specs.Names as spec;
 
-    /// Takes the names of an architecture and a kernel up.
+    /// Returns the directory of an architecture and a kernel.
     pub fn of(
         alloc: Global,
         arch: &'a Arch,
@@ -103,7 +104,7 @@ impl<'a> Directory<'a> {
         })
     }
 
-    /// The number of the node of that name.
+    /// Returns the number of the node with the given name.
     #[tactic(auto, unfolding(crate::specs::Names::node_number))]
     pub fn node_number(&self, name: &str) -> Option<u32>
         ensures { result ≡ spec.node_number self.now.kernel name.now }
@@ -118,7 +119,7 @@ impl<'a> Directory<'a> {
         }
     }
 
-    /// The number of the unit of that name.
+    /// Returns the number of the unit with the given name.
     #[tactic(auto, unfolding(crate::specs::Names::unit_number))]
     pub fn unit_number(&self, name: &str) -> Option<u32>
         ensures { result ≡ spec.unit_number self.now.arch name.now }
@@ -133,7 +134,7 @@ impl<'a> Directory<'a> {
         }
     }
 
-    /// The number of the resource of that name.
+    /// Returns the number of the resource with the given name.
     #[tactic(auto, unfolding(crate::specs::Names::resource_number))]
     pub fn resource_number(&self, name: &str) -> Option<u32>
         ensures { result ≡ spec.resource_number self.now.arch name.now }
@@ -148,7 +149,7 @@ impl<'a> Directory<'a> {
         }
     }
 
-    /// Whether that operand of the node is there, and an edge.
+    /// Returns whether the node has that operand, and the operand is an edge.
     #[tactic(auto, unfolding(crate::specs::Names::takes_edge))]
     pub fn takes_edge(&self, node: u32, arg: u32) -> bool
         ensures { result ≡ spec.takes_edge self.now.kernel node arg }

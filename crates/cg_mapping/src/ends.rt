@@ -6,14 +6,14 @@ ghost use Rattle.cg_mapping.specs.Ends as spec;
 use cg_model::{Node, Operand};
 use std::alloc::{AllocError, Global};
 
-/// An edge operand: the number of its node, and its own.
+/// An edge operand: the number of its node, and its own number.
 #[derive(Clone, Copy)]
 pub struct EdgeOperand {
     pub node: usize,
     pub arg: usize,
 }
 
-/// The edge operands of a kernel, in the order of nodes and operands.
+/// Returns the edge operands of a kernel, in the order of nodes and operands.
 pub fn ends_of(alloc: Global, nodes: &[Node]) -> Result<Vec<EdgeOperand>, AllocError>
     ensures { IfOk result (λ ends. map spec.as_end ends.items ≡ mappings.ends_from 0 nodes.now) }
 {
@@ -24,7 +24,7 @@ pub fn ends_of(alloc: Global, nodes: &[Node]) -> Result<Vec<EdgeOperand>, AllocE
     Ok(ends)
 }
 
-/// Adds those of one node.
+/// Adds the edge operands of one node.
 fn push_ends(
     ends: &mut Vec<EdgeOperand>,
     node: usize,

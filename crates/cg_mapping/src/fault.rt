@@ -1,4 +1,4 @@
-//! Why bytes spell no mapping of a kernel on an architecture.
+//! Why bytes don't describe a mapping of a kernel on an architecture.
 
 ghost use Rattle.std.specs.Prelude.{◌≡◌};
 ghost use Rattle.cg_mapping.specs.declared.fault.MappingFault.TheVariants.{Memory};
@@ -8,7 +8,7 @@ use std::alloc::{AllocError, AllocFailed};
 use std::fmt;
 use thiserror::Error;
 
-/// Where a fault applies first: the whole file, a place or a route, counted from 0.
+/// The first place of a fault: the whole file, a place or a route, counted from 0.
 #[derive(Clone, Copy, Debug, PartialEq, Eq)]
 pub enum MappingPlace {
     File,
@@ -16,7 +16,7 @@ pub enum MappingPlace {
     Route(usize),
 }
 
-/// What a mapping gives nothing for, or more than one thing.
+/// A node or an edge operand for which a mapping has nothing, or more than one item.
 #[derive(Drop)]
 pub enum Gap {
     /// A node without exactly one place: its name.
@@ -25,7 +25,7 @@ pub enum Gap {
     Arg(Name, usize),
 }
 
-/// Why bytes spell no mapping. The variants after `Memory` are P1 to P6, in this order.
+/// Why bytes don't describe a mapping. The variants after `Memory` are P1 to P6, in this order.
 #[derive(Drop, Error)]
 pub enum MappingFault {
     #[error("memory ran out")]

@@ -1,4 +1,4 @@
-//! A mapping in the order of its file, after names were looked up.
+//! A mapping in the order of its file, after its names were looked up.
 
 use cg_model::{Items, Place, Route};
 

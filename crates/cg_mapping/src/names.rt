@@ -1,4 +1,4 @@
-//! What the names of a mapping's file stand for.
+//! Looks up the names of a mapping's file.
 ghost use Rattle.std.specs.Prelude.{◌≡◌};
 ghost use Rattle.cg_reading.specs.Items.{all_of, all_or_first};
 ghost use Rattle.cg_reading.specs.Reads.{IsRead, IsReadAt};
@@ -12,7 +12,7 @@ use cg_model::{Items, Name, Place, Route, Words};
 use cg_reading::{Misfit, WRONG_SHAPE};
 use std::alloc::Global;
 
-/// What the names stand for, or the first place where one stands for nothing.
+/// Returns the mapping that the names denote, or the first place with a name that denotes nothing.
 #[tactic(auto, unfolding(crate::specs::Names::named_of))]
 pub fn named_of(
     alloc: Global,
@@ -99,7 +99,7 @@ fn route_of(
     })
 }
 
-/// The node to which a route goes, where the operand is an edge.
+/// Returns the node to which a route goes, where the operand is an edge.
 fn end_of(directory: &Directory, written: &WrittenRoute) -> Option<u32>
     ensures { result ≡ spec.end_at directory.now.kernel written.now.arg (spec.node_number directory.now.kernel written.now.to) }
 {

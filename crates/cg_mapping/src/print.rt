@@ -14,7 +14,8 @@ use cg_model::{Kernel, Mapping, Node, Place, Resource, Route, Unit};
 use serde_json::{Value, json};
 use std::alloc::{AllocError, Global};
 
-/// The text of a mapping of the kernel on the architecture, which reads back as the same mapping where no number is too large.
+/// Returns the text of a mapping of the kernel on the architecture. It reads back as an equal mapping where no number
+/// is too large.
 pub fn print_mapping(
     alloc: Global,
     arch: &Arch,

@@ -1,4 +1,4 @@
-//! From bytes to a mapping.
+//! Reads a mapping from bytes.
 ghost use Rattle.std.specs.Prelude.{◌≡◌, IfOk};
 ghost use Rattle.serde_json.specs.View.{view};
 ghost use Rattle.cg_model.specs.Answers.{Gives};
@@ -26,8 +26,9 @@ use cg_reading::Misfit;
 use serde_json::Value;
 use std::alloc::Global;
 
-/// The mapping of the kernel on the architecture that the bytes spell, with its places and routes in order whatever their
-/// order in the file; or the lowest fault that applies, at its first place. It need not be legal.
+/// Returns the mapping of the kernel on the architecture that the bytes describe, with its places and routes in order
+/// whatever their order in the file; or the lowest fault that applies, at its first place. The mapping need not be
+/// legal.
 pub fn read_mapping(
     alloc: Global,
     arch: &Arch,
@@ -72,7 +73,7 @@ fn mapping_in(
     }
 }
 
-/// The answer from P3 on.
+/// Returns the result of the checks from P3 on.
 fn known(
     alloc: Global,
     arch: &Arch,
@@ -87,7 +88,7 @@ fn known(
     }
 }
 
-/// The answer from P4 on.
+/// Returns the result of the checks from P4 on.
 fn looked_up(
     alloc: Global,
     arch: &Arch,
@@ -117,7 +118,7 @@ fn found_in(
     }
 }
 
-/// The answer from P5 on.
+/// Returns the result of the checks from P5 on.
 fn within(alloc: Global, kernel: &Kernel, named: &NamedMapping) -> Result<Mapping, MappingFault>
     requires { AreShort named.now.routes }
     ensures { Gives MappingFault.Memory result (spec.answer_within kernel.now named.now (rules.too_large named.now)) }

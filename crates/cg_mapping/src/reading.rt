@@ -1,4 +1,4 @@
-//! From a JSON value to what it writes of a mapping.
+//! Reads the description of a mapping from a JSON value.
 ghost use Rattle.std.specs.Prelude.{◌≡◌, map};
 ghost use Rattle.serde_json.specs.View.{view};
 ghost use Rattle.cg_reading.specs.Items.{all_or_first};
@@ -13,10 +13,10 @@ use cg_reading::{ItemReader, Misfit, WRONG_SHAPE, all_of, all_or_first};
 use serde_json::Value;
 use std::alloc::Global;
 
-/// A wrong shape of the file, outside of its places and routes.
+/// The misfit of a file that has a wrong shape outside of its places and routes.
 const WRONG_FILE: Misfit<MappingPlace> = Misfit::WrongShape(MappingPlace::File);
 
-/// What the value writes, or the first place of a wrong shape.
+/// Returns the description in the value, or the first place of a wrong shape.
 #[tactic(auto, unfolding(crate::specs::Written::written_of))]
 pub fn written_of(alloc: Global, value: &Value) -> Result<WrittenMapping, Misfit<MappingPlace>>
     ensures { IsReadAt (spec.written_of (view value.now)) result }
@@ -63,7 +63,7 @@ fn format_in(value: &Value) -> Option<()>
     }
 }
 
-/// The word at a key.
+/// Returns the word at `key`.
 fn word_at(value: &Value, key: &str) -> Option<u32>
     ensures { result ≡ spec.word_at key.now (view value.now) }
 {

@@ -1,4 +1,4 @@
-//! Where unknown keys, and numbers that are too large, stand first.
+//! Finds the first unknown keys, and the first numbers that are too large.
 ghost use Rattle.std.specs.Prelude.{◌≡◌};
 ghost use Rattle.std.specs.List.{position_from};
 ghost use Rattle.cg_mapping.specs.Rules as spec;
@@ -8,13 +8,13 @@ use crate::named::{NamedMapping, NodePlace};
 use crate::written::{WrittenMapping, WrittenPlace, WrittenRoute};
 use cg_model::{LATEST_TIME, Route};
 
-/// The greatest interval that is read.
+/// The greatest interval of a mapping's file.
 const GREATEST_INTERVAL: u32 = 65_535;
 
-/// The most resources of a path.
+/// The greatest number of resources of a path.
 const LONGEST_PATH: usize = 65_535;
 
-/// The first object with a key that the format doesn't name for it.
+/// Returns the first object with a key that the format doesn't have there.
 #[tactic(auto, unfolding(crate::specs::Rules::unknown_key))]
 pub fn unknown_key(written: &WrittenMapping) -> Option<MappingPlace>
     ensures { result ≡ spec.unknown_key written.now }
@@ -24,7 +24,7 @@ pub fn unknown_key(written: &WrittenMapping) -> Option<MappingPlace>
     first_place(written.other_keys, place, route)
 }
 
-/// The first number that is too large.
+/// Returns the first number that is too large.
 #[tactic(auto, unfolding(crate::specs::Rules::too_large))]
 pub fn too_large(named: &NamedMapping) -> Option<MappingPlace>
     ensures { result ≡ spec.too_large named.now }

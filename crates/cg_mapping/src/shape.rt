@@ -7,8 +7,8 @@ use crate::ends::{EdgeOperand, ends_of};
 use cg_model::{Kernel, Mapping, Route};
 use std::alloc::{AllocError, Global};
 
-/// Tells whether `mapping` has a place for each node of `kernel` and a route for each edge operand, in the order of nodes
-/// and operands, as `print_mapping` asks.
+/// Returns whether `mapping` has a place for each node of `kernel` and a route for each edge operand, in the order of
+/// nodes and operands, as `print_mapping` requires.
 pub fn has_shape(alloc: Global, kernel: &Kernel, mapping: &Mapping) -> Result<bool, AllocError>
     ensures { IfOk result (λ shaped. IsTrue shaped ↔ IsShaped kernel.now mapping.now) }
 {
@@ -20,7 +20,7 @@ pub fn has_shape(alloc: Global, kernel: &Kernel, mapping: &Mapping) -> Result<bo
     Ok(are_ends(&ends, mapping.routes()))
 }
 
-/// Tells whether `routes` end at the edge operands `ends`, one after the other.
+/// Returns whether `routes` end at the edge operands `ends`, one after the other.
 fn are_ends(ends: &[EdgeOperand], routes: &[Route]) -> bool
     ensures { IsTrue result ↔ (map end_of routes.now ≡ map as_end ends.now) }
 {
@@ -35,7 +35,7 @@ fn are_ends(ends: &[EdgeOperand], routes: &[Route]) -> bool
     true
 }
 
-/// Tells whether `route` ends at the edge operand `end`.
+/// Returns whether `route` ends at the edge operand `end`.
 fn is_end(end: EdgeOperand, route: &Route) -> bool
     ensures { IsTrue result ↔ (end_of route.now ≡ as_end end) }
 {

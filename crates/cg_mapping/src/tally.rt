@@ -1,11 +1,11 @@
-//! How often numbers fall on each place of a table.
+//! Counts how often each number occurs in a list.
 ghost use Rattle.std.specs.Prelude.{◌≡◌, IfOk, slice_set, slice_index_or};
 ghost use Rattle.std.specs.Option.{option_copied};
 ghost use Rattle.cg_mapping.specs.Tally as spec;
 
 use std::alloc::{AllocError, Global};
 
-/// How often a number was seen, and at which place, if only once.
+/// How often a number occurs, and its position if it occurs once.
 #[derive(Clone, Copy)]
 pub enum Seen {
     Never,
@@ -17,7 +17,7 @@ impl Seen {
     ghost use Rattle.std.specs.Prelude.{◌≡◌};
     ghost use Rattle.cg_mapping.specs.Tally.{seen_after};
 
-    /// After it was seen at one more place.
+    /// Returns the count after one more occurrence, at `place`.
     fn after(self, place: usize) -> Seen
         ensures { result ≡ seen_after self place }
     {
@@ -28,7 +28,7 @@ impl Seen {
     }
 }
 
-/// How often each number below a size stands in a list.
+/// Returns for each number below `size` how often it occurs in `keys`.
 pub fn tally(alloc: Global, size: usize, keys: &[usize]) -> Result<Vec<Seen>, AllocError>
     ensures { IfOk result (λ table. spec.IsTally table.items size keys.now) }
 {
@@ -39,7 +39,7 @@ pub fn tally(alloc: Global, size: usize, keys: &[usize]) -> Result<Vec<Seen>, Al
     Ok(table)
 }
 
-/// Sees a number at a place, where the table has it.
+/// Counts an occurrence of `key` at `place`, if the table has an entry for `key`.
 fn see(table: &mut Vec<Seen>, key: usize, place: usize)
     ensures { table.new.items ≡ slice_set table.old.items key (spec.seen_after (slice_index_or table.old.items key Seen.Never) place) }
 {
@@ -48,7 +48,7 @@ fn see(table: &mut Vec<Seen>, key: usize, place: usize)
     }
 }
 
-/// The item that was seen just once.
+/// Returns the item of a number that occurs exactly once.
 pub fn picked<T>(seen: Seen, items: &[T]) -> Option<&T>
     ensures { option_copied result ≡ spec.picked seen items.now }
 {

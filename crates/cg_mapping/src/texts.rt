@@ -1,11 +1,11 @@
-//! What reports say of the faults of mappings.
+//! The texts of mapping faults in reports.
 ghost use Rattle.std.specs.Prelude.{◌≡◌, IfOk, string_bytes};
 ghost use Rattle.cg_mapping.specs.Texts as spec;
 
 use crate::fault::{Gap, MappingFault, MappingPlace};
 use std::alloc::{AllocError, Global};
 
-/// Returns code, name and place of `fault`, as `P4 UnknownName places 2`. Out of memory has none of them.
+/// Returns code, name and place of `fault`, for example `P4 UnknownName places 2`. Out of memory has none of them.
 pub fn mapping_fault_text(alloc: Global, fault: &MappingFault) -> Result<String, AllocError>
     ensures { IfOk result (λ s. string_bytes s ≡ spec.mapping_fault_text fault.now) }
 {

@@ -1,8 +1,8 @@
-//! A mapping as its file writes it, before names are looked up.
+//! The description of a mapping in its file, before names are looked up.
 
 use cg_model::{Items, Name};
 
-/// A place. It says whether its object has a key besides those of the format.
+/// A place, and whether its object has a key that the format doesn't have.
 #[derive(Drop)]
 pub struct WrittenPlace {
     pub node: Name,

@@ -17,11 +17,11 @@ abbrev pub first_line : Option ℕ → Bytes
 first_line (Some m) = line_of (codes "mii " ∷ decimal m ∷ [])
 first_line None = line_of (codes "mii none" ∷ [])
 
--- the interval below it, if there is one: where there is none, every interval is meant
+-- the interval below the least one, if there is a least one; None denotes all intervals
 abbrev pub below : Option ℕ → Option ℕ
 below mii = option_map (λ m. m - 1) mii
 
--- why that interval is impossible
+-- why the interval below the least one is impossible
 abbrev pub certificate_line : Pair → Option ℕ → Option Certificate → Bytes
 certificate_line p mii None = []
 certificate_line p mii (Some c) = line_of (certificate_text p.arch p.kernel (below mii) c ∷ [])
@@ -29,13 +29,13 @@ certificate_line p mii (Some c) = line_of (certificate_text p.arch p.kernel (bel
 abbrev pub bound_report : Pair → LeastInterval → Bytes
 bound_report p least = first_line least.mii ++ certificate_line p least.mii least.below
 
--- which certificate is shown is left open where several serve
+-- where several certificates are valid, which one is shown is left open
 pub record IsBounded (p : Pair) (o : Outcome) : Type 0 where
   pub least : LeastInterval
   pub is_least : IsBound p.arch p.kernel least
   pub outcome : o ≡ reports Done (bound_report p least)
 
--- by what the files give
+-- given the result of parsing the files
 abbrev pub IsBounding : Result Pair Outcome → Outcome → Type 0
 IsBounding (Ok p) o = IsBounded p o
 IsBounding (Err refused) o = o ≡ refused
@@ -45,18 +45,18 @@ pub record IsBoundOf (arch kernel : File) (o : Outcome) : Type 0 where
   pub given : ArePaired arch kernel pair
   pub bounding : IsBounding pair o
 
--- the files give an architecture and a kernel
+-- the files contain an architecture and a kernel
 pub record IsPairInput (arch kernel : File) : Type 0 where
   pub pair : Pair
   pub given : GivesPair arch.bytes kernel.bytes pair
 
--- the interval is below the least one; each is, where there is none
+-- the interval is below the least one; where there is no least interval, each interval is
 abbrev pub IsBelow : Option ℕ → ℕ → Type 0
 IsBelow None ii = ⊤
 IsBelow (Some m) ii = ii < m
 
--- Done: an architecture and a kernel were read; their least interval was put, and what forbids the one below it. No mapping
--- of a lower interval is legal
+-- Done: an architecture and a kernel were read; their least interval was reported, and what forbids the interval below
+-- it. No mapping of a lower interval is legal
 pub record IsBoundRun (arch kernel : Name) (before after : Moment) : Type 0 where
   pub pair : Pair
   pub read : HoldPair arch kernel before pair

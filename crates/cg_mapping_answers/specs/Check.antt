@@ -18,16 +18,16 @@ use Rattle.cg_inputs.specs.Sources.{AreGiven, AreMapped, HoldMapped}
 abbrev pub legal_report : Bytes
 legal_report = line_of (codes "legal" ∷ [])
 
--- the lowest rule that it violates, at its first place
+-- the lowest rule that the mapping violates, at the first place
 abbrev pub illegal_report : Arch → Kernel → Violation → Bytes
 illegal_report A K v = line_of (codes "illegal " ∷ rule_text A K v.rule v.place ∷ [])
 
--- by the violation, if there is one
+-- given the violation, if there is one
 abbrev pub checked_by : Mapped → Option Violation → Outcome
 checked_by m None = reports Done legal_report
 checked_by m (Some v) = reports No (illegal_report m.arch m.kernel v)
 
--- by what the files give
+-- given the result of parsing the files
 abbrev pub checked : Result Mapped Outcome → Outcome
 checked (Ok m) = checked_by m (violation m.arch m.kernel m.mapping)
 checked (Err refused) = refused
@@ -37,21 +37,21 @@ pub record IsCheck (arch kernel mapping : File) (o : Outcome) : Type 0 where
   pub given : AreMapped arch kernel mapping mapped
   pub outcome : o ≡ checked mapped
 
--- the files give an architecture, a kernel and a legal mapping
+-- the files contain an architecture, a kernel and a legal mapping
 pub record IsLegalInput (arch kernel mapping : File) : Type 0 where
   pub mapped : Mapped
   pub given : AreGiven arch.bytes kernel.bytes mapping.bytes mapped
   pub legal : IsLegal mapped.arch mapped.kernel mapped.mapping
 
--- Done: the mapping that was read is legal, and that was put
+-- Done: the mapping that was read is legal, and that was reported
 pub record IsLegalCheck (arch kernel mapping : Name) (before after : Moment) : Type 0 where
   pub mapped : Mapped
   pub read : HoldMapped arch kernel mapping before mapped
   pub legal : IsLegal mapped.arch mapped.kernel mapped.mapping
   pub put : Appends before.taken legal_report after.taken
 
--- No: it isn't legal; the lowest rule that it violates was put with its first place, in part where the put failed. No write
--- was made
+-- No: the mapping isn't legal; the lowest rule that it violates was reported with its first place, in part if the put
+-- call failed. Nothing was written
 pub record IsIllegalCheck (arch kernel mapping : Name) (before after : Moment) : Type 0 where
   pub mapped : Mapped
   pub read : HoldMapped arch kernel mapping before mapped

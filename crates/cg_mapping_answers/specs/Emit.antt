@@ -15,23 +15,23 @@ use Rattle.cg_emit.specs.Emitted.{RunLikeTurns}
 use Rattle.cg_inputs.specs.Sources.{AreMapped, HoldMapped}
 use Rattle.cg_mapping_answers.specs.Check.{illegal_report}
 
--- its interval and its stages
+-- the interval and the number of stages
 abbrev pub emit_report : Mapped → Bytes
 emit_report m =
     line_then (codes "ii " ∷ decimal m.mapping.ii ∷ []) (line_of (codes "stages " ∷ decimal (config_of m).stages ∷ []))
 
--- bytes that spell the mapping's configuration are written
+-- bytes that encode the mapping's configuration are written
 pub record IsEmitted (out : Name) (m : Mapped) (o : Outcome) : Type 0 where
   pub bytes : Bytes
   pub spelled : AreBits m.arch (config_of m) bytes
   pub outcome : o ≡ record { status = Done; report = emit_report m; writes = record { name = out; bytes = bytes } ∷ [] }
 
--- by the violation, if there is one
+-- given the violation, if there is one
 abbrev pub IsEmittedBy : Name → Mapped → Option Violation → Outcome → Type 0
 IsEmittedBy out m None o = IsEmitted out m o
 IsEmittedBy out m (Some v) o = o ≡ reports No (illegal_report m.arch m.kernel v)
 
--- by what the files give
+-- given the result of parsing the files
 abbrev pub IsEmission : Name → Result Mapped Outcome → Outcome → Type 0
 IsEmission out (Ok m) o = IsEmittedBy out m (violation m.arch m.kernel m.mapping) o
 IsEmission out (Err refused) o = o ≡ refused
@@ -41,10 +41,10 @@ pub record IsEmit (arch kernel mapping : File) (out : Name) (o : Outcome) : Type
   pub given : AreMapped arch kernel mapping mapped
   pub emission : IsEmission out mapped o
 
--- the bytes run a mapping: it is legal, and they are the bits of its configuration. In no cycle a resource carries two of the
--- turns' values, or a unit begins two operations; and an array that runs these bytes does what the turns of the kernel do one
--- after the other: for every number of turns and every image on which the kernel's edges order the accesses that matter, and
--- where no node reaches the memory for every image
+-- the bytes run a mapping: it is legal, and they are the bits of its configuration. In no cycle does a resource carry
+-- the values of two iterations, or a unit begin two operations; and an array that runs these bytes does what the
+-- iterations of the kernel do one after the other: for every number of iterations and every image on which the kernel's
+-- edges order the accesses that matter, and for every image where no node reaches the memory
 pub record RunsMapping (m : Mapped) (bytes : Bytes) : Type 0 where
   pub legal : IsLegal m.arch m.kernel m.mapping
   pub spelled : AreBits m.arch (config_of m) bytes
@@ -57,12 +57,12 @@ pub record RunsRead (arch kernel mapping : Name) (before : Moment) (bytes : Byte
   pub read : HoldMapped arch kernel mapping before mapped
   pub runs : RunsMapping mapped bytes
 
--- so does the first of these files, if there is one
+-- the first of these files, if there is one, runs the mapping that was read
 abbrev pub FirstRunsRead : Name → Name → Name → Moment → List File → Type 0
 FirstRunsRead arch kernel mapping before [] = Unit {0}
 FirstRunsRead arch kernel mapping before (file ∷ files) = RunsRead arch kernel mapping before file.bytes
 
--- Done: what is held under the last name runs the mapping that was read
+-- Done: the bytes held under the last name run the mapping that was read
 pub record IsEmittedRun (arch kernel mapping out : Name) (before after : Moment) : Type 0 where
   pub mapped : Mapped
   pub read : HoldMapped arch kernel mapping before mapped

@@ -12,8 +12,7 @@ use cg_inputs::{arch_in, kernel_in};
 use cg_model::Kernel;
 use std::alloc::{AllocError, Global};
 
-/// Returns the outcome of `bound`: the least interval of the kernel that the file `kernel` gives on the architecture
-/// that `arch` gives.
+/// Returns the outcome of `bound`: the least interval of the kernel in the file `kernel` on the architecture in `arch`.
 pub fn bound(alloc: Global, arch: &File, kernel: &File) -> Result<Outcome, Stop>
     ensures { Allows (IsBoundOf (file_of arch.now) (file_of kernel.now)) result }
 {
@@ -31,7 +30,8 @@ fn bounded(alloc: Global, array: &Arch, kernel: &Kernel) -> Result<Outcome, Stop
     Ok(Outcome::new(alloc, Status::Done, report))
 }
 
-/// Returns the report on `least`: the least interval, and why the one below it is impossible; or why every one is.
+/// Returns the report on `least`: the least interval, and why the interval below it is impossible; or why every
+/// interval is.
 fn bound_report(
     alloc: Global,
     array: &Arch,
@@ -50,7 +50,7 @@ fn bound_report(
     }
 }
 
-/// Returns the line that says the least interval `mii`, if there is one.
+/// Returns the line that reports the least interval `mii`, if there is one.
 fn first_line(alloc: Global, mii: Option<u32>) -> Result<Vec<u8>, AllocError>
     ensures { IfOk result (λ v. v.items ≡ first_line mii) }
 {
@@ -73,7 +73,7 @@ fn below(mii: Option<u32>) -> Option<u32>
     }
 }
 
-/// Returns `report` with the line `line` added.
+/// Returns `report` followed by the line `line`.
 fn with_line(report: Vec<u8>, line: &[u8]) -> Result<Vec<u8>, AllocError>
     ensures { IfOk result (λ v. v.items ≡ report.items ++ line_of (line.now ∷ [])) }
 {

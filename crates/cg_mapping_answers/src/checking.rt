@@ -13,8 +13,8 @@ use cg_ending::{File, Outcome, Status, Stop};
 use cg_inputs::{arch_in, kernel_in, mapping_in};
 use std::alloc::Global;
 
-/// Returns the outcome of `check`: whether the mapping that the file `mapping` gives is legal for the kernel of
-/// `kernel` on the architecture of `arch`.
+/// Returns the outcome of `check`: whether the mapping in the file `mapping` is legal for the kernel in `kernel` on the
+/// architecture in `arch`.
 pub fn check(alloc: Global, arch: &File, kernel: &File, mapping: &File) -> Result<Outcome, Stop>
     ensures { Allows (IsCheck (file_of arch.now) (file_of kernel.now) (file_of mapping.now)) result }
 {

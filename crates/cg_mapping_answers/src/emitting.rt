@@ -13,8 +13,8 @@ use cg_ending::{File, Outcome, Status, Stop};
 use cg_inputs::{arch_in, kernel_in, mapping_in};
 use std::alloc::{AllocError, Global};
 
-/// Returns the outcome of `emit`: the bits of the mapping that the file `mapping` gives for the kernel of `kernel` on
-/// the architecture of `arch`, to be written under the name `out`.
+/// Returns the outcome of `emit`: the bits of the mapping in the file `mapping`, of the kernel in `kernel` to the
+/// architecture in `arch`, to be written under the name `out`.
 pub fn emit(
     alloc: Global,
     arch: &File,
@@ -30,7 +30,7 @@ pub fn emit(
     emitted(alloc, &array, &graph, placed, out)
 }
 
-/// Returns the outcome for `mapping`: its bits where it is legal, and else the rule that it violates.
+/// Returns the outcome for `mapping`: its bits where it is legal, and otherwise the rule that it violates.
 fn emitted(
     alloc: Global,
     array: &Arch,
@@ -57,7 +57,7 @@ fn written(alloc: Global, legal: &LegalMapping<'_>, out: &str) -> Result<Outcome
     Ok(Outcome::with_file(alloc, Status::Done, report, out, bits)?)
 }
 
-/// Returns the report on the configuration of `legal`: its interval in cycles, and its number of stages.
+/// Returns the report on the configuration of `legal`: its interval, in cycles, and its number of stages.
 pub fn emit_report(alloc: Global, legal: &LegalMapping<'_>) -> Result<Vec<u8>, AllocError>
     ensures { IfOk result (λ v. v.items ≡ emit_report legal.now) }
 {

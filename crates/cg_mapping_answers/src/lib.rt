@@ -1,4 +1,4 @@
-//! What the commands answer that judge: `bound`, `check` and `emit`. From the bytes of input files to an outcome.
+//! The answers of the commands that judge, `bound`, `check` and `emit`: from the bytes of input files to an outcome.
 #![tactic(auto)]
 
 mod bounding;

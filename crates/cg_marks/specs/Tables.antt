@@ -1,4 +1,4 @@
--- Tables by unit and slot and by resource and slot, in which the first item that is noted in a cell stays.
+-- Tables by unit and slot and by resource and slot, in which a cell keeps the first item that is noted in it.
 use Rattle.std.specs.Prelude.{◌≡◌, ℕ, ◌+◌, ◌*◌, ◌%◌, ◌<◌, List, [], ◌∷◌, length, Option, Some, None, slice_index_or, slice_set, option_map}
 use Rattle.std.specs.Option.{option_or}
 use Rattle.cg_model.specs.Array.{Arch, delay}
@@ -34,7 +34,7 @@ pub record AreTables (m : Mapped) (starts : List (Option ℕ)) (stays : List (Op
 abbrev pub cell : {T : Type 0} → List (Option T) → ℕ → Option T
 cell table i = slice_index_or table i None
 
--- the cell of number r at time t: those of a number are one behind the other, by slot
+-- the cell of number r at time t: the cells of a number are adjacent, in the order of slots
 abbrev pub index_of : ℕ → ℕ → ℕ → ℕ
 index_of ii r t = r * ii + t % ii
 
@@ -42,12 +42,12 @@ index_of ii r t = r * ii + t % ii
 unfoldable pub noted : {T : Type 0} → List (Option T) → ℕ → T → List (Option T)
 noted table i item = slice_set table i (option_or (cell table i) (Some item))
 
--- a table after places, whose nodes count from v on
+-- a table after places, whose nodes are numbered from v on
 abbrev pub with_places : ℕ → List (Option ℕ) → ℕ → List Place → List (Option ℕ)
 with_places ii table v [] = table
 with_places ii table v (p ∷ ps) = with_places ii (noted table (index_of ii p.unit p.time) v) (v + 1) ps
 
--- the value that a position is
+-- the value that a position denotes
 abbrev pub stay_of : Position → Stay
 stay_of p = record { source = p.source; resource = p.resource; time = p.time; from = p.from }
 

@@ -1,4 +1,5 @@
-//! What a legal mapping shows in each slot: the node that each unit begins, and the value that each resource carries.
+//! The contents of each slot of a legal mapping: the node that each unit begins, and the value that each resource
+//! carries.
 #![tactic(auto)]
 
 mod laws;

@@ -8,7 +8,7 @@ use cg_model::{Kernel, Mapping};
 use std::alloc::{AllocError, Global};
 use std::marker::Model;
 
-/// A legal mapping with its marks. Contracts see it as the mapping with what it maps.
+/// A legal mapping with its marks. Contracts see it as the mapping with its architecture and kernel.
 #[derive(Drop)]
 pub struct Marks<'a> {
     legal: LegalMapping<'a>,
@@ -32,7 +32,7 @@ impl<'a> Marks<'a> {
     ghost use Rattle.cg_model.specs.Mapping.{IsLegal};
     ghost use Rattle.cg_marks.specs.Marks.{start_at, stay_at, position_of};
 
-    /// Makes the marks of `legal`, which is lost where memory runs out.
+    /// Makes the marks of `legal`, which is dropped if memory runs out.
     pub fn of(alloc: Global, legal: LegalMapping<'a>) -> Result<Marks<'a>, AllocError>
         ensures { IfOk result (λ marks. marks ≡ legal.entry) }
     {

@@ -17,7 +17,7 @@ pub(crate) fn cell_number(row: u32, ii: u32, slot: u32) -> usize
     row as usize * ii as usize + slot as usize
 }
 
-/// Notes `item` in cell `at` of `table`. A cell that has an item keeps it, and past the end nothing is noted.
+/// Notes `item` in cell `at` of `table`. A cell with an item keeps it, and past the end nothing is noted.
 #[tactic(auto, unfolding(crate::specs::Tables::noted))]
 fn note<T: Copy>(table: &mut [Option<T>], at: usize, item: T)
     ensures { table.new ≡ tables.noted table.old at item }
@@ -81,7 +81,7 @@ fn next(arch: &Arch, stay: Stay, resource: u32) -> Stay
     }
 }
 
-/// Notes `first`, and its value on the resources of `links`, to which it goes on.
+/// Notes `first`, and its value on the resources of `links`, along which it continues.
 fn note_path(table: &mut [Option<Stay>], ii: u32, arch: &Arch, first: Stay, links: &[u32])
     requires interval { 0 < ii }
     requires soon { first.time < 2 ^ 33 }

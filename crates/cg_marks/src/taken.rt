@@ -1,11 +1,11 @@
-//! How much of an array a legal mapping takes.
+//! The part of an array that a legal mapping uses.
 ghost use Rattle.std.specs.Prelude.{◌≡◌};
 ghost use Rattle.cg_marks.specs.Counts as counts;
 
 use crate::marks::Marks;
 use cg_model::Kind;
 
-/// Checks whether both are one kind.
+/// Checks whether both kinds are equal.
 fn same_kind(first: Kind, second: Kind) -> bool
     ensures { result ≡ counts.same_kind first second }
 {

@@ -1,6 +1,5 @@
--- Architectures: resources (wires, registers, the ports and outs of units) with their drivers, and
--- units. There is a link from q to r where q drives r; a link into a register takes one cycle,
--- every other none.
+-- Architectures: resources (wires, registers, the ports and outs of units) with their drivers, and units. There is a
+-- link from q to r where q drives r; a link into a register takes one cycle, every other link none.
 use Rattle.std.specs.Prelude.{◌≡◌, ◌≢◌, ℕ, suc, ◌+◌, ◌<◌, ◌≤◌, eqb, if◌then◌else◌, List, [], ◌∷◌, ◌++◌, length, Contains, slice_index_or}
 use Rattle.cg_word.specs.declared.op.Op.{Op}
 use Rattle.cg_word.specs.Word.{arity}
@@ -20,11 +19,11 @@ pub record Arch : Type 0 where
   pub units : List Unit
   pub hub : List ℕ
 
--- resource r; past the last one a wire without drivers
+-- resource r; past the last one, a wire without drivers
 abbrev pub resource : Arch → ℕ → Resource
 resource A r = slice_index_or A.resources r (record { name = []; kind = Wire; drivers = [] })
 
--- unit x; past the last one a unit without operations
+-- unit x; past the last one, a unit without operations
 abbrev pub unit : Arch → ℕ → Unit
 unit A x = slice_index_or A.units x (record { name = []; ops = []; latency = 1; ports = []; out = 0 })
 
@@ -52,7 +51,7 @@ abbrev pub owner_from : ℕ → List Unit → ℕ → ℕ
 owner_from r [] x = x
 owner_from r (u ∷ us) x = if eqb u.out r then x else owner_from r us (suc x)
 
--- the unit that resource r is the out of
+-- the unit whose out is resource r
 unfoldable pub owner : Arch → ℕ → ℕ
 owner A r = owner_from r A.units 0
 
@@ -61,7 +60,7 @@ unfoldable pub links : List Resource → ℕ
 links [] = 0
 links (r ∷ rs) = length r.drivers + links rs
 
--- what a valid architecture counts at most (A1), and its contexts (A8)
+-- the limits on the counts of a valid architecture (A1) and on its contexts (A8)
 pub record IsSmall (A : Arch) : Type 0 where
   pub resources : length A.resources ≤ most_resources
   pub links : links A.resources ≤ most_links
@@ -85,14 +84,14 @@ pub record HasNames (A : Arch) : Type 0 where
   -- no resource has a unit's name
   pub both_apart : (r x : ℕ) → r < length A.resources → x < length A.units →
       (resource A r).name ≢ (unit A x).name
-  -- the unit's name with `_o` for its out, with `_a`, `_b`, `_c` for its ports
+  -- the unit's name followed by `_o` for its out, by `_a`, `_b`, `_c` for its ports
   pub outs : (x : ℕ) → x < length A.units →
       (resource A (unit A x).out).name ≡ (unit A x).name ++ 95 ∷ 111 ∷ []
   pub ports : (x p : ℕ) → x < length A.units → p < length (unit A x).ports →
       (resource A (port A x p)).name ≡ (unit A x).name ++ 95 ∷ (97 + p) ∷ []
 
--- a complete hub (A9): its entries are registers, none twice; each of them is driven by each unit's
--- out and by each hub register, itself included, and drives each port. An empty hub is complete.
+-- a complete hub (A9): its entries are registers, none twice; each of them is driven by each unit's out and by each hub
+-- register, itself included, and drives each port. An empty hub is complete.
 pub record HasHub (A : Arch) : Type 0 where
   pub registers : (k : ℕ) → k < length A.hub → (resource A (hub_register A k)).kind ≡ Register
   pub once : (j k : ℕ) → j < length A.hub → k < length A.hub →
@@ -109,16 +108,16 @@ pub record IsArch (A : Arch) : Type 0 where
   pub small : IsSmall A
   pub names : HasNames A
   pub hub : HasHub A
-  -- A7: a unit has a latency of 1 to 4 cycles, at least one operation, at most three ports, and
-  -- ports enough for each operation
+  -- A7: a unit has a latency of 1 to 4 cycles, at least one operation, at most three ports, and enough ports for each
+  -- operation
   pub latencies : (x : ℕ) → x < length A.units →
       (0 < (unit A x).latency) × ((unit A x).latency ≤ 4)
   pub some_op : (x : ℕ) → x < length A.units → 0 < length (unit A x).ops
   pub few_ports : (x : ℕ) → x < length A.units → length (unit A x).ports ≤ 3
   pub enough_ports : (x : ℕ) (op : Op) → x < length A.units → Contains (unit A x).ops op →
       arity op ≤ length (unit A x).ports
-  -- a unit's ports and out are resources of these kinds, each resource of these kinds is of one
-  -- unit, and of one port of it
+  -- a unit's ports and out are resources of these kinds; each resource of these kinds belongs to one unit, and to one
+  -- port of it
   pub ports_known : (x p : ℕ) → x < length A.units → p < length (unit A x).ports →
       port A x p < length A.resources
   pub ports : (x p : ℕ) → x < length A.units → p < length (unit A x).ports →
@@ -132,13 +131,13 @@ pub record IsArch (A : Arch) : Type 0 where
   pub owners : (x : ℕ) → x < length A.units → owner A (unit A x).out ≡ x
   pub owned : (r : ℕ) → (resource A r).kind ≡ Out →
       (owner A r < length A.units) × ((unit A (owner A r)).out ≡ r)
-  -- a driver is a resource (A4) and no port (A5), and stands in a list once; an out has no drivers
+  -- a driver is a resource (A4) and not a port (A5), and is listed once; an out has no drivers
   pub known : (q r : ℕ) → Contains (resource A r).drivers q → q < length A.resources
   pub from_no_port : (q r : ℕ) → Contains (resource A r).drivers q → (resource A q).kind ≢ Port
   pub once : (r j k : ℕ) → j < length (resource A r).drivers → k < length (resource A r).drivers →
       slice_index_or (resource A r).drivers j 0 ≡ slice_index_or (resource A r).drivers k 0 → j ≡ k
   pub undriven : (r : ℕ) → (resource A r).kind ≡ Out → (resource A r).drivers ≡ []
-  -- A6: the links of delay 0 are acyclic: there are levels on which each of them goes up
+  -- A6: the links of delay 0 are acyclic: there are levels such that each of these links leads to a higher one
   pub level : ℕ → ℕ
   pub levels : (r : ℕ) → r < length A.resources → level r < length A.resources
   pub rising : (q r : ℕ) → Contains (resource A r).drivers q → delay A r ≡ 0 → level q < level r

@@ -1,4 +1,4 @@
--- Configurations: what the array is told for each slot, a slot being a cycle's number modulo the
+-- Configurations: the selects and fields of the array for each slot, where a slot is a cycle's number modulo the
 -- interval.
 use Rattle.std.specs.Prelude.{ℕ, false, List, [], replicate, None, slice_index, slice_index_or}
 pub use Rattle.cg_model.specs.declared.config.ArgFields.{ArgFields}
@@ -12,7 +12,7 @@ pub record Config : Type 0 where
   pub selects : List (List ℕ)  -- by slot and resource
   pub units : List (List UnitFields)  -- by slot and unit
 
--- an argument that is all zero
+-- the fields of an argument, all zero
 abbrev pub no_arg : ArgFields
 no_arg = record { fixed = false; count = 0; init = replicate 4 0 }
 
@@ -24,8 +24,7 @@ off = record { op = None; stage = 0; port = 0; immediate = 0; args = replicate 3
 abbrev pub arg : UnitFields → ℕ → ArgFields
 arg f p = slice_index_or f.args p no_arg
 
--- the select of resource r at a slot: 0 for none, else the place of a driver in the resource's
--- list, counted from 1
+-- the select of resource r at a slot: 0 for none, else the position of a driver in the resource's list, counted from 1
 abbrev pub select : Config → ℕ → ℕ → ℕ
 select C r slot = slice_index (slice_index_or C.selects slot []) r
 

@@ -1,4 +1,4 @@
--- What a mapping asks of the array: its configuration.
+-- The configuration that a mapping requires of the array.
 use Rattle.std.specs.Prelude.{ℕ, zero, suc, ◌+◌, ◌-◌, ◌/◌, ◌%◌, eqb, max, ◌&&◌, if◌then◌else◌, true, false, List, [], ◌∷◌, ◌++◌, length, map, replicate, Option, Some, None}
 use Rattle.std.specs.List.{range_with_len}
 use Rattle.cg_model.specs.Kernel.{Kernel, Node, Operand, Constant, Edge, size, node}
@@ -6,18 +6,18 @@ use Rattle.cg_model.specs.Array.{Arch, resource}
 use Rattle.cg_model.specs.Mapping.{Mapping, Place, Position, place, positions}
 use Rattle.cg_model.specs.Config.{Config, ArgFields, UnitFields, no_arg, off}
 
--- the first place of q among the drivers, counted from 0
+-- the first position of q among the drivers, counted from 0
 abbrev pub place_of : ℕ → List ℕ → ℕ
 place_of q [] = 0
 place_of q (d ∷ ds) = if eqb d q then 0 else suc (place_of q ds)
 
--- the select that a position asks for: the place of where its value comes from, counted from 1
+-- the select that a route position requires: the position of its driver in the list, counted from 1
 abbrev pub selected : List ℕ → Option ℕ → ℕ
 selected drivers None = 0
 selected drivers (Some q) = suc (place_of q drivers)
 
--- the select of resource r at a slot, by the first position there; of a legal mapping all positions
--- there ask for the same
+-- the select of resource r at a slot, by the first route position there; in a legal mapping all route positions there
+-- require the same select
 abbrev pub select_in : Arch → ℕ → ℕ → ℕ → List Position → ℕ
 select_in A ii r slot [] = 0
 select_in A ii r slot (p ∷ ps) =
@@ -25,8 +25,7 @@ select_in A ii r slot (p ∷ ps) =
     then selected (resource A r).drivers p.from
     else select_in A ii r slot ps
 
--- the last of the first n nodes that is on unit x at a slot; of a legal mapping there is at most
--- one
+-- the last of the first n nodes that is on unit x at a slot; a legal mapping has at most one there
 abbrev pub node_on : Mapping → ℕ → ℕ → ℕ → Option ℕ
 node_on M x slot zero = None
 node_on M x slot (suc v) =
@@ -38,17 +37,17 @@ constant [] = 0
 constant (Constant w ∷ os) = w
 constant (Edge u d init ∷ os) = constant os
 
--- filled up with x to k places
+-- the list, filled up with x to length k
 abbrev pub padded : {X : Type 0} → ℕ → X → List X → List X
 padded k x xs = xs ++ replicate (k - length xs) x
 
--- what an operand asks of its argument: a constant the mode bit, an edge of distance d the count d
--- and its initial words
+-- the argument fields that an operand requires: for a constant the mode bit, for an edge of distance d the count d and
+-- its initial words
 abbrev pub arg_fields : Operand → ArgFields
 arg_fields (Constant w) = record { fixed = true; count = 0; init = replicate 4 0 }
 arg_fields (Edge u d init) = record { fixed = false; count = d; init = padded 4 0 init }
 
--- what a node asks of its unit: its operation, stage, port, constant and arguments
+-- the fields that a node requires of its unit: its operation, stage, port, constant and arguments
 abbrev pub node_fields : Node → ℕ → UnitFields
 node_fields v stage =
     record {
@@ -59,7 +58,7 @@ node_fields v stage =
       args = padded 3 no_arg (map arg_fields v.operands);
     }
 
--- what the node there asks, at stage time / ii; nothing where there is no node
+-- the fields that the node there requires, at stage time / ii; all off where there is no node
 abbrev pub fields_by : Kernel → Mapping → Option ℕ → UnitFields
 fields_by K M None = off
 fields_by K M (Some v) = node_fields (node K v) ((place M v).time / M.ii)
@@ -69,8 +68,7 @@ abbrev pub stages_of : ℕ → List Place → ℕ
 stages_of ii [] = 1
 stages_of ii (p ∷ ps) = max (p.time / ii + 1) (stages_of ii ps)
 
--- the configuration of a mapping: selects by the positions of its routes, fields by its places, all
--- else zero
+-- the configuration of a mapping: selects by the positions of its routes, fields by its places, everything else zero
 unfoldable pub configuration_of : Arch → Kernel → Mapping → Config
 configuration_of A K M =
     record {

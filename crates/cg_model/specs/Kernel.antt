@@ -1,6 +1,5 @@
--- Kernels: the body of a loop as a graph of operations. Its nodes stand in program order; a data
--- edge of distance d takes the source's value of d turns ago, and an order edge only asks that one
--- node comes before another.
+-- Kernels: the body of a loop as a graph of operations. Its nodes are listed in program order; a data edge of distance
+-- d carries the source's value of d turns ago, and an order edge only requires that one node comes before another.
 use Rattle.std.specs.Prelude.{◌≡◌, ℕ, ◌<◌, ◌≤◌, true, false, List, [], length, Some, slice_get, slice_index, slice_index_or}
 use Rattle.cg_word.specs.declared.op.Op.TheVariants.{Const}
 use Rattle.cg_word.specs.Word.{arity, words, has_value, has_port, is_output}
@@ -20,7 +19,7 @@ pub record Kernel : Type 0 where
 abbrev pub size : Kernel → ℕ
 size K = length K.nodes
 
--- what `node` gives past the last node: it has no operand
+-- the value of `node` past the last node: a node without operands
 abbrev pub no_node : Node
 no_node = record { name = []; op = Const; port = 0; operands = [] }
 
@@ -36,8 +35,8 @@ HasOperand K v p o = slice_get (node K v).operands p ≡ Some o
 abbrev pub HasOrder : Kernel → ℕ → ℕ → ℕ → ℕ → Type 0
 HasOrder K e u v d = slice_get K.order e ≡ Some (record { from = u; to = v; distance = d })
 
--- what the turns need: data edges come from nodes (K9), those of distance 0 from earlier nodes
--- (K11), and constants are words
+-- what the turns need: the sources of data edges are nodes (K9), those of distance 0 are earlier nodes (K11), and
+-- constants are words
 pub record IsWired (K : Kernel) : Type 0 where
   pub sources : (v p u d : ℕ) (init : List ℕ) → v < size K → HasOperand K v p (Edge u d init) →
       u < size K
@@ -45,15 +44,15 @@ pub record IsWired (K : Kernel) : Type 0 where
       u < v
   pub constants : (v p c : ℕ) → v < size K → HasOperand K v p (Constant c) → c < words
 
--- at most 4,096 order edges (K4) join nodes (K9), within a turn an earlier to a later one (K11),
--- over at most 255 turns (K12)
+-- at most 4,096 order edges (K4) join nodes (K9), within a turn an earlier to a later one (K11), over at most 255 turns
+-- (K12)
 pub record IsOrder (K : Kernel) : Type 0 where
   pub few : length K.order ≤ most_order_edges
   pub known : (e u v d : ℕ) → HasOrder K e u v d → (u < size K) × (v < size K)
   pub forward : (e u v : ℕ) → HasOrder K e u v 0 → u < v
   pub near : (e u v d : ℕ) → HasOrder K e u v d → d ≤ most_order_distance
 
--- each node has a name of at most 32 characters (K5) of its own (K6)
+-- each node has a name of at most 32 characters (K5) that no other node has (K6)
 pub record IsNamed (K : Kernel) : Type 0 where
   pub names : (v : ℕ) → v < size K → IsName longest_node_name (node K v).name
   pub apart : (v w : ℕ) → v < size K → w < size K →
@@ -66,12 +65,12 @@ pub record IsKernel (K : Kernel) : Type 0 where
   pub named : IsNamed K
   pub wired : IsWired K
   pub order : IsOrder K
-  -- K8: each node has as many operands as its operation takes
+  -- K8: the number of operands of each node is its operation's arity
   pub arities : (v : ℕ) → v < size K → length (node K v).operands ≡ arity (node K v).op
   -- K10: the source of a data edge has a value
   pub valued : (v p u d : ℕ) (init : List ℕ) → v < size K → HasOperand K v p (Edge u d init) →
       has_value (node K u).op ≡ true
-  -- K12, K13: a data edge goes over at most 4 turns, and has an initial word for each of them
+  -- K12, K13: a data edge spans at most 4 turns, and has an initial word for each of them
   pub near : (v p u d : ℕ) (init : List ℕ) → v < size K → HasOperand K v p (Edge u d init) →
       d ≤ most_distance
   pub inits : (v p u d : ℕ) (init : List ℕ) → v < size K → HasOperand K v p (Edge u d init) →

@@ -56,7 +56,7 @@ most_units = 1024
 abbrev pub most_memory : ℕ
 most_memory = 1048576
 
--- the greatest number of words of a stream: one a turn
+-- the greatest number of words of a stream: one for each turn
 abbrev pub most_stream : ℕ
 most_stream = most_turns
 

@@ -6,11 +6,11 @@ use Rattle.std.specs.List.{list_all}
 abbrev pub between : ℕ → ℕ → ℕ → Bool
 between low high byte = nat_le low byte && nat_le byte high
 
--- a letter of ASCII or `_`
+-- an ASCII letter or `_`
 abbrev pub begins_name : ℕ → Bool
 begins_name byte = between 65 90 byte || (between 97 122 byte || eqb byte 95)
 
--- a letter of ASCII, `_` or a digit
+-- an ASCII letter, `_` or a digit
 abbrev pub within_name : ℕ → Bool
 within_name byte = begins_name byte || between 48 57 byte
 
@@ -22,8 +22,7 @@ is_identifier name = nat_lt 0 (length name) && (begins_name (slice_index name 0)
 abbrev pub is_name : ℕ → List ℕ → Bool
 is_name most name = is_identifier name && nat_le (length name) most
 
--- a name begins with a letter or `_`, goes on with letters, digits or `_`, and has at most `most`
--- characters
+-- a name begins with a letter or `_`, continues with letters, digits or `_`, and has at most `most` characters
 pub record IsName (most : ℕ) (name : List ℕ) : Type 0 where
   pub some : 0 < length name
   pub short : length name ≤ most

@@ -1,4 +1,4 @@
--- What a search for a mapping is asked.
+-- The parameters of a search for a mapping.
 use Rattle.std.specs.Prelude.{◌≤◌, IfSome}
 use Rattle.cg_model.specs.Limits.{most_moves}
 use Rattle.cg_model.specs.declared.request.Request.{Request}

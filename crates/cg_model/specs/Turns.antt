@@ -1,10 +1,10 @@
--- The sequential meaning of a kernel: all nodes of the first turn in program order, then those of
--- the second, and so on. It knows nothing of arrays.
+-- The sequential meaning of a kernel: all nodes of the first turn in program order, then those of the second, and so
+-- on. It is independent of arrays.
 use Rattle.std.specs.Prelude.{ℕ, zero, suc, ◌+◌, ◌-◌, ◌*◌, ◌/◌, ◌%◌, nat_lt, if◌then◌else◌, List, [], ◌∷◌, ◌++◌, length, map, slice_index}
 use Rattle.cg_model.specs.Work.{Image, Work, Left, left, value, stored, sent, missed}
 use Rattle.cg_model.specs.Kernel.{Kernel, Node, Operand, Constant, Edge, size, node}
 
--- what the steps so far have done; a step is one node in one turn
+-- the effects of the steps so far; a step is one node in one turn
 pub record Progress : Type 0 where
   pub values : List ℕ  -- the value of each step, in order
   pub memory : List ℕ
@@ -25,7 +25,7 @@ work_of v i earlier = record { op = v.op; port = v.port; turn = i; args = map (o
 abbrev pub work_at : Kernel → ℕ → List ℕ → Work
 work_at K k values = work_of (node K (k % size K)) (k / size K) (λ u j. slice_index values (j * size K + u))
 
--- after one more step, which does w: the value and the store see the memory before the step
+-- the progress after one more step, which does w: the value and the store see the memory before the step
 abbrev pub after : Image → Work → Progress → Progress
 after image w p =
     record {
@@ -35,7 +35,7 @@ after image w p =
       outside = p.outside + missed (length p.memory) w;
     }
 
--- before step k: at first the image's memory, empty streams and no access outside
+-- the progress before step k: at first the image's memory, empty streams and no access outside
 unfoldable pub before : Kernel → Image → ℕ → Progress
 before K image zero = record { values = []; memory = image.memory; streams = λ port. []; outside = 0 }
 before K image (suc k) = after image (work_at K k (before K image k).values) (before K image k)
@@ -48,7 +48,7 @@ work K image k = work_at K k (before K image k).values
 abbrev pub val : Kernel → Image → ℕ → ℕ → ℕ
 val K image v i = value image (before K image (i * size K + v)).memory (work K image (i * size K + v))
 
--- after n turns
+-- the progress after n turns
 abbrev pub turns : Kernel → ℕ → Image → Progress
 turns K n image = before K image (n * size K)
 

@@ -3,7 +3,7 @@
 use crate::lists::{Name, Words};
 use cg_word::OpSet;
 
-/// What a resource is, and so when it has the word of its selected driver.
+/// The kind of a resource, which says when the resource has the word of its selected driver.
 #[derive(Clone, Copy, Debug, PartialEq, Eq)]
 pub enum Kind {
     /// It has the word of its driver in the same cycle.
@@ -19,12 +19,11 @@ pub enum Kind {
 /// A resource of an architecture: a wire, a register, or a port or the out of a unit.
 #[derive(Drop)]
 pub struct Resource {
-    /// Its flat name, as `r0c1_h`; that of a port or an out begins with its unit's name.
+    /// Its flat name, for example `r0c1_h`; the name of a port or an out begins with its unit's name.
     pub name: Name,
-    /// What it is.
+    /// Its kind.
     pub kind: Kind,
-    /// The numbers of the resources that may drive it. A select j > 0 means the driver in place j,
-    /// counted from 1.
+    /// The numbers of the resources that may drive it. A select j > 0 selects driver number j, counted from 1.
     pub drivers: Words,
 }
 

@@ -1,11 +1,11 @@
-//! What a configuration says of a unit in a slot.
+//! The fields of a configuration for a unit in a slot.
 
 use cg_word::Op;
 
-/// What a unit takes as one argument.
+/// The fields of a configuration for one argument of a unit.
 ///
-/// It is the immediate where `fixed` is set. Else it is, in the first `count` turns, the initial
-/// word of the turn's number, and from then on the word on the port.
+/// The argument is the immediate where `fixed` is set. Otherwise it is, in each of the first `count` turns, the initial
+/// word with the turn's number, and from then on the word on the port.
 #[derive(Clone, Copy, Debug, PartialEq, Eq)]
 pub struct ArgFields {
     /// The mode bit.
@@ -16,12 +16,12 @@ pub struct ArgFields {
     pub init: [u32; 4],
 }
 
-/// What a unit does in a slot.
+/// The fields of a unit in a slot.
 #[derive(Clone, Copy, Debug, PartialEq, Eq)]
 pub struct UnitFields {
     /// Its operation, `None` where the unit is off.
     pub op: Option<Op>,
-    /// The round in which it works on turn 0, a round being `ii` cycles; at most 65,534.
+    /// The round in which it works on turn 0, where a round is `ii` cycles; at most 65,534.
     pub stage: u32,
     /// The stream of an input, output or outputif, 0 to 15; 0 for all other operations.
     pub port: u32,

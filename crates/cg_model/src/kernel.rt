@@ -11,16 +11,16 @@ pub enum Operand {
     Const(u32),
     /// A data edge: the value of another node, or of the node itself, some turns ago.
     Edge {
-        /// The number of the node whose value it is.
+        /// The number of the node that computes the value.
         from: u32,
         /// How many turns ago, 0 to 4.
         distance: u32,
-        /// The operand in the first turns, one word for each turn below the distance.
+        /// The operand in the first turns: `distance` words, one for each of these turns.
         init: Words,
     },
 }
 
-/// A node of a kernel: one operation, done once a turn.
+/// A node of a kernel: one operation, executed once in each turn.
 #[derive(Drop)]
 pub struct Node {
     /// Its name, of at most 32 characters.
@@ -29,11 +29,11 @@ pub struct Node {
     pub op: Op,
     /// The stream of an input, output or outputif, 0 to 15; 0 for all other operations.
     pub port: u32,
-    /// Its operands, as many as the operation's arity.
+    /// Its operands; their number is the operation's arity.
     pub operands: Operands,
 }
 
-/// An order edge: node `to` comes after node `from` of `distance` turns ago. It carries no value.
+/// An order edge: node `to` begins after node `from` of `distance` turns ago. It carries no value.
 #[derive(Clone, Copy, Debug, PartialEq, Eq, Drop)]
 pub struct OrderEdge {
     /// The number of the node that comes first.
@@ -65,7 +65,7 @@ impl Kernel {
     ghost use Rattle.std.specs.Prelude.{◌≡◌};
     ghost use Rattle.cg_model.specs.Kernel.{IsKernel};
 
-    /// A kernel of these nodes and order edges.
+    /// Returns a kernel of these `nodes` and order edges `order`.
     pub fn new(nodes: Vec<Node>, order: Vec<OrderEdge>) -> Kernel
         requires { IsKernel (record { nodes = nodes.items; order = order.items }) }
         ensures { result ≡ record { nodes = nodes.items; order = order.items } }
@@ -73,7 +73,7 @@ impl Kernel {
         Kernel { nodes, order }
     }
 
-    /// The nodes in program order.
+    /// Returns the nodes in program order.
     pub fn nodes(&self) -> &[Node]
         ensures nodes { result.now ≡ self.now.nodes }
         ensures valid { IsKernel self.now }
@@ -81,7 +81,7 @@ impl Kernel {
         &self.nodes
     }
 
-    /// The order edges.
+    /// Returns the order edges.
     pub fn order(&self) -> &[OrderEdge]
         ensures order { result.now ≡ self.now.order }
         ensures valid { IsKernel self.now }

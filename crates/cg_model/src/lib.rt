@@ -1,6 +1,6 @@
-//! The types of kernels, architectures, mappings and configurations, and in `specs/` what they mean:
-//! what the turns of a kernel do, when a mapping is legal, what the array does in each cycle, and what
-//! the overlap theorem says of them. The repository's `docs/array.md` says each definition in words.
+//! The types of kernels, architectures, mappings and configurations, and in `specs/` what they mean: what the turns of
+//! a kernel do, when a mapping is legal, what the array does in each cycle, and what the overlap theorem says of them.
+//! The repository's `docs/array.md` explains each definition in prose.
 #![tactic(auto)]
 
 mod array;

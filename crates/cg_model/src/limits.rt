@@ -45,7 +45,7 @@ pub const MOST_UNITS: usize = 1024;
 /// The greatest number of words of a memory.
 pub const MOST_MEMORY: u32 = 1_048_576;
 
-/// The greatest number of words of a stream, one a turn.
+/// The greatest number of words of a stream, one for each turn.
 pub const MOST_STREAM: u32 = MOST_TURNS;
 
 /// The greatest number of moves of a search at one interval.

@@ -21,7 +21,7 @@ impl<T> Model for Items<T> {
 impl<T> Items<T> {
     ghost use Rattle.std.specs.Prelude.{◌≡◌, ◌∷◌, [], ◌++◌, is_ok, if◌then◌else◌};
 
-    /// Takes the items over.
+    /// Takes over `items`.
     pub fn new(items: Vec<T>) -> Items<T>
         ensures { result ≡ items.items }
     {
@@ -35,14 +35,14 @@ impl<T> Items<T> {
         &self.items
     }
 
-    /// Adds an item at the end, which takes memory where the `Vec` has no room left.
+    /// Appends `item`, which allocates memory where the `Vec` has no room left.
     pub fn push(&mut self, item: T) -> Result<(), AllocFailed<T>>
         ensures { self.new ≡ (if is_ok result then self.old ++ item ∷ [] else self.old) }
     {
         self.items.push(item)
     }
 
-    /// Gives the items back.
+    /// Returns the items as a `Vec`.
     pub fn into_vec(self) -> Vec<T>
         ensures { result.items ≡ self }
     {
@@ -73,14 +73,14 @@ impl Model for Name {
 impl Name {
     ghost use Rattle.std.specs.Prelude.{◌≡◌, IfOk, string_bytes};
 
-    /// Takes the text over.
+    /// Takes over `text`.
     pub fn new(text: String) -> Name
         ensures { result ≡ string_bytes text }
     {
         Name { text }
     }
 
-    /// A copy of a text.
+    /// Returns a copy of `text`.
     pub fn copy_of(alloc: Global, text: &str) -> Result<Name, AllocError>
         ensures { IfOk result (λ name. name ≡ text.now) }
     {
@@ -96,7 +96,7 @@ impl Name {
         self.text.as_str()
     }
 
-    /// Gives the text back.
+    /// Returns the text as a `String`.
     pub fn into_string(self) -> String
         ensures { string_bytes result ≡ self }
     {

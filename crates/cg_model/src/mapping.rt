@@ -3,7 +3,7 @@
 use crate::lists::Words;
 use std::marker::Model;
 
-/// Where and when a node is done.
+/// The unit and the time of a node.
 #[derive(Clone, Copy, Debug, PartialEq, Eq)]
 pub struct Place {
     /// The number of its unit.
@@ -12,19 +12,20 @@ pub struct Place {
     pub time: u32,
 }
 
-/// The way of a value to one operand of a node.
+/// The route of a value to one operand of a node.
 #[derive(Drop)]
 pub struct Route {
     /// The number of the node that takes the value.
     pub node: u32,
     /// The number of the operand, from 0.
     pub arg: u32,
-    /// The resources on the way, by number, from the out of the source's unit to the port.
+    /// The resources on the route, by number, from the out of the source's unit to the port.
     pub path: Words,
 }
 
 /// A mapping: an interval, a place for each node in node order, and a route for each edge operand in the order of nodes
-/// and operands. Contracts see it as the model's record. It may be a mapping of no kernel and legal on no architecture.
+/// and operands. Contracts see it as the model's record. It need not be a mapping of any kernel, nor legal on any
+/// architecture.
 #[derive(Drop)]
 pub struct Mapping {
     ii: u32,
@@ -43,28 +44,28 @@ impl Model for Mapping {
 impl Mapping {
     ghost use Rattle.std.specs.Prelude.{◌≡◌};
 
-    /// A mapping with that interval, these places and these routes.
+    /// Returns a mapping with interval `ii`, places `places` and routes `routes`.
     pub fn new(ii: u32, places: Vec<Place>, routes: Vec<Route>) -> Mapping
         ensures { result ≡ record { ii = ii; places = places.items; routes = routes.items } }
     {
         Mapping { ii, places, routes }
     }
 
-    /// The interval: the cycles from one turn's beginning to the next one's.
+    /// Returns the interval: the cycles between the beginnings of two consecutive turns.
     pub fn ii(&self) -> u32
         ensures { result ≡ self.now.ii }
     {
         self.ii
     }
 
-    /// The places in node order.
+    /// Returns the places in node order.
     pub fn places(&self) -> &[Place]
         ensures { result.now ≡ self.now.places }
     {
         &self.places
     }
 
-    /// The routes in the order of nodes and operands.
+    /// Returns the routes in the order of nodes and operands.
     pub fn routes(&self) -> &[Route]
         ensures { result.now ≡ self.now.routes }
     {

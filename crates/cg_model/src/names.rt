@@ -1,9 +1,9 @@
-//! What names are made of.
+//! The syntax of names.
 ghost use Rattle.std.specs.Prelude.{◌≡◌};
 ghost use Rattle.std.specs.List.{list_all};
 ghost use Rattle.cg_model.specs.Names as spec;
 
-/// Whether a text is an identifier: a letter or `_`, and then letters, digits or `_`, all of ASCII.
+/// Returns whether `text` is an identifier: an ASCII letter or `_`, followed by ASCII letters, digits or `_`.
 pub fn is_identifier(text: &str) -> bool
     ensures { result ≡ spec.is_identifier text.now }
 {
@@ -13,7 +13,7 @@ pub fn is_identifier(text: &str) -> bool
     }
 }
 
-/// Checks whether `text` is an identifier of at most `most` characters.
+/// Returns whether `text` is an identifier of at most `most` characters.
 pub fn is_name(text: &str, most: usize) -> bool
     ensures { result ≡ spec.is_name most text.now }
 {

@@ -1,12 +1,12 @@
-//! What a search for a mapping is asked.
+//! The parameters of a search for a mapping.
 
-/// What a search for a mapping is asked: which intervals it tries, the words that it draws, and how long it may go on.
+/// The parameters of a search for a mapping: the intervals that it tries, its random seed and its budget of moves.
 #[derive(Clone, Copy, Debug, PartialEq, Eq)]
 pub struct Request {
-    /// The only interval to try, in cycles; None for each from the least one on.
+    /// The only interval to try, in cycles; None to try each interval from the least one on.
     pub ii: Option<u32>,
-    /// The seed of the words that are drawn.
+    /// The seed of the random words.
     pub seed: u64,
-    /// The most moves at an interval: of the walk for `map`, best responses for `search`.
+    /// The greatest number of moves at one interval: of the walk for `map`, best responses for `search`.
     pub moves: u32,
 }

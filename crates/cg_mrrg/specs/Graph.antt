@@ -1,6 +1,5 @@
--- The modulo routing resource graph (Mei et al. 2002): the resources of an architecture, each once in
--- each slot of an interval ii. Where q drives r, a link leads from q in each slot to r in the slot in
--- which the word comes there.
+-- The modulo routing resource graph (Mei et al. 2002): the resources of an architecture, each once in each slot of an
+-- interval ii. If q drives r, a link leads from q in each slot to r in the slot in which the word arrives there.
 use Rattle.std.specs.Prelude.{ℕ, zero, suc, ◌+◌, ◌-◌, ◌%◌, ◌<◌, eqb, if◌then◌else◌, List, [], ◌∷◌, ◌++◌, length, map, filter}
 use Rattle.std.specs.List.{list_any}
 use Rattle.cg_model.specs.Array.{Arch, resource, delay}
@@ -42,6 +41,6 @@ users A q = users_below A q (length A.resources)
 abbrev pub links_out_of : Graph → MNode → List Link
 links_out_of G n = map (link_to G.arch n.slot G.interval) (users G.arch n.resource)
 
--- the registers that q drives, ascending: where links of one cycle lead
+-- the registers that q drives, ascending: the ends of links of one cycle
 abbrev pub registers_after : Arch → ℕ → List ℕ
 registers_after A q = filter (λ r. eqb (delay A r) 1) (users A q)

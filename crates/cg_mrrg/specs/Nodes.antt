@@ -1,4 +1,4 @@
--- The links of a graph by node, and what is kept of them.
+-- The links of a graph by node, and the lists that are kept of them.
 use Rattle.std.specs.Prelude.{ℕ, ◌*◌, ◌%◌, ◌/◌, ◌<◌, ◌≤◌, List, length}
 use Rattle.cg_model.specs.Array.{Arch}
 use Rattle.cg_mrrg.specs.declared.links.MNode.{MNode}

@@ -16,8 +16,8 @@ use std::alloc::{AllocError, Global};
 use std::marker::Model;
 
 /// The modulo routing resource graph of an architecture at an interval (Mei et al. 2002): each resource once in each
-/// slot. It lends the links at a node, which it keeps one node after the other, and copies nothing. It takes some 24
-/// bytes for each link in each slot, at most some 100 MB.
+/// slot. It lends the links at a node, which it keeps node by node, and copies nothing. It takes about 24 bytes for
+/// each link in each slot, at most about 100 MB.
 #[derive(Drop)]
 pub struct Mrrg<'a> {
     arch: &'a Arch,
@@ -46,7 +46,7 @@ impl<'a> Mrrg<'a> {
     ghost use Rattle.cg_level.specs.Topological.{IsTopological};
     ghost use Rattle.cg_mrrg.specs.Graph as spec;
 
-    /// The graph of an architecture at an interval of 1 to 64 cycles.
+    /// Returns the graph of `arch` at an interval of 1 to 64 cycles.
     pub fn expand(alloc: Global, arch: &'a Arch, interval: u32) -> Result<Mrrg<'a>, AllocError>
         requires some { 0 < interval }
         requires few { interval ≤ 64 }
@@ -61,7 +61,7 @@ impl<'a> Mrrg<'a> {
         })
     }
 
-    /// The interval, in cycles.
+    /// Returns the interval, in cycles.
     pub fn interval(&self) -> u32
         ensures value { result ≡ self.now.interval }
         ensures some { 0 < result }
@@ -70,28 +70,28 @@ impl<'a> Mrrg<'a> {
         self.interval
     }
 
-    /// The number of resources of the architecture.
+    /// Returns the number of resources of the architecture.
     pub fn resources(&self) -> u32
         ensures { result ≡ length self.now.arch.resources }
     {
         self.arch.resources().len() as u32
     }
 
-    /// The architecture.
+    /// Returns the architecture.
     pub fn arch(&self) -> &'a Arch
         ensures { result.now ≡ self.now.arch }
     {
         self.arch
     }
 
-    /// The numbers of all resources, each after those from which a link of no cycles leads to it.
+    /// Returns the numbers of all resources, each after those from which a link without delay leads to it.
     pub fn order(&self) -> &'a [u32]
         ensures { IsTopological self.now.arch.resources result.now }
     {
         self.arch.order()
     }
 
-    /// The cycles that a link into a resource takes: 1 into a register, else 0.
+    /// Returns the delay of a link into `resource`, in cycles: 1 into a register, else 0.
     pub fn delay_into(&self, resource: u32) -> u32
         requires { resource < length self.now.arch.resources }
         ensures { result ≡ delay self.now.arch resource }
@@ -99,7 +99,7 @@ impl<'a> Mrrg<'a> {
         delay_of(self.arch, resource)
     }
 
-    /// The links that end in a node, each with its start, in the order of drivers.
+    /// Returns the links that end in `node`, each with its start, in the order of drivers.
     pub fn links_into(&self, node: MNode) -> &[Link]
         requires { spec.IsNode self.now node }
         ensures { result.now ≡ spec.links_into self.now node }
@@ -107,7 +107,7 @@ impl<'a> Mrrg<'a> {
         self.into.get(self.place(node))
     }
 
-    /// The links that start in a node, each with its end, in the order of resources.
+    /// Returns the links that start in `node`, each with its end, in the order of resources.
     pub fn links_out_of(&self, node: MNode) -> &[Link]
         requires { spec.IsNode self.now node }
         ensures { result.now ≡ spec.links_out_of self.now node }
@@ -115,7 +115,7 @@ impl<'a> Mrrg<'a> {
         self.out.get(self.place(node))
     }
 
-    /// The registers that a resource drives, ascending: where its links of one cycle lead, in each slot.
+    /// Returns the registers that `resource` drives, ascending: the ends of its links of one cycle, in each slot.
     pub fn registers_after(&self, resource: u32) -> &[u32]
         requires { resource < length self.now.arch.resources }
         ensures { result.now ≡ spec.registers_after self.now.arch resource }
@@ -123,7 +123,7 @@ impl<'a> Mrrg<'a> {
         self.registers[resource as usize].as_slice()
     }
 
-    /// The number of a node: nodes are ordered by resource, then slot.
+    /// Returns the number of `node`: nodes are ordered by resource, then slot.
     fn place(&self, node: MNode) -> usize
         ensures { result ≡ node.resource * self.now.interval + node.slot }
     {
@@ -131,7 +131,7 @@ impl<'a> Mrrg<'a> {
     }
 }
 
-/// The cycles that a link into a resource takes.
+/// Returns the delay of a link into `resource`, in cycles.
 pub(crate) fn delay_of(arch: &Arch, resource: u32) -> u32
     requires { resource < length arch.now.resources }
     ensures value { result ≡ delay arch.now resource }
@@ -143,7 +143,7 @@ pub(crate) fn delay_of(arch: &Arch, resource: u32) -> u32
     }
 }
 
-/// The links that end in each node.
+/// Returns the links that end in each node.
 fn links_into(alloc: Global, arch: &Arch, interval: u32) -> Result<LinkLists, AllocError>
     requires some { 0 < interval }
     requires few { interval ≤ 64 }
@@ -158,7 +158,7 @@ fn links_into(alloc: Global, arch: &Arch, interval: u32) -> Result<LinkLists, Al
     Ok(lists)
 }
 
-/// Adds the links that end in a node.
+/// Adds the links that end in a node to `lists`.
 fn add_drivers(
     lists: &mut LinkLists,
     arch: &Arch,
@@ -179,7 +179,7 @@ fn add_drivers(
     lists.end()
 }
 
-/// The links that start in each node.
+/// Returns the links that start in each node.
 fn links_out(alloc: Global, arch: &Arch, interval: u32) -> Result<LinkLists, AllocError>
     requires some { 0 < interval }
     requires few { interval ≤ 64 }
@@ -195,7 +195,7 @@ fn links_out(alloc: Global, arch: &Arch, interval: u32) -> Result<LinkLists, All
     Ok(lists)
 }
 
-/// Adds the links to those resources from a slot.
+/// Adds the links from a slot to the given resources to `lists`.
 fn add_users(
     lists: &mut LinkLists,
     arch: &Arch,

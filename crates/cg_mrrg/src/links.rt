@@ -7,7 +7,7 @@ ghost use Rattle.cg_mrrg.specs.Graph as spec;
 pub struct MNode {
     /// The resource's number.
     pub resource: u32,
-    /// The slot, from 0 on and below the interval.
+    /// The slot, from 0 and below the interval.
     pub slot: u32,
 }
 
@@ -16,11 +16,11 @@ pub struct MNode {
 pub struct Link {
     /// The node at its other end.
     pub node: MNode,
-    /// The cycles that it takes: 1 into a register, else 0.
+    /// The delay of the link, in cycles: 1 into a register, else 0.
     pub delay: u32,
 }
 
-/// The link by which a driver's word comes to a resource in a slot.
+/// Returns the link by which the word of `driver` comes to a resource in `slot`, after `delay` cycles.
 pub(crate) fn link_from(driver: u32, delay: u32, slot: u32, interval: u32) -> Link
     requires few { interval ≤ 64 }
     requires slot { slot < interval }
@@ -36,7 +36,7 @@ pub(crate) fn link_from(driver: u32, delay: u32, slot: u32, interval: u32) -> Li
     }
 }
 
-/// The link by which a word goes from a slot to a resource that takes it.
+/// Returns the link by which a word goes in `delay` cycles from `slot` to the resource `user`, which takes it.
 pub(crate) fn link_to(user: u32, delay: u32, slot: u32, interval: u32) -> Link
     requires few { interval ≤ 64 }
     requires slot { slot < interval }

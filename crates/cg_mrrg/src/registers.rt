@@ -9,7 +9,7 @@ use cg_arch::Arch;
 use cg_model::Items;
 use std::alloc::{AllocError, Global};
 
-/// The registers that each resource drives, ascending.
+/// Returns the registers that each resource drives, ascending.
 pub(crate) fn registers(alloc: Global, arch: &Arch) -> Result<Vec<Items<u32>>, AllocError>
     ensures { IfOk result (λ t. AreRegisters arch.now (length arch.now.resources) t.items) }
 {
@@ -21,7 +21,7 @@ pub(crate) fn registers(alloc: Global, arch: &Arch) -> Result<Vec<Items<u32>>, A
     Ok(lists)
 }
 
-/// The registers among resources, in their order.
+/// Returns the registers among `resources`, in their order.
 fn registers_among(alloc: Global, arch: &Arch, resources: &[u32]) -> Result<Items<u32>, AllocError>
     requires known { All (λ r. r < length arch.now.resources) resources.now }
     ensures { IfOk result (λ t. t ≡ filter (λ r. eqb (delay arch.now r) 1) resources.now) }

@@ -7,7 +7,7 @@ use cg_arch::Arch;
 use cg_model::Items;
 use std::alloc::{AllocError, Global};
 
-/// The resources that each resource drives, ascending.
+/// Returns the resources that each resource drives, ascending.
 pub(crate) fn users(alloc: Global, arch: &Arch) -> Result<Vec<Items<u32>>, AllocError>
     ensures { IfOk result (λ t. AreUsers arch.now (length arch.now.resources) 0 t.items) }
 {
@@ -30,7 +30,7 @@ fn no_users(alloc: Global, count: usize) -> Result<Vec<Items<u32>>, AllocError>
     Ok(users)
 }
 
-/// Adds a resource to those that its drivers drive.
+/// Adds `resource` to the lists of its drivers in `users`.
 fn add_user(arch: &Arch, resource: usize, users: &mut [Items<u32>]) -> Result<(), AllocError>
     requires resource { resource < length arch.now.resources }
     requires users { AreUsers arch.now resource 0 users.old }
@@ -43,7 +43,7 @@ fn add_user(arch: &Arch, resource: usize, users: &mut [Items<u32>]) -> Result<()
     Ok(())
 }
 
-/// Adds a resource to those that another drives.
+/// Adds `user` to the list of `driver` in `users`.
 fn add(users: &mut [Items<u32>], driver: usize, user: u32) -> Result<(), AllocError>
     requires { driver < length users.old }
     ensures { OnOk result (users.new ≡ slice_set users.old driver (users_of users.old driver ++ user ∷ [])) }

@@ -6,7 +6,7 @@ use Rattle.std.specs.Str.{bytes_eq}
 use Rattle.std.specs.declared.alloc.Global.{Global}
 use Rattle.indexmap.specs.IndexMap.{IndexMap, get_by_text}
 
--- a name of its own, where it has one, is that name
+-- an item's own name, if any, equals that name
 abbrev pub has_name : List ℕ → Option (List ℕ) → Bool
 has_name name own = option_map_or (λ text. bytes_eq text name) own false
 
@@ -14,7 +14,7 @@ has_name name own = option_map_or (λ text. bytes_eq text name) own false
 abbrev pub number_of : {T : Type 0} → (T → Option (List ℕ)) → List T → List ℕ → Option ℕ
 number_of own_name items name = position_from (λ item. has_name name (own_name item)) 0 items
 
--- the number that a map has for a name
+-- the number of a name in a map
 abbrev pub found_in : {S : Type 0} → IndexMap (String Global) ℕ S → List ℕ → Option ℕ
 found_in numbers name = get_by_text numbers name
 

@@ -10,17 +10,17 @@ use std::alloc::{AllocError, Global};
 /// A number for each of some names.
 pub type Numbers = IndexMap<String, usize>;
 
-/// What may have a name.
+/// An item that may have a name.
 pub trait Named {
     // Its name.
     ghost own_name: { Self → Option (List ℕ) };
 
-    /// Its name, where it has one.
+    /// Returns its name, if it has one.
     fn name(&self) -> Option<&str>
         ensures { option_copied result ≡ own_name self.now };
 }
 
-/// The number of the first item of each name.
+/// Returns the number of the first item of each name.
 pub fn numbers_of<T: Named>(alloc: Global, items: &[T]) -> Result<Numbers, AllocError>
     ensures { IfOk result (λ numbers. IsNumbering numbers T.own_name items.now) }
 {
@@ -31,7 +31,7 @@ pub fn numbers_of<T: Named>(alloc: Global, items: &[T]) -> Result<Numbers, Alloc
     Ok(numbers)
 }
 
-/// Gives the item's name that number, where there is a name and it has none yet.
+/// Gives the item's name the number, if the item has a name and the name has no number yet.
 fn add_item<T: Named>(
     alloc: Global,
     numbers: &mut Numbers,
@@ -47,7 +47,7 @@ fn add_item<T: Named>(
     }
 }
 
-/// Gives the name that number, where it has none yet.
+/// Gives `name` the number, if it has none yet.
 pub fn add_first(
     alloc: Global,
     numbers: &mut Numbers,
@@ -64,14 +64,14 @@ pub fn add_first(
     Ok(())
 }
 
-/// The number of a name, where it has one.
+/// Returns the number of `name` in `numbers`, if it has one.
 pub fn number_in(numbers: &Numbers, name: &str) -> Option<usize>
     ensures { result ≡ found_in numbers.now name.now }
 {
     numbers.get(name).copied()
 }
 
-/// Whether a number that was looked for is there, and less than the other.
+/// Returns whether `number` exists and is less than `other`.
 pub fn is_before(number: Option<usize>, other: usize) -> bool
     ensures { result ≡ first.is_before number other }
 {

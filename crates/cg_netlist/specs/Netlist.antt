@@ -21,14 +21,14 @@ pub record NetGraph : Type 0 where
 
 -- ---- nets
 
--- the net of a resource's word, and that of its select
+-- the net of a resource's word, and the net of its select
 abbrev pub word_net : Resource → List ℕ
 word_net r = codes "n_" ++ r.name
 
 abbrev pub select_net : Resource → List ℕ
 select_net r = codes "s_" ++ r.name
 
--- the bits of its select
+-- the width of a resource's select, in bits
 abbrev pub select_width : Resource → ℕ
 select_width r = width (length r.drivers)
 
@@ -53,12 +53,12 @@ clock_pins = pin (codes "clk") (codes "clk") ∷ pin (codes "rst") (codes "rst")
 abbrev pub select_pin : Resource → Pin
 select_pin r = pin (codes "s") (select_net r)
 
--- the words of these drivers, numbered from k on
+-- the pins for the words of these drivers, numbered from k on
 abbrev pub driver_pins : Arch → ℕ → List ℕ → List Pin
 driver_pins A k [] = []
 driver_pins A k (q ∷ qs) = pin (driver_port k) (word_net (resource A q)) ∷ driver_pins A (k + 1) qs
 
--- the words of these ports of a unit, numbered from p on
+-- the pins for the words of these ports of a unit, numbered from p on
 abbrev pub argument_pins : Arch → ℕ → List ℕ → List Pin
 argument_pins A p [] = []
 argument_pins A p (r ∷ rs) = pin (argument_port p) (word_net (resource A r)) ∷ argument_pins A (p + 1) rs
@@ -66,7 +66,7 @@ argument_pins A p (r ∷ rs) = pin (argument_port p) (word_net (resource A r)) �
 abbrev pub output_pins : List ℕ → List Pin
 output_pins net = pin (codes "q") net ∷ []
 
--- what chooses a resource's word among those of its drivers
+-- the pins that choose a resource's word among those of its drivers
 abbrev pub choice_pins : Arch → Resource → List Pin
 choice_pins A r = select_pin r ∷ (driver_pins A 1 r.drivers ++ output_pins (word_net r))
 
@@ -74,7 +74,7 @@ choice_pins A r = select_pin r ∷ (driver_pins A 1 r.drivers ++ output_pins (wo
 abbrev pub select_pins : Resource → List Pin
 select_pins r = clock_pins ++ output_pins (select_net r)
 
--- those of a unit's cell
+-- the pins of a unit's cell
 abbrev pub unit_pins : Arch → Unit → List Pin
 unit_pins A u = clock_pins ++ (argument_pins A 0 u.ports ++ output_pins (word_net (resource A u.out)))
 
@@ -106,7 +106,7 @@ wire_cells A r = if_driven r (context_cell r ∷ mux_cell A r ∷ []) (zero_cell
 abbrev pub register_cells : Arch → Resource → List Cell
 register_cells A r = if_driven r (preselect_cell r ∷ register_cell A r ∷ []) (zero_cell r ∷ [])
 
--- the cells of a resource of that kind; a unit gives an out its word
+-- the cells of a resource of that kind; an out gets its word from its unit
 abbrev pub cells_by : Kind → Arch → Resource → List Cell
 cells_by Wire A r = wire_cells A r
 cells_by Port A r = wire_cells A r

@@ -1,4 +1,4 @@
--- The module that a graph is printed as.
+-- The module as which a graph is printed.
 use Rattle.std.specs.Prelude.{ℕ, List, [], ◌∷◌, ◌++◌, map, codes}
 use Rattle.std.specs.List.{flat_map}
 use Rattle.cg_verilog.specs.Module.{PinText, CellText, WireText, ModuleText}
@@ -11,7 +11,7 @@ wire_of n = record { width = n.width; name = n.name }
 abbrev pub pin_of : Pin → PinText
 pin_of p = record { port = p.port; net = p.net }
 
--- the cell with these pins; each cell of a graph has one at least
+-- the cell with these pins; each cell of a graph has at least one
 abbrev pub cell_with : Cell → List Pin → CellText
 cell_with c [] = record { form = c.«module»; name = c.name; first = record { port = []; net = [] }; rest = [] }
 cell_with c (p ∷ ps) = record { form = c.«module»; name = c.name; first = pin_of p; rest = map pin_of ps }
@@ -30,11 +30,11 @@ net_line n = wire_text (wire_of n)
 abbrev pub cell_line : Cell → List ℕ
 cell_line c = cell_text (cell_of c)
 
--- what stands before the pins of a cell
+-- the text before the pins of a cell
 abbrev pub head_text : List ℕ → List ℕ → List ℕ
 head_text form name = codes "  " ++ (form ++ (codes " " ++ (name ++ codes " (")))
 
--- what a pin is printed as, first and further on
+-- the printed text of a pin: the first one, and a further one
 abbrev pub first_text : Pin → List ℕ
 first_text p = pin_text (pin_of p)
 

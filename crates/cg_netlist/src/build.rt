@@ -14,7 +14,7 @@ use cg_flat::select_bits;
 use cg_model::{Kind, Resource};
 use std::alloc::{AllocError, Global};
 
-/// The netlist of an architecture. No two of its nets and cells have one name.
+/// Returns the netlist of `arch`. No two of its nets and cells have the same name.
 pub fn netlist(alloc: Global, arch: &Arch) -> Result<NetGraph, AllocError>
     ensures graph { IfOk result (λ graph. graph ≡ spec.netlist_of arch.now) }
     ensures valid { OnOk result (IsNetGraph (spec.netlist_of arch.now)) }
@@ -27,7 +27,7 @@ pub fn netlist(alloc: Global, arch: &Arch) -> Result<NetGraph, AllocError>
     Ok(NetGraph::new(nets, cells))
 }
 
-/// The nets of all resources.
+/// Returns the nets of all resources.
 fn nets_of(alloc: Global, arch: &Arch) -> Result<Vec<Net>, AllocError>
     ensures nets { IfOk result (λ nets. nets.items ≡ flat_map spec.nets_of arch.now.resources) }
     ensures valid { IsArch arch.now }

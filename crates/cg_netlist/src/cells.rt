@@ -14,7 +14,7 @@ use cg_flat::select_bits;
 use cg_model::{Items, Name, Resource, Unit};
 use std::alloc::{AllocError, Global};
 
-/// The cell that gives a resource's select in each cycle.
+/// Returns the cell that drives the select of `resource` in each cycle.
 pub(crate) fn context_cell(alloc: Global, resource: &Resource) -> Result<Cell, AllocError>
     requires { length resource.now.drivers ≤ 65536 }
     ensures { IfOk result (λ cell. cell ≡ spec.context_cell resource.now) }
@@ -26,7 +26,7 @@ pub(crate) fn context_cell(alloc: Global, resource: &Resource) -> Result<Cell, A
     Ok(Cell { module, name, pins })
 }
 
-/// The cell that gives a register's select of the next slot in each cycle.
+/// Returns the cell that drives the select of the register `resource` for the next slot in each cycle.
 pub(crate) fn preselect_cell(alloc: Global, resource: &Resource) -> Result<Cell, AllocError>
     requires { length resource.now.drivers ≤ 65536 }
     ensures { IfOk result (λ cell. cell ≡ spec.preselect_cell resource.now) }
@@ -38,7 +38,7 @@ pub(crate) fn preselect_cell(alloc: Global, resource: &Resource) -> Result<Cell,
     Ok(Cell { module, name, pins })
 }
 
-/// The pins of both.
+/// Returns the pins of a context or preselect cell of `resource`.
 fn select_pins(alloc: Global, resource: &Resource) -> Result<Items<Pin>, AllocError>
     ensures { IfOk result (λ pins. pins ≡ spec.select_pins resource.now) }
 {
@@ -48,7 +48,7 @@ fn select_pins(alloc: Global, resource: &Resource) -> Result<Items<Pin>, AllocEr
     Ok(Items::new(pins))
 }
 
-/// The cell that gives a wire or a port the word of its selected driver.
+/// Returns the cell that gives a wire or a port the word of its selected driver.
 pub(crate) fn mux_cell(alloc: Global, arch: &Arch, resource: &Resource) -> Result<Cell, AllocError>
     requires { IsDriven arch.now resource.now }
     ensures { IfOk result (λ cell. cell ≡ spec.mux_cell arch.now resource.now) }
@@ -69,7 +69,7 @@ fn mux_pins(alloc: Global, arch: &Arch, resource: &Resource) -> Result<Items<Pin
     Ok(Items::new(pins))
 }
 
-/// The cell that gives a register the word of its selected driver.
+/// Returns the cell that gives a register the word of its selected driver.
 pub(crate) fn register_cell(
     alloc: Global,
     arch: &Arch,
@@ -95,7 +95,7 @@ fn register_pins(alloc: Global, arch: &Arch, resource: &Resource) -> Result<Item
     Ok(Items::new(pins))
 }
 
-/// The cell that gives a resource without drivers the word 0.
+/// Returns the cell that gives a resource without drivers the word 0.
 pub(crate) fn zero_cell(alloc: Global, resource: &Resource) -> Result<Cell, AllocError>
     ensures { IfOk result (λ cell. cell ≡ spec.zero_cell resource.now) }
 {
@@ -113,7 +113,7 @@ fn zero_pins(alloc: Global, resource: &Resource) -> Result<Items<Pin>, AllocErro
     Ok(Items::new(pins))
 }
 
-/// The cell of a unit.
+/// Returns the cell of `unit`.
 pub(crate) fn unit_cell(alloc: Global, arch: &Arch, unit: &Unit) -> Result<Cell, AllocError>
     requires { IsPlaced arch.now unit.now }
     ensures { IfOk result (λ cell. cell ≡ spec.unit_cell arch.now unit.now) }
@@ -135,7 +135,7 @@ fn unit_pins(alloc: Global, arch: &Arch, unit: &Unit) -> Result<Items<Pin>, Allo
     Ok(Items::new(pins))
 }
 
-/// The name of a unit's module.
+/// Returns the name of the module of `unit`.
 fn unit_module(alloc: Global, unit: &Unit) -> Result<Name, AllocError>
     ensures { IfOk result (λ name. name ≡ forms.form_name (spec.unit_form unit.now)) }
 {

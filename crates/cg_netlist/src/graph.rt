@@ -26,7 +26,7 @@ impl NetGraph {
     ghost use Rattle.std.specs.Prelude.{◌≡◌};
     ghost use Rattle.cg_netlist.specs.Graph.{IsNetGraph};
 
-    /// A graph of these nets and cells, which have to be one.
+    /// Returns the graph of `nets` and `cells`, which have to form one.
     pub fn new(nets: Vec<Net>, cells: Vec<Cell>) -> NetGraph
         requires { IsNetGraph (record { nets = nets.items; cells = cells.items }) }
         ensures { result ≡ record { nets = nets.items; cells = cells.items } }
@@ -34,7 +34,7 @@ impl NetGraph {
         NetGraph { nets, cells }
     }
 
-    /// Its nets in order.
+    /// Returns the nets in order.
     pub fn nets(&self) -> &[Net]
         ensures nets { result.now ≡ self.now.nets }
         ensures valid { IsNetGraph self.now }
@@ -42,7 +42,7 @@ impl NetGraph {
         &self.nets
     }
 
-    /// Its cells in order.
+    /// Returns the cells in order.
     pub fn cells(&self) -> &[Cell]
         ensures cells { result.now ≡ self.now.cells }
         ensures valid { IsNetGraph self.now }

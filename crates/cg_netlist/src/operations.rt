@@ -16,7 +16,7 @@ pub fn bits_of(ops: OpSet) -> u32
     bits
 }
 
-/// The bit of an operation, where it is among those.
+/// Returns the bit of `op` where `ops` has it, else 0.
 fn bit_of(ops: OpSet, op: Op) -> u32
     ensures bit { result ≡ spec.bit_of ops op }
     ensures small { result ≤ 33554432 }
@@ -24,7 +24,7 @@ fn bit_of(ops: OpSet, op: Op) -> u32
     if ops.has(op) { bit(op) } else { 0 }
 }
 
-/// The bit of an operation.
+/// Returns the bit of `op`.
 fn bit(op: Op) -> u32
     ensures bit { result ≡ spec.code_bit op }
     ensures small { result ≤ 33554432 }

@@ -7,7 +7,7 @@ use cg_model::{Items, Name};
 pub struct Net {
     /// Its name.
     pub name: Name,
-    /// Its bits.
+    /// Its width in bits.
     pub width: u32,
 }
 

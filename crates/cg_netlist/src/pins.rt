@@ -10,7 +10,7 @@ use cg_arch::Arch;
 use cg_model::{Name, Resource};
 use std::alloc::{AllocError, Global};
 
-/// A name after a prefix.
+/// Returns `name` after `prefix`.
 pub(crate) fn prefixed(alloc: Global, prefix: &str, name: &Name) -> Result<Name, AllocError>
     ensures { IfOk result (λ text. text ≡ prefix.now ++ name.now) }
 {
@@ -18,7 +18,7 @@ pub(crate) fn prefixed(alloc: Global, prefix: &str, name: &Name) -> Result<Name,
     Ok(Name::new(format!(in alloc; "{prefix}{own}")?))
 }
 
-/// The net of a resource's word.
+/// Returns the name of the net of the word of `resource`.
 fn word_net(alloc: Global, arch: &Arch, resource: u32) -> Result<Name, AllocError>
     requires { resource < length arch.now.resources }
     ensures { IfOk result (λ net. net ≡ spec.word_net (arrays.resource arch.now resource)) }
@@ -120,7 +120,7 @@ pub(crate) fn push_argument_pins(
     Ok(())
 }
 
-/// The port for the argument of that number.
+/// Returns the name of the port of argument number `place`.
 fn argument_port(place: usize) -> &'static str
     requires { place < 3 }
     ensures { result.now ≡ forms.argument_port place }

@@ -10,7 +10,7 @@ use crate::graph::NetGraph;
 use crate::parts::{Cell, Net, Pin};
 use std::alloc::{AllocError, Global};
 
-/// The text of a netlist as a module of structural Verilog.
+/// Returns the text of `netlist` as a module of structural Verilog.
 pub fn verilog(alloc: Global, netlist: &NetGraph) -> Result<Vec<u8>, AllocError>
     ensures text { IfOk result (λ text. text.items ≡ printed.module_text (spec.module_of netlist.now)) }
     ensures valid { IsModule (spec.module_of netlist.now) }
@@ -20,7 +20,7 @@ pub fn verilog(alloc: Global, netlist: &NetGraph) -> Result<Vec<u8>, AllocError>
     module_text(alloc, nets, cells)
 }
 
-/// The text of nets and cells as a module.
+/// Returns the text of `nets` and `cells` as a module.
 fn module_text(alloc: Global, nets: &[Net], cells: &[Cell]) -> Result<Vec<u8>, AllocError>
     requires bits { All HasBits nets.now }
     requires pins { All HasPins cells.now }
@@ -33,7 +33,7 @@ fn module_text(alloc: Global, nets: &[Net], cells: &[Cell]) -> Result<Vec<u8>, A
     Ok(text)
 }
 
-/// The first lines.
+/// Returns the first lines of the text.
 fn header(alloc: Global) -> Result<Vec<u8>, AllocError>
     ensures { IfOk result (λ text. text.items ≡ printed.header_text) }
 {
@@ -64,7 +64,7 @@ fn push_net(alloc: Global, text: &mut Vec<u8>, net: &Net) -> Result<(), AllocErr
     Ok(())
 }
 
-/// The line of a net of that name and width.
+/// Returns the line of a net called `name` with `width` bits.
 #[tactic(auto, using(crate::proofs::Lines::wire_line))]
 fn net_line(alloc: Global, name: &str, width: u32) -> Result<String, AllocError>
     requires { 0 < width }
@@ -97,7 +97,7 @@ fn push_cell(alloc: Global, text: &mut Vec<u8>, cell: &Cell) -> Result<(), Alloc
     Ok(())
 }
 
-/// Adds what stands before the pins of a cell.
+/// Adds the text before the pins of a cell.
 fn push_head(alloc: Global, text: &mut Vec<u8>, form: &str, name: &str) -> Result<(), AllocError>
     ensures { OnOk result (text.new.items ≡ text.old.items ++ spec.head_text form.now name.now) }
 {
@@ -148,7 +148,7 @@ fn push_pin(alloc: Global, text: &mut Vec<u8>, pin: &Pin) -> Result<(), AllocErr
     Ok(())
 }
 
-/// What a pin of that port and net is printed as.
+/// Returns the printed text of a pin with the port `port` and the net `net`.
 #[tactic(auto, using(crate::proofs::Lines::pin_word))]
 fn pin_word(alloc: Global, port: &str, net: &str) -> Result<String, AllocError>
     ensures { IfOk result (λ word. string_bytes word ≡ printed.pin_text (record { port = port.now; net = net.now })) }

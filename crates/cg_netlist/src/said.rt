@@ -1,4 +1,4 @@
-//! The form that the name of a module says.
+//! The form that the name of a module denotes.
 ghost use Rattle.std.specs.Prelude.{◌≡◌, ◌++◌, ◌↔◌, ◌≤◌, ℕ, List, drop, codes, IsTrue};
 ghost use Rattle.std.specs.Option.{option_copied};
 ghost use Rattle.cg_netlist.specs.Forms as spec;
@@ -7,19 +7,19 @@ ghost use Rattle.cg_netlist.specs.Reads as reads;
 use crate::forms::Form;
 use crate::written::{is_written, number_of};
 
-/// Returns the form that is called `name`, letter for letter, if there is one.
+/// Returns the form with exactly the name `name`, if there is one.
 #[tactic(auto, using(crate::proofs::Called::form_named, crate::proofs::Called::form_only))]
 pub fn form_of(name: &str) -> Option<Form>
     ensures form { result ≡ spec.form_of name.now }
     // Each form is found by its name.
     ensures named { (f : spec.Form) → spec.IsForm f → spec.form_of (spec.form_name f) ≡ Some f }
-    // What is found has this name, and is a form.
+    // The form that is found has this name, and is valid.
     ensures only { (text : List ℕ) (f : spec.Form) → spec.form_of text ≡ Some f → (text ≡ spec.form_name f) × spec.IsForm f }
 {
     form_by(name.as_bytes())
 }
 
-/// Returns the same by how `name` begins.
+/// Returns the form with the name `name`, by its prefix.
 #[tactic(auto, using(crate::proofs::Called::some_after, crate::proofs::Called::some_zero, crate::proofs::Called::none_begun))]
 fn form_by(name: &[u8]) -> Option<Form>
     ensures { result ≡ spec.form_of name.now }
@@ -45,7 +45,7 @@ fn form_by(name: &[u8]) -> Option<Form>
     None
 }
 
-/// Tells whether `port` is that of driver number `number`.
+/// Checks whether `port` is that of driver number `number`.
 #[tactic(auto, using(crate::proofs::Called::driver_found, crate::proofs::Called::driver_missed))]
 pub fn is_driver_port(port: &str, number: u32) -> bool
     ensures { IsTrue result ↔ (port.now ≡ spec.driver_port number) }
@@ -56,7 +56,7 @@ pub fn is_driver_port(port: &str, number: u32) -> bool
     }
 }
 
-/// Returns what stands in `name` after `prefix`.
+/// Returns the part of `name` after `prefix`.
 fn after<'a>(name: &'a [u8], prefix: &[u8]) -> Option<&'a [u8]>
     ensures { reads.IsAfter name.now prefix.now (option_copied result) }
 {
@@ -66,7 +66,7 @@ fn after<'a>(name: &'a [u8], prefix: &[u8]) -> Option<&'a [u8]>
     }
 }
 
-/// Returns the context whose number of bits is `width`.
+/// Returns the context form whose number of bits `width` writes.
 #[tactic(auto, using(crate::proofs::Called::some_context, crate::proofs::Called::no_context))]
 fn context_form(width: &[u8]) -> Option<Form>
     ensures { result ≡ spec.form_of (codes "cg_ctx_" ++ width.now) }
@@ -77,7 +77,7 @@ fn context_form(width: &[u8]) -> Option<Form>
     }
 }
 
-/// Returns the same for the next context.
+/// Returns the preselect form whose number of bits `width` writes.
 #[tactic(auto, using(crate::proofs::Called::some_preselect, crate::proofs::Called::no_preselect))]
 fn preselect_form(width: &[u8]) -> Option<Form>
     ensures { result ≡ spec.form_of (codes "cg_pre_" ++ width.now) }
@@ -88,7 +88,7 @@ fn preselect_form(width: &[u8]) -> Option<Form>
     }
 }
 
-/// Returns the choice among as many drivers as `count` says.
+/// Returns the mux form whose number of drivers `count` writes.
 #[tactic(auto, using(crate::proofs::Called::some_mux, crate::proofs::Called::no_mux))]
 fn mux_form(count: &[u8]) -> Option<Form>
     ensures { result ≡ spec.form_of (codes "cg_mux_" ++ count.now) }
@@ -99,7 +99,7 @@ fn mux_form(count: &[u8]) -> Option<Form>
     }
 }
 
-/// Returns the register behind such a choice.
+/// Returns the register form whose number of drivers `count` writes.
 #[tactic(auto, using(crate::proofs::Called::some_register, crate::proofs::Called::no_register))]
 fn register_form(count: &[u8]) -> Option<Form>
     ensures { result ≡ spec.form_of (codes "cg_reg_" ++ count.now) }
@@ -110,7 +110,7 @@ fn register_form(count: &[u8]) -> Option<Form>
     }
 }
 
-/// Returns the number that `text` is, if it is one of 1 to `most`.
+/// Returns the number that `text` writes, if it is one of 1 to `most`.
 fn count_of(text: &[u8], most: u32) -> Option<u32>
     ensures { reads.IsCount most text.now result }
 {
@@ -126,7 +126,7 @@ fn count_of(text: &[u8], most: u32) -> Option<u32>
     }
 }
 
-/// Returns the unit whose ports, latency and operations are `numbers`.
+/// Returns the unit form whose ports, latency and operations `numbers` writes.
 fn unit_form(numbers: &[u8]) -> Option<Form>
     ensures { result ≡ spec.form_of (codes "cg_unit_" ++ numbers.now) }
 {
@@ -136,7 +136,7 @@ fn unit_form(numbers: &[u8]) -> Option<Form>
     }
 }
 
-/// Returns the same where `ports` is the first of the `numbers`.
+/// Returns the unit form of `numbers`, whose first number is `ports`.
 fn unit_with(numbers: &[u8], ports: u32) -> Option<Form>
     requires { reads.IsDigit 3 numbers.now (Some ports) }
     ensures { result ≡ spec.form_of (codes "cg_unit_" ++ numbers.now) }
@@ -148,7 +148,7 @@ fn unit_with(numbers: &[u8], ports: u32) -> Option<Form>
     }
 }
 
-/// Returns the same where `latency` is the first number of the `rest`.
+/// Returns the unit form of `numbers`, where `latency` is the first number of the `rest`.
 fn unit_within(numbers: &[u8], ports: u32, rest: &[u8], latency: u32) -> Option<Form>
     requires first { reads.IsDigit 3 numbers.now (Some ports) }
     requires rest { rest.now ≡ drop 2 numbers.now }

@@ -1,9 +1,9 @@
-//! Numbers as they are written.
+//! Numbers in text.
 ghost use Rattle.std.specs.Prelude.{◌≡◌, ◌↔◌, ◌<◌, ◌≤◌, false, IsTrue};
 ghost use Rattle.std.specs.Fmt.{digits, digit_glyph};
 ghost use Rattle.cg_netlist.specs.Reads as spec;
 
-/// Returns the number of 32 bits that `text` is in base `base`, without leading zeros.
+/// Returns the number of 32 bits that `text` writes in base `base`, without leading zeros.
 #[tactic(auto, using(crate::proofs::Digits::written_some, crate::proofs::Digits::written_none, crate::proofs::Digits::unread))]
 pub(crate) fn number_of(text: &[u8], base: u32) -> Option<u32>
     requires low { 10 ≤ base }
@@ -22,7 +22,7 @@ pub(crate) fn number_of(text: &[u8], base: u32) -> Option<u32>
     }
 }
 
-/// Returns the number that `text` is in base `base`, with leading zeros or without.
+/// Returns the number that `text` writes in base `base`, with or without leading zeros.
 fn parsed(text: &[u8], base: u32) -> Option<u32>
     requires low { 10 ≤ base }
     requires high { base ≤ 16 }
@@ -34,7 +34,7 @@ fn parsed(text: &[u8], base: u32) -> Option<u32>
     }
 }
 
-/// Returns the number that `text` is in base `base`, with leading zeros or without.
+/// Returns the number that `text` writes in base `base`, with or without leading zeros.
 fn parsed_text(text: &str, base: u32) -> Option<u32>
     requires low { 10 ≤ base }
     requires high { base ≤ 16 }
@@ -46,7 +46,7 @@ fn parsed_text(text: &str, base: u32) -> Option<u32>
     }
 }
 
-/// Tells whether `text` is how `number` is written in base `base`, from its last digit on.
+/// Checks whether `text` is the representation of `number` in base `base`, from the last digit on.
 pub(crate) fn is_written(text: &[u8], base: u32, number: u32) -> bool
     requires low { 2 ≤ base }
     requires high { base ≤ 16 }
@@ -68,7 +68,7 @@ pub(crate) fn is_written(text: &[u8], base: u32, number: u32) -> bool
     is_written(front, base, more)
 }
 
-/// Returns the digit of value `digit`, in lower case.
+/// Returns the digit for the value `digit`, in lower case.
 fn glyph(digit: u32) -> u8
     requires { digit < 16 }
     ensures { result ≡ digit_glyph false digit }

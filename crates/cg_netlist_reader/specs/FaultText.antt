@@ -1,4 +1,4 @@
--- What reports say of the faults of texts: code, name and place.
+-- The texts of faults of netlist texts in reports: code, name and place.
 use Rattle.std.specs.Prelude.{ℕ, List, [], ◌++◌, codes, decimal}
 use Rattle.cg_netlist_reader.specs.declared.fault.VerilogFault.{VerilogFault}
 use Rattle.cg_netlist_reader.specs.declared.fault.VerilogFault.TheVariants as fault

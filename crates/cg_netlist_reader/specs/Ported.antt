@@ -1,4 +1,4 @@
--- What ports are called, and the nets and cells that a module's text is taken for.
+-- The names of ports, and the nets and cells of a module's text.
 use Rattle.std.specs.Prelude.{ℕ, List, map, codes}
 use Rattle.cg_verilog.specs.declared.module.Pin.{Pin as PinLent}
 use Rattle.cg_verilog.specs.Module.{PinText, CellText, WireText, ModuleText, pins_of}
@@ -18,7 +18,7 @@ port_text (Driver n) = driver_port n
 port_text (Argument n) = argument_port n
 port_text Output = codes "q"
 
--- the ports of pins that a text lends
+-- the ports of pins that are borrowed from a text
 abbrev pub lent_ports : List PinLent → List (List ℕ)
 lent_ports pins = map (λ (p : PinLent). p.port.now) pins
 

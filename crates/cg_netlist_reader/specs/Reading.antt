@@ -1,4 +1,4 @@
--- What a text of structural Verilog stands for, and why it stands for no netlist.
+-- The netlist that a text of structural Verilog encodes, and why a text encodes none.
 use Rattle.std.specs.Prelude.{◌≡◌, ℕ, ◌<◌, ◌⊎◌, Bool, List, [], ◌∷◌, ◌++◌, map, All, codes, bytes_eq, not, Option, Some, None, Result, Ok, Err, find, length, slice_index_or, if◌then◌else◌}
 use Rattle.std.specs.List.{list_any, flat_map}
 use Rattle.std.specs.Option.{option_or}
@@ -15,7 +15,7 @@ use Rattle.cg_netlist.specs.Netlist.{NetGraph}
 use Rattle.cg_netlist.specs.Graph.{names, IsNetGraph}
 use Rattle.cg_netlist.specs.Text.{module_of}
 
--- the bytes spell these nets and cells, whatever they stand for
+-- the bytes encode these nets and cells, whatever these denote
 pub record Spells (bytes : List ℕ) (G : NetGraph) : Type 0 where
   pub valid : IsModule (module_of G)
   pub tokens : texts (tokens_of None bytes) ≡ module_tokens (module_of G)
@@ -34,7 +34,7 @@ pub record IsOf (c : Cell) (f : Form) : Type 0 where
 abbrev pub IsFormed : Cell → Type 0
 IsFormed c = (f : Form) × IsOf c f
 
--- cell i is the first that is of no form
+-- cell i is the first that has no form
 pub record IsUnknownCell (cells : List Cell) (i : ℕ) : Type 0 where
   pub within : i < length cells
   pub before : (j : ℕ) (d : Cell) → j < i → IsFormed (slice_index_or cells j d)
@@ -49,12 +49,12 @@ given = codes "clk" ∷ codes "rst" ∷ []
 abbrev pub has : List (List ℕ) → List ℕ → Bool
 has names name = list_any (λ n. bytes_eq n name) names
 
--- the first name that stands among those or earlier ones
+-- the first name that occurs among `seen` or the names before it
 abbrev pub repeated : List (List ℕ) → List (List ℕ) → Option (List ℕ)
 repeated seen [] = None
 repeated seen (name ∷ names) = if has seen name then Some name else repeated (seen ++ name ∷ []) names
 
--- the first name that doesn't stand among those
+-- the first name that doesn't occur among `known`
 abbrev pub unknown : List (List ℕ) → List (List ℕ) → Option (List ℕ)
 unknown known names = find (λ name. not (has known name)) names
 
@@ -71,7 +71,7 @@ unknown_net G = option_or (repeated given (names G.nets)) (unknown (given ++ nam
 
 -- ---- answers
 
--- why the bytes spell no netlist: the fault of the lowest number, at its first place
+-- why the bytes are not a valid netlist: the fault with the lowest number, at its first place
 abbrev pub IsFault : VerilogFault → List ℕ → Type 0
 IsFault faults.Memory bytes = Unit {0}
 IsFault (faults.Text place) bytes = FaultIn None IsText bytes place
@@ -83,11 +83,11 @@ abbrev pub Gives : NetGraph → Result NetGraph VerilogFault → Type 0
 Gives G (Ok H) = H ≡ G
 Gives G (Err e) = e ≡ faults.Memory
 
--- unless memory ran out, this fault was answered
+-- unless memory ran out, this fault was the result
 abbrev pub GivesFault : VerilogFault → Result NetGraph VerilogFault → Type 0
 GivesFault e r = (r ≡ Err e) ⊎ (r ≡ Err faults.Memory)
 
--- a valid graph that the bytes spell, or a fault that they have, or that memory ran out
+-- a valid graph that the bytes encode, or a fault that they have, or out of memory
 abbrev pub IsAnswer : List ℕ → Result NetGraph VerilogFault → Type 0
 IsAnswer bytes (Ok G) = IsNetGraph G × Spells bytes G
 IsAnswer bytes (Err e) = IsFault e bytes

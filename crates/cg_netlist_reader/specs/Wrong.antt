@@ -1,4 +1,4 @@
--- Why the nets and cells of a module are no graph.
+-- Why the nets and cells of a module are not a valid graph.
 use Rattle.std.specs.Prelude.{◌≡◌, ℕ, List, All, Option, Some}
 use Rattle.cg_verilog.specs.Module.{ModuleText}
 use Rattle.cg_netlist_reader.specs.declared.fault.VerilogFault.{VerilogFault}

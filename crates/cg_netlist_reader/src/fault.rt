@@ -1,4 +1,4 @@
-//! Why bytes spell no netlist.
+//! Why bytes are not a valid netlist.
 ghost use Rattle.std.specs.Prelude.{◌≡◌, IfOk, string_bytes};
 ghost use Rattle.cg_netlist_reader.specs.declared.fault.VerilogFault.TheVariants.{Memory};
 
@@ -7,15 +7,15 @@ use std::alloc::{AllocError, AllocFailed};
 use std::fmt;
 use thiserror::Error;
 
-/// Why bytes spell no netlist. The variants after `Memory` are V1 to V3, in this order.
+/// Why bytes are not a valid netlist. The variants after `Memory` are V1 to V3, in this order.
 #[derive(Drop, Error)]
 pub enum VerilogFault {
     #[error("memory ran out")]
     Memory,
-    /// The text is no module: the byte where it stops being the beginning of one.
+    /// The text is not a module: the byte where it ceases to be the beginning of one.
     #[error("no module goes on so")]
     Text(usize),
-    /// A cell's module is no form, or its pins aren't that form's: the cell's number.
+    /// A cell's module has no form, or its pins aren't those of its form: the cell's number.
     #[error("no form has this name and these pins")]
     UnknownCell(usize),
     /// A net is declared again, or a pin's net isn't declared: its name.

@@ -12,7 +12,7 @@ use crate::taken::text_of;
 use cg_netlist::{Form, form_of};
 use cg_verilog::{Cell, Pin};
 
-/// Finds the first of the `cells` of a text that is of no form.
+/// Finds the first of the `cells` of a text that has no form.
 pub(crate) fn unknown_cell(cells: &[Cell<'_>]) -> Option<usize>
     requires { AllByRecursion texts.IsCell (map modules.cell_of cells.now) }
     ensures { MatchOption result (All spec.IsFormed (map ported.cell_taken (map modules.cell_of cells.now))) (λ i. spec.IsUnknownCell (map ported.cell_taken (map modules.cell_of cells.now)) i) }
@@ -25,7 +25,7 @@ pub(crate) fn unknown_cell(cells: &[Cell<'_>]) -> Option<usize>
     None
 }
 
-/// Tells whether `cell` is of the form that its module's name says.
+/// Checks whether `cell` has the form that its module's name denotes.
 #[tactic(auto, using(crate::proofs::Shapes::formed_found, crate::proofs::Shapes::formed_missed))]
 fn is_formed(cell: &Cell<'_>) -> bool
     requires { texts.IsCell (modules.cell_of cell.now) }
@@ -37,7 +37,7 @@ fn is_formed(cell: &Cell<'_>) -> bool
     }
 }
 
-/// Tells whether the pins of `cell` have the ports of `form` in order.
+/// Checks whether the ports of the pins of `cell` are those of `form`, in order.
 fn has_ports(cell: &Cell<'_>, form: Form) -> bool
     requires { texts.IsCell (modules.cell_of cell.now) }
     ensures { IsTrue result ↔ (spec.ports (ported.cell_taken (modules.cell_of cell.now)) ≡ forms.form_ports form) }
@@ -51,7 +51,7 @@ fn has_ports(cell: &Cell<'_>, form: Form) -> bool
     has_further_ports(&cell.rest, form)
 }
 
-/// Tells whether `pins` have the ports of `form` after the first.
+/// Checks whether the ports of `pins` are those of `form` after the first, in order.
 fn has_further_ports(pins: &[Pin<'_>], form: Form) -> bool
     requires pins { AllByRecursion texts.IsPin (map modules.pin_of pins.now) }
     requires many { length pins.now + 1 ≡ length (forms.form_ports form) }

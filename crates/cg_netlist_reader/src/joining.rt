@@ -26,7 +26,7 @@ pub(crate) fn check_nets(alloc: Global, nets: &[Net], cells: &[Cell]) -> Result<
     }
 }
 
-/// The names of nets, each of which is declared once.
+/// Returns the names of `nets`, if each is declared once.
 #[tactic(auto, using(crate::proofs::Looks::next_set, crate::proofs::Looks::next_rest))]
 fn declared(alloc: Global, nets: &[Net]) -> Result<Numbers, VerilogFault>
     ensures once { OnOk result (spec.repeated spec.given (names nets.now) ≡ None) }
@@ -40,7 +40,7 @@ fn declared(alloc: Global, nets: &[Net]) -> Result<Numbers, VerilogFault>
     Ok(numbers)
 }
 
-/// The clock and the reset.
+/// Returns the names of the clock and the reset.
 fn given(alloc: Global) -> Result<Numbers, AllocError>
     ensures { IfOk result (λ numbers. IsSet numbers spec.given) }
 {
@@ -50,7 +50,7 @@ fn given(alloc: Global) -> Result<Numbers, AllocError>
     Ok(numbers)
 }
 
-/// Adds a name, unless it is there.
+/// Adds `name`, unless it is declared already.
 fn declare(alloc: Global, numbers: &mut Numbers, name: &str) -> Result<(), VerilogFault>
     ensures ok { OnOk result (IsAdded numbers.old numbers.new name.now) }
     ensures fault { IfErr result (λ e. IsOfNet e (if is_some (found_in numbers.old name.now) then Some name.now else None)) }
@@ -62,7 +62,7 @@ fn declare(alloc: Global, numbers: &mut Numbers, name: &str) -> Result<(), Veril
     Ok(())
 }
 
-/// The fault of that net.
+/// Returns the fault of the net called `name`.
 fn fault_of(alloc: Global, name: &str) -> VerilogFault
     ensures { IsOfNet result (Some name.now) }
 {
@@ -102,7 +102,7 @@ fn check_pins(alloc: Global, numbers: &Numbers, pins: &[Pin]) -> Result<(), Veri
     Ok(())
 }
 
-/// Whether a net is declared.
+/// Checks whether a net called `name` is declared.
 fn check_net(alloc: Global, numbers: &Numbers, name: &str) -> Result<(), VerilogFault>
     ensures ok { OnOk result (unknown_by numbers.now (name.now ∷ []) ≡ None) }
     ensures fault { IfErr result (λ e. IsOfNet e (unknown_by numbers.now (name.now ∷ []))) }

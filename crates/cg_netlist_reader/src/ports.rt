@@ -38,7 +38,7 @@ pub(crate) fn port_at(form: Form, place: usize) -> Port
     }
 }
 
-/// Returns the port at `place` of what gives a select.
+/// Returns the port at `place` of a context or preselect.
 fn select_port(place: usize) -> Port
     requires { place < 3 }
     ensures { spec.port_text result ≡ slice_index_or (codes "clk" ∷ codes "rst" ∷ codes "q" ∷ []) place [] }
@@ -50,7 +50,7 @@ fn select_port(place: usize) -> Port
     }
 }
 
-/// Returns the port at `place` of a choice among `count` drivers.
+/// Returns the port at `place` of a mux of `count` drivers.
 #[tactic(auto, using(crate::proofs::Places::driver_at, crate::proofs::Places::choice_end))]
 fn choice_port(count: u32, place: usize) -> Port
     requires { place < count + 2 }
@@ -65,7 +65,7 @@ fn choice_port(count: u32, place: usize) -> Port
     Port::Output
 }
 
-/// Returns the port at `place` of a register behind such a choice.
+/// Returns the port at `place` of a register with `count` drivers.
 #[tactic(auto, using(crate::proofs::Places::behind_clock))]
 fn register_port(count: u32, place: usize) -> Port
     requires { place < count + 4 }
@@ -98,7 +98,7 @@ fn unit_port(count: u32, place: usize) -> Port
     Port::Output
 }
 
-/// Tells whether `text` is what `port` is called.
+/// Checks whether `text` is the name of `port`.
 pub(crate) fn is_called(port: Port, text: &str) -> bool
     ensures { IsTrue result ↔ (text.now ≡ spec.port_text port) }
 {
@@ -112,7 +112,7 @@ pub(crate) fn is_called(port: Port, text: &str) -> bool
     }
 }
 
-/// Tells whether two texts are the same.
+/// Checks whether two texts are equal.
 #[tactic(auto, using(crate::proofs::Places::same_found))]
 fn same(left: &str, right: &str) -> bool
     ensures { IsTrue result ↔ (left.now ≡ right.now) }
@@ -120,7 +120,7 @@ fn same(left: &str, right: &str) -> bool
     left.as_bytes() == right.as_bytes()
 }
 
-/// Tells whether `text` is the port of the argument of number `number`.
+/// Checks whether `text` is the port of argument number `number`.
 #[tactic(auto, using(crate::proofs::Places::letter_found, crate::proofs::Places::letter_missed))]
 fn is_argument_port(text: &[u8], number: u32) -> bool
     ensures { IsTrue result ↔ (text.now ≡ forms.argument_port number) }

@@ -1,4 +1,4 @@
-//! Netlists from texts.
+//! Reading netlists from text.
 ghost use Rattle.std.specs.Prelude.{◌≡◌, ◌≢◌, All, IfOk, IfErr};
 ghost use Rattle.cg_verilog.specs.Module as texts;
 ghost use Rattle.cg_verilog.specs.Read as modules;
@@ -18,32 +18,32 @@ use cg_netlist::{Cell, Net, NetGraph};
 use cg_verilog::{Module, ModuleFault, read_module};
 use std::alloc::Global;
 
-/// The netlist that the bytes spell.
+/// Returns the netlist that `bytes` encode.
 #[tactic(auto, using(crate::proofs::Answered::only_of, crate::proofs::Answered::printed_spells))]
 pub fn read_verilog(alloc: Global, bytes: &[u8]) -> Result<NetGraph, VerilogFault>
-    // What is read is spelled so.
+    // The bytes encode the netlist that is read.
     ensures found { IfOk result (λ graph. spec.Spells bytes.now graph) }
-    // What is spelled so is read, unless memory runs out.
+    // A netlist that the bytes encode is read, unless memory runs out.
     ensures only { (graph : netlists.NetGraph) → IsNetGraph graph → spec.Spells bytes.now graph → spec.Gives graph result }
-    // So is what is printed.
+    // A printed netlist is read likewise.
     ensures printed { (graph : netlists.NetGraph) → IsNetGraph graph → bytes.now ≡ printed.module_text (module_of graph) → spec.Gives graph result }
-    // Which fault it is.
+    // The fault is one that the bytes have.
     ensures fault { IfErr result (λ e. spec.IsFault e bytes.now) }
-    // A fault that applies is the answer, unless memory runs out.
+    // A fault that applies is the result, unless memory runs out.
     ensures exact { (e : faults.VerilogFault) → e ≢ VerilogFault.Memory → spec.IsFault e bytes.now → spec.GivesFault e result }
-    // What is answered is an answer.
+    // The result is an answer.
     ensures answer { spec.IsAnswer bytes.now result }
 {
     read(alloc, bytes)
 }
 
-/// The same, without the laws that follow from its clauses.
+/// Returns the netlist that `bytes` encode, without the laws that follow from its clauses.
 #[tactic(auto, using(crate::proofs::Faults::read_found, crate::proofs::Faults::read_fault))]
 fn read(alloc: Global, bytes: &[u8]) -> Result<NetGraph, VerilogFault>
-    // What is read is spelled so.
+    // The bytes encode the netlist that is read.
     ensures found { IfOk result (λ graph. spec.Spells bytes.now graph) }
     ensures valid { IfOk result IsNetGraph }
-    // Which fault it is.
+    // The fault is one that the bytes have.
     ensures fault { IfErr result (λ e. spec.IsFault e bytes.now) }
 {
     match read_module(alloc, bytes) {
@@ -53,7 +53,7 @@ fn read(alloc: Global, bytes: &[u8]) -> Result<NetGraph, VerilogFault>
     }
 }
 
-/// The netlist of a module.
+/// Returns the netlist of the module `text`.
 #[tactic(auto, using(crate::proofs::Faults::graph_found, crate::proofs::Faults::graph_fault))]
 fn graph_of(alloc: Global, text: &Module<'_>) -> Result<NetGraph, VerilogFault>
     requires { texts.IsModule (modules.module_of text.now) }

@@ -1,4 +1,4 @@
-//! The nets and cells that a text names.
+//! The nets and cells of a text.
 ghost use Rattle.std.specs.Prelude.{◌≡◌, ◌++◌, true, map, IfOk, OnOk};
 ghost use Rattle.std.specs.List.{AllByRecursion};
 ghost use Rattle.cg_verilog.specs.Module as texts;
@@ -10,7 +10,7 @@ use cg_model::{Items, Name};
 use cg_netlist::{Cell, Net, Pin};
 use std::alloc::{AllocError, Global};
 
-/// The text of a name.
+/// Returns the text of the name `bytes`.
 pub(crate) fn text_of(bytes: &[u8]) -> &str
     requires { is_name bytes.now ≡ true }
     ensures { result.now ≡ bytes.now }
@@ -21,7 +21,7 @@ pub(crate) fn text_of(bytes: &[u8]) -> &str
     }
 }
 
-/// A name of its own.
+/// Returns an owned name with the bytes `bytes`.
 fn name_of(alloc: Global, bytes: &[u8]) -> Result<Name, AllocError>
     requires { is_name bytes.now ≡ true }
     ensures { IfOk result (λ name. name ≡ bytes.now) }
@@ -29,7 +29,7 @@ fn name_of(alloc: Global, bytes: &[u8]) -> Result<Name, AllocError>
     Name::copy_of(alloc, text_of(bytes))
 }
 
-/// The nets of wires.
+/// Returns the nets of `wires`.
 pub(crate) fn nets_of(alloc: Global, wires: &[cg_verilog::Wire<'_>]) -> Result<Vec<Net>, AllocError>
     requires { AllByRecursion texts.IsWire (map modules.wire_of wires.now) }
     ensures { IfOk result (λ nets. map wire_of nets.items ≡ map modules.wire_of wires.now) }
@@ -41,7 +41,7 @@ pub(crate) fn nets_of(alloc: Global, wires: &[cg_verilog::Wire<'_>]) -> Result<V
     Ok(nets)
 }
 
-/// The net of a wire.
+/// Returns the net of `wire`.
 fn net_of(alloc: Global, wire: &cg_verilog::Wire<'_>) -> Result<Net, AllocError>
     requires { texts.IsWire (modules.wire_of wire.now) }
     ensures { IfOk result (λ net. wire_of net ≡ modules.wire_of wire.now) }
@@ -51,7 +51,7 @@ fn net_of(alloc: Global, wire: &cg_verilog::Wire<'_>) -> Result<Net, AllocError>
     Ok(Net { name, width })
 }
 
-/// The cells of a text's cells.
+/// Returns the cells of the cells of a text.
 pub(crate) fn cells_of(
     alloc: Global,
     cells: &[cg_verilog::Cell<'_>],
@@ -66,7 +66,7 @@ pub(crate) fn cells_of(
     Ok(own)
 }
 
-/// The cell of a text's cell.
+/// Returns the cell of the text's cell `cell`.
 fn cell_of(alloc: Global, cell: &cg_verilog::Cell<'_>) -> Result<Cell, AllocError>
     requires { texts.IsCell (modules.cell_of cell.now) }
     ensures { IfOk result (λ own. cell_of own ≡ modules.cell_of cell.now) }
@@ -80,7 +80,7 @@ fn cell_of(alloc: Global, cell: &cg_verilog::Cell<'_>) -> Result<Cell, AllocErro
     Ok(Cell { module, name, pins })
 }
 
-/// Adds the pins of a text.
+/// Adds the pins of a text's cell.
 fn push_pins(
     alloc: Global,
     pins: &mut Vec<Pin>,
@@ -95,7 +95,7 @@ fn push_pins(
     Ok(())
 }
 
-/// The pin of a text's pin.
+/// Returns the pin of the text's pin `pin`.
 fn pin_of(alloc: Global, pin: &cg_verilog::Pin<'_>) -> Result<Pin, AllocError>
     requires { texts.IsPin (modules.pin_of pin.now) }
     ensures { IfOk result (λ own. pin_of own ≡ modules.pin_of pin.now) }

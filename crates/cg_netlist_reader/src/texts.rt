@@ -1,11 +1,11 @@
-//! What reports say of the faults of texts.
+//! Texts of faults of netlist texts, for reports.
 ghost use Rattle.std.specs.Prelude.{◌≡◌, IfOk, string_bytes};
 ghost use Rattle.cg_netlist_reader.specs.FaultText as spec;
 
 use crate::fault::VerilogFault;
 use std::alloc::{AllocError, Global};
 
-/// Returns code, name and place of `fault`, as `V2 UnknownCell cell 3`. Out of memory has none of them.
+/// Returns code, name and place of `fault`, as in `V2 UnknownCell cell 3`. Out of memory has no code and no place.
 pub fn verilog_fault_text(alloc: Global, fault: &VerilogFault) -> Result<String, AllocError>
     ensures { IfOk result (λ s. string_bytes s ≡ spec.verilog_fault_text fault.now) }
 {

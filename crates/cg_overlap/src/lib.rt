@@ -1,8 +1,8 @@
-//! The overlap theorem: an array that runs the configuration of a legal mapping works on several
-//! turns of a kernel at once, and does what the turns do one after the other.
+//! The overlap theorem: an array that runs the configuration of a legal mapping works on several turns of a kernel at
+//! once, and computes what the turns compute one after the other.
 //!
-//! Every function here has an empty body. Its clauses are laws about the definitions of `cg_model`:
-//! a crate that calls it has them at hand for its own proofs.
+//! Every function here has an empty body. Its clauses are laws about the definitions of `cg_model`, which a crate that
+//! calls it can use in its own proofs.
 #![tactic(auto)]
 
 ghost use Rattle.std.specs.Prelude.{◌≡◌, ◌<◌, ℕ, List, length, Option, Some, Contains};
@@ -19,8 +19,8 @@ ghost use Rattle.cg_model.specs.Machine.{at_cycle, word, begins, result as unit_
 ghost use Rattle.cg_model.specs.Equations.{IsRun, AreSame};
 ghost use Rattle.cg_model.specs.Overlap.{CarriesOne, Follows, LeavesTheSame};
 
-/// The overlap theorem, for every valid architecture and kernel, every legal mapping, every number
-/// of turns and every image on which the accesses that matter are ordered by the kernel's edges.
+/// States the overlap theorem, for every valid architecture and kernel, every legal mapping, every number of turns and
+/// every image on which the accesses that matter are ordered by the kernel's edges.
 ///
 /// Legality alone gives `once`: in a cycle a resource carries at most one value, and a unit begins
 /// at most one. `follows`: the array that runs the mapping's configuration has, in every cycle, the
@@ -41,7 +41,7 @@ pub fn overlaps()
         LeavesTheSame A K M n image }
 {}
 
-/// The overlap theorem for kernels that never reach the memory: it needs no premise on the image.
+/// States the overlap theorem for kernels that never access the memory: it needs no premise on the image.
 pub fn overlaps_alone()
     ensures follows { (A : Arch) (K : Kernel) (M : Mapping) (n : ℕ) (image : Image) →
         IsArch A → IsKernel K → IsLegal A K M → HasNoAccess K →
@@ -51,9 +51,9 @@ pub fn overlaps_alone()
         LeavesTheSame A K M n image }
 {}
 
-/// The equations of the array have exactly one solution, for every configuration, canonical or not:
-/// the machine that goes from cycle to cycle solves them, and any two solutions agree on each
-/// resource and unit of the architecture, in memory, streams and count.
+/// States that the equations of the array have exactly one solution, for every configuration, canonical or not: the
+/// machine that goes from cycle to cycle solves them, and any two solutions agree on each resource and unit of the
+/// architecture, in memory, streams and count.
 pub fn runs()
     ensures solved { (A : Arch) (C : Config) (n : ℕ) (image : Image) → IsArch A →
         IsRun A C n image
@@ -70,14 +70,14 @@ pub fn runs()
         AreSame A w v b d r s m l x y o p }
 {}
 
-/// The configuration of a legal mapping is canonical, so a file of bits spells it.
+/// States that the configuration of a legal mapping is canonical, and so is encoded by a file of bits.
 pub fn configures()
     ensures { (A : Arch) (K : Kernel) (M : Mapping) →
         IsKernel K → IsLegal A K M →
         IsCanonical A (configuration_of A K M) }
 {}
 
-/// A mapping of the right shape has a route for each edge operand.
+/// States that a mapping of the right shape has a route for each edge operand.
 pub fn shapes()
     ensures { (K : Kernel) (M : Mapping) → IsShaped K M →
         (v p u d : ℕ) (init : List ℕ) → v < size K → HasOperand K v p (Edge u d init) →

@@ -1,4 +1,4 @@
--- What a step of reading says of the bytes that it found and left.
+-- The result of a step of reading, with the bytes before and after it.
 use Rattle.std.specs.Prelude.{◌≡◌, ℕ, List, Option, Some, None, Result, Ok, Err}
 
 -- what was read, with the bytes that are left
@@ -6,7 +6,7 @@ abbrev pub with_rest : {A F : Type 0} → Result A F → List ℕ → Result (A 
 with_rest (Ok x) rest = Ok (x, rest)
 with_rest (Err e) rest = Err e
 
--- the same for an option, where None leaves open what is left
+-- the value that was read, with the bytes that are left; None leaves open what is left
 abbrev pub Takes : {A : Type 0} → Option A → List ℕ → Option (A × List ℕ) → Type 0
 Takes (Some x) rest answer = answer ≡ Some (x, rest)
 Takes None rest answer = answer ≡ None

@@ -1,4 +1,4 @@
--- All words of a scratchpad, lent to be changed.
+-- All words of a scratchpad, lent for changes.
 use Rattle.std.specs.Prelude.{ℕ, List, ◌++◌, length, take, drop}
 
 -- words written over a list, which keeps its length

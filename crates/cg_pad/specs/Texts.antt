@@ -1,10 +1,10 @@
--- What reports say of the faults of images.
+-- The texts of image faults in reports.
 use Rattle.std.specs.Prelude.{ℕ, List, [], ◌++◌, codes, decimal}
 use Rattle.cg_pad.specs.declared.fault.ImageFault.{ImageFault}
 use Rattle.cg_pad.specs.declared.fault.ImageFault.TheVariants as image
 use Rattle.cg_pad.specs.declared.fault.TooLargePlace.TheVariants as place
 
--- code, name and place
+-- the code, the name and the place
 abbrev pub image_fault_text : ImageFault → List ℕ
 image_fault_text image.Memory = []
 image_fault_text image.Magic = codes "I1 Magic byte 0"

@@ -1,4 +1,4 @@
--- The operation at work that a value of the program stands for.
+-- The operation at work that a value of the program represents.
 use Rattle.cg_model.specs.Work as works
 use Rattle.cg_pad.specs.declared.work.Work.{Work}
 

@@ -1,9 +1,9 @@
-//! Why bytes are no image.
+//! Why bytes are not an image.
 
 use std::alloc::{AllocError, AllocFailed};
 use thiserror::Error;
 
-/// Of what there are too many words, and the number that the bytes give.
+/// The part of an image that has too many words, with the number of words that the bytes give.
 #[derive(Clone, Copy, Debug, PartialEq, Eq)]
 pub enum TooLargePlace {
     /// The memory.
@@ -12,7 +12,7 @@ pub enum TooLargePlace {
     Stream(u32, u32),
 }
 
-/// Why bytes are no image. The variants after `Memory` are I1 to I4.
+/// Why bytes are not an image. The variants after `Memory` are I1 to I4.
 #[derive(Clone, Copy, Debug, PartialEq, Eq, Error)]
 pub enum ImageFault {
     #[error("memory ran out")]
@@ -20,13 +20,13 @@ pub enum ImageFault {
     /// The first bytes aren't those of an image.
     #[error("no image")]
     Magic,
-    /// The bytes end early: how many there are.
+    /// The bytes end early: the number of bytes.
     #[error("the bytes end after {0}")]
     Truncated(usize),
-    /// There are too many words.
+    /// A part has too many words.
     #[error("too large")]
     TooLarge(TooLargePlace),
-    /// Bytes follow the last stream: the number of the first of them.
+    /// Bytes follow the last stream: the position of the first of them.
     #[error("a byte too many at {0}")]
     Trailing(usize),
 }

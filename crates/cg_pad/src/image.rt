@@ -9,7 +9,7 @@ use std::marker::Model;
 /// Streams of words, by port.
 pub type Streams = Items<Words>;
 
-/// The words of a memory, and sixteen streams: what a run starts from, and what it leaves.
+/// The words of a memory, and sixteen streams: the input or the result of a run.
 #[derive(Drop)]
 pub struct Image {
     pub memory: Words,
@@ -32,7 +32,7 @@ impl Image {
     ghost use Rattle.std.specs.Prelude.{◌≡◌, ◌↔◌, [], IfOk, IsTrue, length, replicate};
     ghost use Rattle.cg_pad.specs.Bytes.{IsStorable, HasStorableStreams};
 
-    /// An image without words.
+    /// Returns an image without words.
     pub fn empty(alloc: Global) -> Result<Image, AllocError>
         ensures { IfOk result (λ i. i ≡ record { memory = []; streams = replicate port_count [] }) }
     {
@@ -42,14 +42,14 @@ impl Image {
         })
     }
 
-    /// The words of the memory.
+    /// Returns the words of the memory.
     pub fn memory(&self) -> &[u32]
         ensures { result.now ≡ self.now.memory }
     {
         self.memory.as_slice()
     }
 
-    /// The streams, by port.
+    /// Returns the streams, by port.
     pub fn streams(&self) -> &[Words]
         ensures streams { result.now ≡ self.now.streams }
         ensures sixteen { length self.now.streams ≡ port_count }
@@ -57,7 +57,7 @@ impl Image {
         self.streams.as_slice()
     }
 
-    /// Whether a file can hold it: `write_image` asks for this.
+    /// Returns whether a file can hold it, as `write_image` requires.
     pub fn is_storable(&self) -> bool
         ensures { IsTrue result ↔ IsStorable self.now }
     {
@@ -76,7 +76,7 @@ impl Image {
     }
 }
 
-/// Sixteen streams without words.
+/// Returns sixteen streams without words.
 pub fn empty_streams(alloc: Global) -> Result<Streams, AllocError>
     ensures { IfOk result (λ s. s ≡ replicate port_count []) }
 {

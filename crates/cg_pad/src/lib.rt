@@ -1,4 +1,4 @@
-//! Images of memory and streams, the scratchpad of a run, and what an operation does to it.
+//! Images of memory and streams, the scratchpad of a run, and the effect of an operation on it.
 #![tactic(auto)]
 
 mod fault;

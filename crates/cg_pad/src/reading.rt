@@ -1,4 +1,4 @@
-//! Images out of bytes.
+//! Reads images from bytes.
 ghost use Rattle.std.specs.Prelude.{◌≡◌, ◌≤◌, IfOk, length};
 ghost use Rattle.cg_model.specs.Answers.{Gives};
 ghost use Rattle.cg_model.specs.Limits.{most_memory, most_stream, port_count};
@@ -10,7 +10,8 @@ use crate::writing::MAGIC;
 use cg_model::{MOST_MEMORY, MOST_STREAM, PORTS, Words};
 use std::alloc::{AllocError, Global};
 
-/// The image that the bytes spell: `CGI1`, the memory, and the sixteen streams, each as its number of words and the words.
+/// Returns the image that `bytes` encode: `CGI1`, the memory, and the sixteen streams, each as its number of words
+/// followed by the words.
 #[tactic(auto, unfolding(crate::specs::Bytes::answer_of))]
 pub fn read_image(alloc: Global, bytes: &[u8]) -> Result<Image, ImageFault>
     ensures answer { Gives ImageFault.Memory result (answer_of bytes.now) }
@@ -24,7 +25,7 @@ pub fn read_image(alloc: Global, bytes: &[u8]) -> Result<Image, ImageFault>
     cursor.image(alloc)
 }
 
-/// The bytes that are left, of a file of that size.
+/// The remaining bytes of a file, with the file's size.
 #[derive(Drop)]
 struct Cursor<'a> {
     size: usize,
@@ -38,7 +39,7 @@ impl Cursor<'_> {
     ghost use Rattle.cg_pad.specs.Bytes.{take_number, take_words, or_truncated, read_magic, memory_too_large, stream_too_large, read_block, read_streams, at_end, read_blocks};
     ghost use Rattle.cg_pad.specs.Cursor.{with_rest, bytes_after, Takes};
 
-    /// The letters `CGI1`.
+    /// Reads the letters `CGI1`.
     fn magic(&mut self) -> Result<(), ImageFault>
         ensures answer { Gives ImageFault.Memory (bytes_after result self.new.rest.now) (read_magic self.old.size self.old.rest.now) }
         ensures size { self.new.size ≡ self.old.size }
@@ -55,7 +56,7 @@ impl Cursor<'_> {
         Ok(())
     }
 
-    /// The memory and the streams, and then the end.
+    /// Reads the memory and the streams, and checks that the bytes end there.
     fn image(&mut self, alloc: Global) -> Result<Image, ImageFault>
         ensures small { IfOk result (λ image. length image.memory ≤ most_memory) }
         ensures answer { Gives ImageFault.Memory result (read_blocks self.old.size self.old.rest.now) }
@@ -65,7 +66,7 @@ impl Cursor<'_> {
         self.end(memory, streams)
     }
 
-    /// Nothing may follow.
+    /// Checks that no bytes follow, and returns the image of `memory` and `streams`.
     fn end(&self, memory: Words, streams: Streams) -> Result<Image, ImageFault>
         requires { length streams ≡ port_count }
         ensures memory { IfOk result (λ image. image.memory ≡ memory) }
@@ -77,7 +78,7 @@ impl Cursor<'_> {
         Ok(Image { memory, streams })
     }
 
-    /// The words of the memory.
+    /// Reads the words of the memory.
     fn memory(&mut self, alloc: Global) -> Result<Words, ImageFault>
         ensures answer { Gives ImageFault.Memory (with_rest result self.new.rest.now) (read_block most_memory memory_too_large self.old.size self.old.rest.now) }
         ensures size { self.new.size ≡ self.old.size }
@@ -90,7 +91,7 @@ impl Cursor<'_> {
         self.block(alloc, count)
     }
 
-    /// The words of a stream.
+    /// Reads the words of the stream of `port`.
     fn stream(&mut self, alloc: Global, port: u32) -> Result<Words, ImageFault>
         ensures answer { Gives ImageFault.Memory (with_rest result self.new.rest.now) (read_block most_stream (stream_too_large port) self.old.size self.old.rest.now) }
         ensures size { self.new.size ≡ self.old.size }
@@ -102,7 +103,7 @@ impl Cursor<'_> {
         self.block(alloc, count)
     }
 
-    /// The words of all streams, by port.
+    /// Reads the words of all streams, by port.
     fn streams(&mut self, alloc: Global) -> Result<Streams, ImageFault>
         ensures answer { Gives ImageFault.Memory (with_rest result self.new.rest.now) (read_streams self.old.size 0 port_count self.old.rest.now) }
         ensures sixteen { IfOk result (λ streams. length streams ≡ port_count) }
@@ -115,7 +116,7 @@ impl Cursor<'_> {
         Ok(Streams::new(streams))
     }
 
-    /// A number of words.
+    /// Reads a number of words.
     fn count(&mut self) -> Result<u32, ImageFault>
         ensures answer { Gives ImageFault.Memory (with_rest result self.new.rest.now) (or_truncated self.old.size (take_number self.old.rest.now)) }
         ensures size { self.new.size ≡ self.old.size }
@@ -141,7 +142,7 @@ impl Cursor<'_> {
         Ok(Words::new(words))
     }
 
-    /// The next four bytes, as a number.
+    /// Reads the next four bytes as a number.
     fn number(&mut self) -> Option<u32>
         ensures taken { Takes result self.new.rest.now (take_number self.old.rest.now) }
         ensures size { self.new.size ≡ self.old.size }

@@ -7,7 +7,7 @@ use cg_model::Words;
 use std::alloc::{AllocError, Global};
 use std::marker::Model;
 
-/// The words that accesses reach, by address.
+/// The words of the scratchpad, by address.
 #[derive(Drop)]
 pub struct Scratchpad {
     words: Vec<u32>,
@@ -24,7 +24,7 @@ impl Model for Scratchpad {
 impl Scratchpad {
     ghost use Rattle.std.specs.Prelude.{◌≡◌, ◌<◌, ◌↔◌, IfOk, IsTrue, length, slice_index, slice_set};
 
-    /// A scratchpad that holds a copy of these words.
+    /// Returns a scratchpad that holds a copy of `words`.
     pub fn new(alloc: Global, words: &[u32]) -> Result<Scratchpad, AllocError>
         ensures { IfOk result (λ s. s ≡ words.now) }
     {
@@ -33,21 +33,21 @@ impl Scratchpad {
         })
     }
 
-    /// The number of words.
+    /// Returns the number of words.
     pub fn size(&self) -> usize
         ensures { result ≡ length self.now }
     {
         self.words.len()
     }
 
-    /// Whether the address is that of a word.
+    /// Returns whether `address` is that of a word.
     pub fn inside(&self, address: u32) -> bool
         ensures { IsTrue result ↔ (address < length self.now) }
     {
         (address as usize) < self.words.len()
     }
 
-    /// The word at an address, 0 outside.
+    /// Returns the word at `address`, 0 outside the memory.
     pub fn load(&self, address: u32) -> u32
         ensures { result ≡ slice_index self.now address }
     {
@@ -57,7 +57,7 @@ impl Scratchpad {
         }
     }
 
-    /// Sets the word at an address; outside nothing changes.
+    /// Sets the word at `address` to `value`; outside the memory nothing changes.
     pub fn store(&mut self, address: u32, value: u32)
         ensures { self.new ≡ slice_set self.old address value }
     {
@@ -66,14 +66,14 @@ impl Scratchpad {
         }
     }
 
-    /// All words, by address.
+    /// Lends all words, by address.
     pub fn words(&self) -> &[u32]
         ensures { result.now ≡ self.now }
     {
         self.words.as_slice()
     }
 
-    /// All words, by address, to be changed in place: what is written through the loan stands afterwards.
+    /// Lends all words, by address, for changes in place: the scratchpad keeps what is written through the loan.
     pub fn words_mut(&mut self) -> &mut [u32]
         ensures* written { sem 𝓛 (Lends the_row (Array word 0) self.entry result (overlaid self.entry.now)) }
         ensures value { result.now ≡ self.old }
@@ -81,7 +81,7 @@ impl Scratchpad {
         self.words.as_mut_slice()
     }
 
-    /// Gives the words away.
+    /// Returns the words, consuming the scratchpad.
     pub fn into_words(self) -> Words
         ensures { result ≡ self }
     {

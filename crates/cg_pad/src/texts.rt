@@ -1,11 +1,11 @@
-//! What reports say of the faults of images.
+//! The texts of image faults in reports.
 ghost use Rattle.std.specs.Prelude.{◌≡◌, IfOk, string_bytes};
 ghost use Rattle.cg_pad.specs.Texts.{image_fault_text};
 
 use crate::fault::{ImageFault, TooLargePlace};
 use std::alloc::{AllocError, Global};
 
-/// Returns code, name and place of `fault`, as `I2 Truncated length 7`. Out of memory has none of them.
+/// Returns code, name and place of `fault`, for example `I2 Truncated length 7`. Out of memory has none of them.
 pub fn image_fault_text(alloc: Global, fault: ImageFault) -> Result<String, AllocError>
     ensures { IfOk result (λ s. string_bytes s ≡ image_fault_text fault) }
 {

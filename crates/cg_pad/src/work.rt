@@ -8,7 +8,7 @@ use cg_word::{Op, apply};
 use std::alloc::AllocError;
 use std::marker::Model;
 
-/// An operation at work, in a turn and on its operands. Operands past the arity aren't looked at.
+/// An operation at work, in a turn and on its operands. Operands past the arity are ignored.
 #[derive(Clone, Copy)]
 pub struct Work {
     pub op: Op,
@@ -22,28 +22,28 @@ impl Work {
     ghost use Rattle.cg_model.specs.Work.{acts, address, last_operand, value, stored, sent, missed};
     ghost use Rattle.cg_pad.specs.Work.{work_of};
 
-    /// Whether it acts: it isn't guarded, or its guard isn't 0.
+    /// Returns whether it acts: it isn't guarded, or its guard isn't 0.
     pub fn acts(self) -> bool
         ensures { result ≡ acts self.op self.args }
     {
         !self.op.is_guarded() || self.args[0] != 0
     }
 
-    /// The word of the scratchpad that an access reaches.
+    /// Returns the address in the scratchpad that an access uses.
     pub fn address(self) -> u32
         ensures { result ≡ address self.op self.args }
     {
         self.args[self.op.address_arg()]
     }
 
-    /// What is stored or sent.
+    /// Returns the word that is stored or sent.
     pub fn last_operand(self) -> u32
         ensures { result ≡ last_operand self.op self.args }
     {
         self.args[self.op.last_arg()]
     }
 
-    /// Its value over the streams of an image and the memory that it finds.
+    /// Returns its value, given the streams of an image and the memory at that moment.
     #[tactic(auto, unfolding(cg_model::specs::Work::value_by))]
     pub fn value(self, image: &Image, memory: &Scratchpad) -> u32
         ensures { result ≡ value image.now memory.now (work_of self) }
@@ -60,7 +60,7 @@ impl Work {
         }
     }
 
-    /// Makes its store, where it is one that acts.
+    /// Performs its store, if it is a store that acts.
     #[tactic(auto, unfolding(cg_model::specs::Work::stored))]
     pub fn store(self, memory: &mut Scratchpad)
         ensures { memory.new ≡ stored memory.old (work_of self) }
@@ -70,7 +70,7 @@ impl Work {
         }
     }
 
-    /// Appends what it sends to the stream of its port, where it is an output that acts.
+    /// Appends the word that it sends to the stream of its port, if it is an output that acts.
     #[tactic(auto, unfolding(cg_model::specs::Work::sent))]
     pub fn send(self, streams: &mut [Words]) -> Result<(), AllocError>
         requires { self.port < length streams.old }
@@ -84,8 +84,8 @@ impl Work {
         Ok(())
     }
 
-    /// Returns how often it reaches outside a memory of `size` words: once where it is an access that acts, or not at
-    /// all.
+    /// Returns the number of its accesses outside a memory of `size` words: 1 for an access that acts outside it, and
+    /// otherwise 0.
     #[tactic(auto, unfolding(cg_model::specs::Work::missed))]
     pub fn missed(self, size: usize) -> u64
         ensures count { result ≡ missed size (work_of self) }
@@ -95,7 +95,7 @@ impl Work {
     }
 }
 
-/// The word at a place, 0 past the end.
+/// Returns the word of `words` at `place`, 0 past the end.
 pub(crate) fn word_at(words: &[u32], place: u32) -> u32
     ensures { result ≡ slice_index words.now place }
 {
@@ -105,7 +105,7 @@ pub(crate) fn word_at(words: &[u32], place: u32) -> u32
     }
 }
 
-/// The words of a stream, none past the last port.
+/// Returns the words of the stream of `port`, none past the last port.
 fn stream_of(streams: &[Words], port: u32) -> &[u32]
     ensures { result.now ≡ slice_index_or streams.now port [] }
 {

@@ -6,10 +6,10 @@ ghost use Rattle.cg_pad.specs.Bytes.{answer_of, block_bytes, image_bytes, AreByt
 use crate::image::Image;
 use std::alloc::{AllocError, Global};
 
-/// The letters that an image file begins with.
+/// The letters at the start of an image file.
 pub(crate) const MAGIC: [u8; 4] = *b"CGI1";
 
-/// The bytes of an image.
+/// Returns the bytes of an image.
 #[tactic(auto, unfolding(crate::specs::Bytes::image_bytes))]
 pub fn write_image(alloc: Global, image: &Image) -> Result<Vec<u8>, AllocError>
     requires { IsStorable image.now }
@@ -24,7 +24,7 @@ pub fn write_image(alloc: Global, image: &Image) -> Result<Vec<u8>, AllocError>
     Ok(bytes)
 }
 
-/// Adds how many words there are, and the words.
+/// Appends the number of `words`, and then the words, to `bytes`.
 fn push_block(bytes: &mut Vec<u8>, words: &[u32]) -> Result<(), AllocError>
     requires { length words.now < 2 ^ 32 }
     ensures { OnOk result (bytes.new.items ≡ bytes.old.items ++ block_bytes words.now) }
@@ -37,7 +37,7 @@ fn push_block(bytes: &mut Vec<u8>, words: &[u32]) -> Result<(), AllocError>
     Ok(())
 }
 
-/// What is written reads back, and what is read is what was written.
+/// States that what is written reads back as what was written, and that rewriting what is read gives the bytes read.
 pub fn reads_back()
     ensures written { (image : ImageOf) → IsImage image → IsStorable image → answer_of (image_bytes image) ≡ Ok image }
     ensures read { (bytes : List ℕ) (image : ImageOf) → AreBytes bytes → answer_of bytes ≡ Ok image → image_bytes image ≡ bytes }

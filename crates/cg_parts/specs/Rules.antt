@@ -25,7 +25,7 @@ use Rattle.cg_model.specs.Limits.{longest_name, most_contexts, most_links, most_
 
 -- ---- A1 TooLarge: too many resources, links, units or words of memory
 
--- the links into these resources, equal drivers once
+-- the number of links into these resources, equal drivers counted once
 abbrev pub links : List Entry → ℕ
 links [] = 0
 links (r ∷ rs) = length r.drivers + links rs
@@ -35,7 +35,7 @@ is_unit (element.Wire name drivers) = false
 is_unit (element.Register name drivers) = false
 is_unit (element.Unit name ops latency ports) = true
 
--- what there is too much of, the first in this order
+-- the first quantity, in this order, that is too large
 abbrev pub too_large : Parts → List Entry → Option TooLargePlace
 too_large parts resources =
     if nat_lt most_resources (length resources) then Some large.Resources else
@@ -54,7 +54,7 @@ bad_name parts = if not (is_name longest_name parts.name) then Some place.Archit
 
 -- ---- A3 RepeatedName: an earlier element claims one of the element's names
 
--- by the numbers that some function gives for claimed names
+-- the fault, by a function that gives the numbers of claimed names
 abbrev pub repeats_by : (List ℕ → Option ℕ) → ℕ → Element → Bool
 repeats_by claimer number e = list_any (λ claim. is_before (claimer claim) number) (claims_of e)
 
@@ -72,7 +72,7 @@ is_port Out = false
 abbrev pub is_port_at : List Entry → ℕ → Bool
 is_port_at resources q = option_map_or (λ r. is_port r.kind) (slice_get resources q) false
 
--- what is wrong with a driver: that it names nothing, or a port
+-- the fault of a driver: it names no resource, or it names a port
 abbrev pub is_wrong : DriverRule → List Entry → List ℕ → Bool
 is_wrong UnknownDriver resources name = is_none (number_of resources name)
 is_wrong PortDrives resources name = option_map_or (is_port_at resources) (number_of resources name) false
@@ -82,7 +82,7 @@ abbrev pub first_driver : (List ℕ → Bool) → ℕ → List Element → Optio
 first_driver test v [] = None
 first_driver test v (e ∷ es) = option_or (option_map (λ name. record { element = v; name = name }) (first_such test (drivers_of e))) (first_driver test (v + 1) es)
 
--- A4 at its first place, and else A5
+-- A4 at its first place, or else A5
 abbrev pub wrong_driver : List Element → List Entry → Option ArchFault
 wrong_driver elements resources = option_or
     (option_map fault.UnknownDriver (first_driver (is_wrong UnknownDriver resources) 0 elements))

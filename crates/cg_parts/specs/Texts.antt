@@ -1,4 +1,4 @@
--- What reports say of the faults of architectures.
+-- The texts of architecture faults in reports.
 use Rattle.std.specs.Prelude.{ℕ, List, [], ◌∷◌, ◌++◌, flat_map, codes, decimal}
 use Rattle.cg_parts.specs.declared.fault.ArchFault.{ArchFault}
 use Rattle.cg_parts.specs.declared.fault.ArchFault.TheVariants as arch
@@ -35,7 +35,7 @@ abbrev pub hub_text : HubPlace → List ℕ
 hub_text (hub.Entry n) = codes "A9 HubIncomplete hub " ++ n
 hub_text (hub.Link from to) = codes "A9 HubIncomplete link " ++ (from ++ (codes " " ++ to))
 
--- code, name and place
+-- the code, the name and the place
 abbrev pub arch_fault_text : ArchFault → List ℕ
 arch_fault_text arch.Memory = []
 arch_fault_text (arch.TooLarge p) = too_large_text p

@@ -15,7 +15,8 @@ use cg_model::{LONGEST_NAME, MOST_LINKS, MOST_MEMORY, MOST_RESOURCES, MOST_UNITS
 use cg_names::Numbers;
 use std::alloc::{AllocError, Global};
 
-/// The lowest of A1 to A5 that applies, at its first place. The resources are those of the parts, with their numbers.
+/// Returns the lowest of A1 to A5 that applies, at its first place. The resources are those of the parts, with their
+/// numbers.
 #[tactic(auto, unfolding(crate::specs::Rules::fault_before_loops))]
 pub fn fault_before_loops(
     alloc: Global,
@@ -40,7 +41,7 @@ pub fn fault_before_loops(
     wrong_driver(alloc, elements, resources, numbers)
 }
 
-/// A4 at its first place, and else A5.
+/// Returns A4 at its first place, or else A5.
 fn wrong_driver(
     alloc: Global,
     elements: &[Element],
@@ -81,7 +82,7 @@ fn too_large(parts: &Parts, resources: &[Entry]) -> Option<TooLargePlace>
     }
 }
 
-/// Whether there are more links than allowed into the resources.
+/// Returns whether the resources have more links than allowed.
 fn has_many_links(resources: &[Entry]) -> bool
     ensures { result ≡ nat_lt most_links (spec.links resources.now) }
 {

@@ -16,7 +16,7 @@ use cg_names::{Numbers, add_first, is_before, number_in};
 use indexmap::IndexMap;
 use std::alloc::{AllocError, Global};
 
-/// The names that an element claims.
+/// Returns the names that `element` claims.
 fn claims_of(alloc: Global, element: &Element) -> Result<Vec<Name>, AllocError>
     ensures { IfOk result (λ names. names.items ≡ spec.claims_of element.now) }
 {
@@ -34,7 +34,7 @@ fn claims_of(alloc: Global, element: &Element) -> Result<Vec<Name>, AllocError>
     Ok(names)
 }
 
-/// Adds the names of the ports of a unit that have one.
+/// Appends the names of the ports of a unit that have one.
 fn add_port_names(
     alloc: Global,
     names: &mut Vec<Name>,
@@ -52,7 +52,7 @@ fn add_port_names(
     Ok(())
 }
 
-/// The number of the first element that claims each name.
+/// Returns the number of the first element that claims each name.
 fn claimers_of(alloc: Global, elements: &[Element]) -> Result<Numbers, AllocError>
     ensures { IfOk result (λ numbers. IsClaiming numbers elements.now) }
 {
@@ -64,7 +64,7 @@ fn claimers_of(alloc: Global, elements: &[Element]) -> Result<Numbers, AllocErro
     Ok(numbers)
 }
 
-/// Gives each of the names that number, where it has none yet.
+/// Gives each of the names the number, where the name has none yet.
 fn add_claims(
     alloc: Global,
     numbers: &mut Numbers,
@@ -80,7 +80,7 @@ fn add_claims(
     Ok(())
 }
 
-/// The number of the first element that claims a name of an earlier one.
+/// Returns the number of the first element that claims a name of an earlier one.
 pub(crate) fn first_repeat(alloc: Global, elements: &[Element]) -> Result<Option<usize>, AllocError>
     ensures { IfOk result (λ found. found ≡ repeated_name elements.now) }
 {
@@ -88,7 +88,7 @@ pub(crate) fn first_repeat(alloc: Global, elements: &[Element]) -> Result<Option
     first_repeat_by(alloc, &claimers, elements)
 }
 
-/// The number of the first element that claims a name which is claimed before it.
+/// Returns the number of the first element that claims a name which an earlier element claims.
 fn first_repeat_by(
     alloc: Global,
     claimers: &Numbers,
@@ -104,7 +104,7 @@ fn first_repeat_by(
     Ok(None)
 }
 
-/// Whether a name that the element claims is claimed before that number.
+/// Returns whether an element before the given number claims a name that this element claims.
 fn repeats(
     alloc: Global,
     claimers: &Numbers,
@@ -117,7 +117,7 @@ fn repeats(
     Ok(any_before(claimers, &names, number))
 }
 
-/// Whether one of the names is claimed before that number.
+/// Returns whether an element before `number` claims one of `names`.
 fn any_before(claimers: &Numbers, names: &[Name], number: usize) -> bool
     ensures { result ≡ list_any (λ claim. is_before (found_in claimers.now claim) number) names.now }
 {

@@ -12,7 +12,7 @@ use cg_model::{Kind, Name};
 use cg_names::{Numbers, number_in};
 use std::alloc::{AllocError, Global};
 
-/// What makes a driver be at fault.
+/// Why a driver is at fault.
 #[derive(Clone, Copy)]
 pub enum DriverRule {
     /// It names no resource.
@@ -21,7 +21,7 @@ pub enum DriverRule {
     PortDrives,
 }
 
-/// The first driver at fault in the lists of the elements.
+/// Returns the first driver at fault in the lists of the elements.
 pub(crate) fn first_wrong(
     alloc: Global,
     rule: DriverRule,
@@ -44,7 +44,7 @@ pub(crate) fn first_wrong(
     Ok(None)
 }
 
-/// The first driver at fault of an element.
+/// Returns the first driver at fault of an element.
 fn wrong_of<'a>(
     rule: DriverRule,
     element: &'a Element,
@@ -62,7 +62,7 @@ fn wrong_of<'a>(
     }
 }
 
-/// The first driver at fault of a unit's ports.
+/// Returns the first driver at fault of a unit's ports.
 fn wrong_in_ports<'a>(
     rule: DriverRule,
     ports: &'a [Names],
@@ -80,7 +80,7 @@ fn wrong_in_ports<'a>(
     None
 }
 
-/// The first driver at fault of a list.
+/// Returns the first driver at fault of a list.
 fn wrong_in<'a>(
     rule: DriverRule,
     drivers: &'a [Name],

@@ -1,4 +1,4 @@
-//! The resources that elements stand for.
+//! The resources that elements define.
 ghost use Rattle.std.specs.Prelude.{◌≡◌, ◌++◌, ◌∷◌, [], Some, IfOk, OnOk};
 ghost use Rattle.cg_parts.specs.Parts as spec;
 
@@ -8,7 +8,7 @@ use crate::parts::{Element, Names};
 use cg_model::{Kind, Name};
 use std::alloc::{AllocError, Global};
 
-/// The resources of the elements, in their order.
+/// Returns the resources of the elements, in their order.
 #[tactic(auto, unfolding(crate::specs::Parts::entries))]
 pub fn entries_of_all(alloc: Global, elements: &[Element]) -> Result<Vec<Entry>, AllocError>
     ensures { IfOk result (λ list. list.items ≡ spec.entries elements.now) }
@@ -20,7 +20,7 @@ pub fn entries_of_all(alloc: Global, elements: &[Element]) -> Result<Vec<Entry>,
     Ok(list)
 }
 
-/// Adds the resources of one element.
+/// Appends the resources of `element` to `list`.
 fn add_entries(alloc: Global, list: &mut Vec<Entry>, element: &Element) -> Result<(), AllocError>
     ensures { OnOk result (list.new.items ≡ list.old.items ++ spec.entries_of element.now) }
 {
@@ -47,7 +47,7 @@ fn add_entries(alloc: Global, list: &mut Vec<Entry>, element: &Element) -> Resul
     }
 }
 
-/// Adds the resource of a wire or a register.
+/// Appends the resource of a wire or a register.
 fn add_entry(
     alloc: Global,
     list: &mut Vec<Entry>,
@@ -66,7 +66,7 @@ fn add_entry(
     Ok(())
 }
 
-/// Adds the ports of a unit.
+/// Appends the ports of a unit.
 fn add_ports(
     alloc: Global,
     list: &mut Vec<Entry>,
@@ -86,7 +86,7 @@ fn add_ports(
     Ok(())
 }
 
-/// The out of a unit.
+/// Returns the out of the unit `unit`.
 fn out_entry(alloc: Global, unit: &str) -> Result<Entry, AllocError>
     ensures { IfOk result (λ entry. entry ≡ spec.out_entry unit.now) }
 {

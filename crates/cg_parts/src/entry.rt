@@ -1,10 +1,10 @@
-//! Resources as they are written.
+//! Resources with named drivers.
 
 use crate::parts::Names;
 use cg_model::{Kind, Name};
 use cg_names::Named;
 
-/// A resource that an element stands for, its drivers still by name.
+/// A resource that an element defines, with its drivers still by name.
 #[derive(Drop)]
 pub struct Entry {
     /// Its name. A port past a unit's third has none.

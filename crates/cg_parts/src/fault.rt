@@ -1,4 +1,4 @@
-//! Why parts are no architecture.
+//! Why parts are not a valid architecture.
 
 ghost use Rattle.std.specs.Prelude.{◌≡◌};
 ghost use Rattle.cg_parts.specs.declared.fault.ArchFault.TheVariants.{Memory};
@@ -9,10 +9,10 @@ use std::alloc::{AllocError, AllocFailed};
 use std::fmt;
 use thiserror::Error;
 
-/// What there is too much of.
+/// The quantity that is too large.
 #[derive(Clone, Copy, Debug, PartialEq, Eq)]
 pub enum TooLargePlace {
-    /// More than 32 rows or columns. Parts have no grid, so only readers of tiles answer this.
+    /// More than 32 rows or columns. Parts have no grid, so only readers of tiles return this.
     Grid,
     Resources,
     Links,
@@ -20,7 +20,7 @@ pub enum TooLargePlace {
     Memory,
 }
 
-/// Whose name is bad. Elements are counted from 0.
+/// The owner of a bad name. Elements are counted from 0.
 #[derive(Clone, Copy, Debug, PartialEq, Eq)]
 pub enum NamePlace {
     Architecture,
@@ -34,16 +34,16 @@ pub struct DriverPlace {
     pub name: Name,
 }
 
-/// What a hub lacks, or has too much.
+/// What a hub lacks, or has in excess.
 #[derive(Drop)]
 pub enum HubPlace {
-    /// An entry that is no register, or stands twice.
+    /// An entry that is not a register, or is listed twice.
     Entry(Name),
     /// A link that the hub needs.
     Link { from: Name, to: Name },
 }
 
-/// Why parts are no architecture. The variants after `Memory` are A1 to A9, in this order.
+/// Why parts are not a valid architecture. The variants after `Memory` are A1 to A9, in this order.
 #[derive(Drop, Error)]
 pub enum ArchFault {
     #[error("memory ran out")]

@@ -1,5 +1,5 @@
-//! Architectures as they are written: their elements, the resources and names that these stand for, and the faults A1 to
-//! A5, A7 and A8: of sizes, names, drivers, units and the number of contexts.
+//! Architectures as a designer writes them: their elements, the resources and names that the elements define, and the
+//! faults A1 to A5, A7 and A8: of sizes, names, drivers, units and the number of contexts.
 #![tactic(auto)]
 
 mod before_loops;

@@ -7,7 +7,7 @@ use cg_model::Name;
 use indexmap::IndexSet;
 use std::alloc::{AllocError, Global};
 
-/// The name of a unit's port, where it has one.
+/// Returns the name of a unit's port, if it has one.
 pub(crate) fn port_name_of(
     alloc: Global,
     unit: &str,
@@ -24,14 +24,14 @@ pub(crate) fn port_name_of(
     Ok(Some(Name::new(text)))
 }
 
-/// The name of a unit's out.
+/// Returns the name of the out of `unit`.
 pub(crate) fn out_name(alloc: Global, unit: &str) -> Result<Name, AllocError>
     ensures { IfOk result (λ name. name ≡ spec.out_name unit.now) }
 {
     Ok(Name::new(format!(in alloc; "{unit}_o")?))
 }
 
-/// The names, each where it stands first.
+/// Returns the distinct names of a list, in the order of their first occurrences.
 #[tactic(auto, unfolding(crate::specs::Parts::distinct))]
 pub fn distinct(alloc: Global, names: &[Name]) -> Result<Names, AllocError>
     ensures { IfOk result (λ list. list ≡ spec.distinct names.now) }
@@ -44,7 +44,7 @@ pub fn distinct(alloc: Global, names: &[Name]) -> Result<Names, AllocError>
     Ok(Names::new(kept))
 }
 
-/// Adds a name to those seen and kept, unless it stands there.
+/// Appends a name to those seen and kept, unless it is there already.
 fn add_distinct<'a>(
     alloc: Global,
     seen: &mut IndexSet<&'a str>,

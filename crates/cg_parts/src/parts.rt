@@ -1,4 +1,4 @@
-//! What a designer writes of an architecture.
+//! An architecture as a designer writes it.
 
 use cg_model::{Items, Name};
 use cg_word::OpSet;
@@ -35,9 +35,9 @@ pub enum Element {
 #[derive(Drop)]
 pub struct Parts {
     pub name: Name,
-    /// The slots that a configuration may have at most, 1 to 64.
+    /// The greatest number of slots of a configuration, 1 to 64.
     pub contexts: u32,
-    /// The words of the scratchpad.
+    /// The number of words of the scratchpad.
     pub memory: u32,
     /// The wires, registers and units, in the order of their numbers.
     pub elements: Items<Element>,

@@ -1,4 +1,4 @@
-//! What reports say of the faults of architectures.
+//! The texts of architecture faults in reports.
 ghost use Rattle.std.specs.Prelude.{◌≡◌, ◌++◌, IfOk, codes, string_bytes};
 ghost use Rattle.cg_parts.specs.Texts as spec;
 
@@ -6,7 +6,7 @@ use crate::fault::{ArchFault, DriverPlace, HubPlace, NamePlace, TooLargePlace};
 use cg_model::Name;
 use std::alloc::{AllocError, Global};
 
-/// Returns code, name and place of `fault`, as `A3 RepeatedName element 1`. Out of memory has none of them.
+/// Returns code, name and place of `fault`, for example `A3 RepeatedName element 1`. Out of memory has none of them.
 pub fn arch_fault_text(alloc: Global, fault: &ArchFault) -> Result<String, AllocError>
     ensures { IfOk result (λ s. string_bytes s ≡ spec.arch_fault_text fault.now) }
 {
@@ -61,7 +61,7 @@ fn driver_text(alloc: Global, code: &str, place: &DriverPlace) -> Result<String,
     format!(in alloc; "{code} element {element} driver {driver}")
 }
 
-/// The names of a loop, each after a blank.
+/// Returns the names of a loop, each after a blank.
 fn loop_text(alloc: Global, names: &[Name]) -> Result<String, AllocError>
     ensures { IfOk result (λ s. string_bytes s ≡ codes "A6 ZeroDelayLoop" ++ spec.spaced_names names.now) }
 {

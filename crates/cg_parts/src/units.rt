@@ -11,7 +11,7 @@ use crate::parts::{Element, Parts};
 use cg_model::MOST_CONTEXTS;
 use cg_word::{Op, OpSet};
 
-/// A7 at its first place, and else A8.
+/// Returns A7 at its first place, or else A8.
 #[tactic(auto, unfolding(crate::specs::Rules::unit_or_contexts_fault))]
 pub fn unit_or_contexts_fault(parts: &Parts) -> Option<ArchFault>
     ensures { result ≡ spec.unit_or_contexts_fault parts.now }
@@ -58,14 +58,14 @@ fn is_bad_unit(element: &Element) -> bool
     }
 }
 
-/// Whether the set has an operation.
+/// Returns whether `ops` has an operation.
 fn has_some_op(ops: OpSet) -> bool
     ensures { result ≡ list_any (among ops) all_ops }
 {
     Op::ALL.iter().any(|op| ops.has(*op))
 }
 
-/// Whether an operation of the set takes more arguments than there are ports.
+/// Returns whether an operation of `ops` takes more than `ports` arguments.
 fn takes_more(ops: OpSet, ports: usize) -> bool
     ensures { result ≡ list_any (λ op. among ops op && nat_lt ports (arity op)) all_ops }
 {

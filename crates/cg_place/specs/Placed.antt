@@ -1,6 +1,5 @@
--- Placements: where and when each node of a kernel begins on an architecture, while a modulo schedule
--- (Rau 1994) is looked for. A unit may still begin several nodes in a slot, and times may break order
--- edges.
+-- Placements: where and when each node of a kernel begins on an architecture, during the search for a modulo schedule
+-- (Rau 1994). A unit may still begin several nodes in a slot, and times may break order edges.
 use Rattle.std.specs.Prelude.{◌≡◌, ℕ, ◌<◌, ◌≤◌, true, List, length, map, filter, slice_index, slice_index_or, slice_set}
 use Rattle.std.specs.List.{range_with_len}
 use Rattle.cg_word.specs.declared.op.Op.{Op}
@@ -37,14 +36,14 @@ pub record AreEarly (K : Kernel) (early : List ℕ) : Type 0 where
   pub each : length early ≡ size K
   pub soon : (v : ℕ) → v < size K → slice_index early v ≤ latest_time
 
--- node v may stand on unit x: there are both, and the unit offers the node's operation
+-- node v may be placed on unit x: both exist, and the unit offers the node's operation
 pub record MayStand (A : Arch) (K : Kernel) (v x : ℕ) : Type 0 where
   pub known : v < size K
   pub within : x < length A.units
   pub offered : among (unit A x).ops (node K v).op ≡ true
 
--- what holds of each placement: of a valid kernel, at an interval of at least a cycle, each node stands
--- on a unit that offers its operation
+-- what holds of each placement: of a valid kernel, at an interval of at least one cycle, each node is placed on a unit
+-- that offers its operation
 pub record IsPlacement (P : Placed) : Type 0 where
   pub kernel : IsKernel P.kernel
   pub some : 0 < P.ii
@@ -59,13 +58,13 @@ abbrev pub first_place : Arch → Kernel → List ℕ → ℕ → Place
 first_place A K early v =
     record { unit = slice_index (offering A (node K v).op) 0; time = slice_index early v }
 
--- so for each node
+-- each node at its earliest time on the first unit that offers its operation
 abbrev pub first_places : Arch → Kernel → List ℕ → List Place
 first_places A K early = map (first_place A K early) (range_with_len 0 (size K))
 
 -- ---- moves
 
--- the move's node may stand on its unit, at whatever time
+-- the move's node may be placed on its unit, at any time
 abbrev pub IsMove : Placed → Move → Type 0
 IsMove P m = MayStand P.arch P.kernel m.node m.place.unit
 
@@ -81,6 +80,6 @@ back places m = record { node = m.node; place = place_in places m.node }
 abbrev pub after : Placed → Move → Placed
 after P m = record P { places = moved P.places m }
 
--- a move and the move that undoes it leave a placement as it was
+-- a move and the move that undoes it leave a placement unchanged
 abbrev pub IsUndone : Type 0
 IsUndone = (P : Placed) (m : Move) → after (after P m) (back P.places m) ≡ P

@@ -7,11 +7,11 @@ use Rattle.cg_place.specs.Counts.{stands_at}
 abbrev pub entry : ℕ → Place → ℕ
 entry ii p = p.unit * ii + p.time % ii
 
--- by how much all numbers are more than one
+-- the sum over all numbers of their excess over one
 abbrev pub over : List ℕ → ℕ
 over counts = sum_by (λ c. c - 1) counts
 
--- one node more, and one less, at an entry
+-- one more node, and one less, at an entry
 abbrev pub raised : List ℕ → ℕ → List ℕ
 raised counts e = slice_set counts e (slice_index counts e + 1)
 

@@ -19,7 +19,7 @@ pub record AreTouching (n : ℕ) (edges : List OrderEdge) (lists : List (List Or
   pub each : length lists ≡ n
   pub right : (v : ℕ) → v < n → list_of lists v ≡ filter (touches v) edges
 
--- one edge more
+-- one more edge
 pub record IsAdded (e : OrderEdge) (lists lists' : List (List OrderEdge)) : Type 0 where
   pub each : length lists' ≡ length lists
   pub right : (v : ℕ) → v < length lists → list_of lists' v ≡ list_of lists v ++ (if touches v e then e ∷ [] else [])

@@ -1,4 +1,4 @@
-//! What stands beside the placement that the walk uses: a plain one with the same clauses, and laws of moves.
+//! Companions of the placement that the walk uses: a plain one with the same contract, and laws of moves.
 ghost use Rattle.cg_place.specs.Placed.{IsUndone};
 ghost use Rattle.cg_place.specs.Schedules.{IsExcess, AreViolations};
 
@@ -7,12 +7,12 @@ mod plain;
 
 pub use plain::PlainPlacement;
 
-/// A move and then the move that undoes it leave every placement as it was.
+/// States that a move followed by the move that undoes it leaves every placement unchanged.
 pub fn undone()
     ensures { IsUndone }
 {}
 
-/// Both counts of a placement are 0 exactly where it is a schedule.
+/// States that both counts of a placement are 0 exactly if it is a schedule.
 pub fn scheduled()
     ensures excess { IsExcess }
     ensures violations { AreViolations }

@@ -1,5 +1,5 @@
 //! Placements of a kernel's nodes on an architecture: the start, the proposals and the moves of a walk, with the two
-//! counts that say how far a placement is from a schedule.
+//! counts that measure how far a placement is from a schedule.
 #![tactic(auto)]
 
 mod draws;

@@ -2,7 +2,7 @@
 
 use cg_model::Place;
 
-/// A node, and where it is to begin.
+/// A node, and the place at which it is to begin.
 #[derive(Clone, Copy, Debug, PartialEq, Eq, Drop)]
 pub struct Move {
     /// The number of the node.

@@ -8,7 +8,7 @@ ghost use Rattle.cg_place.specs.Placed.{IsOffered, offering};
 use cg_arch::{Arch, Op};
 use cg_model::Kernel;
 
-/// Whether a unit offers an operation.
+/// Returns whether unit number `x` offers `op`.
 fn offers(arch: &Arch, x: usize, op: Op) -> bool
     requires { x < length arch.now.units }
     ensures { result ≡ among (unit arch.now x).ops op }
@@ -16,7 +16,7 @@ fn offers(arch: &Arch, x: usize, op: Op) -> bool
     arch.units()[x].ops.has(op)
 }
 
-/// Whether each operation of a kernel is offered by some unit.
+/// Returns whether each operation of `kernel` is offered by some unit of `arch`.
 pub fn is_offered(arch: &Arch, kernel: &Kernel) -> bool
     ensures { IsTrue result ↔ IsOffered arch.now kernel.now }
 {
@@ -28,7 +28,7 @@ pub fn is_offered(arch: &Arch, kernel: &Kernel) -> bool
     true
 }
 
-/// How many units offer an operation.
+/// Returns the number of units that offer `op`.
 pub(crate) fn count_offering(arch: &Arch, op: Op) -> u32
     ensures value { result ≡ length (offering arch.now op) }
     ensures small { result ≤ most_units }
@@ -42,7 +42,7 @@ pub(crate) fn count_offering(arch: &Arch, op: Op) -> u32
     count
 }
 
-/// The unit in that place of the ascending list of those that offer an operation.
+/// Returns the unit at index `place` of the ascending list of the units that offer `op`.
 pub(crate) fn offering_unit(arch: &Arch, op: Op, place: u32) -> u32
     requires { place < length (offering arch.now op) }
     ensures value { result ≡ slice_index (offering arch.now op) place }

@@ -1,4 +1,4 @@
-//! Placements with kept counts.
+//! Placements with counts that are kept up to date.
 use crate::moves::Move;
 use crate::places::{drawn, first_places};
 use crate::reservations::{Reservations, entry};
@@ -8,8 +8,9 @@ use cg_model::{Items, Kernel, OrderEdge, Place};
 use std::alloc::{AllocError, Global};
 use std::marker::Model;
 
-/// Where and when each node of a kernel begins on an architecture, at an interval. It keeps how many nodes each unit
-/// begins in each slot, and the order edges of each node, so that a move costs no more than the edges that it touches.
+/// A placement: the unit and the time at which each node of a kernel begins on an architecture, at an interval. It
+/// keeps the number of nodes that each unit begins in each slot, and the order edges of each node, so that the cost of
+/// a move is linear in the edges that it touches.
 #[derive(Drop)]
 pub struct Placement<'a> {
     arch: &'a Arch,
@@ -41,7 +42,7 @@ impl<'a> Placement<'a> {
     ghost use Rattle.cg_place.specs.Counts as counts;
     ghost use Rattle.cg_place.specs.Draws.{drawn_move};
 
-    /// Each node at its earliest time on the lowest-numbered unit that offers its operation.
+    /// Returns the placement of each node at its earliest time on the lowest-numbered unit that offers its operation.
     pub fn start(
         alloc: Global,
         arch: &'a Arch,
@@ -71,7 +72,8 @@ impl<'a> Placement<'a> {
         })
     }
 
-    /// A node, one of the units that offer its operation, and one of the times from its earliest on, each drawn by a word.
+    /// Returns a random move: a node, one of the units that offer its operation, and one of the times from its earliest
+    /// on, from the random words `w1`, `w2` and `w3`.
     pub fn propose(&self, w1: u32, w2: u32, w3: u32) -> Move
         requires { 0 < size self.now.kernel }
         ensures value { result ≡ drawn_move self.now.arch self.now.kernel self.now.ii self.now.early w1 w2 w3 }
@@ -89,7 +91,7 @@ impl<'a> Placement<'a> {
         )
     }
 
-    /// Places a node, and gives the move that undoes it.
+    /// Applies the move `change`, and returns the move that undoes it.
     pub fn apply(&mut self, change: Move) -> Move
         requires { IsMove self.old change }
         ensures new { self.new ≡ after self.old change }
@@ -111,7 +113,7 @@ impl<'a> Placement<'a> {
         }
     }
 
-    /// Places a node.
+    /// Applies the move `change`, which undoes another.
     pub fn undo(&mut self, change: Move)
         requires { IsMove self.old change }
         ensures new { self.new ≡ after self.old change }
@@ -120,7 +122,7 @@ impl<'a> Placement<'a> {
         let _ = self.apply(change);
     }
 
-    /// Where and when a node begins.
+    /// Returns the unit and the time at which `node` begins.
     pub fn place(&self, node: u32) -> Place
         requires { node < size self.now.kernel }
         ensures value { result ≡ place_in self.now.places node }
@@ -129,7 +131,7 @@ impl<'a> Placement<'a> {
         self.places[node as usize]
     }
 
-    /// By how many the nodes are more than one in a slot of a unit, over all.
+    /// Returns the number of nodes beyond one in a slot of a unit, summed over all slots and units.
     pub fn unit_excess(&self) -> u32
         ensures value { result ≡ counts.unit_excess self.now.arch self.now.ii self.now.places }
         ensures valid { IsPlacement self.now }
@@ -137,7 +139,7 @@ impl<'a> Placement<'a> {
         self.table.excess()
     }
 
-    /// How many order edges have a target that doesn't begin at least a cycle after its source.
+    /// Returns the number of order edges whose target doesn't begin at least a cycle after its source.
     pub fn order_violations(&self) -> u32
         ensures value { result ≡ counts.order_violations self.now.kernel self.now.ii self.now.places }
         ensures valid { IsPlacement self.now }

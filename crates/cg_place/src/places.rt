@@ -1,4 +1,4 @@
-//! The first places, and places by words.
+//! The first places, and places from random words.
 ghost use Rattle.std.specs.Prelude.{◌≡◌, ◌<◌, ◌≤◌, ◌↔◌, ◌+◌, ◌*◌, IsTrue, IfOk, slice_index};
 ghost use Rattle.cg_model.specs.Kernel.{IsKernel, size};
 ghost use Rattle.cg_model.specs.Limits.{most_contexts};
@@ -12,14 +12,14 @@ use cg_arch::Arch;
 use cg_model::{Kernel, LATEST_TIME, Place};
 use std::alloc::{AllocError, Global};
 
-/// Whether these are a time for each node, none too late for a mapping.
+/// Returns whether `early` has a time for each node, none too late for a mapping.
 pub fn are_early(kernel: &Kernel, early: &[u32]) -> bool
     ensures { IsTrue result ↔ AreEarly kernel.now early.now }
 {
     early.len() == kernel.nodes().len() && early.iter().all(|time| *time <= LATEST_TIME)
 }
 
-/// Each node at its earliest time on the first unit that offers its operation.
+/// Returns the place of each node at its earliest time on the first unit that offers its operation.
 pub(crate) fn first_places(
     alloc: Global,
     arch: &Arch,
@@ -42,7 +42,7 @@ pub(crate) fn first_places(
     Ok(places)
 }
 
-/// A node, one of its units, and a time from its earliest on, by three words.
+/// Returns a move of a node to one of its units, at a time from its earliest on, from three random words.
 pub(crate) fn drawn(
     arch: &Arch,
     kernel: &Kernel,

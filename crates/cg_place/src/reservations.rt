@@ -1,4 +1,4 @@
-//! How many nodes each unit begins in each slot.
+//! The numbers of nodes that each unit begins in each slot.
 ghost use Rattle.std.specs.Prelude.{◌≡◌, ◌<◌};
 ghost use Rattle.cg_place.specs.Reservations as spec;
 
@@ -6,8 +6,8 @@ use cg_model::Place;
 use std::alloc::{AllocError, Global};
 use std::marker::Model;
 
-/// The modulo reservation table (Rau 1994): how many nodes each unit begins in each slot, and by how many they are more
-/// than one in all.
+/// The modulo reservation table (Rau 1994): the number of nodes that each unit begins in each slot, and the number of
+/// nodes beyond one in a slot, in all.
 #[derive(Drop)]
 pub(crate) struct Reservations {
     counts: Vec<u32>,
@@ -30,7 +30,7 @@ impl Reservations {
     ghost use Rattle.cg_model.specs.Limits.{most_contexts, most_nodes, most_units};
     ghost use Rattle.cg_place.specs.Reservations as spec;
 
-    /// No nodes.
+    /// Returns the table of `entries` entries without nodes.
     fn none(alloc: Global, entries: usize) -> Result<Reservations, AllocError>
         ensures { IfOk result (λ r. r ≡ replicate entries 0) }
     {
@@ -40,7 +40,7 @@ impl Reservations {
         })
     }
 
-    /// The nodes with these places.
+    /// Returns the table of the nodes with the given places.
     pub(crate) fn of(
         alloc: Global,
         units: usize,
@@ -61,14 +61,14 @@ impl Reservations {
         Ok(table)
     }
 
-    /// By how many the nodes are more than one in a slot of a unit, over all.
+    /// Returns the number of nodes beyond one in a slot of a unit, summed over all slots and units.
     pub(crate) fn excess(&self) -> u32
         ensures { result ≡ spec.over self.now }
     {
         self.excess
     }
 
-    /// A node more at an entry.
+    /// Adds a node at `entry`.
     pub(crate) fn reserve(&mut self, entry: usize)
         requires known { entry < length self.old }
         requires few { slice_index self.old entry + 1 < 2 ^ 32 }
@@ -81,7 +81,7 @@ impl Reservations {
         self.counts[entry] += 1;
     }
 
-    /// A node less at an entry.
+    /// Removes a node at `entry`.
     pub(crate) fn release(&mut self, entry: usize)
         requires known { entry < length self.old }
         requires some { 0 < slice_index self.old entry }
@@ -94,7 +94,7 @@ impl Reservations {
     }
 }
 
-/// The number of a place's entry.
+/// Returns the number of the entry of `place`.
 pub(crate) fn entry(interval: u32, place: Place) -> usize
     requires { 0 < interval }
     ensures { result ≡ spec.entry interval place }

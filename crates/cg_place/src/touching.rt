@@ -1,4 +1,4 @@
-//! The order edges of each node, and those that times break.
+//! The order edges of each node, and the order edges that times break.
 ghost use Rattle.std.specs.Prelude.{◌≡◌, ◌<◌, ◌≤◌, ◌∷◌, ◌++◌, [], IfOk, OnOk, length, replicate, slice_set, count_by};
 ghost use Rattle.cg_model.specs.Kernel.{size};
 ghost use Rattle.cg_model.specs.Limits.{most_order_edges};
@@ -8,7 +8,7 @@ ghost use Rattle.cg_place.specs.Touching.{AreKnown, AreTouching, IsAdded, list_o
 use cg_model::{Items, Kernel, OrderEdge, Place};
 use std::alloc::{AllocError, Global};
 
-/// For each node the order edges that begin or end there.
+/// Returns for each node the order edges that begin or end there.
 pub(crate) fn touching(alloc: Global, kernel: &Kernel) -> Result<Vec<Items<OrderEdge>>, AllocError>
     ensures { IfOk result (λ t. AreTouching (size kernel.now) kernel.now.order t.items) }
 {
@@ -30,7 +30,7 @@ fn no_edges(alloc: Global, count: usize) -> Result<Vec<Items<OrderEdge>>, AllocE
     Ok(lists)
 }
 
-/// Adds an order edge to the lists of its nodes: once, where they are one.
+/// Adds `edge` to the lists of its nodes: once, if they are one node.
 fn add_edge(lists: &mut [Items<OrderEdge>], edge: OrderEdge) -> Result<(), AllocError>
     requires from { edge.from < length lists.old }
     requires to { edge.to < length lists.old }
@@ -43,7 +43,7 @@ fn add_edge(lists: &mut [Items<OrderEdge>], edge: OrderEdge) -> Result<(), Alloc
     Ok(())
 }
 
-/// Adds an order edge to a list.
+/// Adds `edge` to the list of `node`.
 fn add(lists: &mut [Items<OrderEdge>], node: usize, edge: OrderEdge) -> Result<(), AllocError>
     requires { node < length lists.old }
     ensures { OnOk result (lists.new ≡ slice_set lists.old node (list_of lists.old node ++ edge ∷ [])) }
@@ -52,7 +52,7 @@ fn add(lists: &mut [Items<OrderEdge>], node: usize, edge: OrderEdge) -> Result<(
     Ok(())
 }
 
-/// Whether the target of an order edge doesn't begin at least a cycle after its source.
+/// Returns whether the target of `edge` doesn't begin at least a cycle after its source.
 fn is_broken(edge: OrderEdge, places: &[Place], ii: u32) -> bool
     requires from { edge.from < length places.now }
     requires to { edge.to < length places.now }
@@ -63,7 +63,7 @@ fn is_broken(edge: OrderEdge, places: &[Place], ii: u32) -> bool
     target + u64::from(ii) * u64::from(edge.distance) < source + 1
 }
 
-/// How many of these order edges are broken.
+/// Returns the number of broken order edges among `edges`.
 pub(crate) fn count_broken(edges: &[OrderEdge], places: &[Place], ii: u32) -> u32
     requires known { AreKnown (length places.now) edges.now }
     requires few { length edges.now ≤ most_order_edges }

@@ -1,6 +1,6 @@
--- Register pressure: at most one value is in a register in a slot, so the stays of all values in registers come to at
--- most the registers times the interval. A circulation of edges says how long they are at least, whatever the times of
--- the nodes (the lifetimes of Huff 1993, bounded by the duality of flows).
+-- Register pressure: at most one value is in a register in a slot, so the stays of all values in registers add up to at
+-- most the registers times the interval. A circulation of edges gives a lower bound on them, whatever the times of the
+-- nodes (the lifetimes of Huff 1993, bounded by the duality of flows).
 use Rattle.std.specs.Prelude.{◌≡◌, ℕ, zero, suc, ◌+◌, ◌-◌, ◌*◌, ◌<◌, ◌≤◌, eqb, max, if◌then◌else◌, Bool, true, false, List, [], ◌∷◌, Option, Some, None, slice_get, count_by}
 use Rattle.cg_word.specs.declared.op.Op.{Op}
 use Rattle.cg_word.specs.Sets.{among}
@@ -21,9 +21,9 @@ use Rattle.cg_pressure.specs.declared.certificate.Tie.{Tie}
 use Rattle.cg_pressure.specs.declared.certificate.Pressure.{Pressure}
 pub use Rattle.cg_pressure.specs.declared.dependence.Dependence.{Dependence}
 
--- ---- edges, with the operands in which they end
+-- ---- edges, with the operands at which they end
 
--- operand p of node v, where it is an edge
+-- operand p of node v, if it is an edge
 abbrev pub of_operand : ℕ → ℕ → Option Operand → Option Dependence
 of_operand v p (Some (Edge u d init)) = Some (record { source = u; target = v; arg = p; distance = d })
 of_operand v p _ = None
@@ -42,7 +42,7 @@ order_edge K e = of_order (slice_get K.order e)
 
 -- ---- sums over the edges of a certificate
 
--- f of an edge; 0 where there is none
+-- f of an edge; 0 if there is none
 abbrev pub on_edge : (Dependence → ℕ) → Option Dependence → ℕ
 on_edge f None = 0
 on_edge f (Some a) = f a
@@ -52,7 +52,7 @@ abbrev pub weigh : {X : Type 0} → (X → ℕ) → (X → Option Dependence) �
 weigh weight edge f [] = 0
 weigh weight edge f (x ∷ xs) = weight x * on_edge f (edge x) + weigh weight edge f xs
 
--- the sums of f over the data edges whose stays count, and over the data edges and order edges against them
+-- the sums of f over the data edges whose stays count, and over the opposite data edges and order edges
 abbrev pub stays : Kernel → Pressure → (Dependence → ℕ) → ℕ
 stays K P f = weigh (λ (s : Stay). 1) (λ s. data_edge K s.node s.arg) f P.stays.items
 
@@ -62,7 +62,7 @@ pulls K P f = weigh (λ (x : Pull). x.weight) (λ x. data_edge K x.node x.arg) f
 abbrev pub ties : Kernel → Pressure → (Dependence → ℕ) → ℕ
 ties K P f = weigh (λ (x : Tie). x.weight) (λ x. order_edge K x.edge) f P.ties.items
 
--- 1 where an edge comes from node w, or goes into it
+-- 1 if an edge leaves node w, or enters it
 abbrev pub one_if : Bool → ℕ
 one_if b = if b then 1 else 0
 
@@ -72,8 +72,8 @@ from w a = one_if (eqb a.source w)
 abbrev pub into : ℕ → Dependence → ℕ
 into w a = one_if (eqb a.target w)
 
--- the edges that stay, taken forwards, and the others, taken backwards, are a circulation, in which at most one edge of a
--- source stays
+-- the edges whose stays count, taken forward, and the others, taken backward, are a circulation, in which at most one
+-- stay counts per source
 pub record IsBalanced (K : Kernel) (P : Pressure) : Type 0 where
   pub one : (w : ℕ) → w < size K → stays K P (from w) ≤ 1
   pub circular : (w : ℕ) → w < size K →
@@ -82,7 +82,7 @@ pub record IsBalanced (K : Kernel) (P : Pressure) : Type 0 where
 
 -- ---- latencies and registers
 
--- the greatest latency of the units that offer an operation; 1 where none does
+-- the greatest latency of the units that offer an operation; 1 if no unit does
 unfoldable pub most_latency : Op → List Unit → ℕ
 most_latency op [] = 1
 most_latency op (u ∷ us) = if among u.ops op then max u.latency (most_latency op us) else most_latency op us
@@ -92,11 +92,13 @@ abbrev pub total : ℕ → (ℕ → ℕ) → ℕ
 total zero f = 0
 total (suc n) f = total n f + f n
 
--- the least latencies of nodes from which more edges are taken backwards than forwards, as often as there are more
+-- the sum of the least latencies of the nodes from which more edges are taken backward than forward, each times the
+-- excess
 abbrev pub gained : Arch → Kernel → Pressure → ℕ
 gained A K P = total (size K) (λ w. (pulls K P (from w) - stays K P (from w)) * latency A (node K w).op)
 
--- the greatest latencies of nodes from which more edges are taken forwards
+-- the sum of the greatest latencies of the nodes from which more edges are taken forward than backward, each times the
+-- excess
 abbrev pub lost : Arch → Kernel → Pressure → ℕ
 lost A K P = total (size K) (λ w. (stays K P (from w) - pulls K P (from w)) * most_latency (node K w).op A.units)
 
@@ -116,22 +118,22 @@ registers A = count_by (λ (r : Resource). is_register r.kind) A.resources
 abbrev pub IsKept : Arch → Kernel → Mapping → (ℕ → ℕ → ℕ) → Type 0
 IsKept A K M far = (v p u d : ℕ) (init : List ℕ) → HasOperand K v p (Edge u d init) → leaves A M u + far v p ≤ (place M v).time + M.ii * d
 
--- nothing is known of the ways
+-- no registers on the ways
 abbrev pub no_far : ℕ → ℕ → ℕ
 no_far v p = 0
 
--- what is gained along a circulation, and what is taken from it
+-- the gain along a circulation, and the loss
 abbrev pub along : Arch → Kernel → (ℕ → ℕ → ℕ) → ℕ → Pressure → ℕ
 along A K far ii P = ii * stays K P (λ a. a.distance) + gained A K P + pulls K P (λ a. far a.target a.arg) + ties K P (λ a. 1)
 
 abbrev pub against : Arch → Kernel → ℕ → Pressure → ℕ
 against A K ii P = ii * (pulls K P (λ a. a.distance) + ties K P (λ a. a.distance)) + lost A K P
 
--- what its stays come to at least
+-- a lower bound on the sum of its stays
 abbrev pub least_stays : Arch → Kernel → (ℕ → ℕ → ℕ) → ℕ → Pressure → ℕ
 least_stays A K far ii P = along A K far ii P - against A K ii P
 
--- what the stays of a circulation come to at least exceeds the registers times the interval
+-- the lower bound on the stays of a circulation exceeds the registers times the interval
 abbrev pub IsExcess : Arch → Kernel → (ℕ → ℕ → ℕ) → ℕ → Pressure → Type 0
 IsExcess A K far ii P =
     ii * registers A + ii * (pulls K P (λ a. a.distance) + ties K P (λ a. a.distance)) + lost A K P
@@ -146,12 +148,13 @@ pub record IsPressure (A : Arch) (K : Kernel) (far : ℕ → ℕ → ℕ) (ii : 
 abbrev pub HasNoPressure : Arch → Kernel → (ℕ → ℕ → ℕ) → ℕ → Type 0
 HasNoPressure A K far ii = (P : Pressure) → IsPressure A K far ii P → ⊥
 
--- the distances of the edges that stay are at most those of the others and the registers: a certificate at an interval is
--- one at each smaller interval
+-- the distances of the edges whose stays count are at most those of the others plus the registers: a certificate at an
+-- interval is one at each smaller interval
 abbrev pub Falls : Arch → Kernel → Pressure → Type 0
 Falls A K P = stays K P (λ a. a.distance) ≤ pulls K P (λ a. a.distance) + ties K P (λ a. a.distance) + registers A
 
--- they are at least those: it is one at each greater interval
+-- the distances of the edges whose stays count are at least those of the others plus the registers: a certificate at an
+-- interval is one at each greater interval
 abbrev pub Rises : Arch → Kernel → Pressure → Type 0
 Rises A K P = pulls K P (λ a. a.distance) + ties K P (λ a. a.distance) + registers A ≤ stays K P (λ a. a.distance)
 

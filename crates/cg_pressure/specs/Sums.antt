@@ -1,15 +1,15 @@
--- What the check of a certificate sums over edges.
+-- The sums over edges in the check of a certificate.
 use Rattle.std.specs.Prelude.{ℕ, ◌+◌, ◌*◌, ◌^◌, ◌≤◌, List, length, slice_index}
 use Rattle.cg_pressure.specs.declared.sums.Of.{Of}
 use Rattle.cg_pressure.specs.declared.sums.Of.TheVariants.{From, Into, Distance, Far, One}
 use Rattle.cg_pressure.specs.declared.certificate.Pressure.{Pressure}
 use Rattle.cg_pressure.specs.Pressure.{Dependence, from, into}
 
--- a table with three numbers a node, 0 past its end
+-- a table with three numbers per node, 0 past its end
 abbrev pub table : List ℕ → ℕ → ℕ → ℕ
 table far v p = slice_index far (3 * v + p)
 
--- the value of an edge that is summed
+-- the quantity of an edge that is summed
 abbrev pub value_of : List ℕ → Of → Dependence → ℕ
 value_of far (From w) a = from w a
 value_of far (Into w) a = into w a

@@ -1,4 +1,4 @@
--- Times of nodes, as a check reads them.
+-- Times of nodes, as the check reads them.
 use Rattle.std.specs.Prelude.{ℕ, ◌+◌, ◌*◌, ◌≤◌, List, slice_index}
 use Rattle.cg_model.specs.Kernel.{Kernel, node}
 use Rattle.cg_model.specs.Array.{Arch}
@@ -7,7 +7,7 @@ use Rattle.cg_pressure.specs.declared.times.Times.{Times}
 use Rattle.cg_pressure.specs.Pressure.{Dependence, most_latency, IsLoose}
 use Rattle.cg_pressure.specs.Sums.{table}
 
--- node w begins, how long its operation lasts, and how long its value stays at most
+-- when node w begins, how long its operation lasts, and how long its value stays at most
 abbrev pub begins : Times → ℕ → ℕ
 begins t w = slice_index t.time.items w
 
@@ -27,7 +27,7 @@ Keeps far ii t a =
     (begins t a.source + lasts t a.source + table far a.target a.arg ≤ begins t a.target + ii * a.distance)
     × (begins t a.target + ii * a.distance ≤ begins t a.source + lasts t a.source + longest t a.source)
 
--- they keep an order edge
+-- the times keep an order edge
 abbrev pub Follows : ℕ → Times → Dependence → Type 0
 Follows ii t a = begins t a.source + 1 ≤ begins t a.target + ii * a.distance
 

@@ -9,8 +9,8 @@ use crate::counts::{count_registers, most_latency};
 use crate::sums::{Of, sum_pulls, sum_stays, sum_ties};
 use cg_edges::{Arch, Kernel, latencies_are_small, latency};
 
-/// Checks whether the edges that stay, taken forwards, and the others, taken backwards, are a circulation, in which at
-/// most one edge of a source stays.
+/// Returns whether the edges whose stays count, taken forward, and the others, taken backward, are a circulation, in
+/// which at most one stay counts per source.
 fn balances(kernel: &Kernel, p: &Pressure) -> bool
     requires short { IsShort p.now }
     ensures { IsTrue result ↔ IsBalanced kernel.now p.now }
@@ -33,7 +33,8 @@ fn balances(kernel: &Kernel, p: &Pressure) -> bool
     true
 }
 
-/// Returns the least latencies of nodes from which more edges are taken backwards than forwards.
+/// Returns the sum of the least latencies of the nodes from which more edges are taken backward than forward, each
+/// times the excess.
 fn gains(arch: &Arch, kernel: &Kernel, p: &Pressure) -> u128
     requires short { IsShort p.now }
     ensures value { result ≡ gained arch.now kernel.now p.now }
@@ -50,7 +51,8 @@ fn gains(arch: &Arch, kernel: &Kernel, p: &Pressure) -> u128
     gain
 }
 
-/// Returns the greatest latencies of nodes from which more edges are taken forwards than backwards.
+/// Returns the sum of the greatest latencies of the nodes from which more edges are taken forward than backward, each
+/// times the excess.
 fn losses(arch: &Arch, kernel: &Kernel, p: &Pressure) -> u128
     requires short { IsShort p.now }
     ensures value { result ≡ lost arch.now kernel.now p.now }
@@ -66,8 +68,8 @@ fn losses(arch: &Arch, kernel: &Kernel, p: &Pressure) -> u128
     loss
 }
 
-/// Returns what the distances of the edges that stay, the latencies that are gained, the registers on ways and the order edges
-/// come to.
+/// Returns the gain along the circulation: the distances of the edges whose stays count times the interval, the gained
+/// latencies, the registers on ways and the order edges.
 fn along(arch: &Arch, kernel: &Kernel, far: &[u32], ii: u32, p: &Pressure) -> u128
     requires short { IsShort p.now }
     ensures value { result ≡ along arch.now kernel.now (table far.now) ii p.now }
@@ -78,7 +80,8 @@ fn along(arch: &Arch, kernel: &Kernel, far: &[u32], ii: u32, p: &Pressure) -> u1
     forth + sum_pulls(kernel, far, &p.pulls, Of::Far) + sum_ties(kernel, far, &p.ties, Of::One)
 }
 
-/// Returns what the distances of the edges against them and the latencies that are lost come to.
+/// Returns the loss along the circulation: the distances of the opposite edges times the interval and the lost
+/// latencies.
 fn against(arch: &Arch, kernel: &Kernel, ii: u32, p: &Pressure) -> u128
     requires short { IsShort p.now }
     ensures value { result ≡ against arch.now kernel.now ii p.now }
@@ -89,7 +92,7 @@ fn against(arch: &Arch, kernel: &Kernel, ii: u32, p: &Pressure) -> u128
     ii as u128 * back + losses(arch, kernel, p)
 }
 
-/// Checks whether the stays come to more than the registers times the interval.
+/// Returns whether the stays add up to more than the registers times the interval.
 fn exceeds(arch: &Arch, kernel: &Kernel, far: &[u32], ii: u32, p: &Pressure) -> bool
     requires short { IsShort p.now }
     ensures { IsTrue result ↔ IsExcess arch.now kernel.now (table far.now) ii p.now }
@@ -99,9 +102,9 @@ fn exceeds(arch: &Arch, kernel: &Kernel, far: &[u32], ii: u32, p: &Pressure) -> 
     room < need
 }
 
-/// Returns how many cycles the values of the edges that stay are in registers at least, in all, at interval `ii`; by the
-/// circulation `certificate`. `far` has three numbers a node: for each operand the registers that a value crosses at least on
-/// its way there.
+/// Returns the least total number of cycles, by the circulation `certificate`, that the values of the edges whose stays
+/// count are in registers at interval `ii`. `far` has three numbers per node: for each operand the least number of
+/// registers that a value crosses on its way there.
 pub fn least_stays(
     arch: &Arch,
     kernel: &Kernel,
@@ -115,8 +118,8 @@ pub fn least_stays(
     along(arch, kernel, far, ii, certificate).saturating_sub(against(arch, kernel, ii, certificate))
 }
 
-/// Checks whether `certificate` shows that no legal mapping has interval `ii`. `far` has three numbers a node: for each
-/// operand the registers that a value crosses at least on its way there.
+/// Returns whether `certificate` shows that no legal mapping has interval `ii`. `far` has three numbers per node: for
+/// each operand the least number of registers that a value crosses on its way there.
 pub fn check_pressure(
     arch: &Arch,
     kernel: &Kernel,

@@ -10,7 +10,7 @@ fn greater(a: u32, b: u32) -> u32
     if a < b { b } else { a }
 }
 
-/// Returns the greatest latency of the units that offer `op`; 1 where none does.
+/// Returns the greatest latency of the units that offer `op`; 1 if no unit does.
 pub fn most_latency(arch: &Arch, op: Op) -> u32
     ensures { result ≡ most_of op arch.now.units }
 {
@@ -34,7 +34,7 @@ fn is_register_kind(kind: Kind) -> bool
     }
 }
 
-/// Returns the number of registers.
+/// Returns the number of registers of `arch`.
 pub fn count_registers(arch: &Arch) -> usize
     ensures value { result ≡ registers arch.now }
     ensures small { result ≤ 4096 }

@@ -1,4 +1,4 @@
-//! The edges of a kernel, with the operands in which they end.
+//! The edges of a kernel, with the operands at which they end.
 ghost use Rattle.std.specs.Prelude.{◌≡◌};
 ghost use Rattle.cg_pressure.specs.Pressure as spec;
 
@@ -9,15 +9,15 @@ use cg_model::{Kernel, Operand};
 pub struct Dependence {
     /// The number of the node that it leaves.
     pub source: u32,
-    /// The number of the node that it goes to.
+    /// The number of the node that it enters.
     pub target: u32,
-    /// Which operand of that node it is; 0 for an order edge.
+    /// The number of that node's operand; 0 for an order edge.
     pub arg: u32,
-    /// How many turns later its target uses it.
+    /// The distance of the edge, in iterations.
     pub distance: u32,
 }
 
-/// Returns the data edge that is operand `arg` of node `node`, if that operand is one.
+/// Returns the data edge that is operand `arg` of node `node`, if that operand is an edge.
 pub fn data_edge(kernel: &Kernel, node: u32, arg: u32) -> Option<Dependence>
     ensures { result ≡ spec.data_edge kernel.now node arg }
 {

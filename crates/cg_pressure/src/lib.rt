@@ -1,5 +1,5 @@
-//! Register pressure (Huff 1993): certificates that at an interval the values of a kernel stay in more registers than
-//! an architecture has, and times that show that there is no certificate.
+//! Register pressure (Huff 1993): certificates that at an interval the values of a kernel need more registers than an
+//! architecture has, and times that show that there is no certificate.
 #![tactic(auto)]
 
 mod certificate;

@@ -7,22 +7,22 @@ use crate::certificate::{Pull, Stay, Tie};
 use crate::dependence::{Dependence, data_edge, order_edge};
 use cg_model::Kernel;
 
-/// What is summed over edges.
+/// The quantity that is summed over edges.
 #[derive(Clone, Copy)]
 pub(crate) enum Of {
-    /// 1 where the edge comes from that node.
+    /// 1 if the edge leaves the given node.
     From(u32),
-    /// 1 where it goes into that node.
+    /// 1 if the edge enters the given node.
     Into(u32),
-    /// Its distance.
+    /// The distance of the edge.
     Distance,
-    /// The registers that its value crosses at least.
+    /// The least number of registers that the edge's value crosses.
     Far,
-    /// 1.
+    /// The number 1.
     One,
 }
 
-/// Returns the number of operand `arg` of node `node` in `far`, which has three numbers a node; 0 past its end.
+/// Returns the number of operand `arg` of node `node` in `far`, which has three numbers per node; 0 past its end.
 pub fn far_at(far: &[u32], node: u32, arg: u32) -> u32
     ensures { result ≡ table far.now node arg }
 {
@@ -30,7 +30,7 @@ pub fn far_at(far: &[u32], node: u32, arg: u32) -> u32
     if at < far.len() { far[at] } else { 0 }
 }
 
-/// Returns the value of `edge` that `of` names.
+/// Returns the quantity `of` of `edge`.
 pub(crate) fn value(far: &[u32], of: Of, edge: Dependence) -> u32
     ensures { result ≡ value_of far.now of edge }
 {
@@ -43,7 +43,7 @@ pub(crate) fn value(far: &[u32], of: Of, edge: Dependence) -> u32
     }
 }
 
-/// Returns the value of `edge` that `of` names, 0 where there is no edge.
+/// Returns the quantity `of` of `edge`, 0 if there is no edge.
 fn worth(far: &[u32], of: Of, edge: Option<Dependence>) -> u32
     ensures { result ≡ on_edge (value_of far.now of) edge }
 {
@@ -53,7 +53,7 @@ fn worth(far: &[u32], of: Of, edge: Option<Dependence>) -> u32
     }
 }
 
-/// Returns the sum over the edges that stay.
+/// Returns the sum of `of` over the edges whose stays count.
 pub(crate) fn sum_stays(kernel: &Kernel, far: &[u32], list: &[Stay], of: Of) -> u128
     requires { length list.now ≤ 2 ^ 16 }
     ensures value { result ≡ weigh (λ (s : Stay). 1) (λ s. data_edge_of kernel.now s.node s.arg) (value_of far.now of) list.now }
@@ -66,7 +66,7 @@ pub(crate) fn sum_stays(kernel: &Kernel, far: &[u32], list: &[Stay], of: Of) -> 
     sum
 }
 
-/// Returns the sum over the data edges against them, each times its weight.
+/// Returns the sum of `of` over the opposite data edges, each times its weight.
 pub(crate) fn sum_pulls(kernel: &Kernel, far: &[u32], list: &[Pull], of: Of) -> u128
     requires { length list.now ≤ 2 ^ 16 }
     ensures value { result ≡ weigh (λ (x : Pull). x.weight) (λ x. data_edge_of kernel.now x.node x.arg) (value_of far.now of) list.now }
@@ -80,7 +80,7 @@ pub(crate) fn sum_pulls(kernel: &Kernel, far: &[u32], list: &[Pull], of: Of) -> 
     sum
 }
 
-/// Returns the sum over the order edges against them, each times its weight.
+/// Returns the sum of `of` over the opposite order edges, each times its weight.
 pub(crate) fn sum_ties(kernel: &Kernel, far: &[u32], list: &[Tie], of: Of) -> u128
     requires { length list.now ≤ 2 ^ 16 }
     ensures value { result ≡ weigh (λ (x : Tie). x.weight) (λ x. order_edge_of kernel.now x.edge) (value_of far.now of) list.now }

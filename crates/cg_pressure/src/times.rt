@@ -10,14 +10,14 @@ use crate::dependence::{Dependence, data_edge, order_edge};
 use crate::sums::far_at;
 use cg_edges::{Arch, Kernel, latency};
 
-/// A schedule of nodes, with longest stays of their values in registers.
+/// A schedule of nodes, with upper bounds on the stays of their values in registers.
 #[derive(Drop)]
 pub struct Times {
     /// The cycle in which each node begins.
     pub time: Vec<u64>,
-    /// The cycles that its operation takes.
+    /// The number of cycles that its operation takes.
     pub lasts: Vec<u64>,
-    /// The cycles that its value stays in registers at most.
+    /// The greatest number of cycles that its value stays in registers.
     pub longest: Vec<u64>,
 }
 
@@ -29,7 +29,7 @@ fn at(list: &[u64], k: u32) -> u128
     if k < list.len() { list[k] as u128 } else { 0 }
 }
 
-/// Checks whether a data edge is kept, and its stay is at most the longest one.
+/// Returns whether `times` keep the data edge `edge`, and its stay is at most the longest one.
 fn keeps(far: &[u32], ii: u32, times: &Times, edge: Dependence) -> bool
     ensures { IsTrue result ↔ Keeps far.now ii times.now edge }
 {
@@ -39,7 +39,7 @@ fn keeps(far: &[u32], ii: u32, times: &Times, edge: Dependence) -> bool
         && arrives <= leaves + at(&times.longest, edge.source)
 }
 
-/// Checks whether an order edge is kept.
+/// Returns whether `times` keep the order edge `edge`.
 fn follows(ii: u32, times: &Times, edge: Dependence) -> bool
     ensures { IsTrue result ↔ Follows ii times.now edge }
 {
@@ -47,7 +47,7 @@ fn follows(ii: u32, times: &Times, edge: Dependence) -> bool
     at(&times.time, edge.source) + 1 <= arrives
 }
 
-/// Checks whether the data edges into node `v` are kept.
+/// Returns whether `times` keep the data edges into node `v`.
 fn keeps_node(kernel: &Kernel, far: &[u32], ii: u32, times: &Times, v: u32) -> bool
     requires { v < size kernel.now }
     ensures { IsTrue result ↔ ((p : ℕ) (a : Dependence) → data_edge_of kernel.now v p ≡ Some a → Keeps far.now ii times.now a) }
@@ -63,7 +63,7 @@ fn keeps_node(kernel: &Kernel, far: &[u32], ii: u32, times: &Times, v: u32) -> b
     true
 }
 
-/// Checks whether all data edges are kept.
+/// Returns whether `times` keep all data edges.
 fn keeps_all(kernel: &Kernel, far: &[u32], ii: u32, times: &Times) -> bool
     ensures { IsTrue result ↔ ((v p : ℕ) (a : Dependence) → data_edge_of kernel.now v p ≡ Some a → Keeps far.now ii times.now a) }
 {
@@ -75,7 +75,7 @@ fn keeps_all(kernel: &Kernel, far: &[u32], ii: u32, times: &Times) -> bool
     true
 }
 
-/// Checks whether all order edges are kept.
+/// Returns whether `times` keep all order edges.
 fn follows_all(kernel: &Kernel, ii: u32, times: &Times) -> bool
     ensures { IsTrue result ↔ ((e : ℕ) (a : Dependence) → order_edge_of kernel.now e ≡ Some a → Follows ii times.now a) }
 {
@@ -89,7 +89,7 @@ fn follows_all(kernel: &Kernel, ii: u32, times: &Times) -> bool
     true
 }
 
-/// Checks whether each latency is one that a unit may have.
+/// Returns whether each latency in `times` is one that a unit may have.
 fn latencies_fit(arch: &Arch, kernel: &Kernel, times: &Times) -> bool
     ensures { IsTrue result ↔ ((w : ℕ) → w < size kernel.now → Fits arch.now kernel.now times.now w) }
 {
@@ -116,9 +116,9 @@ pub fn all_stays(times: &Times, n: u32) -> u128
     sum
 }
 
-/// Checks whether `times` show that no certificate excludes interval `ii`: the edges allow them on latencies that units
-/// have, with longest stays that fit in the registers. `far` has three numbers a node: for each operand the registers that
-/// a value crosses at least on its way there.
+/// Returns whether `times` show that no certificate excludes interval `ii`: the edges allow them on latencies that
+/// units have, with longest stays that fit in the registers. `far` has three numbers per node: for each operand the
+/// least number of registers that a value crosses on its way there.
 pub fn check_times(arch: &Arch, kernel: &Kernel, far: &[u32], ii: u32, times: &Times) -> bool
     ensures { IsTrue result ↔ AreLoose arch.now kernel.now (table far.now) ii times.now }
 {

@@ -1,4 +1,5 @@
-//! Laws of certificates of pressure. The function here has an empty body, and its clause speaks of the definitions alone.
+//! Laws of certificates of pressure. The function here has an empty body, and its contract is about the definitions
+//! alone.
 ghost use Rattle.std.specs.Prelude.{◌≤◌, ◌⊎◌, ℕ};
 ghost use Rattle.cg_model.specs.Kernel.{Kernel, IsKernel};
 ghost use Rattle.cg_model.specs.Array.{Arch, IsArch};
@@ -8,8 +9,8 @@ ghost use Rattle.cg_pressure.specs.Pressure.{IsPressure};
 ghost use Rattle.cg_pressure.specs.Sums.{IsShort};
 ghost use Rattle.cg_pressure.specs.Times.{AreLoose};
 
-/// States that for each interval `ii` up to 64 of a valid kernel on a valid architecture there is a certificate with short
-/// lists, or times with stays that fit in the registers, where values cross at most 4096 registers by `far`.
+/// States that for each interval `ii` up to 64 of a valid kernel on a valid architecture there is a certificate with
+/// short lists, or times with stays that fit in the registers, if values cross at most 4096 registers by `far`.
 pub fn always_decided()
     ensures { (A : Arch) (K : Kernel) (far : ℕ → ℕ → ℕ) (ii : ℕ) → IsArch A → IsKernel K → ((v p : ℕ) → far v p ≤ 4096) → ii ≤ 64 →
         ((P : Pressure) × IsPressure A K far ii P × IsShort P) ⊎ ((t : Times) × AreLoose A K far ii t) }

@@ -1,4 +1,4 @@
-//! Laws of register pressure that stand on the search for certificates.
+//! Laws of register pressure that rest on the search for certificates.
 #![tactic(auto)]
 
 mod laws;

@@ -12,7 +12,7 @@ pub record IsLinked (n m : ℕ) (c : Chain) : Type 0 where
   pub within : (x : ℕ) → slice_index c.last.items x ≤ m
   pub before : (k : ℕ) → slice_index c.earlier.items k ≤ k
 
--- from the last link of place x it leads over all links k at x, where end k is the place of link k
+-- from the last link of place x it leads through all links k at x, where end k is the place of link k
 pub record IsChain (end : ℕ → ℕ) (n m : ℕ) (c : Chain) : Type 0 where
   pub linked : IsLinked n m c
   pub first : (x k : ℕ) → slice_index c.last.items x ≡ k + 1 → end k ≡ x
@@ -27,7 +27,7 @@ begin_of links k = (link links k).from
 abbrev pub end_of : List Link → ℕ → ℕ
 end_of links k = (link links k).to
 
--- the links that begin at each of n places, and those that end there
+-- the links that begin and end at each of n places
 pub record IsIncidence (links : List Link) (n : ℕ) (i : Incidence) : Type 0 where
   pub begins : IsChain (begin_of links) n (length links) i.begins
   pub ends : IsChain (end_of links) n (length links) i.ends

@@ -3,7 +3,7 @@ use Rattle.std.specs.Prelude.{◌≡◌, ℕ, ◌+◌, ◌*◌, ◌^◌, ◌<◌
 use Rattle.cg_pressure_search.specs.declared.network.Link.{Link}
 use Rattle.cg_pressure_search.specs.declared.network.Part.TheVariants.{Least}
 
--- past the last link
+-- the link past the last one
 abbrev pub no_link : Link
 no_link = record { from = 0; to = 0; gain = 0; loss = 0; part = Least 0 }
 

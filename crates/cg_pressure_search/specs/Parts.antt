@@ -1,5 +1,5 @@
--- The network of a kernel on an architecture: node w begins at place w, its value leaves at place n + w, and is used for
--- the last time at place n + n + w, where n is the number of nodes.
+-- The network of a kernel on an architecture: node w begins at place w, its value leaves at place n + w, and is used
+-- for the last time at place n + n + w, where n is the number of nodes.
 use Rattle.std.specs.Prelude.{◌≡◌, ℕ, ◌+◌, ◌*◌, ◌<◌, ◌≤◌, List, length, Some}
 use Rattle.cg_model.specs.Kernel.{Kernel, node, size}
 use Rattle.cg_model.specs.Array.{Arch}
@@ -11,7 +11,7 @@ use Rattle.cg_pressure_search.specs.declared.network.Part.{Part}
 use Rattle.cg_pressure_search.specs.declared.network.Part.TheVariants.{Least, Most, Pull, Stay, Tie}
 use Rattle.cg_pressure_search.specs.Network.{link}
 
--- a link is the one of that part
+-- a link is the one of the given part
 abbrev pub Stands : Arch → Kernel → (ℕ → ℕ → ℕ) → ℕ → Link → Part → Type 0
 Stands A K far ii l (Least w) = (w < size K) × (l.from ≡ w) × (l.to ≡ size K + w) × (l.gain ≡ latency A (node K w).op) × (l.loss ≡ 0)
 Stands A K far ii l (Most w) = (w < size K) × (l.from ≡ size K + w) × (l.to ≡ w) × (l.gain ≡ 0) × (l.loss ≡ most_latency (node K w).op A.units)
@@ -40,12 +40,12 @@ HasData K links v p = (a : Dependence) → data_edge K v p ≡ Some a → Has li
 abbrev pub HasOrder : Kernel → List Link → ℕ → Type 0
 HasOrder K links e = (a : Dependence) → order_edge K e ≡ Some a → Has links (Tie e)
 
--- links were added that stand for their parts
+-- links were added that are those of their parts
 pub record IsGrown (A : Arch) (K : Kernel) (far : ℕ → ℕ → ℕ) (ii : ℕ) (links links' : List Link) : Type 0 where
   pub right : AllStand A K far ii links'
   pub kept : (part : Part) → Has links part → Has links' part
 
--- the network
+-- the network of a kernel
 pub record IsNetwork (A : Arch) (K : Kernel) (far : ℕ → ℕ → ℕ) (ii : ℕ) (links : List Link) : Type 0 where
   pub few : length links ≤ 8 * size K + length K.order
   pub right : AllStand A K far ii links

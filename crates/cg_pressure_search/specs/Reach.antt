@@ -1,4 +1,4 @@
--- The places that are reached from one by tight links, forwards, and backwards where there is flow.
+-- The places that are reached from one place by tight links, forward, and backward if there is flow.
 use Rattle.std.specs.Prelude.{◌≡◌, ℕ, ◌+◌, ◌<◌, ◌≤◌, ◌⊎◌, true, false, List, length, slice_index, slice_index_or}
 use Rattle.cg_pressure_search.specs.declared.network.Link.{Link}
 use Rattle.cg_pressure_search.specs.declared.reach.Step.{Step}
@@ -7,7 +7,7 @@ use Rattle.cg_pressure_search.specs.declared.chains.Chain.{Chain}
 use Rattle.cg_pressure_search.specs.Network.{link, IsTight}
 use Rattle.cg_pressure_search.specs.Chains.{IsChain}
 
--- past the last step
+-- the step past the last one
 abbrev pub no_step : Step
 no_step = record { place = 0; link = 0; back = false; before = 0 }
 
@@ -24,7 +24,7 @@ pub record IsMove (links : List Link) (flow at : List ℕ) (steps : List Step) (
       ((s.back ≡ false) × ((link links s.link).from ≡ (step steps s.before).place) × ((link links s.link).to ≡ s.place))
       ⊎ ((s.back ≡ true) × ((link links s.link).to ≡ (step steps s.before).place) × ((link links s.link).from ≡ s.place) × (0 < slice_index flow s.link))
 
--- each place that is reached has one step, and its number more 1 in `order`; all others have 0
+-- each reached place has one step, with 1 plus the step's number in `order`; all other places have 0
 pub record IsLog (links : List Link) (flow at : List ℕ) (steps : List Step) (order : List ℕ) : Type 0 where
   pub each : length order ≡ length at
   pub moves : (i : ℕ) → 0 < i → i < length steps → IsMove links flow at steps i (step steps i)
@@ -32,18 +32,18 @@ pub record IsLog (links : List Link) (flow at : List ℕ) (steps : List Step) (o
   pub marked : (x : ℕ) → 0 < slice_index order x →
       (i : ℕ) × (i < length steps) × (slice_index order x ≡ i + 1) × ((step steps i).place ≡ x)
 
--- link k leads to no other place
+-- link k doesn't leave the reached places
 abbrev pub IsDone : List Link → List ℕ → List ℕ → List ℕ → ℕ → Type 0
 IsDone links flow at order k =
     IsTight at (link links k) →
     (0 < slice_index order (link links k).from → 0 < slice_index order (link links k).to)
     × (0 < slice_index flow k → 0 < slice_index order (link links k).to → 0 < slice_index order (link links k).from)
 
--- nor does one of the first `count`
+-- none of the first `count` links leaves the reached places
 abbrev pub IsClosed : List Link → ℕ → List ℕ → List ℕ → List ℕ → Type 0
 IsClosed links count flow at order = (k : ℕ) → k < count → IsDone links flow at order k
 
--- places that are reached from `start`: all of them, unless `goal` is one
+-- the places that are reached from `start`: all of them, unless `goal` is one
 pub record IsReached (links : List Link) (count : ℕ) (flow at : List ℕ) (start goal : ℕ) (r : Reached) : Type 0 where
   pub log : IsLog links flow at r.steps.items r.order.items
   pub some : 0 < length r.steps.items
@@ -56,20 +56,20 @@ pub record IsLonger (steps : List Step) (order : List ℕ) (steps' : List Step) 
   pub same : (i : ℕ) → i < length steps → step steps' i ≡ step steps i
   pub wider : (x : ℕ) → 0 < slice_index order x → 0 < slice_index order' x
 
--- from a place in `order` link k leads to no place out of `order'`
+-- from a place in `order` link k leads to no place outside `order'`
 abbrev pub IsCrossed : List Link → List ℕ → List ℕ → List ℕ → List ℕ → ℕ → Type 0
 IsCrossed links flow at order order' k =
     IsTight at (link links k) →
     (0 < slice_index order (link links k).from → 0 < slice_index order' (link links k).to)
     × (0 < slice_index flow k → 0 < slice_index order (link links k).to → 0 < slice_index order' (link links k).from)
 
--- link k was looked at
+-- link k was visited
 pub record IsVisited (links : List Link) (count : ℕ) (flow at : List ℕ) (steps : List Step) (order : List ℕ) (steps' : List Step) (order' : List ℕ) (k : ℕ) : Type 0 where
   pub log : IsLog links flow at steps' order'
   pub longer : IsLonger steps order steps' order'
   pub crossed : k < count → IsCrossed links flow at order order' k
 
--- the links of a place were looked at, as far as the one before number `more`
+-- the links of a place were visited, down from the last one to the one whose number is `more`
 pub record IsFollowed (links : List Link) (count : ℕ) (flow at : List ℕ) (chain : Chain) (place : ℕ) (steps : List Step) (order : List ℕ) (steps' : List Step) (order' : List ℕ) (more : ℕ) : Type 0 where
   pub log : IsLog links flow at steps' order'
   pub longer : IsLonger steps order steps' order'
@@ -77,13 +77,13 @@ pub record IsFollowed (links : List Link) (count : ℕ) (flow at : List ℕ) (ch
   pub here : (end : ℕ → ℕ) → IsChain end (length at) (length links) chain → (k : ℕ) → more ≡ k + 1 → end k ≡ place
   pub crossed : (end : ℕ → ℕ) → IsChain end (length at) (length links) chain → (k : ℕ) → more ≤ k → k < count → k < length links → end k ≡ place → IsCrossed links flow at order order' k
 
--- the links of the first `count` lead from place x to no other place
+-- those of the first `count` links that are at place x lead to no other place
 abbrev pub IsWorked : List Link → ℕ → List ℕ → List ℕ → List ℕ → ℕ → Type 0
 IsWorked links count flow at order x = (k : ℕ) → k < count → k < length links → IsTight at (link links k) →
     ((link links k).from ≡ x → 0 < slice_index order (link links k).to)
     × ((link links k).to ≡ x → 0 < slice_index flow k → 0 < slice_index order (link links k).from)
 
--- places are reached from `start`, and the links of the first `done` lead to no other place
+-- places are reached from `start`, and the links at the places of the first `done` steps lead to no other place
 pub record IsSpread (links : List Link) (count : ℕ) (flow at : List ℕ) (start : ℕ) (steps : List Step) (order : List ℕ) (done : ℕ) : Type 0 where
   pub log : IsLog links flow at steps order
   pub some : 0 < length steps

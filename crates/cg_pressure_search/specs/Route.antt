@@ -1,4 +1,4 @@
--- Links that are kept one after another, and values that are routed one after another.
+-- Links that are made kept one after another, and values that are routed one after another.
 use Rattle.std.specs.Prelude.{◌≡◌, ℕ, ◌+◌, ◌-◌, ◌*◌, ◌^◌, ◌<◌, ◌≤◌, eqb, Bool, true, false, List, length, slice_index, slice_index_or, Option, Some, None}
 use Rattle.cg_pressure.specs.Pressure.{one_if}
 use Rattle.cg_pressure_search.specs.declared.network.Link.{Link}
@@ -14,7 +14,7 @@ pub record IsSettling (links : List Link) (flow : List ℕ) (n count : ℕ) (at 
   pub each : length at ≡ n
   pub near : (x : ℕ) → slice_index at x ≤ count * 2 ^ 45
 
--- all are; or one isn't, although its beginning is reached from its end
+-- all links are kept; or one isn't, although its beginning is reached from its end
 abbrev pub IsSettled : List Link → List ℕ → ℕ → List ℕ → Option Blocked → Type 0
 IsSettled links flow n at None = IsSettling links flow n (length links) at
 IsSettled links flow n at (Some b) =
@@ -31,7 +31,7 @@ pub record IsRouted (links : List Link) (flow at : List ℕ) (a b : ℕ) (flow' 
   pub small : (k : ℕ) → slice_index flow' k ≤ slice_index flow k + 1
   pub balanced : (x : ℕ) → into links flow' x + out_of links flow x + 1 * one_if (eqb a x) ≡ into links flow x + out_of links flow' x + 1 * one_if (eqb b x)
 
--- the flow comes in at the places of nodes whose value is routed, and goes out at the places of their last uses
+-- the flow enters at the places of nodes whose value is routed, and leaves at the places of their last uses
 pub record IsCirculation (n : ℕ) (links : List Link) (flow : List ℕ) (routed : List Bool) : Type 0 where
   pub times : (w : ℕ) → w < n → into links flow w ≡ out_of links flow w
   pub leaves : (w : ℕ) → w < n → into links flow (n + w) + one_if (slice_index_or routed w false) ≡ out_of links flow (n + w)
@@ -52,11 +52,11 @@ pub record IsRouting (n : ℕ) (links : List Link) (count : ℕ) (flow at : List
   pub circulation : IsCirculation n links flow routed
   pub spans : (w : ℕ) → slice_index_or routed w false ≡ true → IsSpan n links w
 
--- those of the first `count` links that are stays
+-- the values of the stays among the first `count` links are routed
 abbrev pub AreRouted : ℕ → List Link → ℕ → List Bool → Type 0
 AreRouted n links count routed = (k v p : ℕ) → k < count → (link links k).part ≡ Stay v p → slice_index_or routed ((link links k).to - (n + n)) false ≡ true
 
--- one value more is routed
+-- one more value is routed
 pub record IsRoutedToo (n : ℕ) (links : List Link) (count u : ℕ) (flow at : List ℕ) (routed routed' : List Bool) : Type 0 where
   pub routing : IsRouting n links (count + 1) flow at routed'
   pub here : slice_index_or routed' u false ≡ true

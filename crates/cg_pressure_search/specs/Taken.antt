@@ -1,4 +1,4 @@
--- What a certificate takes of the flows on links.
+-- The part of the flows on links that a certificate takes.
 use Rattle.std.specs.Prelude.{◌≡◌, ℕ, ◌+◌, ◌*◌, ◌≤◌, eqb, List, length, slice_index}
 use Rattle.cg_model.specs.Kernel.{Kernel}
 use Rattle.cg_pressure.specs.declared.certificate.Pressure.{Pressure}
@@ -9,7 +9,7 @@ use Rattle.cg_pressure_search.specs.declared.network.Part.{Part}
 use Rattle.cg_pressure_search.specs.declared.network.Part.TheVariants.{Least, Most, Pull, Stay, Tie}
 use Rattle.cg_pressure_search.specs.Network.{link}
 
--- f of the edge of a part, where the part is of that kind; 0 where it isn't
+-- f of the edge of a part, if the part is of the given kind; 0 if it isn't
 abbrev pub on_stay : Kernel → (Dependence → ℕ) → Part → ℕ
 on_stay K f (Stay v p) = on_edge f (data_edge K v p)
 on_stay K f (Least w) = 0
@@ -31,7 +31,7 @@ on_tie K f (Most w) = 0
 on_tie K f (Pull v p) = 0
 on_tie K f (Stay v p) = 0
 
--- 1 where the part is one of node w
+-- 1 if the part is one of node w
 abbrev pub on_least : ℕ → Part → ℕ
 on_least w (Least x) = one_if (eqb x w)
 on_least w (Most x) = 0
@@ -56,6 +56,6 @@ pub record IsTaken (K : Kernel) (links : List Link) (flow : List ℕ) (P : Press
   pub on_pulls : (f : Dependence → ℕ) → pulls K P f ≡ taken links flow (length links) (on_pull K f)
   pub on_ties : (f : Dependence → ℕ) → ties K P f ≡ taken links flow (length links) (on_tie K f)
 
--- its lists have at most n edges each
+-- the lists of a certificate have at most n edges each
 abbrev pub HasAtMost : ℕ → Pressure → Type 0
 HasAtMost n P = (length P.stays.items ≤ n) × (length P.pulls.items ≤ n) × (length P.ties.items ≤ n)

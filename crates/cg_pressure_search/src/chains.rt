@@ -1,4 +1,4 @@
-//! The links that begin at each place, and those that end there.
+//! The links that begin and end at each place.
 ghost use Rattle.std.specs.Prelude.{◌≡◌, ℕ, ◌+◌, ◌<◌, ◌≤◌, IfOk, OnOk, length, slice_index};
 ghost use Rattle.cg_pressure_search.specs.Network.{IsGraph};
 ghost use Rattle.cg_pressure_search.specs.Chains.{IsLinked, IsChain, IsIncidence};
@@ -6,16 +6,16 @@ ghost use Rattle.cg_pressure_search.specs.Chains.{IsLinked, IsChain, IsIncidence
 use crate::network::Link;
 use std::alloc::{AllocError, Global};
 
-/// The links of each place, from the last to the first.
+/// The links of each place, from the last to the first, as a linked list.
 #[derive(Drop)]
 pub(crate) struct Chain {
-    /// By place the number of its last link more 1; 0 where it has none.
+    /// For each place, 1 plus the number of its last link; 0 if it has none.
     pub last: Vec<usize>,
-    /// By link the number of the link of the same place before it, more 1; 0 where it is the first.
+    /// For each link, 1 plus the number of the previous link of the same place; 0 if it is the first.
     pub earlier: Vec<usize>,
 }
 
-/// The links that begin at each place, and those that end there.
+/// The links that begin and end at each place.
 #[derive(Drop)]
 pub(crate) struct Incidence {
     pub begins: Chain,
@@ -34,7 +34,7 @@ fn add(chain: &mut Chain, x: usize) -> Result<(), AllocError>
     Ok(())
 }
 
-/// Returns the links of each of `n` places.
+/// Returns the links of each of `n` places, by beginnings and by ends.
 pub(crate) fn incidence_of(alloc: Global, links: &[Link], n: usize) -> Result<Incidence, AllocError>
     requires { IsGraph n links.now }
     ensures { IfOk result (IsIncidence links.now n) }

@@ -14,7 +14,7 @@ use cg_edges::Kernel;
 use cg_pressure::{Pressure, Pull, Stay, Tie};
 use std::alloc::{AllocError, Global};
 
-/// Adds the edge of `part` to the edges that stay, if it is one of them and has a flow.
+/// Adds the edge of `part` to the edges whose stays count, if it is one of them and has a flow.
 fn add_stay(list: &mut Vec<Stay>, kernel: &Kernel, part: Part, flow: u32) -> Result<(), AllocError>
     requires { (v p : ℕ) → part ≡ parts.Stay v p → flow ≤ 1 }
     ensures taken { OnOk result ((f : edges.Dependence → ℕ) →
@@ -30,7 +30,7 @@ fn add_stay(list: &mut Vec<Stay>, kernel: &Kernel, part: Part, flow: u32) -> Res
     Ok(())
 }
 
-/// Adds the edge of `part` to the data edges against them, if it is one and has a flow.
+/// Adds the edge of `part` to the opposite data edges, if it is one of them and has a flow.
 fn add_pull(list: &mut Vec<Pull>, kernel: &Kernel, part: Part, flow: u32) -> Result<(), AllocError>
     ensures taken { OnOk result ((f : edges.Dependence → ℕ) →
         weigh (λ (x : pull.Pull). x.weight) (λ x. data_edge kernel.now x.node x.arg) f list.new.items
@@ -49,7 +49,7 @@ fn add_pull(list: &mut Vec<Pull>, kernel: &Kernel, part: Part, flow: u32) -> Res
     Ok(())
 }
 
-/// Adds the edge of `part` to the order edges against them, if it is one and has a flow.
+/// Adds the edge of `part` to the opposite order edges, if it is one of them and has a flow.
 fn add_tie(list: &mut Vec<Tie>, kernel: &Kernel, part: Part, flow: u32) -> Result<(), AllocError>
     ensures taken { OnOk result ((f : edges.Dependence → ℕ) →
         weigh (λ (x : tie.Tie). x.weight) (λ x. order_edge kernel.now x.edge) f list.new.items

@@ -1,8 +1,9 @@
 //! The search for a certificate of register pressure.
 //!
-//! All that a schedule keeps is that places of a network are some cycles apart, and the stays of values are the sum of
-//! such distances: so the least sum is the greatest cost of a flow. The search is the out-of-kilter method: links are kept
-//! one after another, and then the value of one node after another is routed, by places that are lifted together.
+//! A schedule only has to keep certain places of a network some cycles apart, and the stays of values add up to a sum
+//! of distances between places: so the least sum is the greatest cost of a flow. The search is the out-of-kilter
+//! method: first the links are kept one after another, and then the value of one node after another is routed, while
+//! places are lifted together.
 ghost use Rattle.std.specs.Prelude.{◌≡◌, ℕ, ◌+◌, ◌^◌, ◌<◌, ◌≤◌, IfOk, Some, length, slice_index};
 ghost use Rattle.cg_model.specs.Kernel.{size};
 ghost use Rattle.cg_pressure.specs.Sums.{table};
@@ -21,7 +22,7 @@ use cg_edges::{Arch, Kernel, latencies_are_small};
 use cg_pressure::{Pressure, Times, all_stays, count_registers};
 use std::alloc::{AllocError, Global};
 
-/// What a search ends on.
+/// The result of a search.
 #[derive(Drop)]
 pub enum Outcome {
     /// A certificate that no legal mapping has the interval.
@@ -30,8 +31,8 @@ pub enum Outcome {
     Open(Times),
 }
 
-/// Returns the certificate of a closed chain of links that can't be kept, which is taken more often than there is room
-/// for cycles in registers.
+/// Returns the certificate of a closed chain of links that can't all be kept. The flow on the chain is the number of
+/// register slots plus 1.
 fn recurrence(
     alloc: Global,
     arch: &Arch,
@@ -89,7 +90,7 @@ fn schedule(alloc: Global, n: usize, at: &[u64], routed: &[bool]) -> Result<Time
     })
 }
 
-/// Returns the times, where their stays fit in the registers, and else the certificate of the flow.
+/// Returns the times if their stays fit in the registers, and else the certificate of the flow.
 fn decide(
     alloc: Global,
     arch: &Arch,
@@ -135,8 +136,9 @@ fn whole_network(
     Ok(links)
 }
 
-/// Returns a certificate that no legal mapping has interval `ii`, or times that show that no certificate excludes it. `far`
-/// has three numbers a node: for each operand the registers that a value crosses at least on its way there.
+/// Returns a certificate that no legal mapping has interval `ii`, or times that show that no certificate excludes it.
+/// `far` has three numbers per node: for each operand the least number of registers that a value crosses on its way
+/// there.
 pub fn find_pressure(
     alloc: Global,
     arch: &Arch,

@@ -1,4 +1,4 @@
-//! Places that are lifted together, as far as links let them.
+//! Lifting places together, as far as links allow.
 ghost use Rattle.std.specs.Prelude.{◌≡◌, ℕ, ◌+◌, ◌^◌, ◌<◌, ◌≤◌, IfOk, List, length, slice_index};
 ghost use Rattle.cg_pressure_search.specs.Network.{IsGraph, AreKept, link};
 ghost use Rattle.cg_pressure_search.specs.Chains.{begin_of, IsChain, IsIncidence};
@@ -10,7 +10,8 @@ use crate::network::Link;
 use crate::reach::{Reached, reach};
 use std::alloc::{AllocError, Global};
 
-/// Returns by how many cycles, up to `most`, link `k` lets the places of `order` rise, if it is one of the first `count`.
+/// Returns the number of cycles, up to `most`, by which link `k` lets the places of `order` rise, if it is one of the
+/// first `count`.
 fn room_over(links: &[Link], count: usize, at: &[u64], order: &[usize], k: usize, most: u64) -> u64
     requires graph { IsGraph (length at.now) links.now }
     requires times { (x : ℕ) → slice_index at.now x ≤ 2 ^ 62 }
@@ -32,7 +33,7 @@ fn room_over(links: &[Link], count: usize, at: &[u64], order: &[usize], k: usize
     most
 }
 
-/// Returns by how many cycles, up to `most`, the links that begin at `place` let the places of `order` rise.
+/// Returns the number of cycles, up to `most`, by which the links that begin at `place` let the places of `order` rise.
 fn room_at(
     links: &[Link],
     begins: &Chain,
@@ -64,7 +65,7 @@ fn room_at(
     by
 }
 
-/// Returns by how many cycles, up to `need`, the first `count` links let the places that are reached rise.
+/// Returns the number of cycles, up to `need`, by which the first `count` links let the reached places rise.
 fn room(
     links: &[Link],
     incidence: &Incidence,
@@ -114,8 +115,8 @@ fn rise(at: &mut Vec<u64>, order: &[usize], by: u64)
     }
 }
 
-/// Lifts `start` by `need` cycles, with all places that have to rise with it so that the first `count` links stay kept. Once
-/// `goal` is one of them, it ends with the places that are reached.
+/// Lifts `start` by `need` cycles, with all places that have to rise with it so that the first `count` links stay kept.
+/// It ends early, with the reached places, once `goal` is one of them.
 pub(crate) fn lift(
     alloc: Global,
     links: &[Link],

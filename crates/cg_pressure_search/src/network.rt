@@ -8,22 +8,22 @@ use cg_edges::{Arch, Kernel, latency};
 use cg_pressure::{data_edge, far_at, most_latency, order_edge};
 use std::alloc::{AllocError, Global};
 
-/// What a link stands for.
+/// The constraint that a link represents.
 #[derive(Clone, Copy, Drop)]
 pub(crate) enum Part {
-    /// The value of that node leaves no sooner than its operation lasts at least.
+    /// The value of the given node leaves no sooner than its operation's least latency allows.
     Least(u32),
-    /// It leaves no later than the operation lasts at most.
+    /// The value of the given node leaves no later than its operation's greatest latency allows.
     Most(u32),
-    /// The data edge that is an operand of a node: the node begins no sooner than the value is there.
+    /// The data edge that is the given operand of a node: the node begins no sooner than the value is there.
     Pull(u32, u32),
-    /// The same edge: the value is used no sooner than the node begins.
+    /// The data edge that is the given operand of a node: the last use of the value is no sooner than the node begins.
     Stay(u32, u32),
-    /// The order edge of that number.
+    /// The order edge of the given number.
     Tie(u32),
 }
 
-/// A link: its end, and `loss` cycles more, is no sooner than its beginning, and `gain` cycles more.
+/// A link: its end plus `loss` cycles is no sooner than its beginning plus `gain` cycles.
 #[derive(Clone, Copy, Drop)]
 pub(crate) struct Link {
     pub from: usize,
@@ -33,7 +33,7 @@ pub(crate) struct Link {
     pub part: Part,
 }
 
-/// Adds a link.
+/// Adds `link` to `links`.
 fn add(
     links: &mut Vec<Link>,
     link: Link,
@@ -52,7 +52,7 @@ fn add(
     Ok(())
 }
 
-/// Adds the links of node `w`.
+/// Adds the links of node `w` to `links`.
 fn add_node(
     links: &mut Vec<Link>,
     w: u32,
@@ -90,7 +90,7 @@ fn add_node(
     add(links, most, arch, kernel, far, ii)
 }
 
-/// Adds the links of the data edge that is operand `p` of node `v`, if that is one.
+/// Adds the links of the data edge that is operand `p` of node `v` to `links`, if that operand is an edge.
 fn add_data(
     links: &mut Vec<Link>,
     v: u32,
@@ -129,7 +129,7 @@ fn add_data(
     Ok(())
 }
 
-/// Adds the link of order edge number `e`, if there is one.
+/// Adds the link of order edge number `e` to `links`, if there is one.
 fn add_order(
     links: &mut Vec<Link>,
     e: u32,

@@ -1,4 +1,4 @@
-//! Flow that is sent along steps.
+//! Sending flow along steps.
 ghost use Rattle.std.specs.Prelude.{◌≡◌, ℕ, ◌+◌, ◌^◌, ◌<◌, ◌≤◌, length, slice_index};
 ghost use Rattle.cg_pressure_search.specs.Reach.{IsLog, step};
 ghost use Rattle.cg_pressure_search.specs.Push.{IsPushed};
@@ -6,7 +6,7 @@ ghost use Rattle.cg_pressure_search.specs.Push.{IsPushed};
 use crate::network::Link;
 use crate::reach::Reached;
 
-/// Sends `by` more from the place of the first step to `goal`.
+/// Increases by `by` the flow from the place of the first step to `goal`.
 pub(crate) fn push(
     links: &[Link],
     at: &[u64],

@@ -1,4 +1,4 @@
-//! The places that are reached from one by tight links.
+//! The places that are reached from one place by tight links.
 ghost use Rattle.std.specs.Prelude.{◌≡◌, ℕ, ◌^◌, ◌<◌, ◌≤◌, IfOk, OnOk, length, slice_index};
 ghost use Rattle.cg_pressure_search.specs.Network.{IsGraph};
 ghost use Rattle.cg_pressure_search.specs.Chains.{IsLinked, IsIncidence};
@@ -8,7 +8,7 @@ use crate::chains::{Chain, Incidence};
 use crate::network::Link;
 use std::alloc::{AllocError, Global};
 
-/// A place that is reached over a link from that of an earlier step.
+/// A place that is reached over a link from the place of an earlier step.
 #[derive(Clone, Copy, Drop)]
 pub(crate) struct Step {
     pub place: usize,
@@ -19,16 +19,16 @@ pub(crate) struct Step {
     pub before: usize,
 }
 
-/// The places that are reached.
+/// The reached places.
 #[derive(Drop)]
 pub(crate) struct Reached {
-    /// One step for each of them.
+    /// One step for each reached place.
     pub steps: Vec<Step>,
-    /// By place the number of its step more 1; 0 where it isn't reached.
+    /// For each place, 1 plus the number of its step; 0 if it isn't reached.
     pub order: Vec<usize>,
 }
 
-/// Adds a step over link `k`, where it is one of the first `count`, is tight and leads to a place that isn't reached.
+/// Adds a step over link `k`, if it is one of the first `count`, is tight and leads to a place that isn't reached.
 fn visit(
     links: &[Link],
     count: usize,
@@ -138,8 +138,8 @@ fn spread(
     Ok(())
 }
 
-/// Returns the places that are reached from `start` by the first `count` links, where they are tight: forwards, and
-/// backwards where there is flow. Once `goal` is reached, others may be left out.
+/// Returns the places that are reached from `start` by those of the first `count` links that are tight: forward, and
+/// backward if there is flow. Once `goal` is reached, others may be left out.
 pub(crate) fn reach(
     alloc: Global,
     links: &[Link],

@@ -1,4 +1,4 @@
-//! Values that are routed one after another.
+//! Routing values one after another.
 ghost use Rattle.std.specs.Prelude.{◌≡◌, ℕ, ◌+◌, ◌^◌, ◌<◌, ◌≤◌, IfOk, OnOk, List, length, slice_index};
 ghost use Rattle.cg_pressure_search.specs.Network.{IsGraph, AreKept};
 ghost use Rattle.cg_pressure_search.specs.Chains.{IsIncidence};
@@ -49,7 +49,7 @@ fn route(
     Ok(())
 }
 
-/// Routes the value of node `u`, unless it is.
+/// Routes the value of node `u`, unless it is routed already.
 fn route_node(
     alloc: Global,
     links: &[Link],
@@ -75,7 +75,7 @@ fn route_node(
     Ok(())
 }
 
-/// Routes the values of all nodes from which a stay goes.
+/// Routes the values of all nodes that a stay leaves.
 pub(crate) fn route_all(
     alloc: Global,
     links: &[Link],

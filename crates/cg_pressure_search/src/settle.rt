@@ -1,4 +1,4 @@
-//! Links that are kept one after another.
+//! Making links kept, one after another.
 ghost use Rattle.std.specs.Prelude.{◌≡◌, ℕ, ◌≤◌, IfOk, length, slice_index};
 ghost use Rattle.cg_pressure_search.specs.Network.{IsGraph};
 ghost use Rattle.cg_pressure_search.specs.Chains.{IsIncidence};
@@ -10,7 +10,7 @@ use crate::network::Link;
 use crate::reach::Reached;
 use std::alloc::{AllocError, Global};
 
-/// A link that can't be kept, and the places that rise with its end, of which its beginning is one.
+/// A link that can't be kept, and the places that rise with its end; the link's beginning is one of them.
 #[derive(Drop)]
 pub(crate) struct Blocked {
     pub reached: Reached,

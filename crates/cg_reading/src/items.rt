@@ -9,27 +9,27 @@ use std::alloc::Global;
 
 /// A way to read the values of an array.
 pub trait ItemReader {
-    /// What stands in the array.
+    /// The type of the values in the array.
     type Value;
 
-    /// What one of them is read as.
+    /// The type that each value is read as.
     type Item: Drop;
 
-    // What a value is data of.
+    // The data that a value represents.
     ghost Data: { Type 0 };
 
     // The data of a value.
     ghost data_of: { Self.Value → Data };
 
-    // What data reads as.
+    // The item that data represents, if any.
     ghost item_in: { Data → Option Self.Item };
 
-    /// What a value reads as.
+    /// Reads `value` as an item.
     fn read(alloc: Global, value: &Self::Value) -> Result<Self::Item, Misfit<()>>
         ensures { IsRead (item_in (data_of value.now)) result };
 }
 
-/// What each value reads as, or the number of the first one that doesn't read, counted from 0.
+/// Returns the item of each value, or the number of the first value that can't be read, counted from 0.
 pub fn all_or_first<R: ItemReader>(
     alloc: Global,
     values: &[R::Value],
@@ -47,7 +47,7 @@ pub fn all_or_first<R: ItemReader>(
     Ok(Items::new(items))
 }
 
-/// What each value reads as, where every one does.
+/// Returns the item of each value, if all of them can be read.
 pub fn all_of<R: ItemReader>(
     alloc: Global,
     values: &[R::Value],

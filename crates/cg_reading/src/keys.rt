@@ -1,4 +1,4 @@
-//! Keys that aren't known.
+//! Unknown keys.
 ghost use Rattle.std.specs.Prelude.{◌≡◌, map, string_bytes};
 ghost use Rattle.std.specs.List.{list_any};
 ghost use Rattle.std.specs.BTreeMap.{keys};
@@ -6,7 +6,7 @@ ghost use Rattle.cg_reading.specs.Keys as spec;
 
 use std::collections::BTreeMap;
 
-/// Whether a map has a key that isn't one of these.
+/// Returns whether the map `members` has a key that isn't one of `known`.
 pub fn has_other<V>(members: &BTreeMap<String, V>, known: &[&str]) -> bool
     ensures { result ≡ spec.has_other (map (λ k. k.now) known.now) (map string_bytes (keys members.now)) }
 {

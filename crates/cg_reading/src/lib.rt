@@ -1,4 +1,4 @@
-//! What readers of files share: why a value doesn't read, arrays that are read item by item, and keys that aren't known.
+//! Shared parts of readers of files: why a value can't be read, arrays read item by item, and unknown keys.
 #![tactic(auto)]
 
 mod items;

@@ -1,4 +1,4 @@
-//! Why a value doesn't read.
+//! Why a value can't be read.
 
 ghost use Rattle.std.specs.Prelude.{◌≡◌};
 ghost use Rattle.cg_reading.specs.declared.misfit.Misfit.TheVariants.{Memory};
@@ -6,18 +6,18 @@ ghost use Rattle.cg_reading.specs.Reads.{IsAt};
 
 use std::alloc::{AllocError, AllocFailed};
 
-/// Why a value doesn't read: memory ran out, or the value, or a part of it at that place, has a wrong shape.
+/// Why a value can't be read: memory ran out, or the value, or its part at that place, has a wrong shape.
 #[derive(Clone, Copy, Debug, PartialEq, Eq)]
 pub enum Misfit<P> {
     Memory,
     WrongShape(P),
 }
 
-/// A value that as a whole has a wrong shape.
+/// The misfit of a value that as a whole has a wrong shape.
 pub const WRONG_SHAPE: Misfit<()> = Misfit::WrongShape(());
 
 impl<P> Misfit<P> {
-    /// The misfit at the place that its place stands for.
+    /// Returns the misfit with its place converted by `place_of`.
     pub fn at<Q, F: FnOnce(P) -> Q + Drop>(self, place_of: F) -> Misfit<Q>
         requires { F.IsAlwaysCallable place_of }
         ensures { IsAt (F.post place_of) self result }

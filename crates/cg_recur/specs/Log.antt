@@ -10,7 +10,7 @@ use Rattle.cg_recur.specs.declared.moments.Outcome.TheVariants.{Same, Raised, De
 abbrev pub IsWithin : List Edge → ℕ → Type 0
 IsWithin es n = (k : ℕ) (e : Edge) → slice_get es k ≡ Some e → (e.source < n) × (e.target < n) × (e.latency < 2 ^ 16)
 
--- what `step` gives past the end of a log
+-- the value of `step` past the end of a log
 abbrev pub no_step : Step
 no_step = record { node = 0; edge = 0; before = 0; time = 0; depth = 0 }
 
@@ -22,7 +22,7 @@ step log i = slice_index_or log i no_step
 abbrev pub Starts : Step → Type 0
 Starts s = (s.depth ≡ 0) × (s.time ≡ 0)
 
--- moment i goes on from an earlier moment by an edge, to the sum less ii times the distance
+-- moment i follows an earlier moment by an edge, at its time plus the latency less ii times the distance
 pub record Follows (es : List Edge) (ii : ℕ) (log : List Step) (i : ℕ) (s : Step) : Type 0 where
   pub earlier : s.before < i
   pub by : Edge
@@ -32,13 +32,13 @@ pub record Follows (es : List Edge) (ii : ℕ) (log : List Step) (i : ℕ) (s : 
   pub sum : (step log s.before).time + by.latency ≡ s.time + ii * by.distance
   pub deeper : s.depth ≡ (step log s.before).depth + 1
 
--- moment i is a start, or goes on from an earlier one; its time is bounded by its edges
+-- moment i is a start, or follows an earlier one; its time is bounded by its edges
 pub record IsStep (es : List Edge) (ii n : ℕ) (log : List Step) (i : ℕ) (s : Step) : Type 0 where
   pub node : s.node < n
   pub from : Starts s ⊎ Follows es ii log i s
   pub small : s.time ≤ s.depth * 2 ^ 16
 
--- a log of such moments, in which each node's times rise; `last` has the latest moment of each node
+-- a log of moments of this form, in which each node's times rise; `last` has the latest moment of each node
 pub record IsLog (es : List Edge) (ii n : ℕ) (log : List Step) (last : List ℕ) : Type 0 where
   pub steps : (i : ℕ) → i < length log → IsStep es ii n log i (step log i)
   pub rising : (i j : ℕ) → i < j → j < length log → (step log i).node ≡ (step log j).node → (step log i).time < (step log j).time
@@ -55,15 +55,16 @@ IsShallow n log = (i : ℕ) → i < length log → (step log i).depth < n
 abbrev pub time_of : List Step → List ℕ → ℕ → ℕ
 time_of log last v = (step log (slice_index last v)).time
 
--- by how many edges its time came
+-- the number of edges up to its time
 abbrev pub depth_of : List Step → List ℕ → ℕ → ℕ
 depth_of log last v = (step log (slice_index last v)).depth
 
--- an edge asks no more than the times give
+-- an edge requires no more than the times give
 abbrev pub IsSlack : ℕ → List Step → List ℕ → Edge → Type 0
 IsSlack ii log last e = time_of log last e.source + e.latency ≤ time_of log last e.target + ii * e.distance
 
--- in round r, after the first j edges: what an edge still asks comes by a chain of r edges, for those first by one of r + 1
+-- in round r, after the first j edges: what an edge still requires comes by a chain of r edges, for those first by one
+-- of r + 1
 abbrev pub IsSettled : List Edge → ℕ → ℕ → ℕ → List Step → List ℕ → Type 0
 IsSettled es ii r j log last =
     (k : ℕ) (e : Edge) → slice_get es k ≡ Some e →
@@ -104,7 +105,8 @@ IsCounting n last = (length last ≡ n) × ((i : ℕ) → i < n → slice_index 
 abbrev pub AreTimes : List Step → List ℕ → List ℕ → Type 0
 AreTimes log last ts = (length ts ≡ length last) × ((v : ℕ) → v < length last → slice_index ts v ≡ time_of log last v)
 
--- what the rounds leave: a log whose last moment comes by n edges, or one without such a moment, in which each edge is slack
+-- the result of the rounds: a log whose last moment comes by n edges, or one without a moment of this depth, in which
+-- each edge is slack
 abbrev pub IsMade : List Edge → ℕ → ℕ → List Step → List ℕ → Bool → Type 0
 IsMade es ii n log last true = IsLog es ii n log last × IsDeep n log
 IsMade es ii n log last false = IsLog es ii n log last × IsShallow n log × IsTight (slice_get es) ii (time_of log last)

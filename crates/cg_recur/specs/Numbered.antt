@@ -9,7 +9,7 @@ use Rattle.cg_edges.specs.Chain.{IsCycle, IsShown, IsEarly}
 abbrev pub IsShownCycle : List Edge → ℕ → List ℕ → Type 0
 IsShownCycle es ii xs = IsCycle (slice_get es) ii xs × IsShown (slice_get es) xs
 
--- such a chain, or the earliest times of n nodes where there is none
+-- a closed chain of this form, or the earliest times of n nodes if there is none
 abbrev pub IsNumbered : List Edge → ℕ → ℕ → Numbered → Type 0
 IsNumbered es n ii (Cycle xs) = IsShownCycle es ii xs.items
 IsNumbered es n ii (Times ts) =

@@ -1,4 +1,4 @@
--- The way back from a moment.
+-- The path back from a moment.
 use Rattle.std.specs.Prelude.{◌≡◌, ℕ, zero, suc, ◌+◌, ◌<◌, ◌≤◌, List, [], ◌∷◌, length, slice_index}
 use Rattle.cg_edges.specs.declared.edge.Edge.{Edge}
 use Rattle.cg_recur.specs.declared.moments.Step.{Step}
@@ -8,7 +8,7 @@ use Rattle.cg_recur.specs.Log.{step, Follows}
 abbrev pub moment : List Step → List ℕ → ℕ → Step
 moment log path k = step log (slice_index path k)
 
--- each moment but the last goes on from the next one
+-- each moment except the last follows the next one
 pub record IsPath (es : List Edge) (ii n : ℕ) (log : List Step) (path : List ℕ) : Type 0 where
   pub known : (k : ℕ) → k < length path → slice_index path k < length log
   pub node : (k : ℕ) → k < length path → (moment log path k).node < n

@@ -1,4 +1,4 @@
-//! The check of a chain that is shown.
+//! The check of the closed chain of a certificate.
 ghost use Rattle.std.specs.Prelude.{◌≡◌, ◌↔◌, IsTrue};
 ghost use Rattle.cg_edges.specs.Chain.{source_of};
 ghost use Rattle.cg_recur.specs.Recurrences.{IsRecurrence};
@@ -8,8 +8,8 @@ use cg_arch::Arch;
 use cg_edges::{EdgeId, find_edge};
 use cg_model::Kernel;
 
-/// Checks whether `cycle` names the edges of a closed chain whose latencies exceed the interval
-/// `ii` times its distances.
+/// Returns whether `cycle` names the edges of a closed chain whose latencies exceed the interval `ii` times its
+/// distances.
 pub fn check_cycle(arch: &Arch, kernel: &Kernel, ii: u32, cycle: &[EdgeId]) -> bool
     ensures { IsTrue result ↔ IsRecurrence arch.now kernel.now ii cycle.now }
 {
@@ -36,7 +36,7 @@ pub fn check_cycle(arch: &Arch, kernel: &Kernel, ii: u32, cycle: &[EdgeId]) -> b
     at == start && ii as u128 * distance < latency
 }
 
-/// Returns the node that edge `id` leaves; 0 where the kernel has no such edge.
+/// Returns the node that edge `id` leaves; 0 if the kernel has no such edge.
 pub fn source(arch: &Arch, kernel: &Kernel, id: EdgeId) -> usize
     ensures { result ≡ source_of (edge_of arch.now kernel.now id) }
 {

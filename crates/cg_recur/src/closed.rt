@@ -1,4 +1,4 @@
-//! The closed chain in a log that is too deep.
+//! The closed chain in a log with a moment that is too deep.
 ghost use Rattle.std.specs.Prelude.{◌≡◌, ◌++◌, ◌-◌, ◌^◌, ◌<◌, ◌≤◌, length, IfOk, OnOk};
 ghost use Rattle.cg_recur.specs.Log.{IsLog, IsDeep};
 ghost use Rattle.cg_recur.specs.Numbered.{IsShownCycle};
@@ -31,7 +31,7 @@ pub(crate) fn cycle(
     Ok(ids)
 }
 
-/// Returns the last moments of `log`, from the last one back: one more than there are nodes.
+/// Returns the last moments of `log`, backward from the last one: one more than the number of nodes.
 fn trace(
     alloc: Global,
     log: &[Step],
@@ -54,7 +54,8 @@ fn trace(
     Ok(path)
 }
 
-/// Returns where on `path` a node is met for the second time, and where it was met first: the lower place first.
+/// Returns the places on `path` where a node is met for the second time, and where it was met first: the lower place
+/// first.
 fn repeat(log: &[Step], path: &[usize], edges: &[Edge], ii: u32, nodes: usize) -> (usize, usize)
     requires path { IsTrace edges.now ii nodes log.now path.now }
     ensures { IsRepeat log.now path.now result.0 result.1 }
@@ -93,7 +94,7 @@ fn cut(
     at
 }
 
-/// Adds to `ids` the edges between the places `low` and `high` of `path`. The later moment stands at the lower place.
+/// Adds to `ids` the edges between the places `low` and `high` of `path`. The later moment is at the lower place.
 fn push_between(
     ids: &mut Vec<usize>,
     log: &[Step],

@@ -1,5 +1,5 @@
-//! The bound by recurrences: closed chains of edges that are too long for an interval, and the
-//! earliest times where there is none.
+//! The bound by recurrences: closed chains of edges that are too long for an interval, and the earliest times if there
+//! is none.
 #![tactic(auto)]
 
 mod check;

@@ -5,8 +5,8 @@ ghost use Rattle.cg_recur.specs.Log.{IsWithin, IsLog, IsShallow, IsRelaxed, IsBe
 use cg_edges::Edge;
 use std::alloc::{AllocError, Global};
 
-/// A moment at which a node's time rose: by which edge, after which earlier moment, to which time,
-/// and by how many edges.
+/// A moment at which a node's time rose: the edge that raised it, the earlier moment before that edge, the new time,
+/// and the number of edges up to it.
 #[derive(Clone, Copy)]
 pub(crate) struct Step {
     pub node: usize,
@@ -16,18 +16,18 @@ pub(crate) struct Step {
     pub depth: usize,
 }
 
-/// What a visit of an edge does to the log.
+/// The effect of a visit of an edge on the log.
 #[derive(Clone, Copy)]
 pub(crate) enum Outcome {
-    /// Nothing: the edge asks no more than the times give.
+    /// None: the edge requires no more than the times give.
     Same,
     /// The time of its target rose.
     Raised,
-    /// It rose by a chain of as many edges as there are nodes.
+    /// The time of its target rose, by a chain whose number of edges is the number of nodes.
     Deep,
 }
 
-/// Returns the log at its beginning: each of `nodes` nodes at time 0.
+/// Returns the initial log: each of `nodes` nodes at time 0.
 pub(crate) fn begin(alloc: Global, nodes: usize) -> Result<Vec<Step>, AllocError>
     ensures { IfOk result (λ v. IsBegun nodes v.items) }
 {
@@ -55,7 +55,7 @@ pub(crate) fn numbers(alloc: Global, nodes: usize) -> Result<Vec<usize>, AllocEr
     Ok(last)
 }
 
-/// Raises the time of the target of edge `e` where the edge asks for more at the interval `ii`.
+/// Raises the time of the target of edge `e` if the edge requires more at the interval `ii`.
 pub(crate) fn relax(
     log: &mut Vec<Step>,
     last: &mut Vec<usize>,

@@ -9,18 +9,18 @@ use cg_edges::{EdgeId, edges_of, latencies_are_small};
 use cg_model::Kernel;
 use std::alloc::{AllocError, Global};
 
-/// What the recurrences of a kernel say of an interval.
+/// The answer of the recurrences of a kernel for an interval.
 #[derive(Drop)]
 pub enum Recur {
     /// The edges of a closed chain that is too long for the interval. It meets no node twice, and
     /// begins at its least-numbered node.
     Cycle(Vec<EdgeId>),
-    /// The earliest time of each node, in cycles, where no closed chain is too long.
+    /// The earliest time of each node, in cycles, if no closed chain is too long.
     Times(Vec<u32>),
 }
 
-/// Returns a closed chain of edges whose latencies exceed the interval `ii` times its distances,
-/// where there is one, and else the earliest times of the nodes, in cycles.
+/// Returns a closed chain of edges whose latencies exceed the interval `ii` times its distances, if there is one, and
+/// else the earliest times of the nodes, in cycles.
 pub fn recurrence(alloc: Global, arch: &Arch, kernel: &Kernel, ii: u32) -> Result<Recur, AllocError>
     ensures { IfOk result (λ r. IsAnswer arch.now kernel.now ii r) }
 {

@@ -8,18 +8,18 @@ use crate::moments::{Outcome, Step, begin, numbers, relax, times};
 use cg_edges::Edge;
 use std::alloc::{AllocError, Global};
 
-/// What the rounds leave.
+/// The result of the rounds.
 #[derive(Drop)]
 pub(crate) struct Rounds {
     /// The log.
     pub(crate) log: Vec<Step>,
     /// The latest moment of each node.
     pub(crate) last: Vec<usize>,
-    /// Whether the last moment comes by a chain of as many edges as there are nodes.
+    /// Whether the last moment comes by a chain whose number of edges is the number of nodes.
     pub(crate) is_deep: bool,
 }
 
-/// The longest chains of edges, or why they have no end.
+/// The longest chains of edges, or a closed chain that makes them infinite.
 #[derive(Drop)]
 pub enum Numbered {
     /// The edges of a closed chain that is too long for the interval, by number.
@@ -28,7 +28,7 @@ pub enum Numbered {
     Times(Vec<u32>),
 }
 
-/// Returns the earliest times of the nodes, or a closed chain of `edges` that is too long for the interval `ii`, where
+/// Returns the earliest times of the nodes, or a closed chain of `edges` that is too long for the interval `ii`, if
 /// there is one.
 pub fn longest_chains(
     alloc: Global,
@@ -51,7 +51,7 @@ pub fn longest_chains(
     Ok(Numbered::Times(early))
 }
 
-/// Makes as many rounds over `edges` as there are nodes, fewer where no time rises in one, or a chain is too long.
+/// Makes one round over `edges` for each node, but ends early if no time rises in a round, or a chain is too long.
 pub(crate) fn make_rounds(
     alloc: Global,
     edges: &[Edge],

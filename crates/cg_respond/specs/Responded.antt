@@ -21,12 +21,12 @@ pub record IsMissed (A : Arch) (K : Kernel) (ii : ℕ) (M : Mapping) : Type 0 wh
   pub interval : M.ii ≡ ii
   pub illegal : IsLegal A K M → ⊥
 
--- the one or the other
+-- either of these
 abbrev pub IsJudged : Arch → Kernel → ℕ → CheckVerdict → Type 0
 IsJudged A K ii (Legal m) = IsOf A K ii m
 IsJudged A K ii (Illegal rule place M) = IsMissed A K ii M
 
--- a legal mapping after no more moves than there are; or some faults that are left, and a mapping that isn't legal
+-- a legal mapping after no more moves than `moves`; or some faults that are left, and a mapping that isn't legal
 abbrev pub IsResponded : Arch → Kernel → ℕ → ℕ → Responded → Type 0
 IsResponded A K ii moves (Mapped m k) = IsOf A K ii m × (k ≤ moves)
 IsResponded A K ii moves (Spent f M) = (0 < f) × IsMissed A K ii M

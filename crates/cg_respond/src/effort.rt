@@ -1,26 +1,27 @@
-//! How long a search goes on.
+//! The effort of a search.
 
-/// How long a search at an interval goes on, and by which draws.
+/// The effort of a search at an interval, and its random numbers.
 #[derive(Clone, Copy, Debug, Drop)]
 pub struct Effort {
     /// The seed of the generator.
     pub seed: u64,
-    /// The number of its stream.
+    /// The number of the generator's stream.
     pub stream: u64,
-    /// The most moves.
+    /// The greatest number of moves.
     pub moves: u32,
-    /// The moves of a full search: one that is far from a mapping after a part of them is given up; 0 where none is.
+    /// The moves of a full search: a search that is far from a mapping after a part of them is given up; 0 where none
+    /// is given up.
     pub full: u64,
 }
 
-/// A part of a full search, in twelfths, and the most faults with which it goes on after that part.
+/// A part of a full search, in twelfths, and the greatest number of faults with which it goes on after that part.
 #[derive(Clone, Copy, Drop)]
 struct Rung {
     twelfths: u64,
     most: u32,
 }
 
-/// After which parts a full search is given up.
+/// The parts after which a full search may be given up.
 const LADDER: [Rung; 5] = [
     Rung {
         twelfths: 1,
@@ -45,7 +46,7 @@ const LADDER: [Rung; 5] = [
 ];
 
 impl Effort {
-    /// Checks whether a search is given up that met `least` faults at the least in `made` moves.
+    /// Checks whether a search is given up whose least number of faults in `made` moves is `least`.
     pub(crate) fn gives_up(&self, made: u32, least: u32) -> bool {
         for rung in &LADDER {
             if self.full > 0 && is_above(*rung, self.full, made, least) {
@@ -56,7 +57,8 @@ impl Effort {
     }
 }
 
-/// Checks whether `made` moves are the part of `full` moves that `rung` names, or more, and `least` faults too many.
+/// Checks whether `made` moves are at least the part of `full` moves that `rung` names, and `least` faults are too
+/// many.
 fn is_above(rung: Rung, full: u64, made: u32, least: u32) -> bool {
     u64::from(made) >= full.saturating_mul(rung.twelfths) / 12 && least > rung.most
 }

@@ -1,13 +1,13 @@
-//! What is wrong with a state.
+//! The faults of a state.
 
 use cg_respond_problem::Problem;
 use cg_respond_state::State;
 use std::alloc::{AllocError, Global};
 
-/// What a second node in a unit's slot counts.
+/// The weight of a second node in a unit's slot.
 const SHARED: u32 = 3;
 
-/// What a node without a place, an edge without a route and a violated order edge count.
+/// The weight of a node without a place, of an edge without a route and of a violated order edge.
 const LOST: u32 = 5;
 
 /// Returns the faults of `state`: 0 where each node has a place and each edge a route, no two nodes begin on a unit in
@@ -41,7 +41,7 @@ fn broken(problem: &Problem, state: &State) -> u32 {
     sum
 }
 
-/// Checks whether `node` has part in a fault.
+/// Checks whether `node` takes part in a fault.
 pub(crate) fn is_bad(problem: &Problem, state: &State, node: u32) -> bool {
     state.places.is_shared(node)
         || has_bad_edge(state, problem.ins.of(node))
@@ -49,7 +49,7 @@ pub(crate) fn is_bad(problem: &Problem, state: &State, node: u32) -> bool {
         || has_broken_tie(problem, state, node)
 }
 
-/// Checks whether one of `edges` has no route, or one that meets another.
+/// Checks whether one of `edges` has no route, or one with a place that is claimed twice.
 fn has_bad_edge(state: &State, edges: &[u32]) -> bool {
     for edge in edges {
         if state.routes.is_bad(*edge) {
@@ -69,7 +69,7 @@ fn has_broken_tie(problem: &Problem, state: &State, node: u32) -> bool {
     false
 }
 
-/// Returns the nodes that have part in a fault, ascending.
+/// Returns the nodes that take part in a fault, ascending.
 pub(crate) fn bad_nodes(
     alloc: Global,
     problem: &Problem,

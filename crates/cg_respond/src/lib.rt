@@ -1,6 +1,6 @@
-//! A mapper by best responses. Each node stands on a unit at a time and each data edge has a route; what stands twice
-//! in one place is a fault, and a dearer place the longer it lasts. A move lifts one node with its routes and puts it
-//! where it and its routes cost least. The search ends when there are no faults.
+//! A mapper by best responses. Each node is placed on a unit at a time and each data edge has a route; two claims on
+//! one place are a fault, and the place gets dearer the longer the fault lasts. A move lifts one node with its routes
+//! and places it where it and its routes cost least. The search ends when there are no faults.
 #![tactic(auto)]
 
 mod effort;

@@ -1,4 +1,4 @@
-//! The mapping that a copy of a state stands for.
+//! The mapping that a copy of a state represents.
 ghost use Rattle.std.specs.Prelude.{◌≡◌, ◌<◌, ◌++◌, ◌∷◌, [], ◌^◌, IfOk, OnOk, length, map};
 ghost use Rattle.cg_model.specs.Kernel.{size};
 ghost use Rattle.cg_model.specs.Mapping.{IsShaped, end_of, ends_of, ends_from};
@@ -8,7 +8,7 @@ use cg_model::{Items, Kernel, Mapping, Operand, Place, Route, Words};
 use cg_respond_problem::count;
 use std::alloc::{AllocError, Global};
 
-/// Returns the mapping of `kernel` that `snapshot` stands for, at the interval `ii`: with an empty path for an edge
+/// Returns the mapping of `kernel` that `snapshot` represents, at the interval `ii`, with an empty path for an edge
 /// without a route.
 pub(crate) fn mapping(
     alloc: Global,
@@ -24,7 +24,7 @@ pub(crate) fn mapping(
     Ok(Mapping::new(ii, places, routes))
 }
 
-/// Returns where each node of `kernel` stands.
+/// Returns the place of each node of `kernel`.
 fn places_of(alloc: Global, kernel: &Kernel, snapshot: &Snapshot) -> Result<Vec<Place>, AllocError>
     ensures { IfOk result (λ v. length v.items ≡ size kernel.now) }
 {
@@ -65,7 +65,7 @@ fn add_routes(
     Ok(())
 }
 
-/// Adds the route to operand `arg` of `node` if it is an edge. Edges go by number as their routes do.
+/// Adds the route to operand `arg` of `node` if it is an edge. Edges are numbered in the order of their routes.
 fn add_route(
     alloc: Global,
     routes: &mut Vec<Route>,

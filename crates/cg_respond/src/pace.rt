@@ -1,4 +1,4 @@
-//! What a search counts: its moves, and the faults that it met; and its best state.
+//! The counts of a search: its moves and its least number of faults; and its best state.
 
 use crate::effort::Effort;
 use crate::faults::faults;
@@ -10,22 +10,22 @@ use cg_respond_state::State;
 use rand_pcg::Lcg64Xsh32;
 use std::alloc::{AllocError, Global};
 
-/// How many sweeps may pass without fewer faults than before.
+/// The number of sweeps that may pass without fewer faults than before.
 const STALE_SWEEPS: u32 = 60;
 
-/// How many moves may pass so.
+/// The number of moves that may pass without fewer faults.
 const STALE_MOVES: u32 = 1500;
 
-/// How many moves a node may, where there are many nodes.
+/// The number of these moves for each node, where there are many nodes.
 const STALE_NODE_MOVES: u32 = 60;
 
-/// How many candidates of a node are tried with their routes.
+/// The number of candidates of a node that are tried with their routes.
 const TRIED: u32 = 12;
 
-/// How many are in two attempts of four.
+/// The number of these candidates in two attempts of four.
 const FEW_TRIED: u32 = 6;
 
-/// How many moves are made at the least from one report of progress to the next.
+/// The least number of moves from one report of progress to the next.
 const REPORT_MOVES: u32 = 64;
 
 /// How an attempt ends.
@@ -33,22 +33,22 @@ const REPORT_MOVES: u32 = 64;
 pub(crate) enum Ending {
     /// Without faults.
     Clean,
-    /// With faults that don't grow fewer.
+    /// With faults that don't become fewer.
     Stale,
     /// With faults, as the search is over: no moves are left, or it is given up.
     Over,
 }
 
-/// What a search keeps beside its state.
+/// The data that a search keeps besides its state.
 #[derive(Drop)]
 pub(crate) struct Pace {
     /// The generator.
     pub(crate) generator: Lcg64Xsh32,
     /// The moves that were made.
     pub(crate) made: u32,
-    /// The least faults; the greatest word where none were counted yet.
+    /// The least number of faults; the greatest word where none were counted yet.
     pub(crate) least: u32,
-    /// The first state with the least faults; one in which no node stands anywhere where none were counted yet.
+    /// The first state with the least number of faults; one in which no node is placed where none were counted yet.
     pub(crate) best: Snapshot,
     effort: Effort,
     tried: u32,
@@ -59,7 +59,7 @@ pub(crate) struct Pace {
 }
 
 impl Pace {
-    /// Returns the pace of a search on `problem` of that `effort`.
+    /// Returns the pace of a search on `problem` with `effort`.
     pub(crate) fn new(
         alloc: Global,
         problem: &Problem,
@@ -115,7 +115,7 @@ impl Pace {
         Ok(())
     }
 
-    /// Keeps `state`, which has that number of faults, where none before it had so few.
+    /// Keeps `state`, which has `faults` faults, where every state before it had more.
     fn keep(&mut self, state: &State, faults: u32) -> Result<(), AllocError> {
         if faults < self.least {
             self.least = faults;
@@ -155,14 +155,14 @@ impl Pace {
         }
     }
 
-    /// Checks whether faults didn't grow fewer for long, where there are `nodes` nodes.
+    /// Checks whether faults haven't become fewer for a long time, where there are `nodes` nodes.
     fn is_stale(&self, nodes: u32) -> bool {
         let moves = STALE_MOVES.max(nodes.saturating_mul(STALE_NODE_MOVES));
         self.since > STALE_SWEEPS && self.made.saturating_sub(self.since_move) > moves
     }
 
-    /// Reports to `aside` the moves and the least faults of this search, at the interval `ii` in cycles, where enough moves
-    /// were made since it last did.
+    /// Reports to `aside` the moves and the least faults of this search, at the interval `ii` in cycles, where enough
+    /// moves were made since it last did.
     pub(crate) fn report(&mut self, ii: u32, aside: &mut dyn Aside) {
         if self.made.saturating_sub(self.reported) >= REPORT_MOVES {
             self.reported = self.made;

@@ -26,12 +26,12 @@ pub enum Responded<'a> {
     Spent {
         /// The least number of faults that a state had.
         faults: u32,
-        /// The mapping of the first state with so few.
+        /// The mapping of the first state with that number of faults.
         mapping: Mapping,
     },
 }
 
-/// Searches a mapping of `task`, on the array of `wiring`, with that `effort`. `aside` takes the progress.
+/// Searches a mapping of `task` on the array of `wiring`, with `effort`. `aside` takes the progress.
 pub fn respond<'a>(
     alloc: Global,
     task: &Task<'a>,
@@ -77,7 +77,7 @@ fn attempts<'a>(
     ended(alloc, task, &pace, effort)
 }
 
-/// Returns how a search of that `effort` ends which is over, by its best state.
+/// Returns the end of a search with `effort` that is over, by its best state.
 fn ended<'a>(
     alloc: Global,
     task: &Task<'a>,
@@ -95,7 +95,7 @@ fn ended<'a>(
     }
 }
 
-/// Checks whether the mapping that `snapshot` stands for is legal.
+/// Checks whether the mapping that `snapshot` represents is legal.
 fn checked<'a>(
     alloc: Global,
     task: &Task<'a>,

@@ -1,11 +1,11 @@
-//! A copy of what a mapping takes of a state.
+//! A copy of the part of a state that a mapping needs.
 
 use cg_model::Place;
 use cg_respond_problem::{Places, Problem};
 use cg_respond_state::{Routes, State};
 use std::alloc::{AllocError, Global};
 
-/// Where the nodes of a state stand, and how its values go.
+/// The places of the nodes of a state, and the routes of its values.
 #[derive(Drop)]
 pub(crate) struct Snapshot {
     places: Vec<Place>,
@@ -13,7 +13,7 @@ pub(crate) struct Snapshot {
 }
 
 impl Snapshot {
-    /// Returns the copy of a state in which no node stands anywhere.
+    /// Returns the copy of a state in which no node is placed.
     pub(crate) fn new(alloc: Global, problem: &Problem) -> Result<Snapshot, AllocError> {
         let mut places = Vec::new(alloc);
         for node in 0..problem.nodes {
@@ -26,13 +26,13 @@ impl Snapshot {
         Ok(Snapshot { places, paths })
     }
 
-    /// Becomes a copy of `state`. After an error it is of no use.
+    /// Becomes a copy of `state`. After an error the copy is unusable.
     pub(crate) fn take(&mut self, state: &State) -> Result<(), AllocError> {
         self.take_places(&state.places);
         self.take_paths(&state.routes)
     }
 
-    /// Copies where nodes stand.
+    /// Copies the places of nodes.
     fn take_places(&mut self, standing: &Places) {
         let least = standing.least_time();
         let mut node: u32 = 0;
@@ -52,7 +52,7 @@ impl Snapshot {
         Ok(())
     }
 
-    /// Returns the place of `node`, with times counted from the least one on; on no unit where it stood nowhere.
+    /// Returns the place of `node`, with times counted from the least one; on no unit where it had no place.
     pub(crate) fn place(&self, node: u32) -> Place {
         match self.places.get(node as usize) {
             Some(place) => *place,
@@ -69,7 +69,7 @@ impl Snapshot {
     }
 }
 
-/// Returns `place`, that of `node`, with its time counted from `least` on; on no unit where there is none.
+/// Returns `place`, that of `node`, with its time counted from `least`; on no unit where there is none.
 fn place_from(place: Option<Place>, least: u32, node: u32) -> Place {
     match place {
         Some(place) => Place {
@@ -80,7 +80,7 @@ fn place_from(place: Option<Place>, least: u32, node: u32) -> Place {
     }
 }
 
-/// Returns a place of `node` on no unit, and on another one than that of any other node.
+/// Returns a place of `node` on no unit, different from that of any other node.
 fn nowhere(node: u32) -> Place {
     Place {
         unit: u32::MAX - node,
@@ -88,7 +88,7 @@ fn nowhere(node: u32) -> Place {
     }
 }
 
-/// Lets `path` be the resources on the route of `edge`; none where it has no route.
+/// Makes `path` the resources on the route of `edge`; none where it has no route.
 fn take_path(path: &mut Vec<u32>, standing: &Routes, edge: u32) -> Result<(), AllocError> {
     path.clear();
     if let Some(route) = standing.route(edge) {

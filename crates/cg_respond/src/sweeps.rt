@@ -1,4 +1,4 @@
-//! Attempts: an opening, and then sweeps over the nodes that have part in a fault.
+//! Attempts: an opening, and then sweeps over the nodes that take part in a fault.
 
 use crate::faults::{all_nodes, bad_nodes, is_bad};
 use crate::opening::opening;
@@ -10,16 +10,16 @@ use cg_respond_problem::Problem;
 use cg_respond_state::State;
 use std::alloc::{AllocError, Global};
 
-/// Sweeps of an attempt.
+/// The number of sweeps of an attempt.
 const SWEEPS: u32 = 9000;
 
-/// How many sweeps go over all nodes at first.
+/// The number of first sweeps that go over all nodes.
 const WHOLE: u32 = 2;
 
-/// The number of sweeps from one shift of parts by whole turns to the next.
+/// The number of sweeps from one shift of parts by whole intervals to the next.
 const TURNING: u32 = 4;
 
-/// The greatest interval at which parts are shifted before the first sweep alone.
+/// The greatest interval at which parts are shifted only before the first sweep.
 const SHORT_INTERVAL: u32 = 2;
 
 /// Makes attempt number `number`, and returns how it ends. `aside` takes the progress.
@@ -40,8 +40,8 @@ pub(crate) fn attempt(
     }
 }
 
-/// Places the nodes one after another where none stands, in the order of attempt number `number`. Returns whether the
-/// moves sufficed.
+/// Places the nodes one after another where none is placed, in the order of attempt number `number`. Returns whether
+/// the moves sufficed.
 fn open(
     alloc: Global,
     problem: &Problem,
@@ -60,7 +60,7 @@ fn open(
     Ok(true)
 }
 
-/// Makes sweeps until the attempt ends, and returns how it does. `aside` takes the progress.
+/// Makes sweeps until the attempt ends, and returns how it ends. `aside` takes the progress.
 fn make_sweeps(
     alloc: Global,
     problem: &Problem,
@@ -79,8 +79,8 @@ fn make_sweeps(
     Ok(Ending::Stale)
 }
 
-/// Makes what is wrong dearer, and then the best responses of the nodes that have part in a fault, or of all nodes in
-/// the first sweeps. `sweep` is the number of the sweep.
+/// Raises the prices of faults, and then makes the best responses of the nodes that take part in a fault, or of all
+/// nodes in the first sweeps. `sweep` is the number of the sweep.
 fn make_sweep(
     alloc: Global,
     problem: &Problem,
@@ -99,7 +99,7 @@ fn make_sweep(
     }
 }
 
-/// Checks whether parts of the kernel go a whole turn later or sooner in the sweep of that number.
+/// Checks whether parts of the kernel move a whole interval later or sooner in sweep number `sweep`.
 fn turns_parts(problem: &Problem, sweep: u32) -> bool {
     sweep == 0 || problem.ii > SHORT_INTERVAL && sweep % TURNING == 0
 }
@@ -118,8 +118,8 @@ fn respond_all(
     Ok(())
 }
 
-/// Makes the best responses of the nodes that have part in a fault, in a random order; of one of them only if it still
-/// has part in one when its turn comes.
+/// Makes the best responses of the nodes that take part in a fault, in a random order; each only if it still takes part
+/// in one when its turn comes.
 fn respond_bad(
     alloc: Global,
     problem: &Problem,

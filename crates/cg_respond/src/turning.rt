@@ -1,12 +1,14 @@
-//! Whole turns: a part of the kernel goes an interval later or sooner where values then stay less long. Its nodes keep
-//! their units and slots, and the routes within it theirs; only those over its border are sought anew.
+//! Moves by whole intervals: a part of the kernel moves an interval later or sooner where values then stay for a
+//! shorter time. Its nodes keep their units and slots, and the routes within it are kept; only those across its border
+//! are searched anew.
 
 use crate::pace::Pace;
 use cg_respond_problem::{Problem, longest_stays};
 use cg_respond_state::{State, along};
 use std::alloc::{AllocError, Global};
 
-/// Tries for each node to go a whole turn later and a whole turn sooner, with all nodes that must go along.
+/// Tries for each node to move a whole interval later and a whole interval sooner, with all nodes that must move
+/// along.
 pub(crate) fn turn_parts(
     alloc: Global,
     problem: &Problem,
@@ -20,8 +22,8 @@ pub(crate) fn turn_parts(
     Ok(())
 }
 
-/// Lets `node` go a whole turn later, where `is_later` is true, or sooner, with all nodes that must go along, if that
-/// isn't the whole kernel, the longest stays of values grow less and moves are left.
+/// Moves `node` a whole interval later, where `is_later` is true, or sooner, with all nodes that must move along, if
+/// these aren't the whole kernel, the longest stays of values become less and moves are left.
 fn turn(
     alloc: Global,
     problem: &Problem,
@@ -51,7 +53,8 @@ fn are_all(marks: &[bool]) -> bool {
     true
 }
 
-/// Checks whether the longest stays of values grow less where the nodes of `part` go a whole turn later, or sooner.
+/// Checks whether the longest stays of values become less where the nodes of `part` move a whole interval later, or
+/// sooner.
 fn pays(
     alloc: Global,
     problem: &Problem,

@@ -1,10 +1,10 @@
-//! Least prices to where a value is read.
+//! Least prices to the port where a value is read.
 use crate::buffers::{Entry, Layers, NOWHERE, UNREACHED};
 use crate::steps::{Back, bit, is_turns_apart, place_in, price_in, row_of};
 use cg_respond_prices::{Occupancy, Wiring};
 use std::alloc::AllocError;
 
-/// The best way on from a resource.
+/// The cheapest way on from a resource.
 #[derive(Clone, Copy)]
 struct Onward {
     price: u32,
@@ -13,10 +13,10 @@ struct Onward {
 }
 
 impl Layers {
-    /// Fills layers 0 to `last` backward from a port at a time, which is in layer 0, with what costs less than `cap`:
-    /// the least prices to it. The price of the resource itself isn't in them.
+    /// Fills layers 0 to `last` backward from a port at a time, which is in layer 0, with the least prices to the port
+    /// that are less than `cap`. The price of the resource itself is not included.
     ///
-    /// No way stands on a resource in two layers that are some intervals apart.
+    /// No way uses a resource in two layers that are a multiple of the interval apart.
     pub fn backward(
         &mut self,
         occupancy: &Occupancy,
@@ -45,8 +45,8 @@ impl Layers {
         Ok(())
     }
 
-    /// Fills a layer: wires, those that drive others after them, then registers and outs. Says whether a way leaves one
-    /// of the registers.
+    /// Fills a layer: wires, each after the wires that it drives, then registers and outs. Returns whether a way leaves
+    /// one of the registers.
     fn fill_back(
         &mut self,
         occupancy: &Occupancy,
@@ -72,7 +72,7 @@ impl Layers {
         is_alive
     }
 
-    /// Finds the least prices from wires, and what it costs to enter them.
+    /// Finds the least prices from wires, and the prices of entering them.
     fn leave_wires(&mut self, wiring: &Wiring, step: Back) {
         for resource in wiring.wires().iter().rev() {
             let onward = self.leave(wiring, step, *resource);
@@ -81,7 +81,7 @@ impl Layers {
         }
     }
 
-    /// Finds the least prices from other resources, and says whether there is one.
+    /// Finds the least prices from other resources, and returns whether there is one.
     fn leave_all(&mut self, wiring: &Wiring, step: Back, resources: &[u32]) -> bool {
         let mut is_any = false;
         for resource in resources {
@@ -92,7 +92,7 @@ impl Layers {
         is_any
     }
 
-    /// Notes what it costs to enter the registers, from the cycle before.
+    /// Notes the prices of entering the registers, from the cycle before.
     fn price_registers(&mut self, wiring: &Wiring, step: Back) {
         for resource in wiring.registers() {
             let onward = self.price_at(place_in(step.row, *resource));
@@ -101,7 +101,7 @@ impl Layers {
         }
     }
 
-    /// Finds the least price from a resource, and returns it; `UNREACHED` where there is none.
+    /// Finds and returns the least price from `resource`; `UNREACHED` where there is no way.
     #[inline(always)]
     fn leave(&mut self, wiring: &Wiring, step: Back, resource: u32) -> u32 {
         let mark = bit(resource, step.slot);
@@ -118,7 +118,7 @@ impl Layers {
         best.price
     }
 
-    /// Finds the best way on from a resource: the first of the least price below the worth.
+    /// Finds the best way on from `resource`: the first of the least price below the worth.
     #[inline]
     fn best_on(&self, wiring: &Wiring, step: Back, resource: u32, mark: u128) -> Onward {
         let mut best = Onward {
@@ -134,7 +134,7 @@ impl Layers {
         best
     }
 
-    /// Checks whether the way on through a user stands on the resource in the same slot.
+    /// Checks whether the way on through `user` uses `resource` in the same slot.
     #[inline]
     fn is_met_on(&self, wiring: &Wiring, step: Back, resource: u32, mark: u128, user: u32) -> bool {
         step.layer >= step.interval
@@ -142,7 +142,7 @@ impl Layers {
             && self.goes_by(wiring, step, resource, user)
     }
 
-    /// Checks whether the way on through a user stands on the resource some intervals later.
+    /// Checks whether the way on through `user` uses `resource` some intervals later.
     fn goes_by(&self, wiring: &Wiring, step: Back, resource: u32, user: u32) -> bool {
         let mut place = user;
         let mut layer = layer_of(wiring, step.layer, user);
@@ -161,7 +161,7 @@ impl Layers {
     }
 }
 
-/// Returns where the entry of a user is that is entered: of a register in the cycle after the layer.
+/// Returns the place of the entry of `user` when it is entered: for a register, in the cycle after the layer.
 #[inline]
 fn entered(wiring: &Wiring, step: Back, user: u32) -> usize {
     if wiring.is_register(user) {

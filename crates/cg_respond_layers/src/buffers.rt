@@ -1,4 +1,4 @@
-//! The layers, and what is kept of each resource in each of them.
+//! The layers, and the data of each resource in each of them.
 ghost use Rattle.std.specs.Prelude.{◌≤◌};
 
 use crate::stand::Stand;
@@ -6,44 +6,44 @@ use crate::steps::{bit, place_in, row_of};
 use cg_respond_prices::{Occupancy, Wiring};
 use std::alloc::{AllocError, Global};
 
-/// In place of a price: there is no way. No price is greater.
+/// The value that denotes that there is no way, in place of a price. No price is greater.
 pub const UNREACHED: u32 = u32::MAX / 4;
 
-/// How many bytes the layers take for each resource in each layer.
+/// The number of bytes that the layers take for each resource in each layer.
 pub const ENTRY_BYTES: u64 = 24;
 
-/// In place of a resource: a way begins, or ends, here.
+/// The value that denotes that a way begins or ends here, in place of a resource.
 pub(crate) const NOWHERE: u32 = u32::MAX;
 
-/// Least prices in layers of time, a layer a cycle, with the way back. The memory for the most layers so far is kept,
-/// `ENTRY_BYTES` for each resource in each layer.
+/// Least prices in layers of time, one layer for each cycle, with the way back. The memory for the greatest number of
+/// layers so far is kept, `ENTRY_BYTES` for each resource in each layer.
 #[derive(Drop)]
 pub struct Layers {
     /// The least price of each resource in each layer, layer after layer.
     prices: Vec<u32>,
-    /// From where the way of that price comes, or leads to.
+    /// The resource from which the way of that price comes, or to which it leads.
     before: Vec<u32>,
-    /// In which slots the way stands on which resources: two bits are set where it may.
+    /// The slots and resources that the way may use: two bits are set for each.
     masks: Vec<u128>,
     /// The number of resources.
     width: u32,
     /// The number of layers.
     count: u32,
-    /// The last layer in which a standing route is free.
+    /// The last layer in which an existing route is free.
     laid: u32,
-    /// Where layers are filled backward, what it costs to enter each resource and go on from there: a wire or a port in
-    /// the layer that is filled, a register in the cycle after it.
+    /// The price of entering each resource and going on from there, where layers are filled backward: a wire or a port
+    /// in the layer that is filled, a register in the cycle after it.
     entering: Vec<u32>,
 }
 
-/// What is known of a resource in a layer.
+/// The data of a resource in a layer.
 #[derive(Clone, Copy, Debug, PartialEq, Eq)]
 pub(crate) struct Entry {
     /// The least price.
     pub price: u32,
     /// The resource from which the way comes, or to which it leads.
     pub before: u32,
-    /// Where the way may stand.
+    /// The slots and resources that the way may use.
     pub mask: u128,
 }
 
@@ -61,7 +61,7 @@ impl Layers {
         }
     }
 
-    /// Makes layers 0 to `last`, without a price but for the out, where the value begins.
+    /// Makes layers 0 to `last`, without prices except for `out`, where the value begins.
     pub fn begin(&mut self, wiring: &Wiring, out: u32, last: u32) -> Result<(), AllocError> {
         self.make_blank(wiring, last)?;
         let entry = Entry {
@@ -73,7 +73,7 @@ impl Layers {
         Ok(())
     }
 
-    /// Makes a standing route of the same value free: branches only leave it.
+    /// Makes an existing route of the value free: branches can only leave it.
     pub fn lay(&mut self, occupancy: &Occupancy, start: u32, last: u32, route: &[Stand]) {
         let mut entry = Entry {
             price: 0,
@@ -96,7 +96,7 @@ impl Layers {
         self.put(self.place(layer, resource), entry);
     }
 
-    /// Lets go of all layers; their memory is kept.
+    /// Closes all layers; their memory is kept.
     pub fn close(&mut self) {
         self.count = 0;
     }
@@ -107,7 +107,7 @@ impl Layers {
         layer < self.count
     }
 
-    /// Returns the least price of a resource in a layer; `UNREACHED` where there is no way, or outside.
+    /// Returns the least price of `resource` in `layer`; `UNREACHED` where there is no way, or outside the layers.
     #[inline]
     pub fn price(&self, layer: u32, resource: u32) -> u32
         ensures { result ≤ UNREACHED }
@@ -119,8 +119,8 @@ impl Layers {
         }
     }
 
-    /// Returns the way to a port in a layer, from its beginning on; empty where there is none. The layers are filled
-    /// forward.
+    /// Returns the way to a port in a layer, from its beginning on; empty where there is none. The layers have to be
+    /// filled forward.
     pub fn way_to(
         &self,
         alloc: Global,
@@ -165,8 +165,8 @@ impl Layers {
         Ok(())
     }
 
-    /// Goes on from the last stand of a path to the port, and adds the stands; nothing where there is no way. The
-    /// layers are filled backward from `end`.
+    /// Adds the stands from the last stand of a path on to the port; nothing where there is no way. The layers have to
+    /// be filled backward from `end`.
     pub fn way_on(
         &self,
         wiring: &Wiring,
@@ -182,7 +182,7 @@ impl Layers {
         Ok(())
     }
 
-    /// Adds the way from a resource in a layer, without that, on to its end.
+    /// Adds the way from a resource in a layer, without that resource, on to its end.
     fn walk_on(
         &self,
         wiring: &Wiring,
@@ -240,7 +240,7 @@ impl Layers {
         Ok(())
     }
 
-    /// Notes that it costs `price` to enter a resource and go on from there.
+    /// Notes that entering `resource` and going on from there costs `price`.
     #[inline(always)]
     pub(crate) fn enter(&mut self, resource: u32, price: u32) {
         if let Some(entering) = self.entering.get_mut(resource as usize) {
@@ -248,7 +248,7 @@ impl Layers {
         }
     }
 
-    /// Returns what it costs to enter a resource and go on from there.
+    /// Returns the price of entering `resource` and going on from there.
     #[inline(always)]
     pub(crate) fn entering(&self, resource: u32) -> u32 {
         match self.entering.get(resource as usize) {
@@ -257,7 +257,7 @@ impl Layers {
         }
     }
 
-    /// Returns the number of places.
+    /// Returns the number of entries.
     #[inline]
     pub(crate) fn places(&self) -> usize {
         self.before.len()
@@ -269,13 +269,13 @@ impl Layers {
         self.width
     }
 
-    /// Checks whether a standing route is free in a layer, or in a later one.
+    /// Checks whether an existing route is free in `layer` or in a later one.
     #[inline]
     pub(crate) fn is_laid(&self, layer: u32) -> bool {
         layer <= self.laid
     }
 
-    /// Returns where the entry of a resource in a layer is.
+    /// Returns the place of the entry of `resource` in `layer`.
     #[inline]
     pub(crate) fn place(&self, layer: u32, resource: u32) -> usize {
         place_in(row_of(layer, self.width), resource)
@@ -304,7 +304,7 @@ impl Layers {
         }
     }
 
-    /// Returns from where the way at a place comes, or where it leads.
+    /// Returns the resource from which the way at `place` comes, or to which it leads.
     #[inline]
     pub(crate) fn before_at(&self, place: usize) -> u32 {
         match self.before.get(place) {
@@ -313,7 +313,7 @@ impl Layers {
         }
     }
 
-    /// Returns where that way may stand.
+    /// Returns the mask of the way at `place`: the slots and resources that it may use.
     #[inline]
     pub(crate) fn mask_at(&self, place: usize) -> u128 {
         match self.masks.get(place) {
@@ -323,7 +323,7 @@ impl Layers {
     }
 }
 
-/// Makes the first prices those of no way.
+/// Sets the first `count` prices to `UNREACHED`.
 fn blank(prices: &mut [u32], count: usize) {
     if let Some(first) = prices.get_mut(..count) {
         first.fill(UNREACHED);

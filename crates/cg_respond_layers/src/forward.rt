@@ -1,9 +1,9 @@
-//! Least prices from where a value begins, or stands already.
+//! Least prices from where a value begins, or is already.
 use crate::buffers::{Entry, Layers, NOWHERE, UNREACHED};
 use crate::steps::{Ahead, bit, is_turns_apart, place_in, price_in, row_of};
 use cg_respond_prices::{Occupancy, REGISTER_PRICE, Wiring};
 
-/// The best way to a resource.
+/// The cheapest way to a resource.
 #[derive(Clone, Copy)]
 struct Arrival {
     price: u32,
@@ -12,10 +12,11 @@ struct Arrival {
 }
 
 impl Layers {
-    /// Fills the layers forward in time with what costs less than `cap`; with a target only with what can reach that
-    /// port in the last layer, and stays below `cap` even if a register is entered in each cycle that is left.
+    /// Fills the layers forward in time with least prices below `cap`. With a target, only resources are filled from
+    /// which that port can be reached in the last layer at a price below `cap`, even if a register is entered in each
+    /// cycle that is left.
     ///
-    /// No way stands on a resource in two layers that are some intervals apart.
+    /// No way uses a resource in two layers that are a multiple of the interval apart.
     pub fn forward(
         &mut self,
         occupancy: &Occupancy,
@@ -47,8 +48,8 @@ impl Layers {
         }
     }
 
-    /// Fills a layer: registers from the layer before, then wires and ports. Says whether a way stands in it, or a
-    /// route is laid there or later.
+    /// Fills a layer: registers from the layer before, then wires and ports. Returns whether a way is in it, or a route
+    /// is laid in it or later.
     fn fill(&mut self, wiring: &Wiring, step: Ahead, target: Option<u32>) -> bool {
         let is_entered = self.enter_registers(wiring, step);
         let is_alive = is_entered || self.is_laid(step.layer);
@@ -59,7 +60,7 @@ impl Layers {
         is_alive
     }
 
-    /// Finds the least prices of registers, from the layer before, and says whether there is one.
+    /// Finds the least prices of registers, from the layer before, and returns whether there is one.
     fn enter_registers(&mut self, wiring: &Wiring, step: Ahead) -> bool {
         if step.layer == 0 {
             return false;
@@ -78,7 +79,7 @@ impl Layers {
         }
     }
 
-    /// Finds the least prices of resources, and says whether there is one.
+    /// Finds the least prices of `resources`, and returns whether there is one.
     fn reach_all(&mut self, wiring: &Wiring, step: Ahead, resources: &[u32]) -> bool {
         let mut is_any = false;
         for resource in resources {
@@ -89,8 +90,8 @@ impl Layers {
         is_any
     }
 
-    /// Finds the least price of a resource, where it isn't free already and the target can be reached from it, and says
-    /// whether there is one.
+    /// Finds the least price of `resource`, where it isn't free already and the target can be reached from it, and
+    /// returns whether there is one.
     #[inline(always)]
     fn reach(&mut self, wiring: &Wiring, step: Ahead, resource: u32) -> bool {
         let place = place_in(step.row, resource);
@@ -139,7 +140,7 @@ impl Layers {
         best
     }
 
-    /// Checks whether the way to a driver stands on the resource in the same slot already.
+    /// Checks whether the way to `driver` uses `resource` in the same slot already.
     #[inline]
     fn is_met(&self, wiring: &Wiring, step: Ahead, resource: u32, mark: u128, driver: u32) -> bool {
         step.layer >= step.interval
@@ -147,7 +148,7 @@ impl Layers {
             && self.comes_by(wiring, step, resource, driver)
     }
 
-    /// Checks whether the way to a driver stands on the resource some intervals before.
+    /// Checks whether the way to `driver` uses `resource` some intervals before.
     fn comes_by(&self, wiring: &Wiring, step: Ahead, resource: u32, driver: u32) -> bool {
         let mut place = driver;
         let mut layer = step.from;
@@ -171,7 +172,7 @@ impl Layers {
     }
 }
 
-/// Returns at which price a way is of no use in a layer with `left` after it.
+/// Returns the price at which a way is of no use in a layer with `left` layers after it.
 fn worth_of(target: Option<u32>, cap: u32, left: u32) -> u32 {
     let most = cap.min(UNREACHED);
     match target {
@@ -180,7 +181,7 @@ fn worth_of(target: Option<u32>, cap: u32, left: u32) -> u32 {
     }
 }
 
-/// Returns the least numbers of registers on ways to a port; nothing where there is no port.
+/// Returns the least numbers of registers on ways to the target; empty where there is no target.
 fn ways_to(wiring: &Wiring, target: Option<u32>) -> &[u8] {
     match target {
         Some(port) => wiring.ways_to(port),
@@ -188,7 +189,7 @@ fn ways_to(wiring: &Wiring, target: Option<u32>) -> &[u8] {
     }
 }
 
-/// Checks whether a way through a resource in a layer doesn't reach the target in time.
+/// Checks whether a way through `resource` in a layer reaches the target too late.
 #[inline]
 fn is_late(step: Ahead, resource: u32) -> bool {
     match step.ways.get(resource as usize) {

@@ -1,10 +1,10 @@
-//! Where a value stands.
+//! The position of a value.
 
-/// Where a value stands, and when.
+/// The resource on which a value is, and when.
 #[derive(Clone, Copy, Debug, PartialEq, Eq)]
 pub struct Stand {
     /// The resource.
     pub resource: u32,
-    /// The cycle, from the origin of times on.
+    /// The cycle, counted from the origin of times.
     pub time: u32,
 }

@@ -1,15 +1,15 @@
-//! Numbers by words of a generator.
+//! Random numbers from the words of a generator.
 
 use rand_core::utils::NextWord;
 use rand_pcg::Lcg64Xsh32;
 
-/// Draws a number below `k` by the next word of `generator`; 0 where `k` is 0.
+/// Returns a random number below `k` from the next word of `generator`; 0 where `k` is 0.
 pub fn draw(generator: &mut Lcg64Xsh32, k: u32) -> u32 {
     let word = generator.next_word();
     scaled(word, k)
 }
 
-/// Returns the part of `k` that `word` is of all words, rounded down.
+/// Returns `k` scaled by the ratio of `word` to the number of all words, rounded down.
 fn scaled(word: u32, k: u32) -> u32 {
     (u64::from(word) * u64::from(k) / (1 << 32)) as u32
 }
@@ -22,7 +22,7 @@ pub fn shuffle(generator: &mut Lcg64Xsh32, list: &mut [u32]) {
     }
 }
 
-/// Returns the number after that of `place`, at most the greatest word.
+/// Returns the number after `place`, at most the greatest word.
 fn step_up(place: usize) -> u32 {
     place.min(0xffff_fffe) as u32 + 1
 }

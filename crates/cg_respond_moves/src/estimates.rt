@@ -1,4 +1,4 @@
-//! What it is to cost to put a node somewhere, before any route is tried.
+//! The estimated cost of placing a node, before any route is tried.
 
 use crate::known::Known;
 use crate::windows::Window;
@@ -7,13 +7,13 @@ use cg_respond_problem::{Host, Places, Problem, number_at, raise};
 use cg_respond_state::Routes;
 use std::alloc::{AllocError, Global};
 
-/// What a cycle costs by which a value comes too late.
+/// The cost of each cycle by which a value comes too late.
 const LATE: u32 = 2;
 
-/// The part of eight that each route counts which may share its beginning with a dearer one.
+/// The share, in eighths, that counts of each route that may share its beginning with a dearer one.
 const SHARE: u32 = 4;
 
-/// What the routes to several consumers cost, which may share their beginnings.
+/// The cost of the routes to several consumers, which may share their beginnings.
 #[derive(Clone, Copy, Drop)]
 struct Fan {
     sum: u32,
@@ -39,16 +39,16 @@ pub(crate) struct Estimates {
 pub(crate) struct Link {
     /// The number of its layers.
     pub(crate) number: u32,
-    /// The time at the other end: when the value leaves there, or is to be there.
+    /// The time at the other end: when the value leaves there, or has to be there.
     pub(crate) time: u32,
     /// The last layer that was searched, in cycles from there.
     pub(crate) last: u32,
-    /// What it costs to have no route.
+    /// The cost of having no route.
     pub(crate) penalty: u32,
 }
 
 impl Estimates {
-    /// Returns the costs of standing on each unit that offers the operation of `node`, at each time of `window`.
+    /// Returns the costs of placing `node` on each unit that offers its operation, at each time of `window`.
     pub(crate) fn of_places(
         alloc: Global,
         problem: &Problem,
@@ -101,8 +101,8 @@ impl Estimates {
         }
     }
 
-    /// Adds the route of an edge into the node, to the port `port` of the unit of `row`. The turn of its target begins
-    /// `turns` cycles after that of its source.
+    /// Adds the route of an edge into the node, to the port `port` of the unit of `row`. The iteration of its target
+    /// begins `turns` cycles after that of its source.
     pub(crate) fn add_in(&mut self, routes: &Routes, link: Link, row: u32, port: u32, turns: u32) {
         for column in 0..self.window.width() {
             let begin = self
@@ -139,7 +139,8 @@ impl Estimates {
         }
     }
 
-    /// Adds a route to a consumer by its `price`, or `penalty`, what it costs to have none, where that is no more.
+    /// Adds a route to a consumer by its `price`, or by `penalty`, the cost of having no route, where that is not
+    /// greater.
     fn add_route_out(&mut self, row: u32, column: u32, price: u32, penalty: u32) {
         if price >= penalty {
             self.add(row, column, penalty);
@@ -148,7 +149,7 @@ impl Estimates {
         }
     }
 
-    /// Adds the routes to consumers to all candidates: the dearest in full, of the others a part.
+    /// Adds the routes to consumers to all candidates: the dearest in full, and a share of the others.
     pub(crate) fn add_fans(&mut self) {
         for entry in 0..self.costs.len() {
             self.add_fan(entry);
@@ -171,7 +172,7 @@ impl Estimates {
     }
 }
 
-/// Adds to `costs` what `unit` costs at each time of `window`.
+/// Adds to `costs` the price of `unit` at each time of `window`.
 fn add_prices(
     costs: &mut Vec<u32>,
     places: &Places,
@@ -185,7 +186,7 @@ fn add_prices(
     Ok(())
 }
 
-/// Returns what a value costs that comes `cycles` cycles too late, where having no route costs `penalty`.
+/// Returns the cost of a value that comes `cycles` cycles too late, where having no route costs `penalty`.
 fn too_late(penalty: u32, cycles: u32) -> u32 {
     penalty.saturating_add(cycles.saturating_mul(LATE))
 }

@@ -116,7 +116,7 @@ fn estimate_out(
     Ok(())
 }
 
-/// Returns the last layer of the routes out of the node to the time `end`. None where that is too soon.
+/// Returns the last layer of the routes out of the node to the time `end`. None where that time is too soon.
 fn last_from(problem: &Problem, estimates: &Estimates, end: u32) -> Option<u32> {
     let leaves = estimates
         .window
@@ -139,7 +139,7 @@ fn add_from_outs(problem: &Problem, routes: &Routes, estimates: &mut Estimates, 
     }
 }
 
-/// Adds what the order edge `tie` costs where it is violated.
+/// Adds the penalty of the order edge `tie` where it is violated.
 fn estimate_tie(problem: &Problem, state: &State, estimates: &mut Estimates, tie: u32) {
     let node = estimates.node;
     let rows = count(problem.offers.of(node));

@@ -1,4 +1,4 @@
-//! A move of a search by best responses: a node that is lifted goes where it costs least with its routes.
+//! A move of a search by best responses: a node that is lifted is placed where it costs least together with its routes.
 #![tactic(auto)]
 
 mod candidates;

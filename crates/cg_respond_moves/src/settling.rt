@@ -11,15 +11,16 @@ use cg_respond_state::State;
 use rand_pcg::Lcg64Xsh32;
 use std::alloc::{AllocError, Global};
 
-/// The cost of a candidate that is found so far, and the candidate.
+/// The cost of the best candidate so far, and the candidate.
 #[derive(Clone, Copy, Drop)]
 struct Choice {
     cost: u32,
     place: Place,
 }
 
-/// Puts `node`, which is lifted, where it costs least, with routes for those of its edges whose ends are placed. At most
-/// `tried` candidates are tried with their routes, those with the least estimates, to which `generator` adds noise.
+/// Puts `node`, which is lifted, where it costs least, with routes for those of its edges whose ends are placed. At
+/// most `tried` candidates are tried with their routes, those with the least estimates, to which `generator` adds
+/// noise.
 pub fn settle(
     alloc: Global,
     problem: &Problem,
@@ -40,8 +41,8 @@ pub fn settle(
     Ok(())
 }
 
-/// Returns the place of the candidate among `few` that costs least with its routes, `first` where each costs too much
-/// to tell.
+/// Returns the place of the candidate among `few` that costs least with its routes; `first` where no cost is below the
+/// greatest word.
 fn choose(
     alloc: Global,
     problem: &Problem,
@@ -65,7 +66,7 @@ fn choose(
     Ok(best.place)
 }
 
-/// Returns what `place` costs with the routes of the edges of `node`, or a cost that isn't below `limit`. The node is
+/// Returns the cost of `place` with the routes of the edges of `node`, or a cost that isn't below `limit`. The node is
 /// lifted again.
 fn cost_of(
     alloc: Global,
@@ -91,7 +92,8 @@ fn cost_of(
     Ok(own.saturating_add(routed))
 }
 
-/// Returns what the routes of `node` cost, or `limit` where it can't be less; nothing is routed where that is 0.
+/// Returns the cost of the routes of `node`, or `limit` where the cost can't be less; nothing is routed where that is
+/// 0.
 fn routed_cost(
     alloc: Global,
     problem: &Problem,
@@ -107,7 +109,7 @@ fn routed_cost(
     }
 }
 
-/// Returns what the order edges of `node` cost that are violated.
+/// Returns the penalties of the order edges of `node` that are violated.
 fn broken_ties(problem: &Problem, state: &State, node: u32) -> u32 {
     let mut sum: u32 = 0;
     for tie in problem.ties.of(node) {

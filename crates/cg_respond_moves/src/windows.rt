@@ -1,12 +1,12 @@
-//! When a node may begin, by the nodes that are placed.
+//! The times at which a node may begin, given the nodes that are placed.
 
 use cg_respond_problem::{Places, Problem};
 
-/// How many cycles more than one route may take a node may begin after the first one that its sources allow, where its
+/// The number of cycles that is added to the span of times after the first one that a node's sources allow, where its
 /// consumers are placed too.
 const SLACK: u32 = 8;
 
-/// Times one after another.
+/// A range of consecutive times.
 #[derive(Clone, Copy, Drop)]
 pub(crate) struct Window {
     /// The first one.
@@ -16,7 +16,7 @@ pub(crate) struct Window {
 }
 
 impl Window {
-    /// Returns how many there are, at least one.
+    /// Returns the number of times, at least one.
     pub(crate) fn width(&self) -> u32 {
         self.last.saturating_sub(self.first).saturating_add(1)
     }
@@ -35,7 +35,7 @@ pub(crate) fn window_of(problem: &Problem, places: &Places, node: u32) -> Window
     between(problem, node, earliest, latest)
 }
 
-/// Returns the times to be tried by the `earliest` and the `latest` one, where there are such.
+/// Returns the times to be tried, given the `earliest` and the `latest` one where these exist.
 fn between(problem: &Problem, node: u32, earliest: Option<u32>, latest: Option<u32>) -> Window {
     let span = problem.ii.saturating_add(problem.wiring.diameter());
     match (earliest, latest) {
@@ -52,7 +52,7 @@ fn between(problem: &Problem, node: u32, earliest: Option<u32>, latest: Option<u
     }
 }
 
-/// Returns the times about `first`, the earliest, and `last`, the latest one, which may be in the wrong order.
+/// Returns the times around `first`, the earliest, and `last`, the latest time, which may be in the wrong order.
 fn within(first: u32, last: u32, span: u32) -> Window {
     if first <= last {
         let after = last.saturating_add(1);
@@ -69,7 +69,7 @@ fn times(first: u32, last: u32) -> Window {
     Window { first, last }
 }
 
-/// Returns the later of two times, where there are both; else the one there is.
+/// Returns the later of two times where both exist, else the existing one.
 fn later(one: Option<u32>, other: Option<u32>) -> Option<u32> {
     match (one, other) {
         (Some(one), Some(other)) => Some(one.max(other)),
@@ -78,7 +78,7 @@ fn later(one: Option<u32>, other: Option<u32>) -> Option<u32> {
     }
 }
 
-/// Returns the sooner of two times, where there are both; else the one there is.
+/// Returns the sooner of two times where both exist, else the existing one.
 fn sooner(one: Option<u32>, other: Option<u32>) -> Option<u32> {
     match (one, other) {
         (Some(one), Some(other)) => Some(one.min(other)),
@@ -87,7 +87,7 @@ fn sooner(one: Option<u32>, other: Option<u32>) -> Option<u32> {
     }
 }
 
-/// Returns when the last value of the sources of `node` that are placed is there.
+/// Returns when the last value of the placed sources of `node` is available.
 fn earliest_by_edges(problem: &Problem, places: &Places, node: u32) -> Option<u32> {
     let mut earliest = None;
     for edge in problem.ins.of(node) {
@@ -96,14 +96,15 @@ fn earliest_by_edges(problem: &Problem, places: &Places, node: u32) -> Option<u3
     earliest
 }
 
-/// Returns when the value of the source of `edge` leaves its unit, in the turn of the target.
+/// Returns when the value of the source of `edge` leaves its unit, in the iteration of the target.
 fn bound_by_source(problem: &Problem, places: &Places, edge: u32) -> Option<u32> {
     let facts = problem.edge(edge)?;
     let leaves = problem.leaves(places, facts)?;
     Some(leaves.saturating_sub(problem.turns(facts.distance)))
 }
 
-/// Returns when `node` is to begin at the latest, so that its value is there in time for the consumers that are placed.
+/// Returns the latest time at which `node` may begin so that its value arrives in time for the consumers that are
+/// placed.
 fn latest_by_edges(problem: &Problem, places: &Places, node: u32) -> Option<u32> {
     let mut latest = None;
     for edge in problem.outs.of(node) {
@@ -112,7 +113,7 @@ fn latest_by_edges(problem: &Problem, places: &Places, node: u32) -> Option<u32>
     latest
 }
 
-/// Returns when `node`, the source of `edge`, is to begin for its target.
+/// Returns when `node`, the source of `edge`, has to begin for its target.
 fn bound_by_target(problem: &Problem, places: &Places, edge: u32, node: u32) -> Option<u32> {
     let facts = problem.edge(edge)?;
     let arrives = problem.arrives(places, facts)?;
@@ -139,7 +140,7 @@ fn bound_before(problem: &Problem, places: &Places, tie: u32, node: u32) -> Opti
     Some(after.saturating_sub(problem.turns(edge.distance)))
 }
 
-/// Returns when `node` is to begin at the latest for the nodes that come after it.
+/// Returns the latest time at which `node` may begin for the nodes that come after it.
 fn latest_by_ties(problem: &Problem, places: &Places, node: u32) -> Option<u32> {
     let mut latest = None;
     for tie in problem.ties.of(node) {
@@ -148,7 +149,7 @@ fn latest_by_ties(problem: &Problem, places: &Places, node: u32) -> Option<u32> 
     latest
 }
 
-/// Returns when `node` is to begin at the latest, if it is the source of the order edge `tie`.
+/// Returns the latest time at which `node` may begin, if it is the source of the order edge `tie`.
 fn bound_after(problem: &Problem, places: &Places, tie: u32, node: u32) -> Option<u32> {
     let edge = problem.order.get(tie as usize)?;
     if edge.from != node {

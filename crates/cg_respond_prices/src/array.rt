@@ -9,8 +9,8 @@ use crate::rows::{Rows, drivers_of, users_of};
 use cg_arch::{Arch, Kind, Resource, Unit};
 use std::alloc::{AllocError, Global};
 
-/// The array as a search for routes reads it: flat lists by the numbers of resources. It takes some 10 bytes for each
-/// link, five for each resource, and a byte for each resource and port, at most some 13 MB.
+/// The array as a search for routes reads it: flat lists indexed by resource number. It takes about 10 bytes for each
+/// link, five for each resource, and a byte for each resource and port, at most about 13 MB.
 #[derive(Drop)]
 pub struct Wiring {
     kinds: Vec<Kind>,
@@ -28,7 +28,7 @@ pub struct Wiring {
 }
 
 impl Wiring {
-    /// Reads the wiring of an architecture.
+    /// Reads the wiring of `arch`.
     pub fn new(alloc: Global, arch: &Arch) -> Result<Wiring, AllocError> {
         let resources = arch.resources();
         let users = users_of(alloc, resources)?;
@@ -59,32 +59,32 @@ impl Wiring {
         self.count as usize
     }
 
-    /// Returns the resources that drive one, in its order; empty past the last resource.
+    /// Returns the drivers of `resource`, in its order; empty past the last resource.
     #[inline]
     pub fn drivers(&self, resource: u32) -> &[u32] {
         self.drivers.row(resource)
     }
 
-    /// Returns the resources that one drives, ascending; empty past the last resource.
+    /// Returns the resources that `resource` drives, ascending; empty past the last resource.
     #[inline]
     pub fn users(&self, resource: u32) -> &[u32] {
         self.users.row(resource)
     }
 
-    /// Checks whether a resource is a register.
+    /// Checks whether `resource` is a register.
     #[inline]
     pub fn is_register(&self, resource: u32) -> bool {
         self.is(resource, Kind::Register)
     }
 
-    /// Checks whether a resource is a port.
+    /// Checks whether `resource` is a port.
     #[inline]
     pub fn is_port(&self, resource: u32) -> bool {
         self.is(resource, Kind::Port)
     }
 
-    /// Returns what a resource costs that nobody claims, and that had no excess yet: `REGISTER_PRICE` for a register, 8
-    /// for a wire all of whose users, one at least, are registers, and 1 for another.
+    /// Returns the price of `resource` without claims and without earlier excess: `REGISTER_PRICE` for a register, 8
+    /// for a wire all of whose users are registers, and which has at least one, and 1 for any other resource.
     #[inline]
     pub fn base(&self, resource: u32) -> u32 {
         match self.bases.get(resource as usize) {
@@ -111,14 +111,14 @@ impl Wiring {
         &self.ports
     }
 
-    /// Returns the outs of the units, in their order.
+    /// Returns the outs of the units, in the order of the units.
     #[inline]
     pub fn outs(&self) -> &[u32] {
         &self.outs
     }
 
-    /// Returns the least number of registers that a value enters on a way from a resource to a port; `NO_WAY` where
-    /// there is none, or `to` is no port.
+    /// Returns the least number of registers that a value enters on a way from `from` to the port `to`; `NO_WAY` where
+    /// there is no way, or `to` is not a port.
     #[inline]
     pub fn hops(&self, from: u32, to: u32) -> u32
         ensures { result ≤ 255 }
@@ -126,7 +126,7 @@ impl Wiring {
         hops_from(self.ways_to(to), from)
     }
 
-    /// Returns the numbers of `hops` from all resources to a port, 255 for `NO_WAY`; empty where it is none.
+    /// Returns the numbers of `hops` from all resources to `port`, 255 for `NO_WAY`; empty where it is not a port.
     #[inline]
     pub fn ways_to(&self, port: u32) -> &[u8] {
         row_of(&self.ways, port)
@@ -140,7 +140,7 @@ impl Wiring {
         self.diameter
     }
 
-    /// Checks whether a resource is of a kind.
+    /// Checks whether `resource` is of `kind`.
     #[inline]
     fn is(&self, resource: u32, kind: Kind) -> bool {
         match self.kinds.get(resource as usize) {

@@ -1,16 +1,17 @@
-//! What a resource costs that nobody claims, and that had no excess yet.
+//! The price of a resource without claims and without earlier excess.
 use crate::flow::is_of;
 use crate::rows::Rows;
 use cg_arch::{Kind, Resource};
 use std::alloc::{AllocError, Global};
 
-/// What a register costs that nobody claims, and that had no excess yet.
+/// The price of a register without claims and without earlier excess.
 pub const REGISTER_PRICE: u32 = 4;
 
-/// What a wire costs then whose users are registers, one at least: each value that is kept goes through one.
+/// The first price of a wire whose users are all registers, at least one: each value that is kept passes through a wire
+/// of this kind.
 const GATE_PRICE: u32 = 8;
 
-/// What another resource costs then.
+/// The first price of any other resource.
 pub(crate) const OTHER_PRICE: u32 = 1;
 
 /// Returns the first prices of the resources.
@@ -27,7 +28,7 @@ pub(crate) fn bases_of(
     Ok(bases)
 }
 
-/// Returns the first price of a resource of that kind with those users.
+/// Returns the first price of a resource of `kind` with `users`.
 fn base_of(kind: Kind, resources: &[Resource], users: &[u32]) -> u32 {
     if kind == Kind::Register {
         REGISTER_PRICE
@@ -38,7 +39,7 @@ fn base_of(kind: Kind, resources: &[Resource], users: &[u32]) -> u32 {
     }
 }
 
-/// Checks whether all of some resources are registers, and there is one.
+/// Checks whether all of `numbers` are registers, and there is at least one.
 fn are_registers(resources: &[Resource], numbers: &[u32]) -> bool {
     for number in numbers {
         if !is_of(resources, *number, Kind::Register) {

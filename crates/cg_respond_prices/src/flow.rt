@@ -1,4 +1,4 @@
-//! An order in which the wires of a cycle have their words, and the resources of a kind.
+//! The order in which the wires get their words within a cycle, and the resources of a kind.
 ghost use Rattle.std.specs.Prelude.{◌≤◌, length};
 ghost use Rattle.cg_model.specs.Limits.{most_resources};
 
@@ -6,7 +6,7 @@ use crate::rows::Rows;
 use cg_arch::{Kind, Resource};
 use std::alloc::{AllocError, Global};
 
-/// Returns the wires, each after those that drive it and else as early as it can be.
+/// Returns the wires, each after the wires that drive it and otherwise as early as possible.
 pub(crate) fn wires_of(
     alloc: Global,
     resources: &[Resource],
@@ -20,7 +20,7 @@ pub(crate) fn wires_of(
     Ok(wires)
 }
 
-/// Checks whether a resource is of a kind.
+/// Checks whether resource `number` is of `kind`.
 #[inline]
 pub(crate) fn is_of(resources: &[Resource], number: u32, kind: Kind) -> bool {
     match resources.get(number as usize) {
@@ -38,7 +38,7 @@ fn waits_of(alloc: Global, resources: &[Resource]) -> Result<Vec<u32>, AllocErro
     Ok(waits)
 }
 
-/// Counts the wires among some resources.
+/// Counts the wires among the resources `numbers`.
 fn wires_among(resources: &[Resource], numbers: &[u32]) -> u32 {
     let mut count = 0u32;
     for number in numbers {
@@ -62,7 +62,7 @@ fn free_wires(alloc: Global, resources: &[Resource], waits: &[u32]) -> Result<Ve
     Ok(wires)
 }
 
-/// Adds each wire once those that drive it are there.
+/// Adds each wire after the wires that drive it.
 fn order_wires(
     resources: &[Resource],
     users: &Rows,
@@ -78,7 +78,7 @@ fn order_wires(
     Ok(())
 }
 
-/// Adds the wires among the users of a wire that waited for it alone.
+/// Adds the users of a wire that are wires and waited for that wire alone.
 fn pass(
     resources: &[Resource],
     users: &[u32],
@@ -93,7 +93,7 @@ fn pass(
     Ok(())
 }
 
-/// Notes that a wire has its word for which `user` waited, and says whether that waits for nothing more.
+/// Notes that a wire for which `user` waited has its word, and returns whether `user` waits for no other wire.
 fn stop_waiting(waits: &mut [u32], user: u32) -> bool {
     match waits.get_mut(user as usize) {
         Some(wait) => {

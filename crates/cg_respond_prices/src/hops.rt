@@ -1,4 +1,4 @@
-//! How many registers a value enters at least on its way to a port.
+//! The least number of registers that a value enters on its way to a port.
 ghost use Rattle.std.specs.Prelude.{◌<◌, ◌≤◌, length};
 ghost use Rattle.cg_model.specs.Limits.{most_resources};
 
@@ -6,14 +6,14 @@ use crate::flow::is_of;
 use cg_arch::{Kind, Resource, Unit};
 use std::alloc::{AllocError, Global};
 
-/// In place of a number of registers: there is no way.
+/// The value that denotes that there is no way, in place of a number of registers.
 pub const NO_WAY: u32 = 255;
 
 /// The greatest number of registers that is counted.
 const MOST_HOPS: u8 = 254;
 
-/// For each port the least numbers of registers that are entered on ways from the resources to it, by their number, 255
-/// where there is none; for other resources nothing.
+/// Returns for each port the least numbers of registers that are entered on ways from the resources to it, by resource
+/// number, 255 where there is no way; for other resources an empty list.
 pub(crate) fn ways_of(alloc: Global, resources: &[Resource]) -> Result<Vec<Vec<u8>>, AllocError>
     requires { length resources.now ≤ most_resources }
 {
@@ -24,7 +24,7 @@ pub(crate) fn ways_of(alloc: Global, resources: &[Resource]) -> Result<Vec<Vec<u
     Ok(ways)
 }
 
-/// The least numbers to a port; nothing where it is none.
+/// Returns the least numbers to resource `number`; empty where it is not a port.
 fn ways_to(alloc: Global, resources: &[Resource], number: u32) -> Result<Vec<u8>, AllocError> {
     if is_of(resources, number, Kind::Port) {
         ways_to_port(alloc, resources, number)
@@ -33,7 +33,7 @@ fn ways_to(alloc: Global, resources: &[Resource], number: u32) -> Result<Vec<u8>
     }
 }
 
-/// The least numbers to a port: one more register in each round.
+/// Returns the least numbers to `port`, found in rounds: one more register in each round.
 fn ways_to_port(alloc: Global, resources: &[Resource], port: u32) -> Result<Vec<u8>, AllocError> {
     let mut ways = vec![in alloc; 255u8; resources.len()]?;
     let mut here = Vec::new(alloc);
@@ -49,8 +49,8 @@ fn ways_to_port(alloc: Global, resources: &[Resource], port: u32) -> Result<Vec<
     Ok(ways)
 }
 
-/// Goes back from the resources with that number as far as no register is entered, and gives those from where one more
-/// is.
+/// Goes back from the resources `here`, whose number is `hops`, as far as no register is entered, and returns the
+/// resources from which one more register is entered.
 fn round(
     alloc: Global,
     resources: &[Resource],
@@ -70,7 +70,7 @@ fn round(
     Ok(later)
 }
 
-/// Goes back from a resource to its drivers, if it has that number.
+/// Goes back from resource `number` to its drivers, if the number of registers from it is `hops`.
 fn go_back(
     resources: &[Resource],
     number: u32,
@@ -95,7 +95,7 @@ fn go_back(
     Ok(())
 }
 
-/// Gives drivers that number where theirs is greater, and adds those to a list.
+/// Lowers the numbers of `drivers` to `hops` where they are greater, and adds these drivers to `list`.
 fn lower(
     drivers: &[u32],
     hops: u8,
@@ -110,7 +110,7 @@ fn lower(
     Ok(())
 }
 
-/// Gives a resource that number where its is greater, and says whether it was.
+/// Lowers the number of resource `number` to `hops` where it is greater, and returns whether it was.
 fn try_lower(ways: &mut [u8], number: u32, hops: u8) -> bool {
     match ways.get_mut(number as usize) {
         Some(way) => {
@@ -122,7 +122,7 @@ fn try_lower(ways: &mut [u8], number: u32, hops: u8) -> bool {
     }
 }
 
-/// The greatest number on a way from an out to a port, where there is one.
+/// Returns the greatest number on a way from an out to a port, where there is a way.
 pub(crate) fn diameter_of(units: &[Unit], outs: &[u32], ways: &[Vec<u8>]) -> u32
     ensures { result < 255 }
 {
@@ -133,7 +133,7 @@ pub(crate) fn diameter_of(units: &[Unit], outs: &[u32], ways: &[Vec<u8>]) -> u32
     most
 }
 
-/// The greater of a number and the greatest on a way from an out to one of some ports.
+/// Returns the greater of `least` and the greatest number on a way from an out to one of `ports`.
 fn farthest(least: u32, ports: &[u32], outs: &[u32], ways: &[Vec<u8>]) -> u32
     requires { least < 255 }
     ensures { result < 255 }
@@ -145,7 +145,7 @@ fn farthest(least: u32, ports: &[u32], outs: &[u32], ways: &[Vec<u8>]) -> u32
     most
 }
 
-/// The greater of a number and the greatest on a way from an out to a port.
+/// Returns the greater of `least` and the greatest number on a way from an out to a port.
 fn farthest_out(least: u32, outs: &[u32], ways: &[u8]) -> u32
     requires { least < 255 }
     ensures { result < 255 }
@@ -157,7 +157,7 @@ fn farthest_out(least: u32, outs: &[u32], ways: &[u8]) -> u32
     most
 }
 
-/// The greater of two numbers, or the first where the second is none.
+/// Returns the greater of `most` and `hops`, or `most` where `hops` is `NO_WAY`.
 fn greater(most: u32, hops: u32) -> u32
     requires { most < 255 }
     ensures { result < 255 }
@@ -165,7 +165,7 @@ fn greater(most: u32, hops: u32) -> u32
     if hops < NO_WAY { most.max(hops) } else { most }
 }
 
-/// The numbers to a port, by resource; nothing where it is none.
+/// Returns the numbers to `port`, by resource; empty where it is not a port.
 #[inline]
 pub(crate) fn row_of(ways: &[Vec<u8>], port: u32) -> &[u8] {
     match ways.get(port as usize) {
@@ -174,7 +174,7 @@ pub(crate) fn row_of(ways: &[Vec<u8>], port: u32) -> &[u8] {
     }
 }
 
-/// The number of a resource.
+/// Returns the number of `resource` in `ways`.
 #[inline]
 pub(crate) fn hops_from(ways: &[u8], resource: u32) -> u32
     ensures { result ≤ 255 }

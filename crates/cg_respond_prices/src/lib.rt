@@ -1,4 +1,4 @@
-//! An architecture as a search for routes reads it, and what its resources cost in each slot.
+//! An architecture as a search for routes reads it, and the prices of its resources in each slot.
 #![tactic(auto)]
 
 mod array;

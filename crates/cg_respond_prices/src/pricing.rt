@@ -1,13 +1,13 @@
-//! Who stands where in which slot, and what it costs to stand there too.
+//! The claims on resources in slots, and the price of one more claim.
 ghost use Rattle.std.specs.Prelude.{◌<◌};
 
 use crate::array::Wiring;
 use crate::spot::Spot;
 use std::alloc::{AllocError, Global};
 
-/// Who stands where in which slot, and what it costs to stand there too: the first price of the resource, to which 3 is
-/// added for each claim above one so far, and that once and thrice more for each claim. It takes some 40 bytes for each
-/// resource and slot, and 12 for each claim.
+/// The claims on resources in slots, and the price of one more claim: the sum of the resource's first price and of 3
+/// for each earlier claim above one, sweep by sweep, multiplied by one more than three times the number of claims. It
+/// takes about 40 bytes for each resource and slot, and 12 for each claim.
 #[derive(Drop)]
 pub struct Occupancy {
     spots: Vec<Spot>,
@@ -19,7 +19,7 @@ pub struct Occupancy {
 }
 
 impl Occupancy {
-    /// Returns no claims, at an interval.
+    /// Returns an occupancy without claims, at the interval `ii`.
     pub fn new(alloc: Global, wiring: &Wiring, ii: u32) -> Result<Occupancy, AllocError>
         requires { 0 < ii }
     {
@@ -44,7 +44,8 @@ impl Occupancy {
         self.interval
     }
 
-    /// Notes that the value of a source stands on a resource at a time, once more. After an error all is as before.
+    /// Adds a use of the claim of the value of `source` on `resource` at `time`. After an error the claims are as
+    /// before.
     pub fn claim(&mut self, source: u32, resource: u32, time: u32) -> Result<(), AllocError> {
         let place = self.place(resource, time);
         if let Some(spot) = self.spots.get_mut(place) {
@@ -57,7 +58,7 @@ impl Occupancy {
         Ok(())
     }
 
-    /// Notes that it stands there once less; nothing where there is no such claim.
+    /// Removes a use of the claim of `source` on `resource` at `time`; does nothing where there is no such claim.
     pub fn release(&mut self, source: u32, resource: u32, time: u32) {
         let place = self.place(resource, time);
         if let Some(spot) = self.spots.get_mut(place) {
@@ -79,7 +80,7 @@ impl Occupancy {
         }
     }
 
-    /// Returns what it costs that the value of a source stands on a resource at a time: nothing where it does already,
+    /// Returns the price of a claim of the value of `source` on `resource` at `time`: 0 where the claim exists already,
     /// else the price in that slot. Past the last resource it is the greatest number.
     #[inline]
     pub fn due(&self, source: u32, resource: u32, time: u32) -> u32 {
@@ -90,7 +91,7 @@ impl Occupancy {
         }
     }
 
-    /// Checks whether more than one claim stands on a resource in the slot of a time.
+    /// Checks whether `resource` has more than one claim in the slot of `time`.
     #[inline]
     pub fn is_shared(&self, resource: u32, time: u32) -> bool {
         match self.spots.get(self.place(resource, time)) {
@@ -105,14 +106,14 @@ impl Occupancy {
         self.excess
     }
 
-    /// Makes each resource in each slot dearer from now on, by its claims above one.
+    /// Increases the price of each resource in each slot from now on, by its claims above one.
     pub fn age(&mut self) {
         for place in 0..self.spots.len() {
             self.age_at(place);
         }
     }
 
-    /// Takes all claims and histories away.
+    /// Removes all claims and histories.
     pub fn clear(&mut self) {
         for place in 0..self.spots.len() {
             self.clear_at(place);
@@ -120,7 +121,7 @@ impl Occupancy {
         self.excess = 0;
     }
 
-    /// Returns the number of a resource in the slot of a time; that of none past the last resource.
+    /// Returns the number of `resource` in the slot of `time`; a number past all entries for a resource past the last.
     #[inline]
     fn place(&self, resource: u32, time: u32) -> usize {
         if resource < self.resources {
@@ -141,7 +142,7 @@ impl Occupancy {
         Ok(())
     }
 
-    /// Writes the price of a place down.
+    /// Updates the price of a place.
     #[inline]
     fn reprice(&mut self, place: usize) {
         if let Some(spot) = self.spots.get(place) {
@@ -160,7 +161,7 @@ impl Occupancy {
         }
     }
 
-    /// Takes all claims and the history of a place away.
+    /// Removes all claims and the history of a place.
     fn clear_at(&mut self, place: usize) {
         if let Some(spot) = self.spots.get_mut(place) {
             spot.clear();
@@ -169,7 +170,7 @@ impl Occupancy {
     }
 }
 
-/// Writes a number at a place, if there is one.
+/// Writes `number` at `place`, if there is such a place.
 #[inline]
 fn set(numbers: &mut [u32], place: usize, number: u32) {
     if let Some(old) = numbers.get_mut(place) {

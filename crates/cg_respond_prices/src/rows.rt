@@ -1,18 +1,18 @@
-//! Lists of numbers, one after another.
+//! Lists of numbers, stored one after another.
 ghost use Rattle.std.specs.Prelude.{◌≤◌, length};
 ghost use Rattle.cg_model.specs.Limits.{most_resources};
 
 use cg_arch::Resource;
 use std::alloc::{AllocError, Global};
 
-/// Where a list lies among the items.
+/// The position of a list among the items.
 #[derive(Clone, Copy, Debug, PartialEq, Eq)]
 struct Span {
     start: usize,
     end: usize,
 }
 
-/// Lists of numbers, one after another in one list.
+/// Lists of numbers, stored one after another in one list.
 #[derive(Drop)]
 pub(crate) struct Rows {
     spans: Vec<Span>,
@@ -20,7 +20,7 @@ pub(crate) struct Rows {
 }
 
 impl Rows {
-    /// No lists.
+    /// Returns no lists.
     pub(crate) fn new(alloc: Global) -> Rows {
         Rows {
             spans: Vec::new(alloc),
@@ -37,7 +37,7 @@ impl Rows {
         Ok(())
     }
 
-    /// The list of that number; empty past the last one.
+    /// Returns the list with that number; empty past the last one.
     #[inline]
     pub(crate) fn row(&self, number: u32) -> &[u32] {
         match self.spans.get(number as usize) {
@@ -47,7 +47,7 @@ impl Rows {
     }
 }
 
-/// The items from a place on, before another; none where that is no part.
+/// Returns the items from `start` up to `end`; empty where this is not a valid range.
 #[inline]
 fn part(items: &[u32], start: usize, end: usize) -> &[u32] {
     match items.get(start..end) {
@@ -56,7 +56,7 @@ fn part(items: &[u32], start: usize, end: usize) -> &[u32] {
     }
 }
 
-/// The drivers of each resource.
+/// Returns the drivers of each resource.
 pub(crate) fn drivers_of(alloc: Global, resources: &[Resource]) -> Result<Rows, AllocError> {
     let mut rows = Rows::new(alloc);
     for resource in resources {
@@ -65,7 +65,7 @@ pub(crate) fn drivers_of(alloc: Global, resources: &[Resource]) -> Result<Rows, 
     Ok(rows)
 }
 
-/// The resources that each one drives, ascending.
+/// Returns the resources that each resource drives, ascending.
 pub(crate) fn users_of(alloc: Global, resources: &[Resource]) -> Result<Rows, AllocError>
     requires { length resources.now ≤ most_resources }
 {
@@ -90,7 +90,7 @@ fn no_lists(alloc: Global, count: usize) -> Result<Vec<Vec<u32>>, AllocError> {
     Ok(lists)
 }
 
-/// Adds a resource to the lists of its drivers.
+/// Adds the resource `user` to the lists of its drivers.
 fn add_user(drivers: &[u32], user: u32, lists: &mut [Vec<u32>]) -> Result<(), AllocError> {
     for driver in drivers {
         add(lists, *driver, user)?;
@@ -98,7 +98,7 @@ fn add_user(drivers: &[u32], user: u32, lists: &mut [Vec<u32>]) -> Result<(), Al
     Ok(())
 }
 
-/// Adds a number to one of the lists.
+/// Adds `number` to the list at `place`.
 fn add(lists: &mut [Vec<u32>], place: u32, number: u32) -> Result<(), AllocError> {
     if let Some(list) = lists.get_mut(place as usize) {
         list.push(number)?;
@@ -106,7 +106,7 @@ fn add(lists: &mut [Vec<u32>], place: u32, number: u32) -> Result<(), AllocError
     Ok(())
 }
 
-/// The lists one after another.
+/// Returns the lists joined in one list.
 fn joined(alloc: Global, lists: &[Vec<u32>]) -> Result<Rows, AllocError> {
     let mut rows = Rows::new(alloc);
     for list in lists {

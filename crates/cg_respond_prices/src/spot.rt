@@ -1,18 +1,18 @@
-//! A resource in a slot: who claims it, and what it costs to claim it too.
+//! A resource in a slot: its claims, and the price of one more.
 use std::alloc::{AllocError, Global};
 
-/// By how many times its first price each claim makes a place dearer.
+/// The factor of the first price by which each claim raises the price.
 const CLAIM_FACTOR: u32 = 3;
 
-/// By how much each claim above one makes a place dearer for good, sweep by sweep.
+/// The amount by which each claim above one raises the price permanently, in each sweep.
 const HISTORY_STEP: u32 = 3;
 
-/// A claim: the value of a source is there at a time.
+/// A claim: the value of a source on the resource at a time.
 #[derive(Clone, Copy, Debug, PartialEq, Eq)]
 struct Claim {
     source: u32,
     time: u32,
-    /// How many routes make it.
+    /// The number of routes with this claim.
     uses: u32,
 }
 
@@ -25,7 +25,7 @@ pub(crate) struct Spot {
 }
 
 impl Spot {
-    /// Returns a spot of that first price, which nobody claims.
+    /// Returns a spot with the first price `base` and without claims.
     pub(crate) fn new(alloc: Global, base: u32) -> Spot {
         Spot {
             claims: Vec::new(alloc),
@@ -34,7 +34,7 @@ impl Spot {
         }
     }
 
-    /// Adds a use of a claim, and says whether the claim is new.
+    /// Adds a use of a claim, and returns whether the claim is new.
     pub(crate) fn claim(&mut self, source: u32, time: u32) -> Result<bool, AllocError> {
         if add_use(&mut self.claims, source, time) {
             return Ok(false);
@@ -47,7 +47,8 @@ impl Spot {
         Ok(true)
     }
 
-    /// Takes a use of a claim away, and says whether that makes one claim less; nothing where there is no such claim.
+    /// Removes a use of a claim, and returns whether the number of claims decreases; does nothing where there is no
+    /// such claim.
     pub(crate) fn release(&mut self, source: u32, time: u32) -> bool {
         match position(&self.claims, source, time) {
             Some(place) => self.release_at(place),
@@ -55,7 +56,7 @@ impl Spot {
         }
     }
 
-    /// Takes a use of the claim at a place away, and says whether that makes one claim less.
+    /// Removes a use of the claim at `place`, and returns whether the number of claims decreases.
     fn release_at(&mut self, place: usize) -> bool {
         let is_last = drop_use(&mut self.claims, place) && place < self.claims.len();
         if is_last {
@@ -64,7 +65,7 @@ impl Spot {
         is_last
     }
 
-    /// Checks whether the value of a source stands there at a time.
+    /// Checks whether the value of `source` has a claim at `time`.
     #[inline]
     pub(crate) fn is_claimed(&self, source: u32, time: u32) -> bool {
         position(&self.claims, source, time).is_some()
@@ -96,21 +97,21 @@ impl Spot {
         self.history = self.history.saturating_add(step);
     }
 
-    /// Takes all claims away, and the history.
+    /// Removes all claims, and the history.
     pub(crate) fn clear(&mut self) {
         self.claims.clear();
         self.history = 0;
     }
 }
 
-/// Returns the product of two numbers, or the greatest number.
+/// Returns the product of two numbers, or the greatest number where it overflows.
 #[inline]
 fn product(a: u32, b: u32) -> u32 {
     let product = u64::from(a) * u64::from(b);
     product.min(u64::from(u32::MAX)) as u32
 }
 
-/// Adds a use of a claim where it is there already.
+/// Adds a use of a claim that exists already, and returns whether it does.
 fn add_use(claims: &mut [Claim], source: u32, time: u32) -> bool {
     match position(claims, source, time) {
         Some(place) => {
@@ -128,7 +129,7 @@ fn use_more(claims: &mut [Claim], place: usize) {
     }
 }
 
-/// Takes a use of the claim at a place away, and says whether none is left.
+/// Removes a use of the claim at `place`, and returns whether none is left.
 fn drop_use(claims: &mut [Claim], place: usize) -> bool {
     match claims.get_mut(place) {
         Some(claim) => {
@@ -140,7 +141,7 @@ fn drop_use(claims: &mut [Claim], place: usize) -> bool {
     }
 }
 
-/// Finds where a claim stands.
+/// Finds the position of a claim.
 fn position(claims: &[Claim], source: u32, time: u32) -> Option<usize> {
     claims
         .iter()

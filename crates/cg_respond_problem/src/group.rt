@@ -1,16 +1,16 @@
-//! Nodes that go along when one of them goes later or sooner.
+//! Nodes that move along when one of them moves later or sooner.
 
 use crate::lists::count;
 use crate::problem::{DataEdge, Problem};
 use cg_model::OrderEdge;
 use std::alloc::{AllocError, Global};
 
-/// What tells the edges that hold their ends together.
+/// The rule for which edges hold their ends together.
 pub trait Tightness {
-    /// Checks whether `edge` would become too short, were one of its ends moved towards the other.
+    /// Checks whether `edge` would become too short if one of its ends moved towards the other.
     fn is_tight(&self, problem: &Problem, edge: DataEdge) -> bool;
 
-    /// Checks whether the order edge `tie` would.
+    /// Checks whether the order edge `tie` would become too short likewise.
     fn is_tight_tie(&self, problem: &Problem, tie: OrderEdge) -> bool;
 }
 
@@ -69,7 +69,8 @@ impl Group {
         Ok(())
     }
 
-    /// Adds all nodes that must go along where the members go later, or sooner, by what `tightness` says of edges.
+    /// Adds all nodes that must move along where the members move later, or sooner, because of edges that are tight by
+    /// `tightness`.
     pub fn grow<T: Tightness>(
         &mut self,
         problem: &Problem,
@@ -85,7 +86,7 @@ impl Group {
         Ok(())
     }
 
-    /// Adds the nodes that `node` draws along.
+    /// Adds the nodes that must move along with `node`.
     fn draw_along<T: Tightness>(
         &mut self,
         problem: &Problem,
@@ -149,7 +150,7 @@ fn mark(marks: &mut [bool], node: u32, is_marked: bool) -> bool {
     }
 }
 
-/// Returns the data edges that may become too short where `node` goes later, or sooner.
+/// Returns the data edges that may become too short where `node` moves later, or sooner.
 fn ways_of<'a>(problem: &'a Problem, node: u32, is_later: bool) -> &'a [u32] {
     if is_later {
         problem.outs.of(node)

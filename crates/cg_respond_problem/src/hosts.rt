@@ -1,4 +1,4 @@
-//! The units as the search reads them, and which of them offer what.
+//! The units as the search reads them, and which units offer which operations.
 
 use crate::lists::{Lists, count, number_at};
 use cg_arch::Arch;
@@ -8,7 +8,7 @@ use std::alloc::{AllocError, Global};
 /// A unit: its latency in cycles, and the resource numbers of its out and its ports.
 #[derive(Clone, Copy, Drop)]
 pub struct Host {
-    /// The cycles of its operations.
+    /// The latency of its operations, in cycles.
     pub latency: u32,
     /// The resource of its out.
     pub out: u32,
@@ -21,7 +21,7 @@ impl Host {
         number_at(&self.ports, arg as usize)
     }
 
-    /// Returns what the search reads of `unit`.
+    /// Returns the data of `unit` that the search reads.
     fn of(unit: &Unit) -> Host {
         let ports = unit.ports.as_slice();
         Host {

@@ -32,7 +32,7 @@ fn last_of(times: &[u32]) -> u32 {
     last
 }
 
-/// Makes the source of each data edge as early as its target asks.
+/// Makes the source of each data edge early enough for its target.
 fn pull_by_edges(ii: u32, edges: &[DataEdge], quickest: &[u32], late: &mut [u32]) {
     for edge in edges {
         let latency = number_at(quickest, edge.source as usize);
@@ -46,7 +46,7 @@ fn pull_by_edges(ii: u32, edges: &[DataEdge], quickest: &[u32], late: &mut [u32]
     }
 }
 
-/// Makes the source of each order edge as early as its target asks.
+/// Makes the source of each order edge early enough for its target.
 fn pull_by_order(ii: u32, order: &[OrderEdge], late: &mut [u32]) {
     for edge in order {
         pull(
@@ -59,8 +59,8 @@ fn pull_by_order(ii: u32, order: &[OrderEdge], late: &mut [u32]) {
     }
 }
 
-/// Makes the latest time of `source` at most `cycles` cycles before that of `target`, whose turn begins `turns` cycles
-/// later.
+/// Makes the latest time of `source` at most the time `cycles` cycles before that of `target`, whose iteration begins
+/// `turns` cycles later.
 fn pull(late: &mut [u32], source: u32, target: u32, turns: u32, cycles: u32) {
     let end = number_at(late, target as usize).saturating_add(turns);
     let time = end.saturating_sub(cycles);

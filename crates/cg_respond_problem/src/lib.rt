@@ -1,5 +1,5 @@
-//! What a search by best responses is about, apart from its state: the kernel as lists of edges, the array as the
-//! search reads it, the times to which nodes incline, and where nodes stand.
+//! The problem of a search by best responses, apart from its state: the kernel as lists of edges, the array as the
+//! search reads it, the ideal times of nodes, and the places of nodes.
 #![tactic(auto)]
 
 mod group;

@@ -1,17 +1,17 @@
-//! Where and when nodes stand, and what it costs to stand there too.
+//! The places of nodes, and the price of placing one more node there.
 
 use crate::lists::{count, number_at, raise};
 use crate::problem::slot;
 use cg_model::Place;
 use std::alloc::{AllocError, Global};
 
-/// What a second node in a slot of a unit costs at first, against the wires and registers on which a route goes.
+/// The base of the price of a slot of a unit that has a node, relative to the prices of wires and registers of routes.
 const BASE: u32 = 16;
 
-/// By what factor a place is dearer for each that stands there.
+/// The number of times that each node in a slot adds the base and the history of the slot to its price.
 const FACTOR: u32 = 3;
 
-/// By how much a slot of a unit in which several nodes begin grows dearer in each sweep.
+/// The amount by which the history of a slot of a unit grows in each sweep in which several nodes begin in it.
 const AGE: u32 = 2;
 
 /// The places of nodes at an interval. A unit may begin several nodes in one slot.
@@ -21,14 +21,14 @@ pub struct Places {
     places: Vec<Option<Place>>,
     counts: Vec<u32>,
     histories: Vec<u32>,
-    /// By how many the nodes are more than one in a unit's slot, over all.
+    /// The number of nodes beyond one in a unit's slot, over all slots.
     excess: u32,
-    /// How many nodes stand nowhere.
+    /// The number of nodes without a place.
     missing: u32,
 }
 
 impl Places {
-    /// Returns places at which none of `nodes` nodes stands on one of `units` units, at the interval `ii`.
+    /// Returns places for `nodes` nodes on `units` units at the interval `ii`, with no node placed.
     pub fn new(alloc: Global, nodes: usize, units: usize, ii: u32) -> Result<Places, AllocError> {
         let slots = units.saturating_mul(ii as usize);
         let places = nowhere(alloc, nodes)?;
@@ -43,7 +43,7 @@ impl Places {
         })
     }
 
-    /// Returns where `node` stands, if it does.
+    /// Returns the place of `node`, if it has one.
     pub fn at(&self, node: u32) -> Option<Place> {
         match self.places.get(node as usize) {
             Some(place) => *place,
@@ -88,7 +88,7 @@ impl Places {
         }
     }
 
-    /// Moves `node` a whole interval later, or sooner, if it stands anywhere. Its slot stays the same.
+    /// Moves `node` a whole interval later, or sooner, if it has a place. Its slot stays the same.
     pub fn shift(&mut self, node: u32, is_later: bool) {
         if let Some(place) = self.at(node) {
             self.lift(node);
@@ -113,14 +113,14 @@ impl Places {
         }
     }
 
-    /// Returns what it costs to stand at `place`.
+    /// Returns the price of `place` for a node.
     pub fn price(&self, place: Place) -> u32 {
         let entry = self.entry(place);
         let history = number_at(self.histories.as_slice(), entry);
         price_of(history, number_at(self.counts.as_slice(), entry))
     }
 
-    /// Checks whether another node stands in the unit's slot where `node` stands.
+    /// Checks whether another node is placed in the unit's slot of `node`.
     pub fn is_shared(&self, node: u32) -> bool {
         match self.at(node) {
             Some(place) => number_at(self.counts.as_slice(), self.entry(place)) > 1,
@@ -128,17 +128,17 @@ impl Places {
         }
     }
 
-    /// Returns by how many the nodes are more than one in a unit's slot, over all.
+    /// Returns the number of nodes beyond one in a unit's slot, over all slots.
     pub fn excess(&self) -> u32 {
         self.excess
     }
 
-    /// Returns how many nodes stand nowhere.
+    /// Returns the number of nodes without a place.
     pub fn missing(&self) -> u32 {
         self.missing
     }
 
-    /// Returns the time of each node, 0 where it stands nowhere.
+    /// Returns the time of each node, 0 where it has no place.
     pub fn times(&self, alloc: Global) -> Result<Vec<u32>, AllocError> {
         let mut times = Vec::with_capacity(alloc, self.places.len())?;
         for place in &self.places {
@@ -147,7 +147,7 @@ impl Places {
         Ok(times)
     }
 
-    /// Returns the least time of a node, 0 where none stands anywhere.
+    /// Returns the least time of a node, 0 where none is placed.
     pub fn least_time(&self) -> u32 {
         let mut least = None;
         for place in &self.places {
@@ -170,7 +170,7 @@ impl Places {
         }
     }
 
-    /// Forgets what slots cost.
+    /// Resets the prices of slots.
     pub fn forget(&mut self) {
         self.histories.fill(0);
     }
@@ -202,7 +202,7 @@ fn time_of(place: Option<Place>) -> u32 {
     }
 }
 
-/// Returns what a slot costs by its `history` and the `count` of nodes in it.
+/// Returns the price of a slot by its `history` and the `count` of nodes in it.
 fn price_of(history: u32, count: u32) -> u32 {
     let each = history.saturating_add(BASE).saturating_mul(FACTOR);
     history.saturating_add(each.saturating_mul(count))

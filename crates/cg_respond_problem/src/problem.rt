@@ -1,4 +1,4 @@
-//! What is to be mapped: the kernel as lists of edges, and the array as the search reads it.
+//! The mapping problem: the kernel as lists of edges, and the array as the search reads it.
 ghost use Rattle.std.specs.Prelude.{◌≡◌, ◌<◌, IfOk};
 
 use crate::hosts::{Host, hosts, offers};
@@ -13,23 +13,23 @@ use cg_respond_prices::Wiring;
 use cg_task::Task;
 use std::alloc::{AllocError, Global};
 
-/// The number of intervals from time 0 to the origin, from which the times of an opening count: as far may a node go
-/// back.
+/// The number of intervals from time 0 to the origin, from which the times of an opening are counted: a node may move
+/// back by this much.
 const ORIGIN: u32 = 1 << 20;
 
-/// How many intervals the longest routes take.
+/// The number of intervals of the longest routes.
 const MOST_INTERVALS: u32 = 6;
 
-/// How many cycles more they take.
+/// The number of cycles that they take in addition.
 const MORE_CYCLES: u32 = 32;
 
-/// By how many intervals a route may be longer than the way across the array.
+/// The number of intervals by which a route may be longer than the way across the array.
 const WIDER_INTERVALS: u32 = 4;
 
-/// By how many cycles more.
+/// The number of cycles by which it may be longer in addition.
 const WIDER_CYCLES: u32 = 24;
 
-/// A data edge: a value of `source` is operand number `arg` of `target`, `distance` turns later.
+/// A data edge: a value of `source` is operand number `arg` of `target`, `distance` iterations later.
 #[derive(Clone, Copy, Drop)]
 pub struct DataEdge {
     /// The node whose value it is.
@@ -38,11 +38,11 @@ pub struct DataEdge {
     pub target: u32,
     /// The number of the operand.
     pub arg: u32,
-    /// How many turns later.
+    /// The distance, in iterations.
     pub distance: u32,
 }
 
-/// A kernel on an array at an interval of `ii` cycles. Nodes, edges, order edges and units go by number.
+/// A kernel on an array at an interval of `ii` cycles. Nodes, edges, order edges and units are given by number.
 #[derive(Drop)]
 pub struct Problem<'a> {
     /// The interval in cycles.
@@ -53,7 +53,7 @@ pub struct Problem<'a> {
     pub edges: Vec<DataEdge>,
     /// The data edges into each node.
     pub ins: Lists,
-    /// Those out of each node.
+    /// The data edges out of each node.
     pub outs: Lists,
     /// The order edges.
     pub order: Vec<OrderEdge>,
@@ -128,7 +128,7 @@ impl<'a> Problem<'a> {
         slot(self.ii, time)
     }
 
-    /// Returns the number of cycles of `distance` turns.
+    /// Returns the number of cycles of `distance` iterations.
     pub fn turns(&self, distance: u32) -> u32 {
         self.ii.saturating_mul(distance)
     }
@@ -165,21 +165,21 @@ impl<'a> Problem<'a> {
         self.hosts.get(unit as usize).copied()
     }
 
-    /// Returns when the value of `edge` leaves the unit of its source. None where that isn't placed.
+    /// Returns the time at which the value of `edge` leaves the unit of its source. None where the source isn't placed.
     pub fn leaves(&self, places: &Places, edge: DataEdge) -> Option<u32> {
         let place = places.at(edge.source)?;
         let host = self.host(place.unit)?;
         Some(place.time.saturating_add(host.latency))
     }
 
-    /// Returns when the value of `edge` is to be at its target, in the source's turn. None where the target isn't
-    /// placed.
+    /// Returns the time at which the value of `edge` has to be at its target, in the source's iteration. None where the
+    /// target isn't placed.
     pub fn arrives(&self, places: &Places, edge: DataEdge) -> Option<u32> {
         let place = places.at(edge.target)?;
         Some(place.time.saturating_add(self.turns(edge.distance)))
     }
 
-    /// Returns the port at which the value of `edge` is taken. None where its target isn't placed.
+    /// Returns the port at which the value of `edge` is read. None where its target isn't placed.
     pub fn port(&self, places: &Places, edge: DataEdge) -> Option<u32> {
         let place = places.at(edge.target)?;
         let host = self.host(place.unit)?;
@@ -242,7 +242,7 @@ fn add_edges(edges: &mut Vec<DataEdge>, node: &Node, number: u32) -> Result<(), 
     Ok(())
 }
 
-/// Returns the data edges that have each node for the end `end`.
+/// Returns for each node the data edges whose end `end` it is.
 fn ends_by(alloc: Global, nodes: u32, edges: &[DataEdge], end: End) -> Result<Lists, AllocError> {
     let mut lists = Lists::new(alloc, nodes)?;
     let mut number: u32 = 0;
@@ -258,7 +258,7 @@ fn ends_by(alloc: Global, nodes: u32, edges: &[DataEdge], end: End) -> Result<Li
     Ok(lists)
 }
 
-/// Returns the order edges of each node; one from a node to itself stands there once.
+/// Returns the order edges of each node; an edge from a node to itself is listed once.
 fn ties(alloc: Global, nodes: u32, order: &[OrderEdge]) -> Result<Lists, AllocError> {
     let mut ties = Lists::new(alloc, nodes)?;
     let mut number: u32 = 0;

@@ -1,4 +1,4 @@
-//! Times at which nodes would begin, had they no places: values stay short.
+//! Times at which nodes would begin without places, so that values stay short.
 
 use crate::group::{Group, Tightness};
 use crate::lists::number_at;
@@ -7,20 +7,20 @@ use crate::problem::{DataEdge, Problem};
 use cg_model::OrderEdge;
 use std::alloc::{AllocError, Global};
 
-/// How many passes over the nodes are made at most, for each cycle of the interval.
+/// The greatest number of passes over the nodes, for each cycle of the interval.
 const PASSES_A_CYCLE: u32 = 8;
 
-/// How many more, for each node.
+/// The number of further passes, for each node.
 const PASSES_A_NODE: u32 = 4;
 
-/// How many passes in a row may shorten nothing, for each cycle of the interval.
+/// The number of passes in a row that may shorten nothing, for each cycle of the interval.
 const IDLE_A_CYCLE: u32 = 4;
 
-/// How many more.
+/// The number of further passes of this kind.
 const IDLE_PASSES: u32 = 8;
 
-/// Returns the sum over all nodes of the longest stay of a value, where they begin at `times`: of the cycles from when
-/// it leaves the fastest unit until it is taken.
+/// Returns the sum over all nodes of the longest stay of a value, where they begin at `times`: the cycles from when the
+/// value leaves the fastest unit until it is read.
 pub fn longest_stays(problem: &Problem, times: &[u32]) -> u32 {
     let mut sum: u32 = 0;
     for node in 0..problem.nodes {
@@ -56,7 +56,7 @@ fn stay_of(problem: &Problem, times: &[u32], edge: DataEdge) -> u32 {
     taken.saturating_sub(leaves)
 }
 
-/// Edges at times: those are tight on which nothing stays.
+/// Edges at given times: those on which the value doesn't stay are tight.
 #[derive(Clone, Copy, Drop)]
 struct Timing<'a> {
     times: &'a [u32],
@@ -76,19 +76,19 @@ impl<'a> Tightness for Timing<'a> {
     }
 }
 
-/// What it brings to move nodes.
+/// The result of moving nodes.
 #[derive(Clone, Copy, PartialEq, Eq, Drop)]
 enum Gain {
     /// No node moves.
     Nothing,
     /// Values stay as long as before.
     Same,
-    /// They stay less long.
+    /// Values stay for a shorter time.
     Shorter,
 }
 
 impl Gain {
-    /// Returns what both bring together.
+    /// Returns the result of both.
     fn and(self, other: Gain) -> Gain {
         match (self, other) {
             (Gain::Shorter, _) | (_, Gain::Shorter) => Gain::Shorter,
@@ -98,13 +98,13 @@ impl Gain {
     }
 }
 
-/// Times that are changed so that values stay less long.
+/// Times that are changed so that values stay for a shorter time.
 #[derive(Drop)]
 struct Descent {
     times: Vec<u32>,
-    /// The nodes that go along.
+    /// The nodes that move along.
     group: Group,
-    /// The nodes of whose values the stays change then.
+    /// The nodes whose values' stays change by the move.
     concerned: Group,
 }
 
@@ -118,8 +118,7 @@ impl Descent {
         })
     }
 
-    /// Tries each node a cycle later, the last one first, or a cycle sooner, the first one first. Returns what that
-    /// brings.
+    /// Tries each node a cycle later, the last node first, or a cycle sooner, the first node first. Returns the result.
     fn pass(&mut self, problem: &Problem, is_later: bool) -> Result<Gain, AllocError> {
         let mut gain = Gain::Nothing;
         for step in 0..problem.nodes {
@@ -133,8 +132,8 @@ impl Descent {
         Ok(gain)
     }
 
-    /// Moves `node` a cycle, with all nodes that must go along, where values don't stay longer then, and, if sooner,
-    /// less long. Returns what that brings.
+    /// Moves `node` a cycle, with all nodes that must move along, where values then don't stay longer, and, if sooner,
+    /// stay shorter. Returns the result.
     fn try_node(
         &mut self,
         problem: &Problem,
@@ -159,8 +158,8 @@ impl Descent {
         self.group.grow(problem, &timing, is_later)
     }
 
-    /// Gathers the nodes of whose values the stays change where the group moves: the members, and the sources of edges
-    /// into members.
+    /// Gathers the nodes whose values' stays change where the group moves: the members, and the sources of edges into
+    /// members.
     fn gather_concerned(&mut self, problem: &Problem) -> Result<(), AllocError> {
         self.concerned.clear();
         for member in self.group.members() {
@@ -170,7 +169,7 @@ impl Descent {
         Ok(())
     }
 
-    /// Moves the group where values don't stay longer then, and, if sooner, less long. Returns what that brings.
+    /// Moves the group where values then don't stay longer, and, if sooner, stay shorter. Returns the result.
     fn try_group(&mut self, problem: &Problem, is_later: bool) -> Gain {
         let before = self.stays(problem);
         self.shift(is_later);
@@ -185,7 +184,7 @@ impl Descent {
         Gain::Nothing
     }
 
-    /// Returns the sum of the longest stays of those that are concerned.
+    /// Returns the sum of the longest stays of the concerned nodes.
     fn stays(&self, problem: &Problem) -> u32 {
         let mut sum: u32 = 0;
         for node in self.concerned.members() {
@@ -219,8 +218,8 @@ fn add_sources(group: &mut Group, problem: &Problem, node: u32) -> Result<(), Al
     Ok(())
 }
 
-/// Returns times at which values stay less long than at `early`, the earliest ones: passes over the nodes, in turn
-/// later and sooner. Where two in a row move nothing, no further one would.
+/// Returns times at which values stay shorter than at `early`, the earliest times: passes over the nodes, alternately
+/// later and sooner. Where two passes in a row move nothing, no further pass would.
 pub(crate) fn ideal(
     alloc: Global,
     problem: &Problem,
@@ -246,7 +245,7 @@ pub(crate) fn ideal(
     Ok(descent.times)
 }
 
-/// Returns `each` times `ii`, and `more`.
+/// Returns `each` times `ii`, plus `more`.
 fn in_all(ii: u32, each: u32, more: u32) -> u32 {
     ii.saturating_mul(each).saturating_add(more)
 }

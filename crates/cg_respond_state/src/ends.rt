@@ -24,7 +24,7 @@ pub(crate) struct Ends {
     pub(crate) end: u32,
 }
 
-/// Returns where and when the value of `edge` leaves the unit of its source. None where that isn't placed.
+/// Returns where and when the value of `edge` leaves the unit of its source. None where the source isn't placed.
 pub fn leaving_of(problem: &Problem, places: &Places, edge: DataEdge) -> Option<Leaving> {
     let host = problem.host(places.at(edge.source)?.unit)?;
     Some(Leaving {
@@ -43,8 +43,8 @@ pub(crate) fn ends_of(problem: &Problem, places: &Places, edge: DataEdge) -> Opt
     })
 }
 
-/// Returns the ends of the route of data edge number `edge`. None where one of its nodes isn't placed, or a route would
-/// take no cycles that it may take.
+/// Returns the ends of the route of data edge number `edge`. None where one of its nodes isn't placed, or the route
+/// would end before it begins or take more cycles than a route may take.
 pub(crate) fn routable_ends(problem: &Problem, places: &Places, edge: u32) -> Option<Ends> {
     let ends = ends_of(problem, places, problem.edge(edge)?)?;
     if ends.end < ends.from.start || ends.cycles() > problem.reach() {
@@ -54,7 +54,7 @@ pub(crate) fn routable_ends(problem: &Problem, places: &Places, edge: u32) -> Op
 }
 
 impl Ends {
-    /// Returns how many cycles a route takes; 0 where it would end before it begins.
+    /// Returns the number of cycles of the route; 0 where it would end before it begins.
     pub(crate) fn cycles(&self) -> u32 {
         self.end.saturating_sub(self.from.start)
     }

@@ -1,4 +1,4 @@
-//! Routes that are read out of layers which are filled already.
+//! Routes that are read out of layers that are filled already.
 
 use crate::ends::{Ends, routable_ends};
 use crate::pool::Filling;
@@ -15,22 +15,22 @@ struct Found {
     route: Vec<Stand>,
 }
 
-/// Where a way branches off the standing routes of its source.
+/// The point where a way branches off the existing routes of its source.
 #[derive(Clone, Copy, Drop)]
 struct Branch {
     /// The price from there on.
     price: u32,
-    /// The edge of whose route it is the last of the first stands; of none where it begins at the out.
+    /// The edge whose route has the shared first stands; no edge where the way begins at the out.
     edge: u32,
-    /// How many stands these are, 0 where it begins at the out.
+    /// The number of shared stands, 0 where the way begins at the out.
     stands: usize,
 }
 
 impl Routes {
-    /// Routes `edge`, which has no route, by the layers of buffer `number` where that costs less than `cap`: they were
-    /// filled for this edge, when one of its nodes stood as now and the other was lifted. The way in them is still the
-    /// best one if no price on it has changed; else the edge is routed by layers of its own. Returns what the route
-    /// costs; None where there is no route.
+    /// Routes `edge`, which has no route, by the layers of buffer `number` where that costs less than `cap`: these
+    /// layers were filled for this edge, when one of its nodes was placed as now and the other was lifted. The way in
+    /// them is still the best one if no price on it has changed; else the edge is routed by layers of its own. Returns
+    /// the cost of the route; None where there is no route.
     pub fn join(
         &mut self,
         alloc: Global,
@@ -65,8 +65,8 @@ impl Routes {
         }
     }
 
-    /// Gives `edge` the way `found` where it costs as much as was found, and less than `cap`; where it costs something
-    /// else, routes the edge by layers of its own.
+    /// Gives `edge` the way `found` where its cost is still the one that was found, and less than `cap`; where its cost
+    /// has changed, routes the edge by layers of its own.
     fn put_if_best(
         &mut self,
         alloc: Global,
@@ -123,8 +123,8 @@ impl Routes {
         }))
     }
 
-    /// Returns where a way between `ends` branches off the standing routes of its source for the least price on, by
-    /// `layers` that are filled backward: the first such place.
+    /// Returns where a way between `ends` branches off the existing routes of its source for the least price from there
+    /// on, by `layers` that are filled backward: the first such place.
     fn branch(&self, problem: &Problem, layers: &Layers, ends: Ends) -> Branch {
         let mut best = Branch {
             price: layers.price(ends.cycles(), ends.from.out),
@@ -154,7 +154,7 @@ impl Routes {
         Ok(stem)
     }
 
-    /// Returns the stands that a way shares which leaves at `branch`; none where it begins at the out.
+    /// Returns the shared stands of a way that leaves at `branch`; none where it begins at the out.
     fn shared_stands(&self, branch: Branch) -> &[Stand] {
         match self.standing.route(branch.edge) {
             Some(route) => first_of(route, branch.stands),
@@ -179,8 +179,8 @@ fn found_to(
     Ok(Some(Found { price, route }))
 }
 
-/// Returns the better one of `best` and the branches off `route`, that of `edge`, before `end`: `best` among equals. A
-/// port is left by no way.
+/// Returns the best of `best` and the branches off `route`, that of `edge`, before `end`: `best` among equals. No way
+/// leaves a port.
 fn branch_on(
     wiring: &Wiring,
     layers: &Layers,

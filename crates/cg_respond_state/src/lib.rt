@@ -1,5 +1,5 @@
-//! The state of a search for a mapping by best responses: where and when nodes stand, how values go, and what all that
-//! costs.
+//! The state of a search for a mapping by best responses: the places of nodes, the routes of values, and the cost of
+//! both.
 #![tactic(auto)]
 
 mod ends;

@@ -4,29 +4,29 @@ use cg_respond_layers::{ENTRY_BYTES, Layers};
 use cg_respond_problem::{Problem, count};
 use std::alloc::{AllocError, Global};
 
-/// How many bytes all kept layers may take.
+/// The greatest number of bytes of all kept layers.
 const MOST_BYTES: u64 = 300_000_000;
 
-/// Which way layers are filled.
+/// The direction in which layers are filled.
 #[derive(Clone, Copy, Debug, PartialEq, Eq, Drop)]
 pub(crate) enum Filling {
-    /// From where a value begins or stands already.
+    /// From where a value begins or is already.
     Forward,
-    /// From where a value is taken.
+    /// From where a value is read.
     Backward,
 }
 
-/// Layers, and which way they are filled.
+/// Layers, and the direction in which they are filled.
 #[derive(Drop)]
 pub(crate) struct Buffer {
     /// The layers.
     pub(crate) layers: Layers,
-    /// Which way they are filled.
+    /// The direction in which they are filled.
     pub(crate) filling: Filling,
 }
 
-/// Layers by number: for as many edges as a node has at the most, or as many as memory allows. All further numbers
-/// share the same layers.
+/// Layers by number: one for each edge of the node with the most edges, or fewer where memory doesn't allow that. All
+/// further numbers share one buffer.
 #[derive(Drop)]
 pub(crate) struct Pool {
     kept: Vec<Buffer>,
@@ -56,7 +56,7 @@ impl Pool {
         })
     }
 
-    /// Checks whether buffer `number` is kept until it is filled again itself.
+    /// Checks whether buffer `number` keeps its layers until it is filled again itself.
     pub(crate) fn is_kept(&self, number: u32) -> bool {
         (number as usize) < self.kept.len()
     }
@@ -70,7 +70,7 @@ impl Pool {
         }
     }
 
-    /// Returns buffer `number`, to be filled.
+    /// Returns buffer `number` for filling.
     pub(crate) fn buffer_mut(&mut self, number: u32) -> &mut Buffer {
         match self.kept.get_mut(number as usize) {
             Some(buffer) => buffer,
@@ -89,7 +89,7 @@ fn most_edges(problem: &Problem) -> u32 {
     most
 }
 
-/// Returns how many buffers fit into the memory for them, each with as many layers as a route may take.
+/// Returns the number of buffers that fit into their memory, each with the greatest number of layers of a route.
 fn most_kept(problem: &Problem) -> u32 {
     let layers = u64::from(problem.reach()).saturating_add(1);
     let entries = layers.saturating_mul(problem.wiring.resources() as u64);

@@ -1,4 +1,4 @@
-//! Routes of data edges, and what it costs to have none.
+//! Routes of data edges, and the penalty of having none.
 
 use crate::pool::Pool;
 use crate::standing::Standing;
@@ -7,13 +7,13 @@ use cg_respond_prices::REGISTER_PRICE;
 use cg_respond_problem::{Problem, number_at, raise};
 use std::alloc::{AllocError, Global};
 
-/// What an edge without a route costs at first.
+/// The first penalty of an edge without a route.
 pub(crate) const PENALTY: u32 = 60;
 
-/// By how much it grows dearer in each sweep.
+/// The amount by which the penalty grows in each sweep.
 pub(crate) const PENALTY_AGE: u32 = 30;
 
-/// The routes of data edges by number, with what their places cost, and the layers by which they are found.
+/// The routes of data edges by number, with the prices of places, and the layers by which routes are found.
 #[derive(Drop)]
 pub struct Routes {
     pub(crate) standing: Standing,
@@ -23,7 +23,7 @@ pub struct Routes {
 }
 
 impl Routes {
-    /// Returns routes of which none is there yet.
+    /// Returns routes of which none exists yet.
     pub fn new(alloc: Global, problem: &Problem) -> Result<Routes, AllocError> {
         Ok(Routes {
             standing: Standing::new(alloc, problem)?,
@@ -38,7 +38,8 @@ impl Routes {
         self.standing.route(edge)
     }
 
-    /// Returns what `edge` costs where it has no route: a value that stays for turns costs a register in each cycle.
+    /// Returns the penalty of `edge` where it has no route: a value that stays for iterations costs a register in each
+    /// cycle.
     pub fn penalty(&self, problem: &Problem, edge: u32) -> u32 {
         let history = number_at(self.histories.as_slice(), edge as usize);
         let stay = match problem.edge(edge) {
@@ -48,12 +49,12 @@ impl Routes {
         history.saturating_add(PENALTY).saturating_add(stay)
     }
 
-    /// Takes the route of `edge` away, if it has one.
+    /// Removes the route of `edge`, if it has one.
     pub fn rip(&mut self, problem: &Problem, edge: u32) {
         let _ = self.take(problem, edge);
     }
 
-    /// Takes the route of `edge` away, if it has one, and returns it.
+    /// Removes the route of `edge`, if it has one, and returns it.
     pub(crate) fn take(&mut self, problem: &Problem, edge: u32) -> Option<Vec<Stand>> {
         match problem.edge(edge) {
             Some(facts) => self.standing.rip(facts.source, edge),
@@ -74,7 +75,7 @@ impl Routes {
         }
     }
 
-    /// Checks whether `edge` has no route, or one of which a place is claimed twice.
+    /// Checks whether `edge` has no route, or one with a place that is claimed twice.
     pub fn is_bad(&self, edge: u32) -> bool {
         self.standing.is_bad(edge)
     }
@@ -89,7 +90,7 @@ impl Routes {
         self.standing.missing()
     }
 
-    /// Makes places that are claimed twice dearer, and edges without a route.
+    /// Makes places that are claimed twice and edges without a route dearer.
     pub fn age(&mut self) {
         self.standing.occupancy.age();
         for edge in 0..self.histories.len() {
@@ -104,7 +105,7 @@ impl Routes {
         }
     }
 
-    /// Takes all routes away, and forgets what places and edges cost.
+    /// Removes all routes, and resets the prices of places and the penalties of edges.
     pub fn clear(&mut self) {
         self.standing.clear();
         self.histories.fill(0);

@@ -9,8 +9,8 @@ use cg_respond_problem::{Places, Problem};
 use std::alloc::{AllocError, Global};
 
 impl Routes {
-    /// Fills buffer `number` with the least prices below `cap` from where a node's value is, from the time on at which
-    /// it leaves the unit, up to the layer `last`; with nothing where there is no last layer.
+    /// Fills buffer `number` with the least prices below `cap` from where a node's value is, beginning at the time at
+    /// which it leaves the unit, up to the layer `last`; with nothing where there is no last layer.
     pub fn spread_from(
         &mut self,
         problem: &Problem,
@@ -67,7 +67,7 @@ impl Routes {
         }
     }
 
-    /// Returns the least price in buffer `number` for `resource` in `layer`; `UNREACHED` outside.
+    /// Returns the least price in buffer `number` for `resource` in `layer`; `UNREACHED` outside the layers.
     #[inline]
     pub fn price(&self, number: u32, layer: u32, resource: u32) -> u32 {
         self.pool.buffer(number).layers.price(layer, resource)
@@ -78,14 +78,14 @@ impl Routes {
         self.pool.buffer(number).layers.holds(layer)
     }
 
-    /// Checks whether buffer `number` stays as it is until it is filled again itself: otherwise the next that isn't
-    /// kept overwrites it.
+    /// Checks whether buffer `number` keeps its layers until it is filled again itself: otherwise the next filling of a
+    /// buffer that isn't kept overwrites it.
     pub fn is_kept(&self, number: u32) -> bool {
         self.pool.is_kept(number)
     }
 
-    /// Routes `edge`, which has no route, by layers of its own where that costs less than `cap`. Returns what the route
-    /// costs; None where there is no route.
+    /// Routes `edge`, which has no route, by layers of its own where that costs less than `cap`. Returns the cost of
+    /// the route; None where there is no route.
     pub fn connect(
         &mut self,
         alloc: Global,

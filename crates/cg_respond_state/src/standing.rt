@@ -1,4 +1,4 @@
-//! The routes that stand, and what they claim.
+//! The existing routes, and their claims.
 
 use crate::ends::Leaving;
 use cg_respond_layers::{Layers, Stand};
@@ -10,23 +10,23 @@ use std::alloc::{AllocError, Global};
 #[derive(Drop)]
 pub(crate) struct Standing {
     routes: Vec<Option<Vec<Stand>>>,
-    /// The claims, with what places cost.
+    /// The claims, with the prices of places.
     pub(crate) occupancy: Occupancy,
 }
 
-/// How far layers are filled, and by what.
+/// The extent to which layers are filled, and the bounds on it.
 #[derive(Clone, Copy, Drop)]
 pub(crate) struct Extent {
     /// The last layer.
     pub(crate) last: u32,
-    /// The port that is to be reached there, if it is one.
+    /// The port to be reached in the last layer, if there is one.
     pub(crate) target: Option<u32>,
     /// The price from which on a way is of no use.
     pub(crate) cap: u32,
 }
 
 impl Standing {
-    /// Returns routes of which none is there yet.
+    /// Returns routes of which none exists yet.
     pub(crate) fn new(alloc: Global, problem: &Problem) -> Result<Standing, AllocError> {
         Ok(Standing {
             routes: unrouted(alloc, problem.edges.len())?,
@@ -47,7 +47,7 @@ impl Standing {
         }
     }
 
-    /// Takes the route of `edge` away with its claims, which are those of `source`, and returns it.
+    /// Removes the route of `edge` with its claims, which are those of `source`, and returns it.
     pub(crate) fn rip(&mut self, source: u32, edge: u32) -> Option<Vec<Stand>> {
         let route = self.take(edge);
         if let Some(stands) = &route {
@@ -82,7 +82,7 @@ impl Standing {
         Ok(())
     }
 
-    /// Returns what the claims of `route`, a way of a value of `source`, would cost now, but for the first one.
+    /// Returns the price of the claims of `route`, a way of a value of `source`, except for the first one.
     pub(crate) fn due(&self, source: u32, route: &[Stand]) -> u32 {
         let mut sum: u32 = 0;
         for stand in route.iter().skip(1) {
@@ -92,7 +92,7 @@ impl Standing {
         sum
     }
 
-    /// Fills `layers` from where a node's value is, from the time on at which it leaves the unit: `from`.
+    /// Fills `layers` from where a node's value is, beginning at the time at which it leaves the unit: `from`.
     pub(crate) fn spread(
         &self,
         layers: &mut Layers,
@@ -122,7 +122,7 @@ impl Standing {
         self.route(edge).is_none()
     }
 
-    /// Checks whether `edge` has no route, or one of which a place is claimed twice.
+    /// Checks whether `edge` has no route, or one with a place that is claimed twice.
     pub(crate) fn is_bad(&self, edge: u32) -> bool {
         match self.route(edge) {
             Some(route) => is_crossed(&self.occupancy, route),
@@ -141,7 +141,7 @@ impl Standing {
         sum
     }
 
-    /// Takes all routes away, and forgets what places cost.
+    /// Removes all routes, and resets the prices of places.
     pub(crate) fn clear(&mut self) {
         for edge in 0..self.routes.len() {
             self.drop_at(edge);
@@ -149,7 +149,7 @@ impl Standing {
         self.occupancy.clear();
     }
 
-    /// Drops the route of `edge`, whose claims go too.
+    /// Drops the route of `edge`, whose claims are removed too.
     fn drop_at(&mut self, edge: usize) {
         if let Some(route) = self.routes.get_mut(edge) {
             *route = None;

@@ -1,4 +1,4 @@
-//! The state of a search: places and routes, and what breaking the order costs.
+//! The state of a search: places and routes, and the penalties of violated order edges.
 
 use crate::routes::{PENALTY, PENALTY_AGE, Routes};
 use cg_model::Place;
@@ -6,7 +6,7 @@ use cg_respond_layers::Stand;
 use cg_respond_problem::{Places, Problem, count, number_at, raise, shifted};
 use std::alloc::{AllocError, Global};
 
-/// Where nodes stand and how values go, at an interval.
+/// The places of nodes and the routes of values, at an interval.
 #[derive(Drop)]
 pub struct State {
     /// The places of nodes.
@@ -16,12 +16,12 @@ pub struct State {
     histories: Vec<u32>,
 }
 
-/// The routes that are taken away where nodes move.
+/// The routes that are removed where nodes move.
 #[derive(Drop)]
 struct Torn {
-    /// Those that move along.
+    /// The routes that move along.
     within: Vec<Carried>,
-    /// The edges of the others.
+    /// The edges of the other routes.
     border: Vec<u32>,
 }
 
@@ -33,7 +33,7 @@ struct Carried {
 }
 
 impl State {
-    /// Returns a state in which no node stands anywhere.
+    /// Returns a state in which no node is placed.
     pub fn new(alloc: Global, problem: &Problem) -> Result<State, AllocError> {
         let nodes = problem.nodes as usize;
         Ok(State {
@@ -43,7 +43,7 @@ impl State {
         })
     }
 
-    /// Returns what the order edge `tie` costs where it is violated.
+    /// Returns the penalty of the order edge `tie` where it is violated.
     pub fn tie_penalty(&self, tie: u32) -> u32 {
         number_at(self.histories.as_slice(), tie as usize).saturating_add(PENALTY)
     }
@@ -61,7 +61,7 @@ impl State {
         }
     }
 
-    /// Lifts `node`, with the routes of its edges.
+    /// Lifts `node`, and removes the routes of its edges.
     pub fn lift(&mut self, problem: &Problem, node: u32) {
         for edge in problem.ins.of(node) {
             self.routes.rip(problem, *edge);
@@ -77,8 +77,8 @@ impl State {
         self.places.put(node, place);
     }
 
-    /// Moves each node that is marked in `members` a whole interval later, or sooner. Routes between two of them move
-    /// along; the edges of one of them to others are routed anew, where that costs less than to have no route.
+    /// Moves each node that is marked in `members` a whole interval later, or sooner. Routes between two members move
+    /// along; the edges between a member and another node are routed anew, where that costs less than to have no route.
     pub fn shift(
         &mut self,
         alloc: Global,
@@ -96,7 +96,7 @@ impl State {
         self.connect_all(alloc, problem, torn.border.as_slice())
     }
 
-    /// Takes the routes of all edges of `members` away.
+    /// Removes the routes of all edges of `members`.
     fn tear(
         &mut self,
         alloc: Global,
@@ -113,7 +113,7 @@ impl State {
         Ok(torn)
     }
 
-    /// Takes the route of `edge` away, if it has an end among `members`, and adds it to `torn`.
+    /// Removes the route of `edge`, if it has an end among `members`, and adds it to `torn`.
     fn tear_edge(
         &mut self,
         problem: &Problem,
@@ -173,7 +173,7 @@ impl State {
         Ok(())
     }
 
-    /// Makes whatever is wrong dearer.
+    /// Raises the prices and penalties of all faults.
     pub fn age(&mut self, problem: &Problem) {
         self.routes.age();
         self.places.age();
@@ -182,14 +182,14 @@ impl State {
         }
     }
 
-    /// Makes the order edge `tie` dearer where it is violated.
+    /// Raises the penalty of the order edge `tie` where it is violated.
     fn age_at(&mut self, problem: &Problem, tie: usize) {
         if self.is_broken(problem, tie.min(u32::MAX as usize) as u32) {
             raise(&mut self.histories, tie, PENALTY_AGE);
         }
     }
 
-    /// Takes all nodes and routes away, and forgets what they cost.
+    /// Removes all nodes and routes, and resets their prices.
     pub fn clear(&mut self, problem: &Problem) {
         for node in 0..problem.nodes {
             self.places.lift(node);
@@ -214,7 +214,7 @@ fn is_marked(members: &[bool], node: u32) -> bool {
     }
 }
 
-/// Makes `route` stand `cycles` cycles later, or sooner.
+/// Moves `route` by `cycles` cycles later, or sooner.
 fn shift_route(route: &mut [Stand], cycles: u32, is_later: bool) {
     for stand in route {
         stand.time = shifted(stand.time, cycles, is_later);

@@ -1,11 +1,11 @@
-//! Nodes that must go a whole interval later, or sooner, together.
+//! Nodes that must move a whole interval later, or sooner, together.
 
 use crate::ends::ends_of;
 use cg_model::OrderEdge;
 use cg_respond_problem::{DataEdge, Group, Places, Problem, Tightness};
 use std::alloc::{AllocError, Global};
 
-/// Edges between places: those are tight that would be too short by an interval less.
+/// Edges between places: those that would be too short by an interval less are tight.
 #[derive(Clone, Copy, Drop)]
 struct Placed<'a> {
     places: &'a Places,
@@ -37,8 +37,8 @@ impl<'a> Tightness for Placed<'a> {
     }
 }
 
-/// Returns for each node whether it must go along where `node` goes a whole interval later, or sooner, so that no edge
-/// becomes too short.
+/// Returns for each node whether it must move along where `node` moves a whole interval later, or sooner, so that no
+/// edge becomes too short.
 pub fn along(
     alloc: Global,
     problem: &Problem,

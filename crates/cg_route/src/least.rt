@@ -6,17 +6,17 @@ use crate::search::{PathEnds, Search};
 use cg_claims::{Mrrg, Usage};
 use std::alloc::{AllocError, Global};
 
-/// How many intervals the longest paths take that are looked for.
+/// The intervals in the length of the longest paths that are searched for.
 const MOST_INTERVALS: u32 = 6;
 
-/// How many cycles more they take.
+/// The additional cycles in that length.
 const MORE_CYCLES: u32 = 32;
 
-/// The path of least price for the value of a source from a resource, on which it is at `start`, to another, on which
-/// it is to be at `end`; of those of that price the first in the order of lists.
+/// Returns the path of least price for the value of a source from a resource, on which it is at `start`, to another, on
+/// which it is to be at `end`; among paths of equal price the first in lexicographic order.
 ///
-/// There is none where no path leads there in that time, where `end` is before `start`, and where it is more than six
-/// intervals and 32 cycles after it.
+/// There is none if no path leads there in that time, if `end` is before `start`, or if it is more than six intervals
+/// and 32 cycles after it.
 pub fn least_path(
     alloc: Global,
     graph: &Mrrg,

@@ -8,7 +8,7 @@ use cg_model::Items;
 use std::alloc::{AllocError, Global};
 use std::marker::Model;
 
-/// Where a path begins, and where and when it ends.
+/// The resource where a path begins, and the resource and time where it ends.
 #[derive(Clone, Copy, Drop)]
 pub(crate) struct PathEnds {
     pub from: u32,
@@ -16,7 +16,7 @@ pub(crate) struct PathEnds {
     pub end: u32,
 }
 
-/// A search for ways of a source's value to a resource at a time.
+/// A search for paths of a source's value to a resource at a time.
 #[derive(Drop)]
 pub(crate) struct Search<'s, 'a> {
     graph: &'s Mrrg<'a>,
@@ -50,7 +50,7 @@ impl<'s, 'a> Search<'s, 'a> {
     ghost use Rattle.cg_claims.specs.Table as tables;
     ghost use Rattle.cg_route.specs.Layers as spec;
 
-    /// A search in a graph, by the prices of a use table.
+    /// Returns a search in `graph`, by the prices of a use table.
     pub(crate) fn new(
         alloc: Global,
         graph: &'s Mrrg<'a>,
@@ -82,7 +82,8 @@ impl<'s, 'a> Search<'s, 'a> {
         })
     }
 
-    /// The price of a link into a resource at a time: none where the value comes the same way already, else the toll.
+    /// Returns the price of a link from `driver` into `resource` at `time`: 0 if the value already comes there by this
+    /// link, else `toll`.
     fn link(&self, resource: u32, time: u32, driver: u32, toll: u128, shared: bool) -> u128
         requires known { resource < spec.size self.now }
         requires toll { toll ≡ tables.toll self.now.table (record { resource = resource; slot = time % self.now.table.interval }) }
@@ -98,7 +99,8 @@ impl<'s, 'a> Search<'s, 'a> {
         }
     }
 
-    /// Offers the drivers of a resource the way on through it, where it is at that time, for that price from there on.
+    /// Offers the drivers of `resource` the way on through it, if the value is there at `time` and the price from there
+    /// on is `price`.
     fn offer(&self, resource: u32, time: u32, price: u128, layer: &mut [Option<Step>])
         requires known { resource < spec.size self.now }
         requires all { length layer.old ≡ spec.size self.now }
@@ -120,7 +122,7 @@ impl<'s, 'a> Search<'s, 'a> {
         }
     }
 
-    /// Offers them the way on through `resource`, where there is one and a link into it takes `delay` cycles.
+    /// Offers the drivers of `resource` the way on through it, if there is one and a link into it takes `delay` cycles.
     fn pass(
         &self,
         delay: u32,
@@ -143,14 +145,14 @@ impl<'s, 'a> Search<'s, 'a> {
         }
     }
 
-    /// A layer without ways.
+    /// Returns a layer without ways.
     fn none(&self, alloc: Global) -> Result<Vec<Option<Step>>, AllocError>
         ensures { IfOk result (λ v. v.items ≡ replicate (spec.size self.now) None) }
     {
         vec![in alloc; None; self.count]
     }
 
-    /// The way on through a resource, where it is at that time, and goes on so from there.
+    /// Returns the way on through `resource`, if the value is there at `time` and continues by `step`.
     fn way(&self, resource: u32, time: u32, slot: u32, step: Step) -> Way
         requires known { resource < spec.size self.now }
         requires slot { slot ≡ time % self.now.table.interval }
@@ -166,7 +168,7 @@ impl<'s, 'a> Search<'s, 'a> {
         }
     }
 
-    /// The ways on through all registers, which are at that time what the layer says.
+    /// Returns the ways on through all registers at a time, by the layer of that time.
     fn ways(
         &self,
         alloc: Global,
@@ -190,7 +192,7 @@ impl<'s, 'a> Search<'s, 'a> {
         Ok(ways)
     }
 
-    /// What a way on costs a driver.
+    /// Returns the price of `way` for `driver`.
     fn way_price(&self, driver: u32, resource: u32, time: u32, way: Way) -> u128
         requires known { resource < spec.size self.now }
         requires cheap { spec.IsCheap way }
@@ -204,9 +206,9 @@ impl<'s, 'a> Search<'s, 'a> {
         }
     }
 
-    /// The best way on through a register, which the value enters at that time.
+    /// Returns the best way on through a register, which the value enters at `time`.
     ///
-    /// The registers ascend: of ways of one price the first is that to the lowest number.
+    /// The registers are in ascending order: among ways of equal price the first is the one to the lowest number.
     fn best(&self, driver: u32, time: u32, ways: &[Option<Way>]) -> Option<Step>
         requires known { driver < spec.size self.now }
         requires all { length ways.now ≡ spec.size self.now }
@@ -228,7 +230,7 @@ impl<'s, 'a> Search<'s, 'a> {
         held(price, next)
     }
 
-    /// The best ways on of all resources through registers, which the value enters at that time.
+    /// Returns the best ways on of all resources through registers, which the value enters at that time.
     fn carry(
         &self,
         alloc: Global,
@@ -250,7 +252,7 @@ impl<'s, 'a> Search<'s, 'a> {
         Ok(here)
     }
 
-    /// What is found in a layer before its own links are looked at: nothing at the end, else the ways through registers.
+    /// Returns a layer before its own links are visited: empty at the end, else with the ways through registers.
     fn begun(
         &self,
         alloc: Global,
@@ -274,7 +276,7 @@ impl<'s, 'a> Search<'s, 'a> {
         }
     }
 
-    /// Enters the end, where that is the resource in this layer.
+    /// Enters the end of the path, if it is `resource` in layer `k`.
     fn enter(&self, k: u32, resource: u32, here: &mut [Option<Step>])
         requires { resource < length here.old }
         ensures { here.new ≡ spec.entered self.now k resource here.old }
@@ -287,7 +289,7 @@ impl<'s, 'a> Search<'s, 'a> {
         }
     }
 
-    /// Enters a resource, and offers its drivers the way on through it, where links to it have no delay.
+    /// Enters `resource`, and offers its drivers the way on through it, if links to it have no delay.
     fn visit(&self, k: u32, resource: u32, here: &mut [Option<Step>])
         requires known { resource < spec.size self.now }
         requires time { k ≤ self.now.end }
@@ -301,7 +303,8 @@ impl<'s, 'a> Search<'s, 'a> {
         self.pass(0, resource, self.end - k, step, here);
     }
 
-    /// Enters the ways on through resources to which links have no delay, those that come later in the order first.
+    /// Enters the ways on through resources to which links have no delay, from the last resource of the order to the
+    /// first.
     fn settle(&self, k: u32, here: &mut [Option<Step>])
         requires near { k ≤ 416 }
         requires time { k ≤ self.now.end }
@@ -315,7 +318,7 @@ impl<'s, 'a> Search<'s, 'a> {
         }
     }
 
-    /// The layer of `k` cycles before the end, from that of the cycle after.
+    /// Returns the layer of `k` cycles before the end, from the layer of the next cycle.
     fn layer(
         &self,
         alloc: Global,
@@ -335,7 +338,7 @@ impl<'s, 'a> Search<'s, 'a> {
         Ok(Items::new(here))
     }
 
-    /// The layers of the last cycles, the end's first.
+    /// Returns the layers of the last cycles, that of the end first.
     pub(crate) fn layers(
         &self,
         alloc: Global,
@@ -354,7 +357,7 @@ impl<'s, 'a> Search<'s, 'a> {
         Ok(layers)
     }
 
-    /// The path of next resources from a resource `last` cycles before the end.
+    /// Returns the path by the next resources of the entries, from a resource `last` cycles before the end.
     pub(crate) fn trace(
         &self,
         alloc: Global,
@@ -389,7 +392,7 @@ impl<'s, 'a> Search<'s, 'a> {
     }
 }
 
-/// The layer of the cycle after that of `k` cycles before the end.
+/// Returns the layer of the cycle after that of `k` cycles before the end.
 fn later(layers: &[Items<Option<Step>>], k: u32) -> &[Option<Step>]
     requires { k ≤ length layers.now }
     ensures { result.now ≡ spec.later_at layers.now k }
@@ -401,7 +404,7 @@ fn later(layers: &[Items<Option<Step>>], k: u32) -> &[Option<Step>]
     }
 }
 
-/// The way on from a resource `k` cycles before the end.
+/// Returns the way on from `resource` `k` cycles before the end.
 fn entry_at(layers: &[Items<Option<Step>>], k: u32, resource: u32) -> Option<Step>
     requires { k < length layers.now }
     ensures { result ≡ spec.at (spec.layer_at layers.now k) resource }
@@ -412,7 +415,7 @@ fn entry_at(layers: &[Items<Option<Step>>], k: u32, resource: u32) -> Option<Ste
     }
 }
 
-/// For each resource whether a path from that one may meet it.
+/// Returns for each resource whether a path from the resource `from` may meet it.
 fn met(alloc: Global, graph: &Mrrg, from: u32) -> Result<Vec<bool>, AllocError>
     ensures { IfOk result (λ v. spec.AreOpen graph.now.arch from v.items) }
 {
@@ -425,7 +428,7 @@ fn met(alloc: Global, graph: &Mrrg, from: u32) -> Result<Vec<bool>, AllocError>
     Ok(met)
 }
 
-/// Whether a path from one resource may meet another with those drivers.
+/// Returns whether a path from the resource `from` may meet `resource`, which has the drivers `drivers`.
 fn may_meet(drivers: &[u32], resource: u32, from: u32) -> bool
     ensures { result ≡ (nat_lt 0 (length drivers.now) || eqb resource from) }
 {

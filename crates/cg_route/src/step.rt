@@ -5,7 +5,7 @@ ghost use Rattle.cg_route.specs.Layers as spec;
 /// A way on from a resource to the end of a search.
 #[derive(Clone, Copy)]
 pub(crate) struct Step {
-    /// What it costs.
+    /// The price of the way.
     pub price: u128,
     /// The next resource.
     pub next: u32,
@@ -14,16 +14,16 @@ pub(crate) struct Step {
 /// A way on through a resource at a time.
 #[derive(Clone, Copy)]
 pub(crate) struct Way {
-    /// What it costs from the resource on.
+    /// The price from the resource on.
     pub onward: u128,
-    /// And what it costs where the value doesn't come to the resource that way already.
+    /// The price including the toll, which is due if the value doesn't already come to the resource by this link.
     pub through: u128,
-    /// Whether the value is on the resource at that time already.
+    /// Whether the value is already on the resource at that time.
     pub shared: bool,
 }
 
-/// The better of what was found and of going to a resource for that price: the cheaper, and of equal ones that to the
-/// lower number.
+/// Returns the better of `found` and the way to the resource `next` for `price`: the cheaper, and of equal ones the one
+/// to the lower number.
 pub(crate) fn better(found: Option<Step>, price: u128, next: u32) -> Option<Step>
     ensures { result ≡ spec.better found price next }
 {
@@ -39,10 +39,10 @@ pub(crate) fn better(found: Option<Step>, price: u128, next: u32) -> Option<Step
     }
 }
 
-/// The price of no way, which is beyond that of any.
+/// The price that denotes no way, which exceeds that of any way.
 pub(crate) const NO_WAY: u128 = u128::MAX;
 
-/// The way on to a resource for that price; none where it is that of no way.
+/// Returns the way to the resource `next` for `price`; `None` if the price is `NO_WAY`.
 pub(crate) fn held(price: u128, next: u32) -> Option<Step>
     ensures { result ≡ spec.held price next }
 {

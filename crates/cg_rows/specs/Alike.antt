@@ -11,15 +11,15 @@ SameSelects C D n slot = (r : ℕ) → r < n → select C r slot ≡ select D r 
 abbrev pub SameFields : Config → Config → ℕ → ℕ → Type 0
 SameFields C D n slot = (x : ℕ) → x < n → fields C x slot ≡ fields D x slot
 
--- all selects and all fields in a slot
+-- the selects of all resources and the fields of all units in a slot
 unfoldable pub IsSameSlot : Arch → Config → Config → ℕ → Type 0
 IsSameSlot A C D slot = SameSelects C D (length A.resources) slot × SameFields C D (length A.units) slot
 
--- those in each of the first n slots
+-- all selects and fields in each of the first n slots
 abbrev pub SameSlots : Arch → Config → Config → ℕ → Type 0
 SameSlots A C D n = (slot : ℕ) → slot < n → IsSameSlot A C D slot
 
--- the interval, the stages, and all in each slot
+-- the interval, the stages, and all selects and fields in each slot
 pub record IsSame (A : Arch) (C D : Config) : Type 0 where
   pub interval : C.ii ≡ D.ii
   pub stages : C.stages ≡ D.stages

@@ -1,4 +1,4 @@
-//! A configuration in tables and one that bytes spell, select by select and field by field.
+//! A comparison of a configuration in tables with a view of encoded bytes, select by select and field by field.
 ghost use Rattle.std.specs.Prelude.{◌≡◌, ◌<◌, ◌↔◌, ℕ, IsTrue};
 ghost use Rattle.cg_model.specs.Canonical.{IsCanonical};
 ghost use Rattle.cg_contexts.specs.Known.{HasSelect, HasUnit};
@@ -9,7 +9,7 @@ use cg_bits::{Config, Contexts};
 use cg_contexts::{ArgFields, Op, UnitFields};
 use cg_view::ConfigView;
 
-/// Checks whether `tables` and `view` have the same interval and stages, and say the same in each slot.
+/// Checks whether `tables` and `view` have the same interval and stages, and agree in each slot.
 pub(crate) fn is_same(arch: &Arch, tables: &Config, view: &ConfigView<'_>) -> bool
     requires tables { IsCanonical arch.now tables.now }
     requires view { IsCanonical arch.now view.now }
@@ -18,7 +18,7 @@ pub(crate) fn is_same(arch: &Arch, tables: &Config, view: &ConfigView<'_>) -> bo
     tables.ii() == view.ii() && tables.stages() == view.stages() && same_slots(arch, tables, view)
 }
 
-/// Checks whether `tables` and `view` say the same in each slot.
+/// Checks whether `tables` and `view` agree in each slot.
 fn same_slots(arch: &Arch, tables: &Config, view: &ConfigView<'_>) -> bool
     requires tables { IsCanonical arch.now tables.now }
     requires view { IsCanonical arch.now view.now }
@@ -33,7 +33,7 @@ fn same_slots(arch: &Arch, tables: &Config, view: &ConfigView<'_>) -> bool
     true
 }
 
-/// Checks whether `tables` and `view` say the same in `slot`.
+/// Checks whether `tables` and `view` agree in `slot`.
 #[tactic(auto, unfolding(crate::specs::Alike::IsSameSlot))]
 fn is_same_slot(arch: &Arch, tables: &Config, view: &ConfigView<'_>, slot: u32) -> bool
     requires tables { IsCanonical arch.now tables.now }
@@ -47,7 +47,7 @@ fn is_same_slot(arch: &Arch, tables: &Config, view: &ConfigView<'_>, slot: u32) 
     same_selects(resources, tables, view, slot) && same_fields(units, tables, view, slot)
 }
 
-/// Checks whether all selects of `slot` are the same.
+/// Checks whether all selects of `slot` are equal in `tables` and `view`.
 fn same_selects(resources: u32, tables: &Config, view: &ConfigView<'_>, slot: u32) -> bool
     requires tables { (r : ℕ) → r < resources → HasSelect tables.now r slot }
     requires view { (r : ℕ) → r < resources → HasSelect view.now r slot }
@@ -61,7 +61,7 @@ fn same_selects(resources: u32, tables: &Config, view: &ConfigView<'_>, slot: u3
     true
 }
 
-/// Checks whether the fields of all units are the same in `slot`.
+/// Checks whether the fields of all units are equal in `tables` and `view` in `slot`.
 fn same_fields(units: u32, tables: &Config, view: &ConfigView<'_>, slot: u32) -> bool
     requires tables { (x : ℕ) → x < units → HasUnit tables.now x slot }
     requires view { (x : ℕ) → x < units → HasUnit view.now x slot }
@@ -77,7 +77,7 @@ fn same_fields(units: u32, tables: &Config, view: &ConfigView<'_>, slot: u32) ->
     true
 }
 
-/// Checks whether the fields of two units are the same.
+/// Checks whether the fields of two units are equal.
 fn is_same_unit(a: &UnitFields, b: &UnitFields) -> bool
     ensures { IsTrue result ↔ (a.now ≡ b.now) }
 {

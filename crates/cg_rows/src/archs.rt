@@ -1,4 +1,5 @@
-//! What no architecture file reaches: names that begin with no letter of a cell, and the slot of an architecture.
+//! Checks beyond the reach of architecture files: names that don't begin with the letter of a cell, and the slot of an
+//! architecture.
 
 use cg_arch::{Arch, Name, Op, OpSet, flat_text};
 use cg_model::Items;
@@ -10,7 +11,7 @@ fn name(alloc: Global, text: &str) -> Result<Name, AllocError> {
     Ok(Name::new(String::from_str(alloc, text)?))
 }
 
-/// Returns the names in `text`, which are parted by blanks.
+/// Returns the names in `text`, which are separated by blanks.
 fn names(alloc: Global, text: &str) -> Result<Names, AllocError> {
     let mut names = Vec::new(alloc);
     for word in text.split(' ') {
@@ -19,8 +20,7 @@ fn names(alloc: Global, text: &str) -> Result<Names, AllocError> {
     Ok(Names::new(names))
 }
 
-/// Returns a register and a unit of two ports, each driven by both, where the register has the name `register` and is
-/// driven by `drivers`.
+/// Returns a register named `register`, driven by `drivers`, and a unit of two ports, each driven by `u_o` and `r`.
 fn one_unit(alloc: Global, register: &str, drivers: &str) -> Result<Parts, AllocError> {
     let ports = vec![in alloc; names(alloc, "u_o r")?, names(alloc, "u_o r")?]?;
     let elements = vec![in alloc;
@@ -45,7 +45,7 @@ fn one_unit(alloc: Global, register: &str, drivers: &str) -> Result<Parts, Alloc
 }
 
 /// Checks whether the flat text, the length of a slot and the order of evaluation of `arch` are those of one unit: the
-/// text `wanted`, three selects of 2 bits, and a unit of 6 + 16 + 4 + 32 + 2 * 132.
+/// text is `wanted`, and a slot has three selects of 2 bits and a unit of 6 + 16 + 4 + 32 + 2 * 132 bits.
 pub(crate) fn text_and_slot_of_one_unit(
     alloc: Global,
     arch: &Arch,
@@ -55,13 +55,13 @@ pub(crate) fn text_and_slot_of_one_unit(
     Ok(text.as_slice() == wanted && arch.slot_bits() == 328 && arch.order().len() == 4)
 }
 
-/// Checks whether a register of the name `register`, driven by `drivers`, is refused for its name.
+/// Checks whether a register named `register` and driven by `drivers` is refused for its name.
 fn is_bad_name(alloc: Global, register: &str, drivers: &str) -> Result<bool, AllocError> {
     let fault = validate(alloc, &one_unit(alloc, register, drivers)?).err();
     Ok(matches!(fault, Some(ArchFault::BadName(NamePlace::Element(0)))))
 }
 
-/// Checks whether names that no architecture file gives are refused.
+/// Checks whether names that can't occur in an architecture file are refused.
 pub(crate) fn names_that_no_file_gives(alloc: Global) -> Result<bool, AllocError> {
     let empty = is_bad_name(alloc, "", "u_o")?;
     let digit = is_bad_name(alloc, "9r", "u_o")?;

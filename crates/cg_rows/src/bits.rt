@@ -1,4 +1,5 @@
-//! Bytes that are cut, and each bit turned over: tables and the view of the bytes answer alike. And runs of too many turns.
+//! Bytes that are cut, and bytes with one bit inverted: tables and the view of the bytes behave alike. And runs of too
+//! many iterations.
 ghost use Rattle.cg_model.specs.Canonical.{IsCanonical};
 
 use cg_arch::Arch;
@@ -14,7 +15,7 @@ use std::alloc::{AllocError, Global};
 /// The bits of a byte, the most significant one first.
 const BITS: [u8; 8] = [0x80, 0x40, 0x20, 0x10, 0x08, 0x04, 0x02, 0x01];
 
-/// Returns `bytes` with the bit `bit` of the byte at `place` turned over.
+/// Returns `bytes` with the bit `bit` of the byte at `place` inverted.
 fn turned(alloc: Global, bytes: &[u8], place: usize, bit: u8) -> Result<Vec<u8>, AllocError> {
     let mut copy = Vec::new(alloc);
     for (other, byte) in bytes.iter().enumerate() {
@@ -23,8 +24,8 @@ fn turned(alloc: Global, bytes: &[u8], place: usize, bit: u8) -> Result<Vec<u8>,
     Ok(copy)
 }
 
-/// Runs `turns` turns of the canonical configuration `config` from `image`, and returns what they leave, as the bytes
-/// of an image; None where they can't be run.
+/// Runs `turns` iterations of the canonical configuration `config` from `image`, and returns what they leave, as the
+/// bytes of an image; None where they can't be run.
 pub(crate) fn left_by<C: Contexts>(
     alloc: Global,
     arch: &Arch,
@@ -45,7 +46,8 @@ pub(crate) fn left_by<C: Contexts>(
     }
 }
 
-/// Checks whether the bytes of a configuration of two slots that are off are an interval of 2, one stage, and zeros.
+/// Checks whether the bytes of a configuration of two slots in which all is off are an interval of 2, one stage, and
+/// zeros.
 pub(crate) fn two_slots_that_are_off(alloc: Global, arch: &Arch) -> Result<bool, AllocError> {
     if arch.contexts() < 2 {
         return Ok(false);
@@ -57,7 +59,8 @@ pub(crate) fn two_slots_that_are_off(alloc: Global, arch: &Arch) -> Result<bool,
     Ok(write_bits(alloc, arch, &config)? == bytes)
 }
 
-/// Checks whether a configuration that is off is told to be canonical, and one without slots and with a stage too many not.
+/// Checks whether a configuration in which all is off is recognised as canonical, and one without slots and with one
+/// stage too many isn't.
 pub(crate) fn tells_canonical(alloc: Global, arch: &Arch) -> Result<bool, AllocError> {
     if arch.contexts() < 2 {
         return Ok(false);
@@ -67,7 +70,7 @@ pub(crate) fn tells_canonical(alloc: Global, arch: &Arch) -> Result<bool, AllocE
     Ok(is_canonical(arch, &config) && !is_canonical(arch, &other))
 }
 
-/// Checks whether tables and view answer of all first parts of `bytes` that they are truncated.
+/// Checks whether tables and view report for all proper prefixes of `bytes` that they are truncated.
 pub(crate) fn cut_bytes_are_truncated(
     alloc: Global,
     arch: &Arch,
@@ -83,7 +86,8 @@ pub(crate) fn cut_bytes_are_truncated(
     Ok(true)
 }
 
-/// Checks whether tables and view refuse `bytes` alike, or both take them, write them back and run five turns alike.
+/// Checks whether tables and view both refuse `bytes` with the same fault, or both accept them, write them back and run
+/// five iterations alike.
 fn answer_alike(alloc: Global, arch: &Arch, bytes: &[u8]) -> Result<bool, AllocError> {
     match (read_bits(alloc, arch, bytes), ConfigView::of(arch, bytes)) {
         (Ok(tables), Ok(view)) => leave_alike(alloc, arch, bytes, &tables, &view),
@@ -91,7 +95,7 @@ fn answer_alike(alloc: Global, arch: &Arch, bytes: &[u8]) -> Result<bool, AllocE
     }
 }
 
-/// Checks whether `tables` and `view` are written back and run five turns alike.
+/// Checks whether `tables` and `view` are written back and run five iterations alike.
 fn leave_alike(
     alloc: Global,
     arch: &Arch,
@@ -109,8 +113,8 @@ fn leave_alike(
     Ok(written.as_slice() == bytes && left.is_some() && left == other)
 }
 
-/// Turns each of the bits of `bytes` over, and returns how often tables and view don't answer alike, and how many are
-/// taken.
+/// Inverts each bit of `bytes` in turn, and returns how often tables and view don't behave alike, and how many of the
+/// changed bytes are accepted.
 pub(crate) fn bits_turned_over(
     alloc: Global,
     arch: &Arch,
@@ -132,7 +136,7 @@ pub(crate) fn bits_turned_over(
     Ok((unlike, taken))
 }
 
-/// Checks whether a million turns and one are refused, of the array and of the kernel.
+/// Checks whether a run of a million and one iterations is refused, by the array and by the kernel.
 pub(crate) fn too_many_turns(
     alloc: Global,
     arch: &Arch,

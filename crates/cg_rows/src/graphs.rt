@@ -1,17 +1,17 @@
-//! The modulo routing resource graph of one unit, whose links no command lends.
+//! The modulo routing resource graph of one unit, whose links no command reports.
 
 use cg_arch::Arch;
 use cg_mrrg::{Link, MNode, Mrrg};
 use std::alloc::{AllocError, Global};
 
-/// Returns a link of `delay` cycles, at whose other end the node of `resource` and `slot` stands.
+/// Returns a link of `delay` cycles, whose other end is the node of `resource` and `slot`.
 fn link(resource: u32, slot: u32, delay: u32) -> Link {
     let node = MNode { resource, slot };
     Link { node, delay }
 }
 
-/// Checks whether the links of one unit at interval 3 are those that its drivers give. The register is 0, the ports are
-/// 1 and 2, and what the unit gives is 3.
+/// Checks whether the links of one unit at interval 3 are those that its drivers determine. The register is resource 0,
+/// the ports are 1 and 2, and the unit's out is 3.
 pub(crate) fn links_of_one_unit(alloc: Global, arch: &Arch) -> Result<bool, AllocError> {
     let graph = Mrrg::expand(alloc, arch, 3)?;
     if graph.resources() != 4 {
@@ -35,7 +35,7 @@ pub(crate) fn links_of_one_unit(alloc: Global, arch: &Arch) -> Result<bool, Allo
     };
     let into = graph.links_into(register);
     let out = graph.links_out_of(given_last);
-    // Both are lent at once.
+    // Both slices are borrowed at once.
     Ok(
         into == [link(3, 0, 1), link(0, 0, 1)].as_slice()
             && out == [link(0, 0, 1), link(1, 2, 0), link(2, 2, 0)].as_slice()

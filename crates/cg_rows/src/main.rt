@@ -1,4 +1,4 @@
-//! What no command reaches: rows that were worked out by hand, and what comes of them, a line each.
+//! Rows that no command reaches: worked out by hand, each printed on a line with its result.
 #![tactic(auto)]
 
 mod alike;
@@ -44,7 +44,7 @@ fn rows_of_one_unit(rt: &(impl Files + Print + AllocGlobal), arch: &Arch) -> io:
     last_rows(rt, arch)
 }
 
-/// Prints the rows of one unit and the running sum.
+/// Prints the rows of one unit and of the running sum.
 fn first_rows(
     rt: &(impl Files + Print + AllocGlobal),
     arch: &Arch,
@@ -66,26 +66,26 @@ fn last_rows(rt: &(impl Files + Print + AllocGlobal), arch: &Arch) -> io::Result
     rows_of_trial(rt)
 }
 
-/// Reads the architecture of the file `name`, where it has one.
+/// Reads the architecture in the file `name`, if there is one.
 fn arch_in(rt: &(impl Files + AllocGlobal), name: &str) -> io::Result<Option<Arch>> {
     let bytes = fs::read(rt, name)?;
     Ok(read_arch(rt.alloc(), bytes.as_slice()).ok())
 }
 
-/// Reads the kernel of the file `name`, where it has one.
+/// Reads the kernel in the file `name`, if there is one.
 fn kernel_in(rt: &(impl Files + AllocGlobal), name: &str) -> io::Result<Option<Kernel>> {
     let bytes = fs::read(rt, name)?;
     Ok(read_kernel(rt.alloc(), bytes.as_slice()).ok())
 }
 
-/// Prints whether `row` holds.
+/// Prints `row` and whether it holds.
 fn say(rt: &(impl Print + AllocGlobal), row: &str, holds: bool) -> io::Result<()> {
     let said = if holds { "holds" } else { "fails" };
     let line = format!(in rt.alloc(); "{row}: {said}\n")?;
     rt.print(line.as_str())
 }
 
-/// Prints the rows of texts of the architecture, the kernel and a mapping.
+/// Prints the rows of the texts of the architecture, the kernel and a mapping.
 fn rows_of_texts(
     rt: &(impl Files + Print + AllocGlobal),
     arch: &Arch,
@@ -121,7 +121,7 @@ fn row_of_mapping(
     say(rt, "mapping as text", holds)
 }
 
-/// Prints the rows of bits of configurations, and of runs of too many turns.
+/// Prints the rows of the bits of configurations, and of runs of too many iterations.
 fn rows_of_bits(
     rt: &(impl Files + Print + AllocGlobal),
     arch: &Arch,
@@ -175,7 +175,7 @@ fn rows_of_routes(rt: &(impl Print + AllocGlobal), arch: &Arch) -> io::Result<()
     say(rt, "plain claims of one unit", claims)
 }
 
-/// Prints the rows of the running sum on one unit: one node after another, and by the walk.
+/// Prints the rows of the running sum on one unit: mapped one node after another, and by the walk.
 fn rows_of_sum(rt: &(impl Print + AllocGlobal), arch: &Arch, sum: &Kernel) -> io::Result<()> {
     let six = serial(arch, sum) == Some(6);
     say(rt, "running sum one after another", six)?;
@@ -183,7 +183,8 @@ fn rows_of_sum(rt: &(impl Print + AllocGlobal), arch: &Arch, sum: &Kernel) -> io
     say(rt, "running sum at its first places", first)
 }
 
-/// Prints the rows of the tests that a caller can ask: whether a configuration is canonical, and of which shape a mapping is.
+/// Prints the rows of the tests that a caller can make: whether a configuration is canonical, and of which shape a
+/// mapping is.
 fn rows_of_tests(
     rt: &(impl Files + Print + AllocGlobal),
     arch: &Arch,
@@ -245,7 +246,7 @@ fn row_of_ways(rt: &(impl Files + Print + AllocGlobal)) -> io::Result<()> {
     say(rt, "registers on ways", holds)
 }
 
-/// Prints the rows of a filter, which one unit doesn't offer.
+/// Prints the rows of a filter, whose operations one unit doesn't offer.
 fn rows_of_filter(rt: &(impl Files + Print + AllocGlobal), small: &Arch) -> io::Result<()> {
     let Some(filter) = kernel_in(rt, "filter.json")? else {
         return rt.print("filter.json is no kernel\n");
@@ -266,7 +267,7 @@ fn rows_of_sixteen_tiles(
     row_of_walks(rt, &arch, filter, 2)
 }
 
-/// Prints the row of the walk of seventy moves at interval 2, and the plain walk beside it.
+/// Prints the row of the walk of seventy moves at interval 2, compared with the plain walk.
 fn row_of_walks(
     rt: &(impl Print + AllocGlobal),
     arch: &Arch,
@@ -284,7 +285,7 @@ fn rows_of_trial(rt: &(impl Print + AllocGlobal)) -> io::Result<()> {
     rows_of_parts(rt, &trial.parts, trial.bits.as_slice())
 }
 
-/// Prints the rows of the trial's parts, its bits, and the images that the array and the turns leave.
+/// Prints the rows of the trial's parts, its bits, and the images that the array and the iterations leave.
 fn rows_of_parts(
     rt: &(impl Print + AllocGlobal),
     parts: &TrialParts,
@@ -318,7 +319,7 @@ fn row_of_bytes(rt: &(impl Print + AllocGlobal), bits: &[u8]) -> io::Result<()> 
     rt.print(line.as_str())
 }
 
-/// Prints the digest of the bytes of `image` under the name `row`.
+/// Prints the digest of the bytes of `image`, labelled `row`.
 fn row_of_digest(
     rt: &(impl Print + AllocGlobal),
     row: &str,

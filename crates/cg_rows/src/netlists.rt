@@ -1,4 +1,4 @@
-//! The netlist of an array beside the array, net by net.
+//! The netlist of an array compared with the array, net by net.
 ghost use Rattle.std.specs.Prelude.{◌≡◌, ◌<◌, ◌≤◌};
 ghost use Rattle.cg_model.specs.Canonical.{IsCanonical};
 
@@ -12,8 +12,8 @@ use cg_sim::Sim;
 use cg_view::ConfigView;
 use std::alloc::{AllocError, Global};
 
-/// Checks whether `bytes` are bits of `arch` under which five turns take fifteen cycles, in each of which the net of each resource
-/// has the resource's word, over tables and over the bytes in place.
+/// Checks whether `bytes` are bits of `arch` under which five iterations take fifteen cycles, in each of which the net
+/// of each resource has the resource's word, both with tables and with the view of the bytes.
 pub(crate) fn bits_alike(alloc: Global, arch: &Arch, bytes: &[u8]) -> Result<bool, AllocError> {
     match (read_bits(alloc, arch, bytes), ConfigView::of(arch, bytes)) {
         (Ok(tables), Ok(view)) => Ok(
@@ -23,8 +23,8 @@ pub(crate) fn bits_alike(alloc: Global, arch: &Arch, bytes: &[u8]) -> Result<boo
     }
 }
 
-/// Checks whether a run of `turns` turns of `arch` under `config`, from an image without words, has `cycles` cycles, in each of
-/// which the net of each resource has the resource's word.
+/// Checks whether a run of `turns` iterations of `arch` under `config`, from an image without words, has `cycles`
+/// cycles, in each of which the net of each resource has the resource's word.
 fn words_alike<C: Contexts>(
     alloc: Global,
     arch: &Arch,
@@ -42,8 +42,8 @@ fn words_alike<C: Contexts>(
     }
 }
 
-/// Checks whether a run of `turns` turns of `gates` under `config`, from `image`, has `cycles` cycles, in each of which the net of
-/// each resource has the word that the resource has in the array's.
+/// Checks whether a run of `turns` iterations of `gates` under `config`, from `image`, has `cycles` cycles, in each of
+/// which the net of each resource has the word of the resource in the array's run.
 fn runs_alike<C: Contexts>(
     alloc: Global,
     arch: &Arch,
@@ -78,7 +78,7 @@ fn runs_alike<C: Contexts>(
     sim.left() == 0 && run.left() == 0
 }
 
-/// Checks whether the net of each resource has, in the last cycle of `run`, the resource's word in that of `sim`.
+/// Checks whether, in the last cycle of `run`, the net of each resource has the resource's word in that of `sim`.
 fn are_alike<C: Contexts>(
     arch: &Arch,
     gates: &Gates<'_>,

@@ -1,6 +1,8 @@
-//! Moves of three nodes on two units, worked out by hand, in the placement and in the plain one that counts anew.
+//! Moves of three nodes on two units, worked out by hand, in the placement and in the plain one that counts from
+//! scratch.
 //!
-//! Unit 1 alone multiplies. Over distance 0 y follows x and z follows y; x follows y of a turn ago, and z itself.
+//! Only unit 1 multiplies. Over distance 0 y follows x and z follows y; over distance 1 x follows y, and z follows
+//! itself.
 ghost use Rattle.std.specs.Prelude.{◌≡◌, ◌<◌};
 ghost use Rattle.cg_model.specs.Kernel.{size};
 ghost use Rattle.cg_place.specs.Placed.{IsMove};
@@ -30,7 +32,8 @@ fn count(kept: &Placement, plain: &PlainPlacement, excess: u32, violations: u32)
         && plain.order_violations() == violations
 }
 
-/// Makes the move of the words `w1`, `w2` and `w3` in both placements, and returns it with the move that undoes it.
+/// Makes the move given by the words `w1`, `w2` and `w3` in both placements, and returns it with the move that undoes
+/// it.
 fn step(kept: &mut Placement, plain: &mut PlainPlacement, w1: u32, w2: u32, w3: u32) -> (Move, Move)
     requires nodes { 0 < size kept.old.kernel }
     requires same { plain.old ≡ kept.old }
@@ -54,12 +57,12 @@ fn undo(kept: &mut Placement, plain: &mut PlainPlacement, change: Move)
     plain.undo(change);
 }
 
-/// Makes two moves, of which the first is undone, and checks whether each step was as it should be.
+/// Makes two moves, of which the first is undone, and checks whether each step is right.
 fn are_right_steps(kept: &mut Placement, plain: &mut PlainPlacement) -> bool
     requires nodes { 0 < size kept.old.kernel }
     requires same { plain.old ≡ kept.old }
 {
-    // x on unit 1 at 0; y and z on unit 0 at 0 and 2, in slot 0 both. y doesn't follow x.
+    // x is on unit 1 at 0; y and z are both on unit 0, at 0 and 2, in slot 0. y doesn't follow x.
     if kept.place(0) != place(1, 0) || !count(kept, plain, 1, 1) {
         return false;
     }
@@ -67,8 +70,8 @@ fn are_right_steps(kept: &mut Placement, plain: &mut PlainPlacement) -> bool
     if kept.propose(u32::MAX, u32::MAX, u32::MAX) != at(2, 1, 13) {
         return false;
     }
-    // Half of 3 nodes is 1, half of 2 units is 1, a third of 12 times is 4. y is with x in slot 0 of unit 1; it follows x,
-    // but x doesn't follow y, nor does z.
+    // Half of 3 nodes is 1, half of 2 units is 1, a third of 12 times is 4. y is with x in slot 0 of unit 1; it follows
+    // x, but x doesn't follow y, nor does z.
     let (first, back) = step(kept, plain, 0x8000_0000, 0x8000_0000, 0x5555_5556);
     if first != at(1, 1, 4) || back != at(1, 0, 0) || !count(kept, plain, 1, 2) {
         return false;
@@ -77,7 +80,8 @@ fn are_right_steps(kept: &mut Placement, plain: &mut PlainPlacement) -> bool
     if !count(kept, plain, 1, 1) {
         return false;
     }
-    // The last node on unit 0, a quarter of 12 times after its earliest: in slot 1, alone, and only y is broken still.
+    // The last node on unit 0, a quarter of 12 times after its earliest: in slot 1, alone, and only the edge to y is
+    // still violated.
     let (second, last) = step(kept, plain, u32::MAX, 0, 0x4000_0000);
     second == at(2, 0, 5) && last == at(2, 0, 2) && count(kept, plain, 0, 1)
 }

@@ -1,4 +1,4 @@
-//! Least paths and claims on the graph of one unit, whose tables no command lends.
+//! Least paths and claims on the graph of one unit, whose tables no command reports.
 ghost use Rattle.std.specs.Prelude.{◌≡◌, ◌≤◌, OnOk, length};
 
 use cg_arch::Arch;
@@ -7,7 +7,7 @@ use cg_claims::{ClaimUse, MNode, Mrrg, Usage};
 use cg_route::least_path;
 use std::alloc::{AllocError, Global};
 
-/// Checks whether `path` was found.
+/// Checks whether `found` is `path`.
 fn is(found: Option<Vec<u32>>, path: &[u32]) -> bool {
     match found {
         Some(found) => found.as_slice() == path,
@@ -15,7 +15,7 @@ fn is(found: Option<Vec<u32>>, path: &[u32]) -> bool {
     }
 }
 
-/// Returns a claim of `source` at time 2 where its path begins.
+/// Returns a claim of `source` at time 2, at the beginning of its path.
 fn first(source: u32) -> ClaimUse {
     ClaimUse {
         source,
@@ -25,7 +25,7 @@ fn first(source: u32) -> ClaimUse {
     }
 }
 
-/// Checks the paths of a value alone. The register is 0, the ports are 1 and 2, and what the unit gives is 3.
+/// Checks the paths of a value alone. The register is resource 0, the ports are 1 and 2, and the unit's out is 3.
 fn alone(alloc: Global, graph: &Mrrg, usage: &Usage) -> Result<bool, AllocError>
     requires arch { graph.now.arch ≡ usage.now.arch }
     requires interval { graph.now.interval ≡ usage.now.interval }
@@ -34,7 +34,7 @@ fn alone(alloc: Global, graph: &Mrrg, usage: &Usage) -> Result<bool, AllocError>
     let later = least_path(alloc, graph, usage, 1, 2, 3, 1, 4)?;
     let at_once = least_path(alloc, graph, usage, 1, 2, 3, 1, 2)?;
     let before = least_path(alloc, graph, usage, 1, 2, 3, 1, 1)?;
-    // Six intervals and 32 cycles are the longest way: fifty cycles in the register.
+    // The longest path is six intervals and 32 cycles: fifty cycles in the register.
     let mut long = vec![in alloc; 0; 52]?;
     long[0] = 3;
     long[51] = 1;
@@ -49,7 +49,8 @@ fn alone(alloc: Global, graph: &Mrrg, usage: &Usage) -> Result<bool, AllocError>
     )
 }
 
-/// Checks that the value goes to the other port by the register in which it is, so that the last link alone costs 1.
+/// Checks that the value is routed to the other port through the register in which it already is, so that only the last
+/// link costs 1.
 fn shared(alloc: Global, graph: &Mrrg, usage: &mut Usage) -> Result<bool, AllocError>
     requires arch { graph.now.arch ≡ usage.old.arch }
     requires interval { graph.now.interval ≡ usage.old.interval }
@@ -76,7 +77,7 @@ fn shared(alloc: Global, graph: &Mrrg, usage: &mut Usage) -> Result<bool, AllocE
     )
 }
 
-/// Checks the table where another value is on what the unit gives, in the same slot.
+/// Checks the table where another value is on the unit's out, in the same slot.
 fn crowded(usage: &mut Usage) -> Result<bool, AllocError>
     requires three { usage.old.interval ≡ 3 }
     requires four { length usage.old.arch.resources ≡ 4 }
@@ -98,7 +99,8 @@ fn crowded(usage: &mut Usage) -> Result<bool, AllocError>
     Ok(more && usage.excess() == 0)
 }
 
-/// Checks the plain table in that case, where a third value in that slot would pay 8 for each of the two, and 1.
+/// Checks the plain table in the case of `crowded`, where a third value in that slot would pay 8 for each of the two
+/// others, and 1.
 fn crowded_plainly(usage: &mut PlainUsage) -> Result<bool, AllocError>
     requires three { usage.old.interval ≡ 3 }
     requires four { length usage.old.arch.resources ≡ 4 }
@@ -127,7 +129,7 @@ fn alone_plainly(usage: &mut PlainUsage) -> Result<bool, AllocError>
     Ok(usage.excess() == 0)
 }
 
-/// Checks the plain table with a value alone, and with another one beside it.
+/// Checks the plain table with a value alone, and with a second value.
 fn claims_plainly(usage: &mut PlainUsage) -> Result<bool, AllocError>
     requires three { usage.old.interval ≡ 3 }
     requires four { length usage.old.arch.resources ≡ 4 }
@@ -138,7 +140,8 @@ fn claims_plainly(usage: &mut PlainUsage) -> Result<bool, AllocError>
     Ok(alone && crowded)
 }
 
-/// Checks whether the paths of one unit at interval 3 are those that its prices give, and its table has their claims.
+/// Checks whether the paths of one unit at interval 3 are those that the prices determine, and its table has their
+/// claims.
 pub(crate) fn paths_of_one_unit(alloc: Global, arch: &Arch) -> Result<bool, AllocError> {
     let graph = Mrrg::expand(alloc, arch, 3)?;
     if graph.resources() != 4 {

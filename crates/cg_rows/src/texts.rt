@@ -11,7 +11,7 @@ pub(crate) fn prints(alloc: Global, kernel: &Kernel, text: &[u8]) -> Result<bool
     Ok(print_kernel(alloc, kernel)?.as_slice() == text)
 }
 
-/// Checks whether `bytes` give a mapping that is printed as `text`.
+/// Checks whether `bytes` describe a mapping that is printed as `text`.
 pub(crate) fn prints_mapping(
     alloc: Global,
     arch: &Arch,
@@ -26,7 +26,8 @@ pub(crate) fn prints_mapping(
     }
 }
 
-/// Checks whether the mapping of `kernel` that `bytes` give is told to have the shape of `kernel`, and not that of `other`.
+/// Checks whether the mapping of `kernel` in `bytes` is recognised as having the shape of `kernel`, and not that of
+/// `other`.
 pub(crate) fn tells_shape(
     alloc: Global,
     arch: &Arch,

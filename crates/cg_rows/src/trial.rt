@@ -1,5 +1,5 @@
-//! The trial of a seed: its parts, the bits of its mapping over the hub, by tables and view, and what a thousand turns
-//! leave.
+//! The trial of a seed: its parts, the bits of its mapping over the hub, read as tables and as a view, and the images
+//! that a thousand iterations leave.
 ghost use Rattle.std.specs.Prelude.{◌≡◌, IfOk, string_bytes};
 ghost use Rattle.sha2.specs.Sha256.{sha256};
 ghost use Rattle.hex.specs.Hex.{encode_lower};
@@ -20,10 +20,10 @@ use cg_word::Op;
 use sha2::{Digest, Sha256};
 use std::alloc::{AllocError, Global};
 
-/// The turns of a run.
+/// The number of iterations of a run.
 const TURNS: u32 = 1000;
 
-/// The parts, and the bits of their mapping over the hub.
+/// The parts of a trial, and the bits of their mapping over the hub.
 #[derive(Drop)]
 pub(crate) struct Trial {
     pub(crate) parts: TrialParts,
@@ -38,7 +38,7 @@ pub(crate) fn trial_of(alloc: Global, seed: u64) -> Result<Trial, AllocError> {
     Ok(Trial { parts, bits })
 }
 
-/// Checks whether `operand` is the value of the node `source`, `turns` turns ago, after the initial words `words`.
+/// Checks whether `operand` is the value of the node `source`, `turns` iterations ago, with the initial words `words`.
 fn is_edge(operand: &Operand, source: u32, turns: u32, words: &[u32]) -> bool {
     match operand {
         Operand::Const(_) => false,
@@ -50,8 +50,8 @@ fn is_edge(operand: &Operand, source: u32, turns: u32, words: &[u32]) -> bool {
     }
 }
 
-/// Checks whether the last node that is drawn shifts `v5` by `v12` of two turns ago, after words that another program
-/// computed.
+/// Checks whether the last random node shifts `v5` by `v12` of two iterations ago, with initial words that another
+/// program computed.
 fn ends_with_shift(kernel: &Kernel) -> bool {
     match kernel.nodes().get(27) {
         Some(node) => match node.operands.as_slice() {
@@ -65,7 +65,7 @@ fn ends_with_shift(kernel: &Kernel) -> bool {
 }
 
 /// Checks whether the parts are those of seed 1. Of the 2,572 bits of a slot, 96 registers and 12 ports have a select
-/// of 7 each, and 4 units 6 + 16 + 4 + 32 + 3 * 132 each.
+/// of 7 each, and 4 units have 6 + 16 + 4 + 32 + 3 * 132 each.
 pub(crate) fn are_parts_of_seed_1(parts: &TrialParts) -> bool {
     parts.kernel.nodes().len() == 32
         && ends_with_shift(&parts.kernel)
@@ -83,7 +83,7 @@ fn hub_bits(alloc: Global, parts: &TrialParts) -> Result<Vec<u8>, AllocError>
     emit(alloc, &legal)
 }
 
-/// Checks whether tables and view take the bits, and say the same of each select and of each field.
+/// Checks whether tables and view accept the bits, and agree in each select and in each field.
 pub(crate) fn reads_alike(alloc: Global, arch: &Arch, bits: &[u8]) -> Result<bool, AllocError> {
     match (read_bits(alloc, arch, bits), ConfigView::of(arch, bits)) {
         (Ok(tables), Ok(view)) => Ok(is_same(arch, &tables, &view)),
@@ -104,8 +104,8 @@ pub(crate) fn run_image(
     }
 }
 
-/// Returns the image that the kernel's turns leave, as bytes; None where there are too many or it is too large for a
-/// file.
+/// Returns the image that the kernel's iterations leave, as bytes; None where there are too many iterations or the
+/// image is too large for a file.
 pub(crate) fn turns_image(
     alloc: Global,
     kernel: &Kernel,
@@ -124,7 +124,7 @@ pub(crate) fn turns_image(
     }
 }
 
-/// Returns the SHA-256 of `bytes`, as text.
+/// Returns the SHA-256 of `bytes`, as hexadecimal text.
 pub(crate) fn digest_text(alloc: Global, bytes: &[u8]) -> Result<String, AllocError>
     ensures { IfOk result (λ s. string_bytes s ≡ encode_lower (sha256 bytes.now)) }
 {

@@ -1,4 +1,5 @@
-//! Walks that look for a mapping: their ends where they make no move, and the plain walk beside them where they do.
+//! Walks that search for a mapping: their ends where they make no move, and the comparison with the plain walk where
+//! they do.
 ghost use Rattle.std.specs.Prelude.{◌≡◌, ◌≤◌};
 ghost use Rattle.cg_model.specs.Limits.{most_moves};
 
@@ -13,14 +14,14 @@ use cg_recur::{Recur, recurrence};
 use cg_task::Task;
 use std::alloc::{AllocError, Global};
 
-/// The ends of the walk and of the plain walk, where they may be made.
+/// The ends of the walk and of the plain walk, if they could be made.
 #[derive(Drop)]
 struct Ends<'a> {
     found: Found<'a>,
     plain: Found<'a>,
 }
 
-/// Returns a request of the interval `ii`, the seed `seed` and `moves` moves.
+/// Returns a request for the interval `ii`, with the seed `seed` and `moves` moves.
 fn request_of(ii: u32, seed: u64, moves: u32) -> Request
     ensures { result.moves ≡ moves }
 {
@@ -31,7 +32,7 @@ fn request_of(ii: u32, seed: u64, moves: u32) -> Request
     }
 }
 
-/// Makes both walks at the interval that `request` asks for; None where they can't be made.
+/// Makes both walks at the interval in `request`; None where they can't be made.
 fn walked<'a>(
     alloc: Global,
     arch: &'a Arch,
@@ -56,12 +57,12 @@ fn walked<'a>(
     }
 }
 
-/// Checks whether two routes are the same.
+/// Checks whether two routes are equal.
 fn is_same_route(a: &Route, b: &Route) -> bool {
     a.node == b.node && a.arg == b.arg && a.path.as_slice() == b.path.as_slice()
 }
 
-/// Checks whether two mappings are the same.
+/// Checks whether two mappings are equal.
 fn is_same_mapping(a: &Mapping, b: &Mapping) -> bool {
     let routes = b.routes();
     a.ii() == b.ii()
@@ -102,7 +103,7 @@ pub(crate) fn end_alike(
     }
 }
 
-/// Checks whether `place` is on the one unit at `time`.
+/// Checks whether `place` is on the only unit, at `time`.
 fn is_at(place: Option<&Place>, time: u32) -> bool {
     match place {
         None => false,
@@ -118,8 +119,8 @@ fn is_route(route: Option<&Route>, node: u32, arg: u32, path: &[u32]) -> bool {
     }
 }
 
-/// Checks whether `legal` is the running sum's first mapping: one node after another, and the sum of the turn before in
-/// the register.
+/// Checks whether `legal` is the running sum's first mapping: one node after another, and the sum of the previous
+/// iteration in the register.
 fn is_first_sum(legal: &LegalMapping) -> bool {
     let mapping = legal.mapping();
     let places = mapping.places();

@@ -5,9 +5,9 @@ use cg_model::Kernel;
 use cg_ways::find_ways;
 use std::alloc::{AllocError, Global};
 
-/// Checks whether the registers on the shortest ways are those of the drivers. Unit a counts, and units b and c select: their
-/// first port is driven by a wire from a, the second by a register from a, and the third by the other's out at once and by
-/// their own through a register.
+/// Checks whether the registers on the shortest ways are those of the drivers. Unit a counts, and units b and c select:
+/// their first port is driven by a wire from a, the second by a register from a, and the third by the other's out
+/// directly and by their own out through a register.
 pub(crate) fn registers_on_ways(
     alloc: Global,
     arch: &Arch,

@@ -15,7 +15,7 @@ use Rattle.cg_ending.specs.Ends.{Moment}
 use Rattle.cg_ending.specs.Refusals.{malformed_of}
 use Rattle.cg_grid.specs.Texts.{tiles_fault_text}
 
--- how many resources, units and links there are, and the digest of the text
+-- the numbers of resources, units and links, and the digest of the text
 abbrev pub flat_report : Arch → Bytes
 flat_report A =
     line_then (codes "resources " ∷ decimal (length A.resources) ∷ [])
@@ -31,14 +31,14 @@ abbrev pub flat_by : File → Name → Result Arch TilesFault → Outcome
 flat_by file out (Ok A) = flattened A out
 flat_by file out (Err f) = malformed_of file.name (tiles_fault_text f)
 
--- by what the file gives: an architecture, or a fault, of which only the loop may be chosen
+-- the result of parsing the file: an architecture, or a fault, of which only the loop may be chosen
 pub record IsFlat (file : File) (out : Name) (o : Outcome) : Type 0 where
   pub given : Result Arch TilesFault
   pub is_given : tiles.IsAnswer file.bytes given
   pub no_memory : given ≢ Err fault.Memory
   pub outcome : o ≡ flat_by file out given
 
--- Done: an architecture was read, its text is held under the other name, and its counts and its digest were put
+-- Done: an architecture was read, its text is held under the other name, and its counts and its digest were reported
 pub record IsFlattened (file out : Name) (before after : Moment) : Type 0 where
   pub bytes : Bytes
   pub held : Holds before.held file bytes

@@ -18,7 +18,7 @@ use Rattle.cg_kernel.specs.Texts.{kernel_fault_text}
 abbrev pub outputs_to : Kernel → ℕ → Bool
 outputs_to K port = list_any (λ v. is_output v.op && eqb v.port port) K.nodes
 
--- the words, each after a blank
+-- the words, each preceded by a blank
 abbrev pub spaced : List ℕ → Bytes
 spaced [] = []
 spaced (w ∷ ws) = (32 ∷ decimal w) ++ spaced ws
@@ -27,7 +27,7 @@ spaced (w ∷ ws) = (32 ∷ decimal w) ++ spaced ws
 abbrev pub stream_line : ℕ → List ℕ → Bytes
 stream_line port words = codes "out " ++ (decimal port ++ (codes ":" ++ (spaced words ++ 10 ∷ [])))
 
--- it stands where some node gives output to the port
+-- the line is written where some node gives output to the port
 abbrev pub port_report : Kernel → List (List ℕ) → ℕ → Bytes
 port_report K streams port = if outputs_to K port then stream_line port (slice_index_or streams port []) else []
 
@@ -39,7 +39,7 @@ streams_report K streams = flat_map (port_report K streams) (range_with_len 0 16
 abbrev pub blank : Image
 blank = record { memory = []; streams = replicate 16 [] }
 
--- the turns of the kernel were run on it
+-- the iterations of the kernel were run on the image without words
 abbrev pub turned : ℕ → Kernel → Outcome
 turned n K = reports Done (streams_report K (turns_left K n blank).image.streams)
 
@@ -51,7 +51,7 @@ turns_by n file (Err f) = malformed_of file.name (kernel_fault_text f)
 unfoldable pub turns_of : ℕ → File → Outcome
 turns_of n file = turns_by n file (answer_of file.bytes)
 
--- Done: a kernel was read, and what its turns send to each of its output ports was put
+-- Done: a kernel was read, and the words that its iterations send to each of its output ports were reported
 pub record IsTurned (n : ℕ) (file : Name) (before after : Moment) : Type 0 where
   pub bytes : Bytes
   pub held : Holds before.held file bytes

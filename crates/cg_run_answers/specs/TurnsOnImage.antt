@@ -19,7 +19,7 @@ use Rattle.cg_ending.specs.Refusals.{malformed_of}
 use Rattle.cg_kernel.specs.Texts.{kernel_fault_text}
 use Rattle.cg_pad.specs.Texts.{image_fault_text}
 
--- the pair that no edges order: node and turn of the earlier access, and then of the later
+-- the pair that no edges order: node and iteration of the earlier access, and then of the later
 abbrev pub pair_line : Kernel → Option UnorderedPair → Bytes
 pair_line K None = line_of (codes "ordered" ∷ [])
 pair_line K (Some p) = line_of (codes "unordered " ∷ (node K p.earlier.node).name ∷ codes " " ∷ decimal p.earlier.turn
@@ -33,7 +33,7 @@ abbrev pub pair_status : Option UnorderedPair → Status
 pair_status None = Done
 pair_status (Some p) = No
 
--- the turns were run on the image: the result image is written, also where they aren't ordered
+-- the iterations were run on the image: the result image is written even where the accesses aren't ordered
 abbrev pub imaged : ℕ → Kernel → Image → Name → Option UnorderedPair → Outcome
 imaged n K image out pair = record {
   status = pair_status pair;
@@ -59,7 +59,7 @@ IsOnKernel n file input out (Err f) o = o ≡ malformed_of file.name (kernel_fau
 unfoldable pub IsTurnsOnImage : ℕ → File → File → Name → Outcome → Type 0
 IsTurnsOnImage n file input out o = IsOnKernel n file input out (kernels.answer_of file.bytes) o
 
--- a kernel and an image were read, and the image that the turns leave is held under the last name
+-- a kernel and an image were read, and the image that the iterations leave is held under the last name
 pub record IsRunOnImage (n : ℕ) (file input out : Name) (before after : Moment) : Type 0 where
   pub bytes : Bytes
   pub held : Holds before.held file bytes
@@ -71,13 +71,13 @@ pub record IsRunOnImage (n : ℕ) (file input out : Name) (before after : Moment
   pub image_spelled : images.answer_of image_bytes ≡ Ok image
   pub written : Holds after.held out (images.image_bytes (turns_left kernel n image).image)
 
--- Done: all accesses that matter are ordered, and that was put
+-- Done: all accesses that matter are ordered, and that was reported
 pub record IsOrderedRun (n : ℕ) (file input out : Name) (before after : Moment) : Type 0 where
   pub run : IsRunOnImage n file input out before after
   pub unaliased : IsUnaliased run.kernel n run.image
   pub put : Appends before.taken (image_report run.kernel (turns_left run.kernel n run.image).outside None) after.taken
 
--- No: the first pair of accesses that no edges order was put, in part where the put failed
+-- No: the first pair of accesses that no edges order was reported, in part if the put call failed
 pub record IsUnorderedRun (n : ℕ) (file input out : Name) (before after : Moment) : Type 0 where
   pub run : IsRunOnImage n file input out before after
   pub pair : UnorderedPair

@@ -11,7 +11,7 @@ use cg_ending::{File, Outcome, Status, Stop};
 use cg_inputs::arch_in;
 use std::alloc::{AllocError, Global};
 
-/// Returns the outcome of `flat`: the text of the architecture that `file` gives, to be written under the name `out`.
+/// Returns the outcome of `flat`: the text of the architecture in `file`, to be written under the name `out`.
 pub fn flat(alloc: Global, file: &File, out: &str) -> Result<Outcome, Stop>
     ensures { Allows (IsFlat (file_of file.now) out.now) result }
 {
@@ -28,7 +28,7 @@ fn flattened(alloc: Global, arch: &Arch, out: &str) -> Result<Outcome, Stop>
     Ok(Outcome::with_file(alloc, Status::Done, report, out, text)?)
 }
 
-/// Returns the report on `arch`: how many resources, units and links it has, and the digest of its text.
+/// Returns the report on `arch`: the numbers of its resources, units and links, and the digest of its text.
 fn flat_report(alloc: Global, arch: &Arch) -> Result<Vec<u8>, AllocError>
     ensures { IfOk result (λ v. v.items ≡ flat_report arch.now) }
 {
@@ -43,7 +43,7 @@ fn flat_report(alloc: Global, arch: &Arch) -> Result<Vec<u8>, AllocError>
     Ok(report.into_bytes())
 }
 
-/// Counts the links into `resources`: their drivers.
+/// Counts the links into `resources`, that is, their drivers.
 #[tactic(auto, unfolding(cg_model::specs::Array::links))]
 fn count_links(resources: &[Resource]) -> usize
     requires { links resources.now ≤ most_links }

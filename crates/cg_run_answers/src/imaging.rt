@@ -14,8 +14,8 @@ use cg_pad::{Image, write_image};
 use cg_turns::UnorderedPair;
 use std::alloc::{AllocError, Global};
 
-/// Returns the outcome of `turns` with images: `turns` turns of the kernel that `file` gives, from the image that
-/// `input` holds, and the result image, to be written under the name `out`.
+/// Returns the outcome of `turns` with images: runs `turns` iterations of the kernel in `file` from the image in
+/// `input`; the result image is to be written under the name `out`.
 pub fn turns_on_image(
     alloc: Global,
     turns: u32,
@@ -31,8 +31,8 @@ pub fn turns_on_image(
     imaged(alloc, turns, &kernel, &image, out)
 }
 
-/// Returns the outcome of `turns` turns of `kernel` from `image`: the result image, to be written under `out`, and the
-/// report.
+/// Returns the outcome of `turns` iterations of `kernel` from `image`: the report, and the result image, to be written
+/// under `out`.
 fn imaged(
     alloc: Global,
     turns: u32,
@@ -50,7 +50,7 @@ fn imaged(
     Ok(Outcome::with_file(alloc, status_of(done.pair), report, out, bytes)?)
 }
 
-/// Returns `Done` where all accesses that matter are ordered, and else `No`.
+/// Returns `Done` where all accesses that matter are ordered, and `No` otherwise.
 fn status_of(pair: Option<UnorderedPair>) -> Status
     ensures { result ≡ pair_status pair }
 {
@@ -60,7 +60,8 @@ fn status_of(pair: Option<UnorderedPair>) -> Status
     }
 }
 
-/// Returns the report on the outside count, and the `pair` of accesses that no edges order, where there is one.
+/// Returns the report: the number of accesses outside the memory, and the `pair` of accesses that no edges order, if
+/// there is one.
 fn image_report(
     alloc: Global,
     kernel: &Kernel,

@@ -1,4 +1,4 @@
-//! What the commands answer that run a kernel or an array, and what `flat` answers: from the bytes of input files to an
+//! The answers of the commands that run a kernel or an array, and of `flat`: from the bytes of input files to an
 //! outcome.
 #![tactic(auto)]
 

@@ -1,4 +1,4 @@
-//! A run of few enough turns.
+//! A run whose number of iterations is within the limit.
 ghost use Rattle.std.specs.Prelude.{◌≡◌, ◌≤◌, ℕ, IfOk};
 ghost use Rattle.cg_model.specs.Limits.{most_turns};
 ghost use Rattle.cg_model.specs.Turns.{turns_left};
@@ -10,7 +10,7 @@ use cg_pad::Image;
 use cg_turns::{TurnsDone, TurnsFault, run_turns};
 use std::alloc::{AllocError, Global};
 
-/// Runs `turns` turns of `kernel` from `image`. Their number is within the limit.
+/// Runs `turns` iterations of `kernel` from `image`. `turns` is within the limit.
 pub(crate) fn run(
     alloc: Global,
     kernel: &Kernel,
@@ -28,7 +28,7 @@ pub(crate) fn run(
     }
 }
 
-/// Returns the only fault that a number of turns within the limit leaves: memory ran out.
+/// Converts `fault` to the only fault that remains when the number of iterations is within the limit: memory ran out.
 fn want_of(fault: TurnsFault) -> AllocError
     requires { (t : ℕ) → fault ≡ TurnsFault.TooManyTurns t → ⊥ }
 {

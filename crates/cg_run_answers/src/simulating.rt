@@ -17,8 +17,8 @@ use cg_sim::{Sim, SimFault, sim_fault_text};
 use cg_view::ConfigView;
 use std::alloc::{AllocError, Global};
 
-/// Returns the outcome of `run`: `turns` turns of the array that `arch` gives, under the configuration that `file`
-/// holds, from the image that `input` holds; the result image is to be written under the name `out`.
+/// Returns the outcome of `run`: runs `turns` iterations of the array in `arch`, configured by `file`, from the image
+/// in `input`; the result image is to be written under the name `out`.
 pub fn run(
     alloc: Global,
     turns: u32,
@@ -35,7 +35,7 @@ pub fn run(
     run_on(alloc, turns, &array, &config, input, out)
 }
 
-/// Runs `turns` turns of `array` under `config` from the image that `input` holds, and returns the outcome.
+/// Runs `turns` iterations of `array` under `config` from the image in `input`, and returns the outcome.
 fn run_on(
     alloc: Global,
     turns: u32,
@@ -56,8 +56,8 @@ fn run_on(
     }
 }
 
-/// Returns the stop where a number of turns within the limit isn't run: the image in `input` has more words than the
-/// memory.
+/// Returns the stop for a run that fails although its number of iterations is within the limit: the image in `input`
+/// has more words than the memory.
 pub fn too_large(alloc: Global, fault: SimFault, input: &File) -> Stop
     requires { (t : ℕ) → fault ≡ SimFault.TooManyTurns t → ⊥ }
     ensures { EndsBy (λ o. (w : ℕ) × (fault ≡ SimFault.ImageTooLarge w)
@@ -73,8 +73,8 @@ pub fn too_large(alloc: Global, fault: SimFault, input: &File) -> Stop
     }
 }
 
-/// Runs all cycles of `sim`, whose image fits the memory, and returns the outcome: the image that they leave, to be
-/// written under `out`.
+/// Runs all cycles of `sim`, whose image fits the memory, and returns the outcome; the result image is to be written
+/// under `out`.
 fn ran(alloc: Global, sim: Sim<'_, ConfigView<'_>>, out: &str) -> Result<Outcome, Stop>
     requires { sim.done ≡ 0 }
     ensures { Allows (λ o. o ≡ ran sim.entry.n out.now sim.entry.arch sim.entry.config sim.entry.image) result }
@@ -87,8 +87,8 @@ fn ran(alloc: Global, sim: Sim<'_, ConfigView<'_>>, out: &str) -> Result<Outcome
     left_outcome(alloc, cycles, outside, &image, out)
 }
 
-/// Returns the outcome of a run of `cycles` cycles that left `image`, to be written under `out`, and `outside`, the number
-/// of accesses outside the memory.
+/// Returns the outcome of a run of `cycles` cycles that left `image`, to be written under `out`, and made `outside`
+/// accesses outside the memory.
 pub fn left_outcome(
     alloc: Global,
     cycles: u64,
@@ -104,7 +104,7 @@ pub fn left_outcome(
     Ok(Outcome::with_file(alloc, Status::Done, report, out, bytes)?)
 }
 
-/// Returns the report on `cycles`, the number of cycles, and `outside`, the number of accesses outside the memory.
+/// Returns the report on a run of `cycles` cycles with `outside` accesses outside the memory.
 fn run_report(alloc: Global, cycles: u64, outside: u64) -> Result<Vec<u8>, AllocError>
     ensures { IfOk result (λ v. v.items ≡ run_report cycles outside) }
 {

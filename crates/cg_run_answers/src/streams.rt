@@ -5,7 +5,7 @@ ghost use Rattle.cg_run_answers.specs.Turns.{outputs_to, stream_line, port_repor
 use cg_model::{Kernel, Words};
 use std::alloc::{AllocError, Global};
 
-/// Returns a line for each port that the kernel's outputs name, ascending.
+/// Returns a line for each port that an output of the kernel names, in ascending order.
 pub(crate) fn streams_report(
     alloc: Global,
     kernel: &Kernel,
@@ -21,7 +21,7 @@ pub(crate) fn streams_report(
     Ok(report)
 }
 
-/// Adds the line of `port` to `report`, where an output names it.
+/// Adds the line of `port` to `report`, if an output names it.
 fn push_port(
     alloc: Global,
     report: &mut Vec<u8>,
@@ -49,7 +49,7 @@ fn outputs_to(kernel: &Kernel, port: u32) -> bool
         .any(|node| node.op.is_output() && node.port == port)
 }
 
-/// Adds the line of a stream to `report`: its `port`, and its `words`, each after a blank.
+/// Adds the line of a stream to `report`: its `port`, and its `words`, each preceded by a blank.
 fn push_line(
     alloc: Global,
     report: &mut Vec<u8>,

@@ -13,8 +13,8 @@ use cg_model::Kernel;
 use cg_pad::Image;
 use std::alloc::Global;
 
-/// Returns the outcome of `turns` without images: what `turns` turns of the kernel that `file` gives send to its output
-/// ports, from an image without words.
+/// Returns the outcome of `turns` without images: the words that `turns` iterations of the kernel in `file` send to its
+/// output ports, from an image without words.
 pub fn turns(alloc: Global, turns: u32, file: &File) -> Result<Outcome, Stop>
     requires { turns ≤ most_turns }
     ensures { Allows (λ o. o ≡ turns_of turns (file_of file.now)) result }
@@ -23,7 +23,7 @@ pub fn turns(alloc: Global, turns: u32, file: &File) -> Result<Outcome, Stop>
     turned(alloc, turns, &kernel)
 }
 
-/// Returns the outcome of `turns` turns of `kernel`, from an image without words.
+/// Returns the outcome of `turns` iterations of `kernel`, from an image without words.
 fn turned(alloc: Global, turns: u32, kernel: &Kernel) -> Result<Outcome, Stop>
     requires { turns ≤ most_turns }
     ensures { Allows (λ o. o ≡ turned turns kernel.now) result }

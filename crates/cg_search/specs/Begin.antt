@@ -14,7 +14,8 @@ abbrev pub first_asked : Option ℕ → ℕ
 first_asked None = 1
 first_asked (Some ii) = ii
 
--- the first interval that no reason excludes, of those that may be tried; one more than the last of them where each is excluded
+-- the first interval that no reason excludes, of those that may be tried; one more than the last of them where each is
+-- excluded
 pub record IsBegin (A : Arch) (K : Kernel) (asked : Option ℕ) (first : ℕ) : Type 0 where
   pub fars : Fars
   pub numbers : AreAllNumbers A K fars
@@ -28,7 +29,7 @@ pub record ExcludesAt (A : Arch) (K : Kernel) (ii : ℕ) (x : Exclusion) : Type 
   pub numbers : AreAllNumbers A K x.fars
   pub shown : Shows A K (far_at x.fars ii) ii x.reason
 
--- that interval, where it may be tried; what excludes the last one, where each is excluded
+-- the interval at which a search begins, if there is one; what excludes the last interval where each is excluded
 abbrev pub Begins : Arch → Kernel → Option ℕ → Begin → Type 0
 Begins A K asked (At first) = IsBegin A K asked first × (first ≤ last_tried A asked)
 Begins A K asked (Nowhere x) = IsBegin A K asked (last_tried A asked + 1) × ExcludesAt A K (last_tried A asked) x

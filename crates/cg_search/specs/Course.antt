@@ -1,4 +1,4 @@
--- What the searches of a call stand on, and what comes of them.
+-- The preconditions of the searches of a call, and their results.
 use Rattle.std.specs.Prelude.{◌≡◌, ℕ, ◌+◌, ◌<◌, ◌≤◌, length, All, Option}
 use Rattle.cg_model.specs.Kernel.{Kernel}
 use Rattle.cg_model.specs.Array.{Arch}
@@ -15,7 +15,8 @@ use Rattle.cg_search.specs.declared.trying.Outcome.TheVariants.{Found, Left}
 use Rattle.cg_search.specs.Begin.{IsBegin}
 use Rattle.cg_search.specs.Search.{IsFound, AreMissed}
 
--- an interval may be asked, nothing forbids the last one that is tried, and the first one that no reason excludes is among them
+-- the interval may be asked for, nothing forbids the last one that is tried, and the first one that no reason excludes
+-- is among them
 pub record IsPosed (A : Arch) (K : Kernel) (asked : Option ℕ) (first : ℕ) : Type 0 where
   pub within : IsAsked A asked
   pub free : IsOpen A K (last_tried A asked)
@@ -28,16 +29,16 @@ pub record AreMisses (A : Arch) (K : Kernel) (first : ℕ) (left : Misses) : Typ
   pub missed : AreMissed A K first (length left.faults.items) left.missed.items
 
 module _ (A : Arch) (K : Kernel) (asked : Option ℕ) (moves : ℕ) (first : ℕ) where
-  -- a mapping is found at an interval that is tried, by no more moves than there are
+  -- a mapping is found at an interval that is tried, by no more moves than `moves`
   abbrev pub IsLegalFound : FoundMapping → Type 0
   IsLegalFound found = IsFound A K asked moves first found.mapping (found_by.Moves found.moves)
 
-  -- what comes of a search at one interval: such a mapping, or some faults and a mapping that isn't legal
+  -- the result of a search at one interval: a legal mapping, or some faults and a mapping that isn't legal
   abbrev pub IsSearched : ℕ → Responded → Type 0
   IsSearched ii (responded.Mapped m count) = IsFound A K asked moves first m (found_by.Moves count)
   IsSearched ii (responded.Spent faults M) = (0 < faults) × IsMissed A K ii M
 
-  -- what comes of searches at all of them: such a mapping, or those at each
+  -- the result of searches at all intervals: a legal mapping, or faults at each interval
   abbrev pub Comes : Outcome → Type 0
   Comes (Found found) = IsLegalFound found
   Comes (Left left) = AreMisses A K first left × (first + length left.faults.items ≡ last_tried A asked + 1)

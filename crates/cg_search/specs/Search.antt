@@ -1,4 +1,4 @@
--- What a search by best responses answers. How it finds a mapping is left to it: whatever it finds is legal.
+-- The answer of a search by best responses. How it finds a mapping is left open: every mapping in an answer is legal.
 use Rattle.std.specs.Prelude.{◌≡◌, ℕ, ◌+◌, ◌-◌, ◌<◌, ◌≤◌, List, [], ◌∷◌, length, All, Option, Some, None}
 use Rattle.cg_model.specs.Kernel.{Kernel}
 use Rattle.cg_model.specs.Array.{Arch}
@@ -20,7 +20,8 @@ module _ (A : Arch) (K : Kernel) (asked : Option ℕ) (moves : ℕ) where
   abbrev pub HasNoHub : ℕ → ℕ → Type 0
   HasNoHub first ii = (j : ℕ) → first ≤ j → j < ii → HubEnough A K j → ⊥
 
-  -- how a mapping was found: by no more best responses than there are; or over the hub, at the first interval where it suffices
+  -- how a mapping was found: by no more best responses than `moves`; or over the hub, at the first interval where it
+  -- suffices
   abbrev pub IsBy : ℕ → MappedValue → FoundBy → Type 0
   IsBy first m (Moves count) = count ≤ moves
   IsBy first m Hub = HubEnough A K m.mapping.ii × HasNoHub first m.mapping.ii × (m.mapping ≡ hub_map A K m.mapping.ii)
@@ -34,26 +35,28 @@ module _ (A : Arch) (K : Kernel) (asked : Option ℕ) (moves : ℕ) where
     pub to : m.mapping.ii ≤ last_tried A asked
     pub by : IsBy first m found_by
 
-  -- none is found at any: some faults are left at each, and the hub suffices at none
+  -- no mapping is found at any interval: some faults are left at each, and the hub suffices at none
   pub record AreAllFaulty (first : ℕ) (faults : List ℕ) : Type 0 where
     pub each : All (λ n. 0 < n) faults
     pub all : first + length faults ≡ last_tried A asked + 1
     pub no_hub : HasNoHub first (last_tried A asked + 1)
 
-  -- what may come of the intervals from the first one on
+  -- a possible result of the intervals from the first one on
   abbrev pub IsTried : ℕ → Answer → Type 0
   IsTried first (Impossible certificate) = ⊥
   IsTried first (Mapped m found_by) = IsFound first m found_by
   IsTried first (Spent f left) = (f ≡ first) × AreAllFaulty first left.items
 
-  -- nothing forbids the last interval, and this comes of those from the first on that no reason excludes
+  -- nothing forbids the last interval, and this is the result of the intervals from the first one on that no reason
+  -- excludes
   pub record IsBegun (answer : Answer) : Type 0 where
     pub free : IsOpen A K (last_tried A asked)
     pub first : ℕ
     pub is_first : IsBegin A K asked first
     pub tried : IsTried first answer
 
-  -- why the last interval is impossible, where a recurrence or an overfull set forbids it; what comes of the intervals else
+  -- why the last interval is impossible, where a recurrence or an overfull set forbids it; else the result of the
+  -- intervals
   abbrev pub IsAnswer : Answer → Type 0
   IsAnswer (Impossible certificate) = Shows A K (last_tried A asked) certificate
   IsAnswer (Mapped m found_by) = IsBegun (Mapped m found_by)
@@ -65,7 +68,7 @@ module _ (A : Arch) (K : Kernel) where
   AreMissedFrom ii [] = Unit {0}
   AreMissedFrom ii (M ∷ missed) = IsMissed A K ii M × AreMissedFrom (ii + 1) missed
 
-  -- as many as `count`
+  -- and there are `count` of them
   pub record AreMissed (first count : ℕ) (missed : List Mapping) : Type 0 where
     pub each : AreMissedFrom first missed
     pub all : length missed ≡ count
@@ -76,12 +79,13 @@ module _ (A : Arch) (K : Kernel) where
   AreMissedBy (Mapped m found_by) missed = missed ≡ []
   AreMissedBy (Spent first left) missed = AreMissed first (length left.items) missed
 
-  -- where no interval is tried, what excludes the last one, which is the one before the first; None where some are tried
+  -- where no interval is tried, the exclusion of the last one, which is the one before the first; None where some are
+  -- tried
   abbrev pub IsExcludedFrom : ℕ → List ℕ → Option Exclusion → Type 0
   IsExcludedFrom first left (Some x) = (length left ≡ 0) × ExcludesAt A K (first - 1) x
   IsExcludedFrom first left None = 0 < length left
 
-  -- so for what is left; None where the answer is another one
+  -- the exclusion for an answer with faults left; None for any other answer
   abbrev pub IsExcludedBy : Answer → Option Exclusion → Type 0
   IsExcludedBy (Impossible certificate) excluded = excluded ≡ None
   IsExcludedBy (Mapped m found_by) excluded = excluded ≡ None

@@ -1,4 +1,5 @@
-//! The answer: why an interval is impossible, a mapping, how many faults are left at each interval, or what excludes all.
+//! The answer: why an interval is impossible, a mapping, the number of faults left at each interval, or what excludes
+//! all intervals.
 ghost use Rattle.std.specs.Prelude.{◌≡◌, ◌+◌, ◌≤◌, [], None, IfOk, length};
 ghost use Rattle.cg_model.specs.Limits.{most_moves};
 ghost use Rattle.cg_bound.specs.Bound.{IsOpen};
@@ -22,20 +23,21 @@ use cg_respond::Wiring;
 use cg_task::{Answer, FoundBy, last_tried};
 use std::alloc::{AllocError, Global};
 
-/// An answer, with what was met on the way to it.
+/// An answer, with the mappings and the exclusion found on the way to it.
 #[derive(Drop)]
 pub struct Conclusion<'a> {
     /// The answer.
     pub answer: Answer<'a>,
-    /// Where that is how many faults are left at each interval, the mappings with so few: one an interval, in order. None
-    /// of them is legal. Empty for each other answer.
+    /// Where the answer is the number of faults left at each interval, the mappings with these numbers of faults: one
+    /// for each interval, in order. None of them is legal. Empty for any other answer.
     pub missed: Vec<Mapping>,
-    /// Where no interval was tried, since each that would be is excluded: what excludes the last. None for each other answer.
+    /// Where no interval was tried because each one is excluded: what excludes the last. None for any other answer.
     pub excluded: Option<Exclusion>,
 }
 
-/// Searches a mapping of `kernel` on `arch`, at the interval that `request` asks for, or at those from the least one
-/// that no reason excludes to as many cycles as the architecture has contexts; and then over the hub. `aside` takes the progress.
+/// Searches a mapping of `kernel` on `arch`, at the interval that `request` asks for, or at the intervals from the
+/// least one that no reason excludes up to the number of the architecture's contexts; and then over the hub. `aside`
+/// takes the progress.
 pub fn search_answer<'a>(
     alloc: Global,
     arch: &'a Arch,
@@ -89,7 +91,7 @@ fn begun<'a>(
     }
 }
 
-/// Returns the conclusion that no interval is tried, where each is excluded, and `exclusion` excludes the last.
+/// Returns the conclusion that no interval is tried, because each one is excluded, and `exclusion` excludes the last.
 fn all_excluded<'a>(
     alloc: Global,
     arch: &'a Arch,
@@ -149,8 +151,8 @@ fn searched<'a>(
     }
 }
 
-/// Takes the hub's mapping of the first interval where it suffices, where there is one. `left` is what the search
-/// left.
+/// Takes the hub's mapping of the first interval where it suffices, if there is one. `left` is the result of the
+/// search.
 fn over_hub<'a>(
     alloc: Global,
     arch: &'a Arch,

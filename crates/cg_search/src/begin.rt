@@ -9,10 +9,10 @@ use cg_model::Kernel;
 use cg_why::{Fars, Reason, explain, find_exclusion, find_fars};
 use std::alloc::{AllocError, Global};
 
-/// What excludes an interval.
+/// The exclusion of an interval.
 #[derive(Drop)]
 pub struct Exclusion {
-    /// The registers on the ways of the data edges, on which the reason stands.
+    /// The registers on the ways of the data edges, on which the reason relies.
     pub fars: Fars,
     /// The reason.
     pub reason: Reason,
@@ -23,11 +23,12 @@ pub struct Exclusion {
 pub(crate) enum Begin {
     /// At this interval, in cycles.
     At(u32),
-    /// Nowhere: each interval that may be tried is excluded, and this excludes the last.
+    /// Nowhere: each interval that may be tried is excluded, and this exclusion holds for the last.
     Nowhere(Exclusion),
 }
 
-/// Finds the first interval that no reason excludes: `asked`, where one is asked for, or one from 1 to the contexts of `arch`.
+/// Finds the first interval that no reason excludes: `asked`, if it is given, or one from 1 to the number of contexts
+/// of `arch`.
 pub(crate) fn find_begin(
     alloc: Global,
     arch: &Arch,
@@ -67,7 +68,7 @@ fn begin_at_least(alloc: Global, arch: &Arch, kernel: &Kernel) -> Result<Begin, 
     }
 }
 
-/// Begins nowhere: by the numbers `fars` each interval is excluded.
+/// Begins nowhere: each interval is excluded by the numbers `fars`.
 fn nowhere(alloc: Global, arch: &Arch, kernel: &Kernel, fars: Fars) -> Result<Begin, AllocError>
     requires numbers { AreAllNumbers arch.now kernel.now fars }
     requires each { (ii : ℕ) → 1 ≤ ii → ii ≤ arch.now.contexts → IsImpossible arch.now kernel.now fars ii }

@@ -13,8 +13,8 @@ use cg_aside::Aside;
 use cg_respond::Responded;
 use std::alloc::{AllocError, Global};
 
-/// Searches at the intervals of `call`: long at the one that is asked for; where none is, by probes upwards until one
-/// finds a mapping, and long downwards from there. `aside` takes the progress.
+/// Searches at the intervals of `call`: at the interval that is asked for, by a long search; otherwise by probes
+/// upwards until one finds a mapping, and by long searches downwards from there. `aside` takes the progress.
 pub(crate) fn outcome<'a>(
     alloc: Global,
     call: &Call<'a, '_>,
@@ -54,8 +54,8 @@ fn asked<'a>(
     }
 }
 
-/// Makes long searches at the intervals of `call` that are nearest to a mapping, where the probes left `left`, and then
-/// downwards from the first at which one finds a mapping. `aside` takes the progress.
+/// Makes long searches at the intervals of `call` that are nearest to a mapping, where the probes had the result
+/// `left`, and then downwards from the first interval at which a search finds a mapping. `aside` takes the progress.
 fn from_nearest<'a>(
     alloc: Global,
     call: &Call<'a, '_>,

@@ -1,5 +1,5 @@
-//! What a search by best responses answers: the intervals that are tried, in which order and how long each, and what
-//! comes of them: a mapping, or at each the best one that was met; or why each is excluded.
+//! The answer of a search by best responses: the intervals that are tried, in which order and with how many moves each,
+//! and their result: a mapping, or the best mapping at each interval; or why each interval is excluded.
 #![tactic(auto)]
 
 mod answering;

@@ -10,8 +10,8 @@ use cg_respond::Responded;
 use std::alloc::{AllocError, Global};
 
 /// Makes long searches at the intervals of `call` below that of `found`, downwards, until one finds no mapping or the
-/// first interval is done, and returns the mapping of the least interval. At the `failed` intervals such a search found
-/// none before. `aside` takes the progress.
+/// first interval is done, and returns the mapping of the least interval. At the `failed` intervals a long search found
+/// no mapping before. `aside` takes the progress.
 pub(crate) fn lowered<'a>(
     alloc: Global,
     call: &Call<'a, '_>,
@@ -35,8 +35,8 @@ pub(crate) fn lowered<'a>(
     Ok(found)
 }
 
-/// Makes a long search at the interval `ii` of `call`, unless it is one of the `failed`; returns the mapping, where it
-/// finds one. `aside` takes the progress.
+/// Makes a long search at the interval `ii` of `call`, unless it is one of the `failed` intervals; returns the mapping,
+/// if it finds one. `aside` takes the progress.
 fn lower<'a>(
     alloc: Global,
     call: &Call<'a, '_>,

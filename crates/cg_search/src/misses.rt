@@ -1,4 +1,4 @@
-//! What searches leave that find no mapping.
+//! The results of searches that find no mapping.
 ghost use Rattle.std.specs.Prelude.{◌≡◌, ◌+◌, ◌<◌, OnOk, length};
 ghost use Rattle.cg_respond.specs.Responded.{IsMissed};
 ghost use Rattle.cg_search.specs.Course.{AreMisses};
@@ -7,16 +7,16 @@ use crate::trying::Call;
 use cg_model::Mapping;
 use std::alloc::{AllocError, Global};
 
-/// What is left at each interval from the first one on.
+/// The faults and mappings left at each interval from the first one on.
 #[derive(Drop)]
 pub(crate) struct Misses {
-    /// The least faults.
+    /// The least numbers of faults.
     pub(crate) faults: Vec<u64>,
-    /// The mappings with so few.
+    /// The mappings with these numbers of faults.
     pub(crate) missed: Vec<Mapping>,
 }
 
-/// Returns what is left at no interval of `call`.
+/// Returns the empty result for `call`, before any interval.
 pub(crate) fn nothing(alloc: Global, call: &Call<'_, '_>) -> Misses
     ensures none { length result.faults.items ≡ 0 }
     ensures misses { AreMisses call.now.arch.now call.now.kernel.now call.now.first result }
@@ -27,7 +27,7 @@ pub(crate) fn nothing(alloc: Global, call: &Call<'_, '_>) -> Misses
     }
 }
 
-/// Adds to `left` that `faults` are left at its next interval of `call`, by `mapping`.
+/// Adds to `left` that `mapping` has `faults` faults at its next interval of `call`.
 pub(crate) fn add(
     call: &Call<'_, '_>,
     left: &mut Misses,
@@ -45,7 +45,8 @@ pub(crate) fn add(
     Ok(())
 }
 
-/// Lets what is left at interval number `at` of `left` be `faults`, by `mapping`, where these are fewer.
+/// Replaces the faults of interval number `at` of `left` by `faults`, and the mapping by `mapping`, where these faults
+/// are fewer.
 pub(crate) fn lessen(
     call: &Call<'_, '_>,
     left: &mut Misses,

@@ -1,23 +1,23 @@
-//! How long a search at an interval goes on, and by which draws.
+//! The effort of a search at an interval, and its random numbers.
 ghost use Rattle.std.specs.Prelude.{◌≤◌};
 
 use cg_arch::Arch;
 use cg_model::{Kernel, Request};
 use cg_respond::Effort;
 
-/// A probe has the moves that are asked for, divided by this.
+/// The number by which the moves of the request are divided for a probe.
 const PROBE_SHARE: u32 = 120;
 
-/// The resources of the greatest array on which a long search has all moves.
+/// The number of resources of the greatest array on which a long search has all moves.
 const RESOURCES: u64 = 270;
 
-/// The most moves of a long search for each node.
+/// The greatest number of moves of a long search for each node.
 const MOVES_A_NODE: u32 = 10_000;
 
-/// What is added to the interval for the stream of a long search.
+/// The number that is added to the interval for the stream of a long search.
 const LONG_STREAM: u64 = 65_536;
 
-/// Returns how long a probe at the interval `ii` goes on, by what `request` asks.
+/// Returns the effort of a probe at the interval `ii`, by `request`.
 pub(crate) fn probe(request: Request, ii: u32) -> Effort
     ensures { result.moves ≤ request.moves }
 {
@@ -29,7 +29,7 @@ pub(crate) fn probe(request: Request, ii: u32) -> Effort
     }
 }
 
-/// Returns how long a long search of `kernel` on `arch` at the interval `ii` goes on, by what `request` asks.
+/// Returns the effort of a long search of `kernel` on `arch` at the interval `ii`, by `request`.
 pub(crate) fn long(arch: &Arch, kernel: &Kernel, request: Request, ii: u32) -> Effort
     ensures { result.moves ≤ request.moves }
 {
@@ -43,8 +43,8 @@ pub(crate) fn long(arch: &Arch, kernel: &Kernel, request: Request, ii: u32) -> E
     }
 }
 
-/// Returns the full moves of a long search on an array with that number of `resources`, where `moves` are asked for:
-/// on a great array a move takes longer, and there are fewer.
+/// Returns the moves of a full long search on an array with that number of `resources`, where `moves` are asked for: on
+/// a large array a move takes longer, and there are fewer moves.
 fn full_moves(resources: usize, moves: u32) -> u32
     ensures { result ≤ moves }
 {

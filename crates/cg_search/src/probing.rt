@@ -11,7 +11,7 @@ use cg_respond::Responded;
 use cg_task::last_tried;
 use std::alloc::{AllocError, Global};
 
-/// Probes at the intervals of `call` from the first one upwards, until a mapping is found at one or the last is done.
+/// Probes at the intervals of `call` from the first one upwards, until a mapping is found or the last interval is done.
 /// `aside` takes the progress.
 pub(crate) fn probed<'a>(
     alloc: Global,

@@ -10,20 +10,20 @@ use cg_aside::Aside;
 use cg_respond::Responded;
 use std::alloc::{AllocError, Global};
 
-/// The most intervals at which long searches are made where no probe found a mapping.
+/// The greatest number of intervals at which long searches are made where no probe found a mapping.
 const NEAREST: u32 = 3;
 
-/// What comes of the long searches at the nearest intervals.
+/// The result of the long searches at the nearest intervals.
 #[derive(Drop)]
 pub(crate) struct Retried<'a> {
-    /// What comes of all intervals.
+    /// The result of all intervals.
     pub(crate) outcome: Outcome<'a>,
-    /// The intervals at which a long search found nothing.
+    /// The intervals at which a long search found no mapping.
     pub(crate) failed: Vec<u32>,
 }
 
-/// Makes long searches at the intervals of `call` at which the least faults are left, one after the other, until one
-/// finds a mapping. `left` is what the probes left at each, and `aside` takes the progress.
+/// Makes long searches at the intervals of `call` at which the fewest faults are left, one after the other, until one
+/// finds a mapping. `left` is the result of the probes at each interval, and `aside` takes the progress.
 pub(crate) fn tried_again<'a>(
     alloc: Global,
     call: &Call<'a, '_>,
@@ -59,8 +59,8 @@ pub(crate) fn tried_again<'a>(
     Ok(Retried { outcome, failed })
 }
 
-/// Returns where in `left` the least number of faults stands, the first of several, but for the `failed` intervals;
-/// None where there is no other. The list begins with the interval `first`.
+/// Returns the position in `left` of the first least number of faults, except at the `failed` intervals; None where
+/// there are no other intervals. The list begins with the interval `first`.
 fn nearest(first: u32, left: &[u64], failed: &[u32]) -> Option<usize>
     requires { first + length left.now < 2 ^ 32 }
     ensures { IfSome result (λ at. at < length left.now) }

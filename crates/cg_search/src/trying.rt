@@ -1,4 +1,4 @@
-//! A search at one interval, and what comes of several.
+//! A search at one interval, and the result of several.
 ghost use Rattle.std.specs.Prelude.{◌≤◌, IfOk};
 ghost use Rattle.cg_model.specs.Limits.{most_moves};
 ghost use Rattle.cg_task.specs.Intervals.{last_tried};
@@ -13,7 +13,7 @@ use cg_respond::{Effort, Responded, Wiring, respond};
 use cg_task::{LegalMapping, Task};
 use std::alloc::{AllocError, Global};
 
-/// What the searches of a call share.
+/// The data that the searches of a call share.
 #[derive(Clone, Copy)]
 pub(crate) struct Call<'a, 'w> {
     /// The architecture.
@@ -22,7 +22,7 @@ pub(crate) struct Call<'a, 'w> {
     pub(crate) kernel: &'a Kernel,
     /// The architecture as a search reads it.
     pub(crate) wiring: &'w Wiring,
-    /// What is asked.
+    /// The request.
     pub(crate) request: Request,
     /// The first interval that is tried.
     pub(crate) first: u32,
@@ -37,12 +37,12 @@ pub(crate) struct Found<'a> {
     pub(crate) moves: u32,
 }
 
-/// What comes of the intervals that are tried.
+/// The result of the intervals that are tried.
 #[derive(Drop)]
 pub(crate) enum Outcome<'a> {
     /// A mapping.
     Found(Found<'a>),
-    /// None: what is left at each, from the first one on.
+    /// No mapping: the faults and mappings left at each interval, from the first one on.
     Left(Misses),
 }
 
@@ -68,7 +68,7 @@ pub(crate) fn searched_long<'a>(
     )
 }
 
-/// Searches at the interval `ii` of `call`, as long as `effort` says. `aside` takes the progress.
+/// Searches at the interval `ii` of `call`, with `effort`. `aside` takes the progress.
 pub(crate) fn searched_at<'a>(
     alloc: Global,
     call: &Call<'a, '_>,

@@ -22,27 +22,27 @@ use Rattle.cg_task_answers.specs.Searches.{IsSearchOver, is_above}
 use Rattle.cg_task_answers.specs.Answered.{IsAnswered, left_line}
 use Rattle.cg_task_answers.specs.Runs.{IsFoundRun, IsLeftRun}
 
--- it finds mappings by the search
+-- the word for how `search` finds mappings: by the search
 abbrev pub word : Bytes
 word = codes "search"
 
 -- ---- the report of faults, or of what excludes all intervals
 
--- the lines of what is wrong in a mapping: as many at the most
+-- the maximum number of lines that report the faults of a mapping
 abbrev pub most_lines : ℕ
 most_lines = 8
 
--- the faults that are left at an interval, and what is wrong in the mapping that was met with so few
+-- the number of faults that are left at an interval, and the faults of the mapping in which this number was reached
 abbrev pub interval_report : Pair → ℕ → ℕ → Mapping → Bytes
 interval_report p ii n M = left_line (codes "faults") ii n ++ fault_lines p.arch p.kernel M most_lines
 
--- so at each interval, from that one on
+-- the report of each interval, from the interval ii on
 abbrev pub faults_report : Pair → ℕ → List ℕ → List Mapping → Bytes
 faults_report p ii [] missed = []
 faults_report p ii (n ∷ faults) [] = []
 faults_report p ii (n ∷ faults) (M ∷ missed) = interval_report p ii n M ++ faults_report p (ii + 1) faults missed
 
--- the report of these faults, by mappings that were met
+-- the report of these faults, for some mappings that the search met
 abbrev pub IsFaultsReport : Pair → ℕ → List ℕ → Bytes → Type 0
 IsFaultsReport p first faults report =
     (missed : List Mapping) × AreMissed p.arch p.kernel first (length faults) missed × (report ≡ faults_report p first faults missed)
@@ -52,14 +52,15 @@ abbrev pub IsExcludedReport : Pair → ℕ → Bytes → Type 0
 IsExcludedReport p ii report =
     (x : Exclusion) × ExcludesAt p.arch p.kernel ii x × (report ≡ excluded_line p.arch p.kernel x.fars ii x.reason)
 
--- the report of these faults; where there are none, since no interval was tried, of what excludes the last, the one before the first
+-- the report of these faults; where there are none, since no interval was tried, the report of what excludes the last
+-- interval, the one before the first
 abbrev pub IsLeftReport : Pair → ℕ → List ℕ → Bytes → Type 0
 IsLeftReport p first [] report = IsExcludedReport p (first - 1) report
 IsLeftReport p first (n ∷ faults) report = IsFaultsReport p first (n ∷ faults) report
 
 -- ---- outcomes
 
--- nothing was found, and these faults are reported, or what excludes the last interval
+-- no mapping was found, and these faults are reported, or what excludes the last interval
 abbrev pub IsLeftOutcome : Pair → ℕ → List ℕ → Outcome → Type 0
 IsLeftOutcome p first faults o =
     (report : Bytes) × IsLeftReport p first faults report × (o ≡ reports status.BudgetSpent report)
@@ -72,7 +73,7 @@ IsAnswerOf s p a = IsAnswer p.arch p.kernel s.ii s.moves a
 abbrev pub IsSearched : Request → List Name → Pair → Outcome → Type 0
 IsSearched s outs p o = IsAnswered word IsLeftReport s outs p (IsAnswerOf s p) o
 
--- by what the files give
+-- given the contents of the files
 abbrev pub IsSearch : Request → File → File → List Name → Outcome → Type 0
 IsSearch s arch kernel outs o = IsSearchOver (IsSearched s outs) s arch kernel o
 
@@ -82,13 +83,13 @@ IsSearch s arch kernel outs o = IsSearchOver (IsSearched s outs) s arch kernel o
 abbrev pub IsEither : Status → Type 0
 IsEither s = (s ≡ status.Done) ⊎ (s ≡ status.BudgetSpent)
 
--- one status, or each of both that the search may come to
+-- the statuses are equal, or each is one of the two that the search may end with
 abbrev pub AreAgreed : Status → Status → Type 0
 AreAgreed a b = (a ≡ b) ⊎ (IsEither a × IsEither b)
 
 -- ---- what is accepted, and what is left
 
--- the files give an architecture and a kernel, and the hub suffices at the last interval that is tried
+-- the files contain an architecture and a kernel, and the hub suffices at the last interval that is tried
 pub record IsSearchable (s : Request) (arch kernel : File) : Type 0 where
   pub pair : Pair
   pub given : GivesPair arch.bytes kernel.bytes pair
@@ -101,7 +102,7 @@ pub record IsFoundWithin (s : Request) (p : Pair) (m : Mapped) (found_by : Found
   pub is_first : IsBegin p.arch p.kernel s.ii first
   pub found : IsFound p.arch p.kernel s.ii s.moves first m found_by
 
--- Done: such a mapping
+-- Done: a mapping that is found within these intervals is written
 abbrev pub IsSearchRun : Request → Name → Name → List Name → Moment → Moment → Type 0
 IsSearchRun s arch kernel outs before after = IsFoundRun word (IsFoundWithin s) s arch kernel outs before after
 
@@ -110,6 +111,6 @@ abbrev pub AreFaults : Request → Pair → ℕ → List ℕ → Type 0
 AreFaults s p first faults =
     IsBegin p.arch p.kernel s.ii first × AreAllFaulty p.arch p.kernel s.ii s.moves first faults
 
--- BudgetSpent: those faults, reported, or what excludes the last interval
+-- BudgetSpent: the faults that are left are reported, or what excludes the last interval
 abbrev pub IsSearchSpentRun : Request → Name → Name → Moment → Moment → Type 0
 IsSearchSpentRun s arch kernel before after = IsLeftRun IsLeftReport (AreFaults s) s arch kernel before after

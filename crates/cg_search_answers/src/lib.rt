@@ -1,4 +1,4 @@
-//! What the command `search` answers: from the bytes of its input files to an outcome.
+//! The answer of the command `search`: from the bytes of its input files to an outcome.
 #![tactic(auto)]
 
 mod reporting;

@@ -1,5 +1,5 @@
-//! The report of a search that found nothing: the faults that are left at each interval, and what is wrong in the mapping
-//! that was met with so few; or what excludes the last interval.
+//! The report of a search that found no mapping: the number of faults that are left at each interval, and the faults of
+//! the mapping in which this number was reached; or what excludes the last interval.
 ghost use Rattle.std.specs.Prelude.{◌≡◌, ◌+◌, ◌<◌, ◌^◌, ◌++◌, length, IfOk, OnOk};
 ghost use Rattle.cg_ending.specs.Outcome.{outcome_of};
 ghost use Rattle.cg_model.specs.Mapping.{IsShaped};
@@ -15,11 +15,12 @@ use cg_violations::{fault_lines, violations};
 use cg_why_text::excluded_line;
 use std::alloc::{AllocError, Global};
 
-/// How many lines of what is wrong are reported of a mapping at the most.
+/// The maximum number of lines that report the faults of a mapping.
 const MOST_LINES: usize = 8;
 
-/// Returns the outcome of a search that found nothing: at the intervals from `first` on these `faults` are left, and the
-/// mappings `missed`, one an interval, were met with so few; or each interval is `excluded`, and none is left.
+/// Returns the outcome of a search that found no mapping: `faults` are the numbers of faults that are left at the
+/// intervals from `first` on, and `missed` the mappings in which these numbers were reached, one for each interval; or
+/// each interval is `excluded`, and `faults` is empty.
 pub(crate) fn left_over(
     alloc: Global,
     arch: &Arch,
@@ -51,8 +52,8 @@ pub(crate) fn left_over(
     }
 }
 
-/// Returns the report of the `faults` that are left at the intervals from `first` on, and of what is wrong in the
-/// mappings `missed`, one an interval.
+/// Returns the report on the `faults` that are left at the intervals from `first` on, and on the faults of the mappings
+/// `missed`, one for each interval.
 fn faults_report(
     alloc: Global,
     arch: &Arch,
@@ -74,7 +75,7 @@ fn faults_report(
     Ok(report)
 }
 
-/// Adds to `report` the number of `faults` that are left at the interval `ii`, and what is wrong in `mapping`.
+/// Adds to `report` the number of `faults` that are left at the interval `ii`, and the faults of `mapping`.
 fn add_interval(
     alloc: Global,
     report: &mut Vec<u8>,

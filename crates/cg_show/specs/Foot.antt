@@ -1,4 +1,4 @@
--- What stands below the panels: one turn in time, and the lines of the report.
+-- The part of a picture below the panels: one iteration in time, and the lines of the report.
 use Rattle.std.specs.Prelude.{ℕ, ◌+◌, List, [], ◌∷◌, ◌++◌, codes, decimal}
 use Rattle.cg_check.specs.Legal.{Mapped}
 use Rattle.cg_marks.specs.Counts.{busy_units}
@@ -15,6 +15,6 @@ report_text y (line ∷ lines) = report_line y line ++ report_text (y + 16) line
 abbrev pub report_top : Mapped → ℕ
 report_top m = row_top (busy_units m) + 40
 
--- one turn in time, and the report
+-- one iteration in time, and the report
 unfoldable pub foot_text : Mapped → List (List ℕ) → List ℕ
 foot_text m lines = schedule_text m ++ report_text (report_top m) lines

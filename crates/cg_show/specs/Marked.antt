@@ -58,7 +58,7 @@ stays_text m s = lists_below (stay_in m s) (length m.arch.resources)
 
 -- ---- links
 
--- a link into a register takes a cycle: its line is dashed, and a ring stands where the value was a cycle before
+-- a link into a register takes a cycle: its line is dashed, with a ring where the value was a cycle before
 abbrev pub line_class : Kind → List ℕ
 line_class Register = codes "l d"
 line_class Wire = codes "l"
@@ -93,7 +93,7 @@ links_text m s = lists_below (link_in m s) (length m.arch.resources)
 
 -- ---- cells of a table
 
--- a value in the row of its resource: its name, and in which round of its turn it is there
+-- a value in the row of its resource: its name, and its stage
 abbrev pub cell_words : Mapped → Position → List ℕ
 cell_words m p = cut 10 (node_name m p.source) ++ (codes " @" ++ decimal (round_of m p.time))
 

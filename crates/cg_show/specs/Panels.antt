@@ -1,4 +1,4 @@
--- Panels, one a slot: the grid of tiles, or where names say no tiles a column of the reservation table.
+-- Panels, one for each slot: the grid of tiles, or where names have no tiles a column of the reservation table.
 use Rattle.std.specs.Prelude.{ℕ, zero, suc, ◌+◌, ◌*◌, ◌-◌, ◌/◌, ◌%◌, Bool, ◌&&◌, not, eqb, nat_lt, nat_le, List, [], ◌++◌, length, if◌then◌else◌, codes, decimal}
 use Rattle.cg_model.specs.Array.{Arch}
 use Rattle.cg_check.specs.Legal.{Mapped}
@@ -29,7 +29,7 @@ frame_text A F r = if begins_tile A r then tile_text (corner F (tile_of A r)) (t
 abbrev pub chip_text : Spot → List ℕ
 chip_text b = rect_text (codes "e") (record { x = b.x; y = b.y; width = 33; height = 12 })
 
--- the empty chip of resource r, before the first one of a tile its frame; and all of them
+-- the empty chip of resource r, after the frame of its tile where it is the first of the tile; and all of them
 abbrev pub tile_part : Arch → ℕ → List ℕ
 tile_part A r = frame_text A (frame_of A) r ++ chip_text (seat A (frame_of A) r)
 
@@ -65,7 +65,7 @@ rows_text m = lists_below (row_part m) (length m.arch.resources)
 abbrev pub slot_words : ℕ → List ℕ
 slot_words s = codes "slot " ++ decimal s
 
--- three panels stand in a row
+-- there are three panels in a row
 abbrev pub panel_left : Frame → ℕ → ℕ
 panel_left F s = 30 + (panel_width F + 24) * (s % 3)
 
@@ -89,7 +89,7 @@ column_panel m s =
 unfoldable pub panel_text : Mapped → ℕ → List ℕ
 panel_text m s = if is_tiled m.arch then grid_panel m s else column_panel m s
 
--- how many of the first n panels take at most `room` bytes
+-- the greatest number of first panels, at most n, that take at most `room` bytes together
 unfoldable pub shown : Mapped → ℕ → ℕ → ℕ
 shown m room zero = 0
 shown m room (suc n) = if nat_le (length (lists_below (panel_text m) (suc n))) room then suc n else shown m room n

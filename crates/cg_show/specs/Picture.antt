@@ -1,4 +1,4 @@
--- The picture of a legal mapping (SVG 1.1): panels, one turn in time below them, and the lines of the report.
+-- The picture of a legal mapping (SVG 1.1): panels, one iteration in time below them, and the lines of the report.
 use Rattle.std.specs.Prelude.{ℕ, ◌+◌, ◌-◌, ◌*◌, ◌/◌, max, min, nat_lt, List, [], ◌++◌, length, if◌then◌else◌, codes, decimal}
 use Rattle.cg_model.specs.Array.{Arch}
 use Rattle.cg_check.specs.Legal.{Mapped, config_of}
@@ -11,17 +11,17 @@ use Rattle.cg_show.specs.Panels.{tiles_text, boxes_text, column_text, rows_text,
 use Rattle.cg_show.specs.Schedule.{cycles}
 use Rattle.cg_show.specs.Foot.{foot_text, report_top}
 
--- the look of each class, and seven colours that people with red-green blindness tell apart, each with its arrow
+-- the look of each class, and seven colours that people with red-green blindness can distinguish, each with its arrow
 abbrev pub style_text : List ℕ
 style_text = STYLE.now
 
 -- ---- the head
 
--- bytes for panels and the foot
+-- the number of bytes for panels and the foot
 abbrev pub most_bytes : ℕ
 most_bytes = 16000000
 
--- how many panels there is room for
+-- the number of panels for which there is room
 abbrev pub panels_in : Mapped → ℕ → ℕ
 panels_in m foot = shown m (most_bytes - foot) m.mapping.ii
 
@@ -44,7 +44,7 @@ svg_head width height =
     codes "<svg xmlns='http://www.w3.org/2000/svg' xmlns:xlink='http://www.w3.org/1999/xlink' version='1.1' width='" ++ (decimal width ++
     (codes "' height='" ++ (decimal height ++ codes "' font-family='monospace'>\n")))
 
--- what all panels share
+-- the elements that all panels share
 abbrev pub grid_text : Arch → List ℕ
 grid_text A = codes "<defs><g id='tiles'>" ++ (tiles_text A ++ (codes "</g><g id='boxes'>" ++ (boxes_text A ++ codes "</g></defs>\n")))
 

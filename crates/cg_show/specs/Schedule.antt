@@ -1,4 +1,5 @@
--- One turn in time: a row for each unit that begins a node, a column for each cycle, a bar for each node over its latency.
+-- One iteration in time: a row for each unit that begins a node, a column for each cycle, a bar for each node over its
+-- latency.
 use Rattle.std.specs.Prelude.{ℕ, suc, ◌+◌, ◌-◌, ◌*◌, ◌%◌, nat_lt, List, [], ◌++◌, Option, Some, None, length, if◌then◌else◌, codes, decimal}
 use Rattle.cg_model.specs.Kernel.{size}
 use Rattle.cg_model.specs.Array.{unit}
@@ -34,14 +35,14 @@ cycle_part t = words_text (codes "o") (cycle_left t + 24) 36 (decimal t)
 unfoldable pub cycles_text : Mapped → List ℕ
 cycles_text m = lists_below cycle_part (cycles m)
 
--- a line before each stage and after the last, down over n rows
+-- a line before each stage and after the last, over a height of n rows
 abbrev pub stage_line : Mapped → ℕ → ℕ → List ℕ
 stage_line m n k = codes "M" ++ (decimal (cycle_left (m.mapping.ii * k)) ++ (codes " 42V" ++ decimal (row_top n)))
 
 unfoldable pub stages_text : Mapped → List ℕ
 stages_text m = codes "<path class='g' d='" ++ (lists_below (stage_line m (busy_units m)) (suc (config_of m).stages) ++ codes "'/>")
 
--- the cycles after a node's first one: nodes that a unit works on at the same time have lines of their own
+-- the cycles after a node's first one: nodes on which a unit works at the same time have separate lines
 abbrev pub tail_text : ℕ → ℕ → ℕ → List ℕ
 tail_text t latency top =
     if nat_lt 1 latency then rect_text (codes "k") (record { x = cycle_left (t + 1); y = top + 17 + 2 * (t % 4); width = 48 * (latency - 1) - 2; height = 1 }) else []

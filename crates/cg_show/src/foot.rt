@@ -1,4 +1,4 @@
-//! What stands below the panels.
+//! The part of a picture below the panels.
 ghost use Rattle.std.specs.Prelude.{◌≡◌, ◌++◌, ◌<◌, ◌^◌, IfOk, OnOk, map, string_bytes};
 ghost use Rattle.cg_show.specs.Foot as spec;
 
@@ -47,7 +47,7 @@ fn push_report(
     Ok(())
 }
 
-/// Returns what stands below the panels: one turn in time, and the lines `lines` of the report.
+/// Returns the text of the part below the panels: one iteration in time, and the lines `lines` of the report.
 pub(crate) fn foot(
     alloc: Global,
     marks: &Marks<'_>,

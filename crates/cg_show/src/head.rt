@@ -1,4 +1,4 @@
-//! What stands before the panels.
+//! The part of a picture before the panels.
 ghost use Rattle.std.specs.Prelude.{◌≡◌, ◌++◌, ◌+◌, ◌*◌, ◌<◌, ◌≤◌, ◌^◌, OnOk, true, false};
 ghost use Rattle.std.specs.Option.{ForSome, ForNone};
 ghost use Rattle.cg_drawing.specs.Tiles.{is_tiled};
@@ -64,7 +64,7 @@ pub(crate) fn picture_width(marks: &Marks<'_>, layout: Option<&Layout<'_>>) -> u
     panels_width(marks, layout).max(time.max(900))
 }
 
-/// Adds what opens a picture of the size `size` to `text`.
+/// Adds the opening of a picture of the size `size` to `text`.
 fn push_svg(alloc: Global, text: &mut Vec<u8>, size: Size) -> Result<(), AllocError>
     ensures { OnOk result (text.new.items ≡ text.old.items ++ (spec.svg_head size.width size.height ++ spec.style_text)) }
 {
@@ -77,7 +77,7 @@ fn push_svg(alloc: Global, text: &mut Vec<u8>, size: Size) -> Result<(), AllocEr
     Ok(())
 }
 
-/// Adds what all panels share to `text`.
+/// Adds the elements that all panels share to `text`.
 fn push_shared(
     alloc: Global,
     text: &mut Vec<u8>,
@@ -129,7 +129,7 @@ fn push_title(alloc: Global, text: &mut Vec<u8>, marks: &Marks<'_>) -> Result<()
     Ok(())
 }
 
-/// Adds which slots of `ii` are left out to `text`, where only the first `count` are shown.
+/// Adds to `text` which slots of `ii` are left out, where only the first `count` are shown.
 fn push_left_out(alloc: Global, text: &mut Vec<u8>, count: u32, ii: u32) -> Result<(), AllocError>
     ensures { OnOk result (text.new.items ≡ text.old.items ++ spec.left_out count ii) }
 {
@@ -143,7 +143,7 @@ fn push_left_out(alloc: Global, text: &mut Vec<u8>, count: u32, ii: u32) -> Resu
     Ok(())
 }
 
-/// Adds what stands before the panels to `text`, where the first `count` slots are shown in a picture of the size `size`.
+/// Adds the part before the panels to `text`, where the first `count` slots are shown in a picture of the size `size`.
 pub(crate) fn push_head(
     alloc: Global,
     text: &mut Vec<u8>,

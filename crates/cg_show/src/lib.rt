@@ -1,4 +1,5 @@
-//! Pictures of legal mappings: what each unit begins and each resource carries, slot by slot, and one turn in time.
+//! Pictures of legal mappings: the node that each unit begins and the value that each resource carries, slot by slot,
+//! and one iteration in time.
 #![tactic(auto)]
 
 mod foot;

@@ -59,7 +59,7 @@ fn push_start_at(
     Ok(())
 }
 
-/// Adds the mark of what `unit` begins in `slot`, if it begins a node, to `text`.
+/// Adds to `text` the mark of the node that `unit` begins in `slot`, if there is one.
 fn push_start(
     alloc: Global,
     text: &mut Vec<u8>,
@@ -125,7 +125,7 @@ fn push_stay_at(
     Ok(())
 }
 
-/// Adds the mark of what `resource` carries in `slot`, if it carries a value, to `text`.
+/// Adds to `text` the mark of the value that `resource` carries in `slot`, if there is one.
 fn push_stay(
     alloc: Global,
     text: &mut Vec<u8>,
@@ -174,8 +174,8 @@ fn line_class(kind: Kind) -> &'static str
     }
 }
 
-/// Adds a ring at the right of the chip that begins at `spot` to `text`, where a line goes from there into a resource of
-/// the kind `kind` that takes a cycle.
+/// Adds a ring at the right of the chip that begins at `spot` to `text`, where a line goes from there into a resource
+/// of the kind `kind` that takes a cycle.
 fn push_ring_by(alloc: Global, text: &mut Vec<u8>, kind: Kind, spot: Spot) -> Result<(), AllocError>
     ensures { OnOk result (text.new.items ≡ text.old.items ++ spec.ring_by kind spot) }
 {
@@ -206,7 +206,7 @@ fn push_link_from(
     Ok(())
 }
 
-/// Adds the line of `stay`, if it comes from a resource, to `text`.
+/// Adds to `text` the line of `stay`, if it comes from a resource.
 fn push_link_of(
     alloc: Global,
     text: &mut Vec<u8>,
@@ -222,7 +222,7 @@ fn push_link_of(
     }
 }
 
-/// Adds the line of what comes to `resource` along a link in `slot`, if a value does, to `text`.
+/// Adds to `text` the line of the value that comes to `resource` along a link in `slot`, if there is one.
 fn push_link(
     alloc: Global,
     text: &mut Vec<u8>,
@@ -286,7 +286,7 @@ fn push_cell_at(
     Ok(())
 }
 
-/// Adds the cell of what `resource` carries in `slot`, if it carries a value, to `text`.
+/// Adds to `text` the cell of the value that `resource` carries in `slot`, if there is one.
 fn push_cell(
     alloc: Global,
     text: &mut Vec<u8>,

@@ -1,4 +1,4 @@
-//! Panels, one a slot.
+//! Panels, one for each slot.
 ghost use Rattle.std.specs.Prelude.{◌≡◌, ◌++◌, ◌<◌, ◌≤◌, IfOk, OnOk, length, true, false, codes};
 ghost use Rattle.std.specs.Option.{ForSome, ForNone};
 ghost use Rattle.cg_below.specs.Below.{lists_below};
@@ -84,7 +84,7 @@ fn push_column(
     Ok(())
 }
 
-/// Adds the panel of `slot` to `text`, where `layout` has the places of tiles if all names say one.
+/// Adds the panel of `slot` to `text`, where `layout` has the places of tiles if all names have a tile.
 fn push_panel(
     alloc: Global,
     text: &mut Vec<u8>,
@@ -103,12 +103,12 @@ fn push_panel(
     }
 }
 
-/// The panels that there is room for.
+/// The panels for which there is room.
 #[derive(Drop)]
 pub(crate) struct ShownPanels {
     /// Their text.
     pub text: Vec<u8>,
-    /// How many there are: those of the first slots.
+    /// Their number: the panels are those of the first slots.
     pub count: u32,
 }
 
@@ -121,7 +121,7 @@ fn slots(marks: &Marks<'_>) -> u32
     marks.mapping().ii()
 }
 
-/// Returns the panels of as many first slots as take at most `room` bytes.
+/// Returns the panels of the first slots that take at most `room` bytes.
 pub(crate) fn panels(
     alloc: Global,
     marks: &Marks<'_>,

@@ -1,4 +1,4 @@
-//! One turn in time.
+//! One iteration in time.
 ghost use Rattle.std.specs.Prelude.{◌≡◌, ◌++◌, ◌<◌, ◌≤◌, ◌^◌, suc, OnOk, length};
 ghost use Rattle.cg_check.specs.Legal.{config_of};
 ghost use Rattle.cg_below.specs.Below.{lists_below};
@@ -10,7 +10,7 @@ use cg_emit::stages;
 use cg_marks::Marks;
 use std::alloc::{AllocError, Global};
 
-/// Returns the number of cycles of a turn: one more than the last in which a node is worked on.
+/// Returns the number of cycles of an iteration: one more than the last cycle in which a unit works on a node.
 pub(crate) fn cycles(marks: &Marks<'_>) -> u64
     ensures value { result ≡ spec.cycles marks.now }
     ensures few { result < 2 ^ 33 }
@@ -44,7 +44,7 @@ fn interval(marks: &Marks<'_>) -> u64
     u64::from(marks.mapping().ii())
 }
 
-/// Adds the way of the line before `stage` to `ways`, down over `rows` rows.
+/// Adds the way of the line before `stage` to `ways`, over a height of `rows` rows.
 fn push_stage_way(
     alloc: Global,
     ways: &mut Vec<u8>,
@@ -60,7 +60,7 @@ fn push_stage_way(
     ways.extend_from_slice(way.as_bytes())
 }
 
-/// Adds the ways of the lines between stages to `ways`, down over `rows` rows.
+/// Adds the ways of the lines between stages to `ways`, over a height of `rows` rows.
 fn push_stage_ways(
     alloc: Global,
     ways: &mut Vec<u8>,
@@ -87,8 +87,8 @@ fn push_stages(alloc: Global, text: &mut Vec<u8>, marks: &Marks<'_>) -> Result<(
     Ok(())
 }
 
-/// Adds the line of the cycles after the first to `text`, for a node that begins at `time` in the row at `top` and takes
-/// `latency` cycles.
+/// Adds to `text` the line of the cycles after the first, for a node that begins at `time` in the row at `top` and
+/// takes `latency` cycles.
 fn push_tail(
     alloc: Global,
     text: &mut Vec<u8>,

@@ -1,4 +1,5 @@
-//! What all panels share: empty tiles, chips and boxes, or the empty cells of a column and the names of its rows.
+//! The elements that all panels share: empty tiles, chips and boxes, or the empty cells of a column and the names of
+//! its rows.
 ghost use Rattle.std.specs.Prelude.{◌≡◌, ◌++◌, ◌<◌, OnOk, length};
 ghost use Rattle.cg_below.specs.Below.{lists_below};
 ghost use Rattle.cg_drawing.specs.Layout.{frame_of, seat, box};
@@ -47,7 +48,7 @@ fn push_tile(
     Ok(())
 }
 
-/// Adds the frame of the tile of `resource` to `text`, where `resource` is the first of it.
+/// Adds the frame of the tile of `resource` to `text`, where `resource` is the first of its tile.
 fn push_frame(
     alloc: Global,
     text: &mut Vec<u8>,
@@ -147,7 +148,7 @@ pub(crate) fn push_column(alloc: Global, text: &mut Vec<u8>, arch: &Arch) -> Res
     Ok(())
 }
 
-/// Adds the names of the rows of such a column to `text`.
+/// Adds the names of the rows of a column to `text`.
 pub(crate) fn push_rows(
     alloc: Global,
     text: &mut Vec<u8>,

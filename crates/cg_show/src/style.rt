@@ -1,7 +1,7 @@
 //! The look of pictures.
 
-/// The style of each class, and an arrow for each colour. The colours are those of Okabe and Ito without the yellow, which
-/// people with red-green blindness tell apart, the black a little lighter.
+/// The style of each class, and an arrow for each colour. The colours are those of Okabe and Ito without the yellow,
+/// which people with red-green blindness can distinguish, with the black a little lighter.
 pub(crate) const STYLE: &str = "<style>
 .z{fill:#fff}.t{fill:#f6f6f6;stroke:#bbb}.e{fill:#fff;stroke:#ddd}.u{fill:#fff;stroke:#ccc}
 .b{stroke:currentColor}.k{fill:currentColor}.w{fill:#fff;stroke:currentColor}.g{stroke:#999}

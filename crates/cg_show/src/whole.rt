@@ -9,11 +9,11 @@ use cg_drawing::{Layout, push_group};
 use cg_marks::Marks;
 use std::alloc::{AllocError, Global};
 
-/// The bytes for panels and what stands below them.
+/// The number of bytes for panels and the part below them.
 const MOST_BYTES: usize = 16_000_000;
 
-/// Returns the picture of the mapping of `marks`, as SVG, with `lines`, those of its report. Where there is no room for the
-/// panels of all slots in 16 MB, a line says which are left out.
+/// Returns the picture of the mapping of `marks`, as SVG, with the lines `lines` of its report. Where there is no room
+/// for the panels of all slots in 16 MB, a line says which are left out.
 pub fn picture(alloc: Global, marks: &Marks<'_>, lines: &[String]) -> Result<Vec<u8>, AllocError>
     ensures { IfOk result (λ text. text.items ≡ spec.picture_text marks.now (map string_bytes lines.now)) }
 {

@@ -1,4 +1,4 @@
-//! What the marks of a picture say.
+//! The words in a picture.
 ghost use Rattle.std.specs.Prelude.{◌≡◌, ◌++◌, ◌<◌, IfOk, OnOk, string_bytes};
 ghost use Rattle.cg_model.specs.Array.{resource as resource_at, unit as unit_at};
 ghost use Rattle.cg_model.specs.Kernel.{node as node_at};
@@ -78,7 +78,7 @@ fn latency(marks: &Marks<'_>, unit: u32) -> u32
     }
 }
 
-/// Returns the place of `node`; unit 0 at 0 past the last one.
+/// Returns the place of `node`; past the last one, unit 0 at time 0.
 fn place(marks: &Marks<'_>, node: u32) -> Place
     ensures { result ≡ place_at marks.now.mapping node }
 {
@@ -88,7 +88,7 @@ fn place(marks: &Marks<'_>, node: u32) -> Place
     }
 }
 
-/// Returns the cycle in which `node` begins in turn 0.
+/// Returns the cycle in which `node` begins in iteration 0.
 pub(crate) fn time_of(marks: &Marks<'_>, node: u32) -> u32
     ensures { result ≡ spec.time_of marks.now node }
 {
@@ -102,7 +102,7 @@ pub(crate) fn latency_of(marks: &Marks<'_>, node: u32) -> u32
     latency(marks, place(marks, node).unit)
 }
 
-/// Returns the round of its turn in which `time` is, a round being as many cycles as the interval.
+/// Returns the stage of `time`: the number of whole intervals before it.
 pub(crate) fn round_of(marks: &Marks<'_>, time: u64) -> u64
     ensures { result ≡ spec.round_of marks.now time }
 {
@@ -110,7 +110,7 @@ pub(crate) fn round_of(marks: &Marks<'_>, time: u64) -> u64
     time / ii
 }
 
-/// Adds `name` to `text`, cut to `most` signs.
+/// Adds `name` to `text`, cut to `most` characters.
 pub(crate) fn push_cut(text: &mut Vec<u8>, most: usize, name: &str) -> Result<(), AllocError>
     ensures { OnOk result (text.new.items ≡ text.old.items ++ spec.cut most name.now) }
 {
@@ -132,7 +132,7 @@ pub(crate) fn op_text(alloc: Global, marks: &Marks<'_>, node: u32) -> Result<Str
     format!(in alloc; "{op} @{stage}")
 }
 
-/// Returns what the mark of `node` on `unit` says, as `x1 load on r0c1_f at 3, stage 1`.
+/// Returns the title of the mark of `node` on `unit`, as `x1 load on r0c1_f at 3, stage 1`.
 pub(crate) fn start_title(
     alloc: Global,
     marks: &Marks<'_>,
@@ -162,7 +162,7 @@ fn from_text(alloc: Global, marks: &Marks<'_>, from: Option<u32>) -> Result<Stri
     }
 }
 
-/// Returns what the mark of `stay` says, as `x1 on r0c1_h at 3, from r0c0_f_o`.
+/// Returns the title of the mark of `stay`, as `x1 on r0c1_h at 3, from r0c0_f_o`.
 pub(crate) fn stay_title(alloc: Global, marks: &Marks<'_>, stay: Stay) -> Result<String, AllocError>
     ensures { IfOk result (λ text. string_bytes text ≡ spec.stay_title marks.now (position_of stay)) }
 {
@@ -174,7 +174,7 @@ pub(crate) fn stay_title(alloc: Global, marks: &Marks<'_>, stay: Stay) -> Result
     format!(in alloc; "{name} on {place} at {time}{way}")
 }
 
-/// Returns what the line of `stay` from the resource `from` says, as `x1: r0c0_f_o to r0c1_h at 3`.
+/// Returns the title of the line of `stay` from the resource `from`, as `x1: r0c0_f_o to r0c1_h at 3`.
 pub(crate) fn link_title(
     alloc: Global,
     marks: &Marks<'_>,
@@ -204,7 +204,7 @@ fn push_words_head(
     text.extend_from_slice(head.as_bytes())
 }
 
-/// Adds `name`, cut to `most` signs, to `text`: words of the class `class` at `x` and `y`.
+/// Adds `name`, cut to `most` characters, to `text`: words of the class `class` at `x` and `y`.
 pub(crate) fn push_name(
     alloc: Global,
     text: &mut Vec<u8>,
@@ -220,7 +220,7 @@ pub(crate) fn push_name(
     text.extend_from_slice(b"</text>")
 }
 
-/// Adds `name`, cut to `most` signs, and `rest` behind it to `text`: words of the class `class` at `x` and `y`.
+/// Adds `name`, cut to `most` characters, and `rest` after it to `text`: words of the class `class` at `x` and `y`.
 pub(crate) fn push_name_with(
     alloc: Global,
     text: &mut Vec<u8>,

@@ -29,18 +29,18 @@ abbrev pub show_writes : Mapped → Margin → List Name → List File
 show_writes m margin (out ∷ []) = record { name = out; bytes = show_picture m margin } ∷ []
 show_writes m margin _ = []
 
--- which recurrence and which class are shown is left open where several serve
+-- where several recurrences or classes are valid, which one is shown is left open
 pub record IsShown (outs : List Name) (m : Mapped) (o : Outcome) : Type 0 where
   pub margin : Margin
   pub is_margin : IsMargin m.arch m.kernel margin
   pub outcome : o ≡ record { status = Done; report = show_report m margin; writes = show_writes m margin outs }
 
--- by the violation, if there is one
+-- given the violation, if there is one
 abbrev pub IsShownBy : List Name → Mapped → Option Violation → Outcome → Type 0
 IsShownBy outs m None o = IsShown outs m o
 IsShownBy outs m (Some v) o = o ≡ reports No (illegal_report m.arch m.kernel v)
 
--- by what the files give
+-- given the result of parsing the files
 abbrev pub IsShowing : List Name → Result Mapped Outcome → Outcome → Type 0
 IsShowing outs (Ok m) o = IsShownBy outs m (violation m.arch m.kernel m.mapping) o
 IsShowing outs (Err refused) o = o ≡ refused
@@ -55,8 +55,8 @@ abbrev pub HoldPicture : Held → List Name → Bytes → Type 0
 HoldPicture held (out ∷ []) bytes = Holds held out bytes
 HoldPicture held _ bytes = Unit {0}
 
--- Done: the mapping that was read is legal; its picture is held under the last name where one was given, and the lines of its
--- report were put. The marks of both are what the mapping begins and carries, and no others
+-- Done: the mapping that was read is legal; its picture is held under the last name if one was given, and the
+-- lines of the report were put. The marks of both are what the mapping begins and carries, and no others
 pub record IsShownRun (arch kernel mapping : Name) (outs : List Name) (before after : Moment) : Type 0 where
   pub mapped : Mapped
   pub read : HoldMapped arch kernel mapping before mapped

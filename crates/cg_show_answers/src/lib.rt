@@ -1,4 +1,4 @@
-//! What `show` answers: from the bytes of input files to an outcome.
+//! The answer of `show`: from the bytes of input files to an outcome.
 #![tactic(auto)]
 
 mod showing;

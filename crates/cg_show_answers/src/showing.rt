@@ -16,8 +16,8 @@ use cg_show::picture;
 use cg_show_table::{Margin, margin_of, table_lines, table_text};
 use std::alloc::{AllocError, Global};
 
-/// Returns the outcome of `show`: the report on the mapping that the file `mapping` gives for the kernel of `kernel` on the
-/// architecture of `arch`, and its picture, to be written under the name that `outputs` has, if there is one.
+/// Returns the outcome of `show`: the report on the mapping in the file `mapping`, of the kernel in `kernel` to the
+/// architecture in `arch`, and its picture, to be written under the name in `outputs`, if there is one.
 pub fn show(
     alloc: Global,
     arch: &File,
@@ -34,7 +34,8 @@ pub fn show(
     judged(alloc, &array, &graph, placed, outputs)
 }
 
-/// Returns the outcome for `mapping`: the report and the picture where it is legal, and else the rule that it violates.
+/// Returns the outcome for `mapping`: the report and the picture where it is legal, and otherwise the rule that it
+/// violates.
 fn judged(
     alloc: Global,
     array: &Arch,
@@ -61,7 +62,7 @@ fn shown(alloc: Global, legal: LegalMapping<'_>, outputs: &[String]) -> Result<O
     drawn(alloc, &marks, &needs, outputs)
 }
 
-/// Returns the outcome that reports `marks` and `needs`, and writes their picture under the name that `outputs` has, if there
+/// Returns the outcome that reports `marks` and `needs`, and writes their picture under the name in `outputs`, if there
 /// is one.
 fn drawn(
     alloc: Global,

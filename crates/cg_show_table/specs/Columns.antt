@@ -1,4 +1,5 @@
--- A table of units and slots: a row a unit, a column a slot, in blocks of as many columns as go side by side.
+-- A table of units and slots: a row for each unit, a column for each slot, in blocks of as many columns as fit side by
+-- side.
 use Rattle.std.specs.Prelude.{ℕ, suc, zero, ◌+◌, ◌-◌, ◌*◌, ◌/◌, nat_lt, min, max, length, replicate, List, [], ◌∷◌, ◌++◌, Option, Some, None, option_map, is_some, if◌then◌else◌, codes, decimal}
 use Rattle.cg_word.specs.Word.{name_of}
 use Rattle.cg_model.specs.Kernel.{node, size}
@@ -10,11 +11,11 @@ use Rattle.cg_marks.specs.Marks.{start_at}
 use Rattle.cg_marks.specs.Counts.{starts_of}
 use Rattle.cg_show_table.specs.declared.columns.Grid.{Grid}
 
--- the number of signs of a row
+-- the number of characters of a row
 abbrev pub widest : ℕ
 widest = 120
 
--- in which round of its turn a node begins, a round being as many cycles as the interval
+-- the stage of a node: the number of whole intervals before it begins
 abbrev pub stage : Mapped → ℕ → ℕ
 stage m v = (place m.mapping v).time / m.mapping.ii
 
@@ -35,7 +36,7 @@ node_width m v = length (node_text m v)
 unfoldable pub cell_width : Mapped → ℕ
 cell_width m = greatest_below (node_width m) (size m.kernel)
 
--- two blanks part columns; one column is there at least
+-- columns are separated by two blanks; there is at least one column
 abbrev pub grid_with : ℕ → ℕ → ℕ → Grid
 grid_with name cell slots = record { first = name + 2; pitch = cell + 2; across = max 1 ((widest - name) / (cell + 2)); slots = slots }
 
@@ -53,12 +54,12 @@ columns g b = min g.across (g.slots - b * g.across)
 abbrev pub slot_of : Grid → ℕ → ℕ → ℕ
 slot_of g b j = b * g.across + j
 
--- a row with a text at a column of signs, where there is one
+-- a row with a text at a column of characters, if there is a text
 abbrev pub with_text : ℕ → List ℕ → Option (List ℕ) → List ℕ
 with_text at row None = row
 with_text at row (Some text) = row ++ (replicate (at - length row) 32 ++ text)
 
--- a row that begins so, with the cells of its first n columns
+-- a row that begins with this text, with the cells of its first n columns
 abbrev pub row_text : Grid → List ℕ → (ℕ → Option (List ℕ)) → ℕ → List ℕ
 row_text g begin cell zero = begin
 row_text g begin cell (suc j) = with_text (g.first + j * g.pitch) (row_text g begin cell j) (cell j)
@@ -77,11 +78,11 @@ unit_cell m g b x j = option_map (node_text m) (start_at m x (slot_of g b j))
 abbrev pub unit_line : Mapped → Grid → ℕ → ℕ → List ℕ
 unit_line m g b x = row_text g (unit m.arch x).name (unit_cell m g b x) (columns g b)
 
--- how many nodes unit x begins in the slots of block b
+-- the number of nodes that unit x begins in the slots of block b
 abbrev pub starts_in : Mapped → Grid → ℕ → ℕ → ℕ
 starts_in m g b x = count_below (λ j. is_some (start_at m x (slot_of g b j))) (columns g b)
 
--- the line of a unit, where it begins one
+-- the line of a unit, where it begins a node
 abbrev pub unit_lines : Mapped → Grid → ℕ → ℕ → List (List ℕ)
 unit_lines m g b x = if nat_lt 0 (starts_in m g b x) then unit_line m g b x ∷ [] else []
 

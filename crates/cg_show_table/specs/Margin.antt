@@ -1,4 +1,4 @@
--- What lower intervals a kernel's recurrences and its classes of operations leave, each looked at alone.
+-- The lower intervals that a kernel's recurrences and its classes of operations allow, each considered alone.
 use Rattle.std.specs.Prelude.{◌-◌, ◌≤◌, Option, Some, None}
 use Rattle.cg_model.specs.Kernel.{Kernel}
 use Rattle.cg_model.specs.Array.{Arch}
@@ -18,7 +18,8 @@ pub record IsLongest (A : Arch) (K : Kernel) (c : LongChain) : Type 0 where
   pub forbids : IsRecurrence A K (c.least - 1) c.edges.items
   pub shown : IsShown (edge_of A K) c.edges.items
 
--- no set of operations is overfull at the least interval, and this one, of nodes' operations, is at the one below it
+-- no set of operations is overfull at the least interval, and this one, of nodes' operations, is overfull at the
+-- interval below it
 pub record IsFullest (A : Arch) (K : Kernel) (c : FullClass) : Type 0 where
   pub some : 1 ≤ c.least
   pub free : HasNoOverfull A K c.least
@@ -34,7 +35,7 @@ abbrev pub IsClass : Arch → Kernel → Option FullClass → Type 0
 IsClass A K None = HasNoOverfull A K 0
 IsClass A K (Some c) = IsFullest A K c
 
--- which chain and which class are shown is left open where several serve
+-- the chain and the class that are shown are left open where several are possible
 pub record IsMargin (A : Arch) (K : Kernel) (m : Margin) : Type 0 where
   pub chain : IsChain A K m.chain
   pub «class» : IsClass A K m.«class»

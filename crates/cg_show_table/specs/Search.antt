@@ -1,4 +1,4 @@
--- The searches by halves.
+-- The binary searches.
 use Rattle.std.specs.Prelude.{ℕ, ◌<◌, List}
 use Rattle.cg_word.specs.declared.op.Op.{Op}
 use Rattle.cg_model.specs.Kernel.{Kernel}

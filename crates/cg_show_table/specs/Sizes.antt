@@ -1,11 +1,11 @@
--- Sizes of tables, which are small.
+-- Sizes of tables, which are bounded.
 use Rattle.std.specs.Prelude.{◌≡◌, ℕ, ◌+◌, ◌≤◌, is_some}
 use Rattle.cg_check.specs.Legal.{Mapped}
 use Rattle.cg_below.specs.Below.{count_below}
 use Rattle.cg_marks.specs.Marks.{start_at}
 use Rattle.cg_show_table.specs.declared.columns.Grid.{Grid}
 
--- a table of few slots and short rows, of one column at least
+-- a table of few slots and short rows, with at least one column
 pub record IsSmall (g : Grid) : Type 0 where
   pub first : g.first ≤ 42
   pub pitch : g.pitch ≤ 62
@@ -18,6 +18,6 @@ pub record IsGridOf (m : Mapped) (g : Grid) : Type 0 where
   pub small : IsSmall g
   pub slots : g.slots ≡ m.mapping.ii
 
--- in how many of n slots from a on unit x begins a node
+-- the number of slots, of n slots from a on, in which unit x begins a node
 abbrev pub starts_from : Mapped → ℕ → ℕ → ℕ → ℕ
 starts_from m x a n = count_below (λ j. is_some (start_at m x (a + j))) n

@@ -16,13 +16,13 @@ use Rattle.cg_show_table.specs.Columns.{grid_lines}
 abbrev pub interval_line : Mapped → List ℕ
 interval_line m = codes "ii " ++ (decimal m.mapping.ii ++ (codes "  stages " ++ decimal (config_of m).stages))
 
--- how many units begin a node, and in how many of their slots
+-- the number of units that begin a node, and the share of their slots
 abbrev pub units_line : Mapped → List ℕ
 units_line m =
     codes "units " ++ (decimal (busy_units m) ++ (codes " of " ++ (decimal (length m.arch.units) ++ (codes "  busy " ++
     (decimal (busy_slots m) ++ (codes " of " ++ (decimal (length m.arch.units * m.mapping.ii) ++ codes " slots")))))))
 
--- in how many of their slots the resources of a kind carry a value
+-- the share of slots in which the resources of a kind carry a value
 abbrev pub taken_text : Mapped → Kind → List ℕ
 taken_text m kind = decimal (taken_slots m kind) ++ (codes " of " ++ decimal (resources_of m kind * m.mapping.ii))
 

@@ -16,9 +16,9 @@ use std::alloc::{AllocError, Global};
 /// The sizes of a table.
 #[derive(Clone, Copy)]
 pub(crate) struct Grid {
-    /// Where its first column begins, in signs.
+    /// The column of characters at which the first column of slots begins.
     pub first: usize,
-    /// From one column to the next, in signs.
+    /// The distance between columns, in characters.
     pub pitch: usize,
     /// The number of columns side by side.
     pub across: usize,
@@ -54,7 +54,7 @@ fn grid_of(alloc: Global, marks: &Marks<'_>) -> Result<Grid, AllocError>
     Ok(grid_with(name, cell, marks.mapping().ii() as usize))
 }
 
-/// Returns the sizes of a table of `slots` slots, whose names of units have at most `name` signs and whose cells have at most
+/// Returns the sizes of a table of `slots` slots, where names of units have at most `name` characters and cells at most
 /// `cell`.
 #[tactic(auto, using(crate::proofs::Sizes::across_few))]
 fn grid_with(name: usize, cell: usize, slots: usize) -> Grid
@@ -73,7 +73,7 @@ fn grid_with(name: usize, cell: usize, slots: usize) -> Grid
     }
 }
 
-/// Returns the number of signs of the longest name of a unit that begins a node.
+/// Returns the number of characters of the longest name of a unit that begins a node.
 #[tactic(auto, using(crate::proofs::Rows::greatest_more, crate::proofs::Rows::greatest_none), unfolding(crate::specs::Columns::name_width))]
 fn name_width(marks: &Marks<'_>) -> usize
     ensures value { result ≡ spec.name_width marks.now }
@@ -86,7 +86,7 @@ fn name_width(marks: &Marks<'_>) -> usize
     width
 }
 
-/// Returns the number of signs of the name of `unit`, where it begins a node, and else 0.
+/// Returns the number of characters of the name of `unit`, where it begins a node, and else 0.
 #[tactic(auto, using(crate::proofs::Rows::starts_all))]
 fn unit_width(marks: &Marks<'_>, unit: u32) -> usize
     requires { unit < length marks.now.arch.units }
@@ -113,7 +113,7 @@ fn unit_name(arch: &Arch, unit: u32) -> &str
     }
 }
 
-/// Returns the number of signs of the longest cell.
+/// Returns the number of characters of the longest cell.
 #[tactic(auto, using(crate::proofs::Rows::greatest_more, crate::proofs::Rows::greatest_none), unfolding(crate::specs::Columns::cell_width))]
 fn cell_width(alloc: Global, marks: &Marks<'_>) -> Result<usize, AllocError>
     ensures value { IfOk result (λ width. width ≡ spec.cell_width marks.now) }
@@ -126,7 +126,7 @@ fn cell_width(alloc: Global, marks: &Marks<'_>) -> Result<usize, AllocError>
     Ok(width)
 }
 
-/// Returns the number of signs of `node` in a cell.
+/// Returns the number of characters of `node` in a cell.
 fn node_width(alloc: Global, marks: &Marks<'_>, node: u32) -> Result<usize, AllocError>
     requires { node < size marks.now.kernel }
     ensures value { IfOk result (λ width. width ≡ spec.node_width marks.now node) }
@@ -137,7 +137,7 @@ fn node_width(alloc: Global, marks: &Marks<'_>, node: u32) -> Result<usize, Allo
     Ok(text.len())
 }
 
-/// Returns `node` as it stands in a cell: its name, its operation and its stage.
+/// Returns the text of `node` in a cell: its name, its operation and its stage.
 #[tactic(auto, unfolding(crate::specs::Columns::node_text))]
 fn node_text(alloc: Global, marks: &Marks<'_>, node: u32) -> Result<String, AllocError>
     ensures { IfOk result (λ text. string_bytes text ≡ spec.node_text marks.now node) }
@@ -186,7 +186,7 @@ fn place(mapping: &Mapping, node: u32) -> Place
     }
 }
 
-/// Returns in how many of the `count` slots from `first` on `unit` begins a node.
+/// Returns the number of slots, of the `count` slots from `first` on, in which `unit` begins a node.
 #[tactic(auto, using(crate::proofs::Rows::starts_more, crate::proofs::Rows::starts_none))]
 fn starts(marks: &Marks<'_>, unit: u32, first: u32, count: u32) -> u32
     requires unit { unit < length marks.now.arch.units }
@@ -352,7 +352,7 @@ fn unit_line(
     Ok(row)
 }
 
-/// Adds `node` to `row` at the sign `at`, if there is one.
+/// Adds `node` to `row` at the character `at`, if there is one.
 fn push_node(
     alloc: Global,
     row: &mut String,
@@ -371,7 +371,7 @@ fn push_node(
     }
 }
 
-/// Returns where `column` begins, in signs.
+/// Returns where `column` begins, in characters.
 #[tactic(auto, using(crate::proofs::Sizes::product_few))]
 fn left(grid: Grid, column: usize) -> usize
     requires small { IsSmall grid }
@@ -381,7 +381,7 @@ fn left(grid: Grid, column: usize) -> usize
     grid.first + column * grid.pitch
 }
 
-/// Adds `text` to `row` at the sign `at`, after blanks.
+/// Adds `text` to `row` at the character `at`, after blanks.
 fn push_at(row: &mut String, at: usize, text: &str) -> Result<(), AllocError>
     ensures { OnOk result (string_bytes row.new ≡ spec.with_text at (string_bytes row.old) (Some text.now)) }
 {

@@ -1,5 +1,5 @@
-//! The report on a legal mapping: what its units do in each slot, how much of the array it takes, and what a lower interval
-//! would need.
+//! The report on a legal mapping: the nodes that its units begin in each slot, the part of the array that it uses, and
+//! the requirements of a lower interval.
 #![tactic(auto)]
 
 mod columns;

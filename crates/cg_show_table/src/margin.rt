@@ -1,4 +1,4 @@
-//! The least intervals that recurrences and classes of units allow, each looked at alone.
+//! The least intervals that recurrences and classes of units allow, each considered alone.
 ghost use Rattle.std.specs.Prelude.{◌≤◌, IfOk, MatchOption};
 ghost use Rattle.cg_edges.specs.Chain.{IsShown};
 ghost use Rattle.cg_edges.specs.Edges.{edge_of};
@@ -17,16 +17,17 @@ use cg_recur::{Recur, recurrence};
 use cg_word::OpSet;
 use std::alloc::{AllocError, Global};
 
-/// The least interval that no recurrence forbids, and one that forbids the interval below it.
+/// The least interval that no recurrence forbids, and a recurrence that forbids the interval below it.
 #[derive(Drop)]
 pub struct LongChain {
     /// The interval, in cycles.
     pub least: u32,
-    /// The edges of the recurrence, from that of the least node on.
+    /// The edges of the recurrence, beginning at that of the least node.
     pub edges: Vec<EdgeId>,
 }
 
-/// The least interval at which no class of operations is overfull, and one that is at the interval below it.
+/// The least interval at which no class of operations is overfull, and a class that is overfull at the interval below
+/// it.
 #[derive(Drop)]
 pub struct FullClass {
     /// The interval, in cycles.
@@ -35,16 +36,16 @@ pub struct FullClass {
     pub ops: OpSet,
 }
 
-/// What a lower interval would need.
+/// The requirements of a lower interval.
 #[derive(Drop)]
 pub struct Margin {
-    /// None where no chain of edges is closed.
+    /// The longest recurrence; None where no chain of edges is closed.
     pub chain: Option<LongChain>,
-    /// None where there is no node.
+    /// The fullest class; None where there is no node.
     pub class: Option<FullClass>,
 }
 
-/// Returns what a lower interval than that of `legal` would need.
+/// Returns the requirements of a lower interval than that of `legal`.
 pub fn margin_of(alloc: Global, legal: &LegalMapping<'_>) -> Result<Margin, AllocError>
     ensures { IfOk result (IsMargin legal.now.arch legal.now.kernel) }
 {
@@ -58,7 +59,8 @@ pub fn margin_of(alloc: Global, legal: &LegalMapping<'_>) -> Result<Margin, Allo
     Ok(Margin { chain, class })
 }
 
-/// Returns the least interval that no recurrence forbids, where a recurrence forbids one. None forbids the interval `free`.
+/// Returns the least interval that no recurrence forbids, where some recurrence forbids an interval. No recurrence
+/// forbids the interval `free`.
 fn long_chain(
     alloc: Global,
     arch: &Arch,
@@ -75,8 +77,8 @@ fn long_chain(
     }
 }
 
-/// Returns the least interval that no recurrence forbids: `edges` forbid the interval 0, and none forbids the interval
-/// `free`.
+/// Returns the least interval that no recurrence forbids: `edges` forbid the interval 0, and no recurrence forbids the
+/// interval `free`.
 fn least_chain(
     alloc: Global,
     arch: &Arch,
@@ -123,8 +125,8 @@ fn recurrence_at(
     }
 }
 
-/// Returns the least interval at which no class of operations is overfull, where there is a node. None is overfull at the
-/// interval `free`.
+/// Returns the least interval at which no class of operations is overfull, where there is a node. No class is overfull
+/// at the interval `free`.
 fn full_class(
     alloc: Global,
     arch: &Arch,
@@ -141,8 +143,8 @@ fn full_class(
     }
 }
 
-/// Returns the least interval at which no class of operations is overfull: `ops` are at the interval 0, and none is at the
-/// interval `free`.
+/// Returns the least interval at which no class of operations is overfull: the class `ops` is at the interval 0, and
+/// none is at the interval `free`.
 fn least_class(
     alloc: Global,
     arch: &Arch,

@@ -71,7 +71,7 @@ fn resources_line(alloc: Global, marks: &Marks<'_>) -> Result<String, AllocError
     format!(in alloc; "registers {registers} slots  wires {wires}  ports {ports}")
 }
 
-/// Returns in how many of their slots the resources of `kind` carry a value.
+/// Returns the text of the share of slots in which the resources of `kind` carry a value.
 fn taken_text(alloc: Global, marks: &Marks<'_>, kind: Kind) -> Result<String, AllocError>
     ensures { IfOk result (λ text. string_bytes text ≡ spec.taken_text marks.now kind) }
 {
@@ -193,7 +193,7 @@ fn push_least(alloc: Global, bytes: &mut Vec<u8>, least: u32) -> Result<(), Allo
     Ok(())
 }
 
-/// Returns the text that `bytes` are.
+/// Returns `bytes` as text.
 fn text_of(bytes: Vec<u8>) -> String
     requires { IsUtf8 bytes.items }
     ensures { string_bytes result ≡ bytes.items }

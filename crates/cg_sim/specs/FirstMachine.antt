@@ -1,5 +1,5 @@
--- The array as it was before guarded accesses, whose operations were the first 22: accesses are load and store alone, and an
--- output always appends its operand. Which word a resource has, and what a unit begins, is as it is today.
+-- The array as it was before guarded accesses, with the first 22 operations: accesses are load and store alone, and an
+-- output always appends its operand. The word of each resource, and what a unit begins, are as in the present array.
 use Rattle.std.specs.Prelude.{◌≡◌, ℕ, zero, suc, ◌+◌, ◌%◌, ◌<◌, ◌≤◌, nat_le, eqb, if◌then◌else◌, List, [], ◌∷◌, ◌++◌, length, Option, Some, None, slice_index, slice_index_or, slice_set}
 use Rattle.cg_word.specs.declared.op.Op.{Op}
 use Rattle.cg_word.specs.declared.op.Op.TheVariants.{Iter, Input, Load, Store, Output}
@@ -11,25 +11,26 @@ use Rattle.cg_model.specs.Machine.{State, cycles, words_in, works_in, machine_le
 
 -- ---- what one operation does
 
--- its value over the memory that it finds: for iter the turn modulo 2^32; for input the word of its stream with the turn's
--- number, 0 past the stream's end; for load the word at its address, 0 outside; for the others what their operands alone give
+-- its value over the memory that it finds: for iter the iteration modulo 2^32; for input the word of its stream with
+-- the iteration's number, 0 past the stream's end; for load the word at its address, 0 outside; for the others what
+-- their operands alone give
 unfoldable pub first_value_by : Image → List ℕ → ℕ → ℕ → List ℕ → Op → ℕ
 first_value_by image memory port turn args Iter = turn % words
 first_value_by image memory port turn args Input = slice_index (slice_index_or image.streams port []) turn
 first_value_by image memory port turn args Load = slice_index memory (slice_index args 0)
 first_value_by image memory port turn args op = apply_of op (slice_index args 0) (slice_index args 1) (slice_index args 2)
 
--- the memory after it: a store sets the word at its address, and outside the memory there is none to set
+-- the memory after it: a store sets the word at its address, and has no effect outside the memory
 abbrev pub first_stored_by : List ℕ → List ℕ → Op → List ℕ
 first_stored_by memory args Store = slice_set memory (slice_index args 0) (slice_index args 1)
 first_stored_by memory args _ = memory
 
--- what it appends to the stream of the port `at`, where `port` is the one that it names
+-- what it appends to the stream of port `at`, where `port` is its own port
 abbrev pub first_sent_by : ℕ → ℕ → List ℕ → Op → List ℕ
 first_sent_by at port args Output = if eqb port at then slice_index args 0 ∷ [] else []
 first_sent_by at port args _ = []
 
--- how many of its accesses are outside a memory of `size` words
+-- the number of its accesses outside a memory of `size` words
 abbrev pub first_missed_by : ℕ → List ℕ → Op → ℕ
 first_missed_by size args Load = if nat_le size (slice_index args 0) then 1 else 0
 first_missed_by size args Store = if nat_le size (slice_index args 0) then 1 else 0
@@ -80,7 +81,7 @@ unfoldable pub first_sent_by_units : (ℕ → Option Work) → ℕ → ℕ → L
 first_sent_by_units works port zero = []
 first_sent_by_units works port (suc x) = first_sent_by_units works port x ++ first_sent_after port (works x)
 
--- the accesses outside of the first x units
+-- the accesses of the first x units outside the memory
 unfoldable pub first_missed_by_units : (ℕ → Option Work) → ℕ → ℕ → ℕ
 first_missed_by_units works size zero = 0
 first_missed_by_units works size (suc x) = first_missed_by_units works size x + first_missed_after size (works x)
@@ -88,8 +89,8 @@ first_missed_by_units works size (suc x) = first_missed_by_units works size x + 
 -- ---- cycle by cycle
 
 module _ (A : Arch) (C : Config) (n : ℕ) (image : Image) where
-  -- the array after cycle c, in which the units begin these works: loads saw the memory of the cycle's start, and stores take
-  -- effect at its end
+  -- the array after cycle c, in which the units begin these works: loads saw the memory of the cycle's start, and
+  -- stores take effect at its end
   abbrev pub first_after_cycle : ℕ → State → (ℕ → Option Work) → State
   first_after_cycle c s works =
       record {
@@ -112,9 +113,9 @@ module _ (A : Arch) (C : Config) (n : ℕ) (image : Image) where
   abbrev pub first_left : Left
   first_left = left first_machine.memory first_machine.streams first_machine.outside
 
--- ---- against the machine of today
+-- ---- comparison with the present machine
 
--- the greatest code of an operation that it had
+-- the greatest code of an operation of the first machine
 abbrev pub first_greatest : ℕ
 first_greatest = 22
 
@@ -123,12 +124,12 @@ abbrev pub IsFirstOp : Option Op → Type 0
 IsFirstOp None = Unit {0}
 IsFirstOp (Some op) = code op ≤ first_greatest
 
--- a configuration that the machine of that time knew: each operation is one of the first 22
+-- a configuration of the first machine: each operation is one of the first 22
 pub record IsFirst (C : Config) : Type 0 where
   pub interval : 0 < C.ii
   pub known : (x slot : ℕ) → slot < C.ii → IsFirstOp (fields C x slot).op
 
--- under this configuration both machines leave the same memory, streams and count, for every architecture, number of turns and
--- image
+-- under this configuration both machines leave the same memory, streams and count, for every architecture, number of
+-- iterations and image
 abbrev pub MachinesAgree : Config → Type 0
 MachinesAgree C = (A : Arch) (n : ℕ) (image : Image) → first_left A C n image ≡ machine_left A C n image

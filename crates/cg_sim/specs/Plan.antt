@@ -22,7 +22,7 @@ is_net _ = false
 abbrev pub link : List Link → ℕ → Link
 link ls j = slice_index_or ls j (record { resource = 0; first = 0 })
 
--- the drivers of the entry's resource stand in the list, after the number past the last resource
+-- the drivers of the entry's resource are in the list, after the number past the last resource
 pub record IsLinked (A : Arch) (drivers : List ℕ) (l : Link) : Type 0 where
   pub known : l.resource < length A.resources
   pub within : l.first + length (resource A l.resource).drivers < length drivers
@@ -42,7 +42,7 @@ abbrev pub AreRising : Arch → List Link → Type 0
 AreRising A ls = (j q : ℕ) → j < length ls → Contains (resource A (link ls j).resource).drivers q →
     is_net (resource A q).kind ≡ true → (i : ℕ) × (i < j) × ((link ls i).resource ≡ q)
 
--- what is kept of a unit
+-- the terminals of a unit
 abbrev pub terminals_of : ℕ → Unit → Terminals
 terminals_of none u =
     record {

@@ -1,4 +1,5 @@
--- A run of the array, as contracts see it: what runs, and how many cycles of it are over.
+-- A run of the array, as contracts see it: the architecture, configuration, number of iterations and image, and the
+-- number of cycles done.
 use Rattle.std.specs.Prelude.{ℕ}
 use Rattle.cg_model.specs.Work.{Image}
 use Rattle.cg_model.specs.Array.{Arch}
@@ -6,7 +7,8 @@ use Rattle.cg_model.specs.Config.{Config}
 use Rattle.cg_model.specs.Machine.{State, at_cycle, cycles}
 use Rattle.cg_cycle.specs.Course.{Course}
 
--- an architecture with a configuration, the turns and the image that they start from, and the cycles that are over
+-- an architecture with a configuration, the number of iterations and the image that they start from, and the number of
+-- cycles done
 pub record Run : Type 0 where
   pub arch : Arch
   pub config : Config
@@ -26,6 +28,6 @@ state r = at_cycle r.arch r.config r.n r.image r.done
 abbrev pub all_cycles : Run → ℕ
 all_cycles r = cycles r.config r.n
 
--- what a course is a run of
+-- the run of a course
 abbrev pub run_of : Course → Run
 run_of k = record { arch = k.arch; config = k.config; n = k.n; image = k.image; done = k.done }

@@ -7,7 +7,7 @@ use Rattle.cg_sim.specs.declared.plan.Plan.{Plan}
 use Rattle.cg_cycle.specs.Course.{Keeps}
 use Rattle.cg_sim.specs.Plan.{link}
 
--- the resource that entry j takes its word from
+-- the resource from which entry j takes its word
 abbrev pub chosen : Config → ℕ → Links → ℕ → ℕ
 chosen C slot l j =
     slice_index l.drivers.items ((link l.entries.items j).first + select C (link l.entries.items j).resource slot)
@@ -22,7 +22,7 @@ pub record IsReadable (C : Config) (slot : ℕ) (l : Links) (size j : ℕ) : Typ
 abbrev pub AreReadable : Config → ℕ → Links → ℕ → Type 0
 AreReadable C slot l size = (j : ℕ) → j < length l.entries.items → IsReadable C slot l size j
 
--- entry j has the right word as soon as those before it have theirs
+-- entry j has the right word as soon as the entries before it have theirs
 abbrev pub Follows : Config → ℕ → Links → List ℕ → (ℕ → ℕ) → ℕ → Type 0
 Follows C slot l old f j = (words : List ℕ) → Keeps f old words →
     ((i : ℕ) → i < j → slice_index words (link l.entries.items i).resource ≡ f (link l.entries.items i).resource) →
@@ -47,8 +47,8 @@ GiveRegisters C slot l before f = (j : ℕ) → j < length l.entries.items →
 abbrev pub GiveNets : Config → ℕ → Links → List ℕ → (ℕ → ℕ) → Type 0
 GiveNets C slot l old f = (j : ℕ) → j < length l.entries.items → Follows C slot l old f j
 
--- the words f are those of the cycle: of the registers by the words before, and of a wire or port by the words of those that
--- come before it
+-- the words f are those of the cycle: for a register by the words of the cycle before, and for a wire or port by the
+-- words of the entries before it
 pub record Settles (C : Config) (slot : ℕ) (p : Plan) (before old : List ℕ) (f : ℕ → ℕ) : Type 0 where
   pub registers : GiveRegisters C slot p.registers before f
   pub nets : (j : ℕ) → j < length p.nets.entries.items → (words : List ℕ) → Keeps f old words →

@@ -1,4 +1,4 @@
--- What the fields of a simulator are.
+-- The meaning of the fields of a simulator.
 use Rattle.std.specs.Prelude.{◌≡◌, ℕ, ◌+◌, ◌<◌, ◌≤◌, List, [], length, slice_index, slice_index_or}
 use Rattle.cg_model.specs.Array.{Arch, IsArch}
 use Rattle.cg_model.specs.Config.{Config}
@@ -9,7 +9,7 @@ use Rattle.cg_cycle.specs.Course.{Course, result_ago}
 use Rattle.cg_sim.specs.Plan.{AreTerminals, IsPlan}
 use Rattle.cg_sim.specs.declared.plan.Plan.{Plan}
 
--- after c cycles: the words of the last cycle and of the one before it, with one word more that is 0, and the course
+-- after c cycles: the words of the last cycle and of the one before it, with one more word that is 0, and the course
 pub record IsState (A : Arch) (C : Config) (n : ℕ) (image : Image) (c : ℕ) (words before : List ℕ) (k : Course) : Type 0 where
   pub words_long : length words ≡ length A.resources + 1
   pub before_long : length before ≡ length A.resources + 1
@@ -22,7 +22,7 @@ pub record IsState (A : Arch) (C : Config) (n : ℕ) (image : Image) (c : ℕ) (
   pub streams : (port : ℕ) → port < 16 → slice_index_or k.streams port [] ≡ (at_cycle A C n image c).streams port
   pub outside : k.outside ≡ (at_cycle A C n image c).outside
 
--- a run, in the fields of a simulator
+-- a run, by the fields of a simulator
 pub record IsRunning (C : Config) (k : Course) (plan : Plan) (words before : List ℕ) : Type 0 where
   pub valid : IsArch k.arch
   pub canonical : IsCanonical k.arch k.config

@@ -6,14 +6,15 @@ use cg_arch::{Arch, Kind, Unit};
 use cg_cycle::Terminals;
 use std::alloc::{AllocError, Global};
 
-/// A resource with drivers: the place of what its select 0 stands for in the list of all drivers. Its drivers follow, so that select `j` is `j` places further.
+/// A resource with drivers: the index of its select 0 in the list of all drivers. Its drivers follow there, so that
+/// select `j` is at index `first + j`.
 #[derive(Clone, Copy)]
 pub(crate) struct Link {
     pub(crate) resource: u32,
     pub(crate) first: usize,
 }
 
-/// Resources with their drivers, all in one list. Select 0 stands for the number past the last resource.
+/// Resources with their drivers, all in one list. Select 0 is the number past the last resource.
 #[derive(Drop)]
 pub(crate) struct Links {
     pub(crate) entries: Vec<Link>,
@@ -38,7 +39,7 @@ impl Links {
         }
     }
 
-    /// Adds `resource` with its `drivers`; `none` stands for select 0.
+    /// Adds `resource` with its `drivers`; `none` is the entry of select 0.
     fn add(&mut self, resource: u32, none: u32, drivers: &[u32]) -> Result<(), AllocError>
         ensures entries { OnOk result (self.new.entries.items ≡ self.old.entries.items ++ record { resource = resource; first = length self.old.drivers.items } ∷ []) }
         ensures drivers { OnOk result (self.new.drivers.items ≡ self.old.drivers.items ++ none ∷ drivers.now) }
@@ -51,7 +52,7 @@ impl Links {
     }
 }
 
-/// Returns `arch` in flat lists.
+/// Returns the flat lists of `arch`.
 pub(crate) fn plan_of(alloc: Global, arch: &Arch) -> Result<Plan, AllocError>
     ensures { IfOk result (λ p. IsPlan arch.now p) }
 {
@@ -72,7 +73,7 @@ pub(crate) fn plan_of(alloc: Global, arch: &Arch) -> Result<Plan, AllocError>
     Ok(Plan { registers, nets })
 }
 
-/// Returns the ports, the out and the latency of each unit of `units`. In place of a port that there isn't stands `none`.
+/// Returns the ports, the out and the latency of each unit of `units`. A port that doesn't exist is `none`.
 pub(crate) fn terminals_of(
     alloc: Global,
     units: &[Unit],

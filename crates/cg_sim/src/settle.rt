@@ -6,7 +6,8 @@ ghost use Rattle.cg_sim.specs.Settle.{AreReadable, AreRight, GiveRegisters, Give
 use crate::plan::{Links, Plan};
 use cg_contexts::Contexts;
 
-/// Sets the words of `registers` in `words`: each has the word that its driver, selected in `slot` of `contexts`, had in `before`.
+/// Sets the words of `registers` in `words`: each has the word that its driver, selected in `slot` of `contexts`, had
+/// in `before`.
 pub(crate) fn settle_registers<C: Contexts>(
     registers: &Links,
     contexts: &C,
@@ -27,7 +28,8 @@ pub(crate) fn settle_registers<C: Contexts>(
     }
 }
 
-/// Sets the words of the wires and ports `nets` in `words`: each has the word of its driver, selected in `slot` of `contexts`, which has it by then.
+/// Sets the words of the wires and ports `nets` in `words`: each has the word of its driver, selected in `slot` of
+/// `contexts`, which is already set.
 pub(crate) fn settle_nets<C: Contexts>(nets: &Links, contexts: &C, slot: u32, words: &mut [u32])
     requires readable { AreReadable (C.config contexts.now) slot nets.now (length words.old) }
     ensures kept { (f : ℕ → ℕ) → GiveNets (C.config contexts.now) slot nets.now words.old f → Keeps f words.old words.new }
@@ -41,7 +43,8 @@ pub(crate) fn settle_nets<C: Contexts>(nets: &Links, contexts: &C, slot: u32, wo
     }
 }
 
-/// Finds the words of the registers, wires and ports of `plan` in a cycle at `slot`: `words` has those of the outs, and `before` those of the cycle before.
+/// Computes the words of the registers, wires and ports of `plan` in a cycle at `slot`: `words` has those of the outs,
+/// and `before` those of the cycle before.
 pub(crate) fn settle<C: Contexts>(
     plan: &Plan,
     contexts: &C,

@@ -12,7 +12,8 @@ use std::alloc::{AllocError, Global};
 use std::marker::Model;
 use std::mem::swap;
 
-/// A run of an array under a configuration, from an image. Contracts see what runs and how many cycles are over.
+/// A run of an array under a configuration, from an image. Contracts see the architecture, configuration, number of
+/// iterations and image, and the number of cycles done.
 #[derive(Drop)]
 pub struct Sim<'a, C: Contexts> {
     contexts: &'a C,
@@ -41,7 +42,8 @@ impl<'a, C: Contexts> Sim<'a, C> {
     ghost use Rattle.cg_pad.specs.Bytes.{IsStorable};
     ghost use Rattle.cg_sim.specs.Run.{start_of, state, all_cycles};
 
-    /// Begins a run of `n` turns of `arch` under `contexts` from `image`. It takes all memory of the run; no later call takes any.
+    /// Begins a run of `n` iterations of `arch` under `contexts` from `image`. It allocates all memory of the run; no
+    /// later call allocates any.
     pub fn new(
         alloc: Global,
         arch: &'a Arch,
@@ -89,7 +91,7 @@ impl<'a, C: Contexts> Sim<'a, C> {
         }
     }
 
-    /// Returns the number of cycles that are not yet run.
+    /// Returns the number of cycles that remain to be run.
     pub fn left(&self) -> u64
         ensures left { result ≡ all_cycles self.now - self.now.done }
         ensures within { self.now.done ≤ all_cycles self.now }
@@ -115,7 +117,7 @@ impl<'a, C: Contexts> Sim<'a, C> {
         self.course.begin(&self.words);
     }
 
-    /// Runs all cycles that are left.
+    /// Runs all cycles that remain.
     pub fn finish(&mut self)
         ensures { self.new ≡ record self.old { done = all_cycles self.old } }
     {
@@ -140,7 +142,7 @@ impl<'a, C: Contexts> Sim<'a, C> {
         self.course.outside()
     }
 
-    /// Gives away the memory and the output streams that the whole run leaves.
+    /// Returns the memory and the output streams that the whole run leaves, and consumes the run.
     pub fn into_image(self) -> Image
         requires { self.done ≡ all_cycles self }
         ensures image { result ≡ (machine_left self.entry.arch self.entry.config self.entry.n self.entry.image).image }

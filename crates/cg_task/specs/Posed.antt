@@ -12,8 +12,8 @@ pub record Posed : Type 0 where
   pub ii : ℕ
   pub early : List ℕ
 
--- the interval has a cycle at least and no more than there are contexts, and no recurrence forbids it; a unit offers each
--- operation; and the times are the earliest ones
+-- the interval has at least one cycle and at most the number of contexts, and no recurrence forbids it; a unit offers
+-- each operation; and the times are the earliest ones
 pub record IsTask (T : Posed) : Type 0 where
   pub arch : IsArch T.arch
   pub kernel : IsKernel T.kernel

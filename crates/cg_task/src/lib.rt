@@ -1,5 +1,5 @@
-//! What both searches for a mapping share: a kernel on an architecture at an interval, the intervals that are tried, and
-//! what is answered.
+//! The common parts of both searches for a mapping: a kernel on an architecture at an interval, the intervals that are
+//! tried, and the answers.
 #![tactic(auto)]
 
 mod answering;

@@ -6,8 +6,8 @@ use cg_recur::earliest_times;
 use std::alloc::{AllocError, Global};
 use std::marker::Model;
 
-/// A kernel that is to be mapped on an architecture, at an interval that no recurrence forbids; and the earliest times of its
-/// nodes there. Each of its operations is offered by some unit.
+/// A kernel that is to be mapped on an architecture, at an interval that no recurrence forbids; and the earliest times
+/// of its nodes there. Each of its operations is offered by some unit.
 #[derive(Drop)]
 pub struct Task<'a> {
     arch: &'a Arch,

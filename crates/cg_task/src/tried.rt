@@ -1,4 +1,4 @@
-//! The intervals that are tried.
+//! The intervals that a search tries.
 ghost use Rattle.std.specs.Prelude.{◌≡◌, IfOk};
 ghost use Rattle.cg_bound.specs.Bound.{IsOpen};
 ghost use Rattle.cg_task.specs.Intervals as spec;
@@ -9,7 +9,7 @@ use cg_bound::bound;
 use cg_model::Kernel;
 use std::alloc::{AllocError, Global};
 
-/// Returns the last interval that is tried, where `asked` is the one that is asked for, if one is.
+/// Returns the last interval that is tried; `asked` is the requested interval, if there is one.
 pub fn last_tried(arch: &Arch, asked: Option<u32>) -> u32
     ensures { result ≡ spec.last_tried arch.now asked }
 {
@@ -19,7 +19,7 @@ pub fn last_tried(arch: &Arch, asked: Option<u32>) -> u32
     }
 }
 
-/// Returns the first interval that is tried, where `asked` is the one that is asked for, if one is.
+/// Returns the first interval that is tried; `asked` is the requested interval, if there is one.
 pub fn first_tried(
     alloc: Global,
     arch: &Arch,

@@ -1,4 +1,4 @@
--- What is reported and written of a search's answer.
+-- What is reported and written of the answer of a search.
 use Rattle.std.specs.Prelude.{◌≡◌, ℕ, ◌+◌, List, [], ◌∷◌, ◌++◌, codes, decimal}
 use Rattle.cg_ending.specs.declared.outcome.Status.TheVariants as status
 use Rattle.cg_ending.specs.Outcome.{Name, Bytes, Outcome, line_of}
@@ -20,7 +20,7 @@ abbrev pub found_line : Bytes → FoundBy → Bytes
 found_line by Hub = line_of (codes "by hub" ∷ [])
 found_line by (Moves count) = line_of (codes "by " ∷ by ∷ codes " " ∷ decimal count ∷ [])
 
--- its interval, its stages, and how it was found
+-- the interval and the stages of the mapping, and how it was found
 abbrev pub found_report : Bytes → MappedValue → FoundBy → Bytes
 found_report by m found_by = emit_report m ++ found_line by found_by
 
@@ -28,16 +28,17 @@ found_report by m found_by = emit_report m ++ found_line by found_by
 abbrev pub left_line : Bytes → ℕ → ℕ → Bytes
 left_line word ii n = line_of (codes "ii " ∷ decimal ii ∷ codes " " ∷ word ∷ codes " " ∷ decimal n ∷ [])
 
--- at each, from that interval on
+-- what is left at each interval, from the interval ii on
 abbrev pub left_report : Bytes → ℕ → List ℕ → Bytes
 left_report word ii [] = []
 left_report word ii (n ∷ left) = left_line word ii n ++ left_report word (ii + 1) left
 
 -- ---- outcomes
 
--- by a command's own word for how it finds mappings, and its own report of what is left of a pair from an interval on
+-- `word` is the command's own word for how it finds mappings, and `Report` its own report of what is left of a pair
+-- from an interval on
 module _ (word : Bytes) (Report : Pair → ℕ → List ℕ → Bytes → Type 0) (s : Request) (outs : List Name) (p : Pair) where
-  -- by the answer of the search
+  -- given the answer of the search
   abbrev pub IsOutcomeOf : Answer → Outcome → Type 0
   IsOutcomeOf (Impossible c) o = o ≡ reports status.Impossible (impossible_report p s c)
   IsOutcomeOf (Mapped m found_by) o = IsWritten outs m (found_report word m found_by) o

@@ -1,4 +1,4 @@
--- What a search leaves, where it finds a mapping and where its moves are spent.
+-- What a search leaves, where it finds a mapping and where it has used up its moves.
 use Rattle.std.specs.Prelude.{◌≡◌, ℕ, List, [], ◌∷◌}
 use Rattle.cg_model.specs.Mapping.{Mapping}
 use Rattle.cg_ending.specs.declared.outcome.Status.TheVariants as status
@@ -27,15 +27,15 @@ pub record RunsOfPair (arch kernel : Name) (before : Moment) (bytes : Bytes) : T
   pub mapping : Mapping
   pub runs : RunsMapping (mapped_on pair mapping) bytes
 
--- so does the first of these files, if there is one
+-- the first of these files, if there is one, runs a mapping of the kernel on the architecture that were read
 abbrev pub FirstRuns : Name → Name → Moment → List File → Type 0
 FirstRuns arch kernel before [] = Unit {0}
 FirstRuns arch kernel before (file ∷ files) = RunsOfPair arch kernel before file.bytes
 
--- Done: nothing forbids the last interval that is tried, and `Found` holds of a mapping. It is legal; no resource carries two of
--- the turns' values in a cycle, and no unit begins two operations; and an array that runs the bytes that are written does what
--- the turns of the kernel do one after the other, for every number of turns and every image on which the kernel's edges order the
--- accesses that matter
+-- Done: nothing forbids the last interval that is tried, and `Found` holds of a mapping. It is legal; in no cycle does
+-- a resource carry the values of two iterations, or a unit begin two operations; and an array that runs the bytes that
+-- are written does what the iterations of the kernel do one after the other, for every number of iterations and every
+-- image on which the kernel's edges order the accesses that matter
 pub record IsFoundRun (by : Bytes) (Found : Pair → Mapped → FoundBy → Type 0) (s : Request) (arch kernel : Name) (outs : List Name) (before after : Moment) : Type 0 where
   pub pair : Pair
   pub read : HoldPair arch kernel before pair
@@ -48,8 +48,9 @@ pub record IsFoundRun (by : Bytes) (Found : Pair → Mapped → FoundBy → Type
   pub written : HoldsMapped outs (mapped_on pair mapping) bytes after
   pub put : Appends before.taken (found_report by (mapped_on pair mapping) found_by) after.taken
 
--- BudgetSpent: nothing forbids the last interval, and at none that was tried a mapping was found: `Left` says which is the first
--- of them and what is left at each, and `Report` holds of what was put, in part where the put failed. No write was made
+-- BudgetSpent: nothing forbids the last interval, and at none of the intervals that were tried a mapping was found:
+-- `Left` gives the first of them and what is left at each, and `Report` holds of the report, which was put in part if
+-- the put call failed. Nothing was written
 pub record IsLeftRun (Report : Pair → ℕ → List ℕ → Bytes → Type 0) (Left : Pair → ℕ → List ℕ → Type 0) (s : Request) (arch kernel : Name) (before after : Moment) : Type 0 where
   pub pair : Pair
   pub read : HoldPair arch kernel before pair
@@ -57,7 +58,7 @@ pub record IsLeftRun (Report : Pair → ℕ → List ℕ → Bytes → Type 0) (
   pub first : ℕ
   pub left : List ℕ
   pub is_left : Left pair first left
-  -- the hub doesn't suffice there
+  -- the hub doesn't suffice at the last interval that is tried
   pub no_hub : HubEnough pair.arch pair.kernel (last_tried pair.arch s.ii) → ⊥
   pub report : Bytes
   pub is_report : Report pair first left report

@@ -1,4 +1,5 @@
--- What searches for mappings have in common: why there is none, what is written of one, and the files that they are over.
+-- What searches for mappings have in common: why there is no mapping, what is written of a mapping, and their input
+-- files.
 use Rattle.std.specs.Prelude.{◌≡◌, ◌≢◌, ℕ, nat_lt, Bool, true, false, List, [], ◌∷◌, ◌++◌, Option, Some, None, Result, Ok, Err, codes, decimal}
 use Rattle.serde_json.specs.Written.{compact_text}
 use Rattle.cg_model.specs.Array.{Arch}
@@ -40,27 +41,27 @@ map_writes _ m bytes = []
 
 -- ---- outcomes
 
--- a mapping was found, and bytes that spell its configuration are written; this is said of it
+-- a mapping was found, bytes that encode its configuration are written, and `report` is the report
 pub record IsWritten (outs : List Name) (m : Mapped) (report : Bytes) (o : Outcome) : Type 0 where
   pub bytes : Bytes
   pub spelled : AreBits m.arch (config_of m) bytes
   pub outcome : o ≡ record { status = status.Done; report = report; writes = map_writes outs m bytes }
 
--- an interval is asked that has more cycles than the architecture has contexts
+-- the requested interval has more cycles than the architecture has contexts
 abbrev pub is_above : Option ℕ → Arch → Bool
 is_above None A = false
 is_above (Some ii) A = nat_lt A.contexts ii
 
--- that, of the architecture's file
+-- the refusal of that interval, for the architecture's file
 abbrev pub above_contexts : Name → Arch → Outcome
 above_contexts arch A = malformed_of arch (codes "G2 IntervalAboveContexts contexts " ++ decimal A.contexts)
 
--- that, or what is defined for the pair
+-- the refusal of the interval, or what is defined for the pair
 abbrev pub IsWithin : (Pair → Outcome → Type 0) → Name → Pair → Bool → Outcome → Type 0
 IsWithin defines arch p true o = o ≡ above_contexts arch p.arch
 IsWithin defines arch p false o = defines p o
 
--- by what the files give
+-- given the result of parsing the files
 abbrev pub IsOverPair : (Pair → Outcome → Type 0) → Option ℕ → Name → Result Pair Outcome → Outcome → Type 0
 IsOverPair defines asked arch (Ok p) o = IsWithin defines arch p (is_above asked p.arch) o
 IsOverPair defines asked arch (Err refused) o = o ≡ refused
@@ -72,24 +73,25 @@ pub record IsSearchOver (defines : Pair → Outcome → Type 0) (s : Request) (a
   pub given : ArePaired arch kernel pair
   pub outcome : IsOverPair defines s.ii arch.name pair o
 
--- ---- what is called impossible, and what is left
+-- ---- what is reported as impossible, and what is left
 
--- the files give an architecture and a kernel, the asked interval is within its contexts, and a recurrence or an overfull set
--- forbids the last interval that would be tried
+-- the files contain an architecture and a kernel, the requested interval is within its contexts, and a recurrence or an
+-- overfull set forbids the last interval that would be tried
 pub record IsForbiddenInput (s : Request) (arch kernel : File) : Type 0 where
   pub pair : Pair
   pub given : GivesPair arch.bytes kernel.bytes pair
   pub within : is_above s.ii pair.arch ≡ false
   pub forbidden : IsForbidden pair.arch pair.kernel (last_tried pair.arch s.ii)
 
--- the bits are held, and the mapping's text where a file is named for it; of two files of one name the later is held
+-- the bits are held, and the mapping's text where a file is named for it; of two files with the same name the later is
+-- held
 abbrev pub HoldsMapped : List Name → Mapped → Bytes → Moment → Type 0
 HoldsMapped (out ∷ []) m bytes after = Holds after.held out bytes
 HoldsMapped (out ∷ file ∷ []) m bytes after = (out ≢ file → Holds after.held out bytes) × Holds after.held file (mapping_text m)
 HoldsMapped _ m bytes after = Unit {0}
 
--- Impossible: a recurrence or an overfull set forbids the last interval that would be tried. One was put, in part where the put
--- failed, and no mapping of that interval is legal. No write was made
+-- Impossible: a recurrence or an overfull set forbids the last interval that would be tried. One was reported, in part
+-- if the put call failed, and no mapping of that interval is legal. Nothing was written
 pub record IsImpossibleRun (s : Request) (arch kernel : Name) (before after : Moment) : Type 0 where
   pub pair : Pair
   pub read : HoldPair arch kernel before pair

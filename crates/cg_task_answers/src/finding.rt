@@ -1,4 +1,4 @@
-//! A mapping that was found: what is said of it, and what is written.
+//! A mapping that was found: the report on it, and the files that are written.
 ghost use Rattle.std.specs.Prelude.{◌≡◌, IfOk, map, string_bytes};
 ghost use Rattle.cg_ending.specs.Outcome.{outcome_of};
 ghost use Rattle.cg_task_answers.specs.Searches.{IsWritten};
@@ -11,7 +11,7 @@ use cg_mapping_answers::emit_report;
 use cg_task::FoundBy;
 use std::alloc::{AllocError, Global};
 
-/// Returns the outcome of `mapping`, which was found over the hub, or by the search that the word `by` names.
+/// Returns the outcome for `mapping`, which was found over the hub, or by the search that the word `by` names.
 pub fn found(
     alloc: Global,
     by: &str,
@@ -25,7 +25,7 @@ pub fn found(
     written(alloc, mapping, report, outputs)
 }
 
-/// Returns the report on `mapping`: the interval, the stages, and how it was found.
+/// Returns the report on `mapping`: the interval, the number of stages, and how it was found.
 fn found_report(
     alloc: Global,
     by: &str,
@@ -40,7 +40,7 @@ fn found_report(
     Ok(report)
 }
 
-/// Returns the line that says how the mapping was found.
+/// Returns the line that reports how the mapping was found.
 fn found_line(alloc: Global, by: &str, found_by: FoundBy) -> Result<String, AllocError>
     ensures { IfOk result (λ s. string_bytes s ≡ spec.found_line by.now found_by) }
 {

@@ -1,5 +1,5 @@
-//! What the answers of all searches for a mapping share: why there is none, what is written and said where one was found,
-//! and what is said where none was.
+//! The parts that the answers of all searches for a mapping share: why there is no mapping, what is written and
+//! reported where one was found, and what is reported where none was.
 #![tactic(auto)]
 
 mod finding;

@@ -1,4 +1,4 @@
-//! Why a search has no mapping: an interval above the contexts, or one that is impossible.
+//! The reasons why a search has no mapping: an interval larger than the number of contexts, or an impossible interval.
 ghost use Rattle.std.specs.Prelude.{◌≡◌, IfOk};
 ghost use Rattle.cg_ending.specs.Outcome.{outcome_of};
 ghost use Rattle.cg_ending.specs.Refusals.{reports};
@@ -22,7 +22,8 @@ pub fn asks_above(asked: Option<u32>, arch: &Arch) -> bool
     }
 }
 
-/// Returns the outcome where the interval has too many cycles for `arch`, which was read from the file `name`.
+/// Returns the outcome where the interval has more cycles than `arch`, which was read from the file `name`, has
+/// contexts.
 pub fn above(alloc: Global, name: &str, arch: &Arch) -> Result<Outcome, AllocError>
     ensures { IfOk result (λ o. outcome_of o ≡ above_contexts name.now arch.now) }
 {

@@ -1,4 +1,4 @@
-//! A search that found nothing: what is left at each interval.
+//! A search that found no mapping: the report on what is left at each interval.
 ghost use Rattle.std.specs.Prelude.{◌≡◌, ◌+◌, ◌<◌, ◌^◌, ◌++◌, length, IfOk, OnOk};
 ghost use Rattle.cg_ending.specs.Outcome.{outcome_of};
 ghost use Rattle.cg_ending.specs.Refusals.{reports};
@@ -8,7 +8,7 @@ ghost use Rattle.cg_task_answers.specs.Answered as spec;
 use cg_ending::{Outcome, Status};
 use std::alloc::{AllocError, Global};
 
-/// Returns the outcome of a search that found no mapping, with `report`.
+/// Returns the outcome of a search that found no mapping, with the report `report`.
 pub fn spent(alloc: Global, report: Vec<u8>) -> Outcome
     ensures { outcome_of result ≡ reports status.BudgetSpent report.items }
 {
@@ -19,7 +19,8 @@ pub fn spent(alloc: Global, report: Vec<u8>) -> Outcome
     }
 }
 
-/// Returns the report of what is `left` at the intervals from `first` on: a line each, with `word` before the number.
+/// Returns the report on what is `left` at the intervals from `first` on: a line for each, with `word` before the
+/// number.
 pub fn left_report(
     alloc: Global,
     word: &str,
@@ -36,7 +37,7 @@ pub fn left_report(
     Ok(report)
 }
 
-/// Adds the line of what is `left` at the interval `ii` to `report`, with `word` before the number.
+/// Adds to `report` the line for the interval `ii`, at which `left` is left, with `word` before the number.
 pub fn add_left(
     alloc: Global,
     report: &mut Vec<u8>,

@@ -1,4 +1,4 @@
-//! What is written where a mapping was found.
+//! The files that are written where a mapping was found.
 ghost use Rattle.std.specs.Prelude.{◌≡◌, IfOk, map, string_bytes};
 ghost use Rattle.cg_ending.specs.Outcome.{file_of, outcome_of};
 ghost use Rattle.cg_task_answers.specs.Searches as spec;
@@ -10,8 +10,8 @@ use cg_ending::{File, Outcome, Status};
 use cg_mapping::print_mapping;
 use std::alloc::{AllocError, Global};
 
-/// Returns the outcome of `mapping`, with the report `report`: its bits, under the first name of `outputs`, and its
-/// text, under the second, where there is one.
+/// Returns the outcome for `mapping`, with the report `report`: its bits, under the first name in `outputs`, and its
+/// text, under the second, if there is one.
 pub(crate) fn written(
     alloc: Global,
     mapping: &LegalMapping<'_>,
@@ -28,7 +28,7 @@ pub(crate) fn written(
     })
 }
 
-/// Returns the files of `mapping`, whose bits are `bytes`.
+/// Returns the files to be written for `mapping`, whose bits are `bytes`.
 fn map_writes(
     alloc: Global,
     mapping: &LegalMapping<'_>,
@@ -50,7 +50,7 @@ fn map_writes(
     }
 }
 
-/// Returns a file of the name `name` with `bytes`.
+/// Returns a file with the name `name` and the contents `bytes`.
 fn file_named(alloc: Global, name: &str, bytes: Vec<u8>) -> Result<File, AllocError>
     ensures { IfOk result (λ f. file_of f ≡ record { name = name.now; bytes = bytes.items }) }
 {

@@ -1,4 +1,4 @@
-//! How many resources the tiles on a grid stand for, before these are made.
+//! Counts the resources that the tiles on a grid define, before these are made.
 ghost use Rattle.std.specs.Prelude.{◌≡◌, ◌+◌, ◌<◌, MatchOption, nat_lt, sum_by};
 ghost use Rattle.cg_model.specs.Limits.{most_resources};
 ghost use Rattle.cg_tiles.specs.Counts as spec;
@@ -7,7 +7,7 @@ ghost use Rattle.cg_tiles.specs.Elements.{parts_for};
 use cg_grid::{Part, Tile, WrittenArch, WrittenPart, tile_of};
 use cg_model::{MOST_RESOURCES, Name};
 
-/// Whether the cells of the grid stand for more resources than allowed.
+/// Returns whether the cells of the grid define more resources than allowed.
 pub(crate) fn has_many_resources(written: &WrittenArch) -> bool
     ensures { result ≡ nat_lt most_resources (spec.grid_resources written.now.tiles written.now.header.grid) }
 {
@@ -15,7 +15,7 @@ pub(crate) fn has_many_resources(written: &WrittenArch) -> bool
     room_after_grid(MOST_RESOURCES, tiles, written.header.grid.as_slice()).is_none()
 }
 
-/// The room for resources that a grid leaves, none where it has too many.
+/// Returns the room for resources that is left after a grid, None where it has too many.
 fn room_after_grid(room: usize, tiles: &[Tile], grid: &[Name]) -> Option<usize>
     ensures { MatchOption result (room < spec.grid_resources tiles.now grid.now) (λ left. left + spec.grid_resources tiles.now grid.now ≡ room) }
 {
@@ -55,7 +55,7 @@ fn room_after_parts(room: usize, parts: &[WrittenPart]) -> Option<usize>
     Some(room)
 }
 
-/// The resources that a part stands for: itself, or its ports and its out.
+/// Returns the number of resources that `part` defines: itself, or its ports and its out.
 fn resources_of(part: &Part) -> usize
     ensures { result ≡ spec.resources_of part.now }
 {

@@ -1,4 +1,4 @@
-//! From tiles on a grid to the parts that they stand for.
+//! Makes the parts that tiles on a grid define.
 ghost use Rattle.std.specs.Prelude.{◌≡◌, ◌+◌, ◌<◌, ◌≤◌, ◌++◌, ◌∷◌, [], IfOk, IfErr, OnOk, IsErrOf, length, map, filter_map, fold, string_bytes, sum_by};
 ghost use Rattle.cg_model.specs.Limits.{most_links};
 ghost use Rattle.cg_parts.specs.Parts.{with_name};
@@ -15,7 +15,7 @@ use cg_parts::{Element, Names, Parts};
 use indexmap::IndexSet;
 use std::alloc::{AllocError, Global};
 
-/// The parts that are written, unless there are more links than allowed into their resources.
+/// Returns the parts that are described, unless there are more links than allowed into their resources.
 #[tactic(auto, unfolding(crate::specs::Elements::parts_of))]
 pub(crate) fn parts_of(alloc: Global, written: WrittenArch) -> Result<Parts, MakingFault>
     ensures parts { IfOk result (λ parts. parts ≡ spec.parts_of written) }
@@ -31,14 +31,14 @@ pub(crate) fn parts_of(alloc: Global, written: WrittenArch) -> Result<Parts, Mak
     })
 }
 
-/// What was made so far, and what there is still room for.
+/// The elements made so far, and the remaining room.
 #[derive(Drop)]
 struct Made {
     elements: Vec<Element>,
     room: Room,
 }
 
-/// What is written, and the grid that its tiles lie on.
+/// The description, and the grid on which its tiles lie.
 #[derive(Clone, Copy)]
 struct Tiling<'a> {
     written: &'a WrittenArch,
@@ -52,7 +52,7 @@ struct Site {
     cell: Cell,
 }
 
-/// The elements of all cells, by row and column.
+/// Returns the elements of all cells, by row and column.
 fn elements_of(alloc: Global, written: &WrittenArch) -> Result<Vec<Element>, MakingFault>
     ensures elements { IfOk result (λ list. list.items ≡ spec.grid_elements written.now (spec.grid_of written.now) 0 written.now.header.grid) }
     ensures many { IsErrOf result MakingFault.TooManyLinks → most_links < counts.grid_links written.now (spec.grid_of written.now) 0 written.now.header.grid }
@@ -133,7 +133,7 @@ fn add_parts(
     Ok(())
 }
 
-/// What a part of a tile is in a cell.
+/// Returns the element of a part of a tile in a cell.
 fn element_of(
     alloc: Global,
     room: &mut Room,
@@ -177,7 +177,7 @@ fn element_of(
     }
 }
 
-/// A resource, and what drives it.
+/// A resource, and its drivers.
 #[derive(Drop)]
 struct Driven {
     name: Name,
@@ -218,7 +218,7 @@ fn ports_of(
     Ok(list)
 }
 
-/// The names of the drivers that references in a cell name, equal ones once.
+/// Returns the names of the drivers that references in a cell name, equal ones once.
 fn drivers_of(
     alloc: Global,
     room: &mut Room,
@@ -237,7 +237,8 @@ fn drivers_of(
     Ok(Names::new(names))
 }
 
-/// The same names. They are given up where those found so far are too many for the room, and may be too many by one.
+/// Returns the names of the drivers that `references` in a cell name, equal ones once. Stops with `TooManyLinks` once
+/// they are too many for the room while references remain, so that it returns at most one name too many.
 #[tactic(auto, using(crate::proofs::Distinct::fold_longer, crate::proofs::Distinct::fold_next), unfolding(cg_parts::specs::Parts::distinct))]
 fn names_of(
     alloc: Global,
@@ -262,7 +263,7 @@ fn names_of(
     Ok(kept.names)
 }
 
-/// Names, each where it stands first, and the texts of those that are kept.
+/// The distinct names of a list in the order of their first occurrences, and the texts of those that are kept.
 #[derive(Drop)]
 struct Kept {
     seen: IndexSet<String>,
@@ -291,7 +292,7 @@ fn add_driver(
     Ok(())
 }
 
-/// Adds a name, unless it stands there.
+/// Adds `name`, unless it is there already.
 fn add_name(alloc: Global, kept: &mut Kept, name: Name) -> Result<(), AllocError>
     requires { map string_bytes kept.old.seen.keys ≡ kept.old.names.items }
     ensures seen { OnOk result (map string_bytes kept.new.seen.keys ≡ kept.new.names.items) }
@@ -304,7 +305,7 @@ fn add_name(alloc: Global, kept: &mut Kept, name: Name) -> Result<(), AllocError
     Ok(())
 }
 
-/// The flat name of the resource that a reference names, where its side is that cell.
+/// Returns the flat name of the resource that `reference` names, where `cell` is the cell on its side.
 fn driver_in(alloc: Global, cell: Cell, reference: &Reference) -> Result<Name, AllocError>
     ensures { IfOk result (λ name. name ≡ spec.name_in cell reference.now.side reference.now.name) }
 {
@@ -317,7 +318,7 @@ fn driver_in(alloc: Global, cell: Cell, reference: &Reference) -> Result<Name, A
     }
 }
 
-/// The flat name of what is called `name` in a cell.
+/// Returns the flat name of the resource called `name` in `cell`.
 fn flat_name(alloc: Global, cell: Cell, name: &str) -> Result<Name, AllocError>
     ensures { IfOk result (λ flat. flat ≡ spec.flat_name cell name.now) }
 {

@@ -1,4 +1,4 @@
-//! What is written, without what would be gone over in each cell for nothing.
+//! The description without items that would be processed in each cell to no effect.
 ghost use Rattle.std.specs.Prelude.{◌≡◌, IfOk, OnOk, map, string_bytes};
 ghost use Rattle.cg_tiles.specs.Lean as spec;
 
@@ -7,7 +7,8 @@ use cg_model::{Items, LONGEST_NAME, Name};
 use indexmap::IndexSet;
 use std::alloc::{AllocError, Global};
 
-/// What is written, with equal references of a list once, and with a short bad name in place of each one that is too long.
+/// Returns the description with equal references of a list once, and with a short bad name in place of each name that
+/// is too long.
 #[tactic(auto, unfolding(crate::specs::Lean::lean))]
 pub(crate) fn lean(alloc: Global, written: WrittenArch) -> Result<WrittenArch, AllocError>
     ensures { IfOk result (λ read. read ≡ spec.lean written) }
@@ -80,7 +81,7 @@ fn lean_part(alloc: Global, part: Part) -> Result<Part, AllocError>
     }
 }
 
-/// The name, or a short one that is bad too where it has too many characters.
+/// Returns `name`, or a short bad name where it has too many characters.
 fn short_name(alloc: Global, name: Name) -> Result<Name, AllocError>
     ensures { IfOk result (λ short. short ≡ spec.short_name name) }
 {
@@ -101,7 +102,7 @@ fn lean_ports(alloc: Global, ports: Items<References>) -> Result<Items<Reference
     Ok(Items::new(list))
 }
 
-/// The references of a list, each where it stands first.
+/// Returns the distinct references of a list, in the order of their first occurrences.
 fn references_once(alloc: Global, references: References) -> Result<References, AllocError>
     ensures { IfOk result (λ list. list ≡ spec.references_once references) }
 {
@@ -113,7 +114,7 @@ fn references_once(alloc: Global, references: References) -> Result<References, 
     Ok(Items::new(kept))
 }
 
-/// Adds a reference to those seen and kept, unless an equal one stands there.
+/// Adds a reference to those seen and kept, unless an equal one is there already.
 fn add_reference(
     alloc: Global,
     seen: &mut IndexSet<String>,
@@ -131,7 +132,7 @@ fn add_reference(
     Ok(())
 }
 
-/// The text by which a reference is known: the letter of its side, and its name.
+/// Returns the key of `reference`: the letter of its side, followed by its name.
 fn key_of(alloc: Global, reference: &Reference) -> Result<String, AllocError>
     ensures { IfOk result (λ key. string_bytes key ≡ spec.key_of reference.now) }
 {

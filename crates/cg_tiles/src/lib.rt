@@ -1,4 +1,4 @@
-//! Architectures as a designer writes them: the one that the tiles of a file stand for.
+//! Architectures as a designer writes them, from the tiles of a file.
 #![tactic(auto)]
 
 mod counting;

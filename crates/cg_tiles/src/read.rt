@@ -1,4 +1,4 @@
-//! From bytes to an architecture.
+//! Reads an architecture from bytes.
 ghost use Rattle.std.specs.Prelude.{◌≡◌, ◌≢◌, IfOk, IfErr, IsErrOf, Ok, Err};
 ghost use Rattle.toml.specs.View.{view};
 ghost use Rattle.cg_model.specs.Array.{IsArch};
@@ -20,9 +20,9 @@ use cg_validate::validate;
 use std::alloc::Global;
 use toml::Value;
 
-/// The architecture that the tiles of a file stand for, or the lowest fault that applies, at its first place: M1 to M6,
-/// then A1 for a grid of more than 32 rows or columns, and then what `validate` says of the parts. Where links without
-/// delay form loops (A6), any one of these may be named.
+/// Returns the architecture that the tiles of a file define, or the lowest fault that applies, at its first place: M1
+/// to M6, then A1 for a grid of more than 32 rows or columns, and then what `validate` says of the parts. Where links
+/// without delay form loops (A6), any one of these may be reported.
 pub fn read_arch(alloc: Global, bytes: &[u8]) -> Result<Arch, TilesFault>
     ensures answer { spec.IsAnswer bytes.now result }
     ensures valid { IfOk result IsArch }
@@ -38,8 +38,8 @@ pub fn read_arch(alloc: Global, bytes: &[u8]) -> Result<Arch, TilesFault>
     }
 }
 
-/// Parts for which the answers are those for the ones that the bytes stand for. Those of too many resources or links
-/// aren't made.
+/// Returns parts that validate with the same result as the parts that `bytes` describe. Parts with too many resources
+/// or links aren't made.
 fn parts_spelled(alloc: Global, bytes: &[u8]) -> Result<Parts, TilesFault>
     ensures spelled { IfOk result (λ parts. (others : Parts) × (spec.parts_spelled bytes.now ≡ Ok others) × AnswersFor parts others) }
     ensures refused { IfErr result (λ fault. fault ≢ TilesFault.Memory → spec.IsRefused (spec.parts_spelled bytes.now) fault) }
@@ -48,7 +48,7 @@ fn parts_spelled(alloc: Global, bytes: &[u8]) -> Result<Parts, TilesFault>
     judged(alloc, written)
 }
 
-/// What the bytes write. Their TOML table is let go.
+/// Returns the description in `bytes`, and frees their TOML table.
 #[tactic(auto, unfolding(crate::specs::Answer::parts_spelled))]
 fn written_spelled(alloc: Global, bytes: &[u8]) -> Result<WrittenArch, TilesFault>
     ensures read { IfOk result (λ written. spec.parts_spelled bytes.now ≡ spec.judged written) }
@@ -72,8 +72,8 @@ fn written_in(alloc: Global, value: &Value) -> Result<WrittenArch, TilesFault>
     }
 }
 
-/// Parts for which the answers are those for the ones that are written; or the first of M3 to M6 that applies, and else A1
-/// for the grid, resources and links.
+/// Returns parts that validate with the same result as those described; or the first of M3 to M6 that applies, or else
+/// A1 for the grid, resources and links.
 #[tactic(auto, unfolding(crate::specs::Answer::judged))]
 fn judged(alloc: Global, written: WrittenArch) -> Result<Parts, TilesFault>
     ensures judged { IfOk result (λ parts. (others : Parts) × (spec.judged written ≡ Ok others) × AnswersFor parts others) }

@@ -1,4 +1,4 @@
-//! What there is still room for while parts are made.
+//! The remaining room while parts are made.
 
 ghost use Rattle.std.specs.Prelude.{◌≡◌};
 ghost use Rattle.cg_tiles.specs.declared.room.MakingFault.TheVariants.{Memory};
@@ -31,12 +31,12 @@ impl<T: Drop> From<AllocFailed<T>> for MakingFault {
     }
 }
 
-/// What there is still room for.
+/// The remaining room.
 #[derive(Clone, Copy, Debug)]
 pub struct Room {
     pub links: usize,
     /// Bytes of the names of drivers. 65,536 links with names of 40 characters take 3 million; where longer names,
-    /// which no resource has, take more than 67,108,864, the answer is out of memory.
+    /// which no resource has, take more than 67,108,864, the result is out of memory.
     pub text: usize,
 }
 
@@ -44,7 +44,7 @@ impl Room {
     ghost use Rattle.std.specs.Prelude.{◌≡◌, ◌+◌, IfErr, OnOk, length};
     ghost use Rattle.cg_tiles.specs.declared.room.MakingFault.TheVariants.{Memory};
 
-    /// Takes the room of a name.
+    /// Uses the room for `name`.
     pub fn spend(&mut self, name: &str) -> Result<(), MakingFault>
         ensures links { self.new.links ≡ self.old.links }
         ensures text { OnOk result (self.new.text + length name.now ≡ self.old.text) }

@@ -19,17 +19,17 @@ is_blank b = b == 32 || b == 9 || b == 13 || b == 10
 abbrev pub is_letter : ℕ → Bool
 is_letter b = is_ascii_alphabetic b || b == 95
 
--- a token's kind is told by its first byte
+-- the kind of a token, determined by its first byte
 abbrev pub kind_of : ℕ → Kind
 kind_of b = if is_letter b then Word else (if is_ascii_digit b then Number else Mark)
 
--- whether a token of the kind goes on with a byte
+-- whether a token of the kind continues with a byte
 abbrev pub goes_on : Kind → ℕ → Bool
 goes_on Word b = is_letter b || is_ascii_digit b
 goes_on Number b = is_ascii_digit b
 goes_on Mark b = false
 
--- whether two of the byte are one token, as a language may say of one byte
+-- whether two of the byte form one token, which a language may allow for one byte
 abbrev pub is_double : Option ℕ → ℕ → Bool
 is_double None b = false
 is_double (Some d) b = b == d
@@ -39,7 +39,8 @@ abbrev pub is_next : ℕ → List ℕ → Bool
 is_next b [] = false
 is_next b (c ∷ bytes) = c == b
 
--- how many bytes a token has after its first: that byte once more where two of it are one token, and else all that it goes on with
+-- the number of bytes that a token has after its first: one where two of the byte form one token, and else all that
+-- continue it
 abbrev pub more_of : Option ℕ → ℕ → List ℕ → ℕ
 more_of double b bytes = if is_double double b && is_next b bytes then 1 else prefix_len (goes_on (kind_of b)) bytes
 
@@ -59,15 +60,15 @@ tokens_from double zero place (b ∷ bytes) =
 abbrev pub tokens_of : Option ℕ → List ℕ → List Placed
 tokens_of double bytes = tokens_from double 0 0 bytes
 
--- the tokens of the bytes from a place on, which no token before it reaches
+-- the tokens of the bytes from a place on that no earlier token reaches
 abbrev pub tokens_at : Option ℕ → List ℕ → ℕ → List Placed
 tokens_at double bytes place = tokens_from double 0 place (drop place bytes)
 
--- the place behind a token
+-- the place after a token
 abbrev pub end_of : Placed → ℕ
 end_of t = t.place + length t.text
 
--- a token of the program
+-- the token that a value of the program denotes
 abbrev pub seen : Token → Placed
 seen t = record { text = t.text.now; place = t.place }
 

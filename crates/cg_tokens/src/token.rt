@@ -3,7 +3,7 @@ ghost use Rattle.std.specs.Prelude.{◌≡◌, ◌+◌, ◌≤◌, ◌<◌, [], 
 ghost use Rattle.std.specs.List.{prefix_len};
 ghost use Rattle.cg_tokens.specs.Tokens.{is_blank, is_letter, kind_of, goes_on, is_double, is_next, more_of, first_token, end_of, seen, tokens_at};
 
-/// What a token is.
+/// The kind of a token.
 #[derive(Clone, Copy, Debug, PartialEq, Eq, Drop)]
 enum Kind {
     /// A letter or `_`, then letters, digits and `_`.
@@ -55,7 +55,7 @@ fn goes_on(kind: Kind, byte: u8) -> bool
     }
 }
 
-/// How many bytes at the front go on with a token of the kind.
+/// Returns the number of bytes at the front of `bytes` that continue a token of the kind `kind`.
 fn run_length(bytes: &[u8], kind: Kind) -> usize
     ensures count { result ≡ prefix_len (goes_on kind) bytes.now }
     ensures within { result ≤ length bytes.now }
@@ -70,7 +70,7 @@ fn run_length(bytes: &[u8], kind: Kind) -> usize
     count
 }
 
-/// Whether two of `byte` are one token.
+/// Checks whether two of `byte` form one token.
 fn is_double(double: Option<u8>, byte: u8) -> bool
     ensures { result ≡ is_double double byte }
 {
@@ -80,7 +80,7 @@ fn is_double(double: Option<u8>, byte: u8) -> bool
     }
 }
 
-/// Whether `bytes` begin with `byte`.
+/// Checks whether `bytes` begin with `byte`.
 fn is_next(byte: u8, bytes: &[u8]) -> bool
     ensures { result ≡ is_next byte bytes.now }
 {
@@ -90,7 +90,7 @@ fn is_next(byte: u8, bytes: &[u8]) -> bool
     }
 }
 
-/// How many of `bytes` belong to the token of the byte `first` before them.
+/// Returns the number of `bytes` that belong to the token of the byte `first` before them.
 #[tactic(auto, using(crate::proofs::Lexing::more_fits))]
 fn more_of(double: Option<u8>, first: u8, bytes: &[u8]) -> usize
     ensures count { result ≡ more_of double first bytes.now }
@@ -103,7 +103,7 @@ fn more_of(double: Option<u8>, first: u8, bytes: &[u8]) -> usize
     }
 }
 
-/// The token at the front of `bytes`, which stand at that place.
+/// Returns the token at the front of `bytes`, which begin at `place`.
 fn first_token(double: Option<u8>, bytes: &[u8], place: usize) -> Token<'_>
     requires { 0 < length bytes.now }
     ensures first { (b : ℕ) (rest : List ℕ) → bytes.now ≡ b ∷ rest → seen result ≡ first_token double b rest place }
@@ -116,7 +116,8 @@ fn first_token(double: Option<u8>, bytes: &[u8], place: usize) -> Token<'_>
     }
 }
 
-/// Finds the first byte of `bytes` from `at` on that is no blank; it gives its place, or `at` or the length where there is none.
+/// Finds the first byte of `bytes` from `at` on that is not a blank, and returns its place; `at` or the length where
+/// there is none.
 pub fn past_blanks(bytes: &[u8], at: usize) -> usize
     ensures same { (double : Option ℕ) → tokens_at double bytes.now result ≡ tokens_at double bytes.now at }
     ensures solid { result < length bytes.now → is_blank (slice_index bytes.now result) ≡ false }
@@ -128,7 +129,7 @@ pub fn past_blanks(bytes: &[u8], at: usize) -> usize
     place
 }
 
-/// Cuts the next token of `bytes` from `at` on, where two of the byte `double` are one token.
+/// Cuts the next token of `bytes` from `at` on, where two of the byte `double` form one token.
 pub fn next_token(double: Option<u8>, bytes: &[u8], at: usize) -> Option<Token<'_>>
     ensures next { MatchOption result (tokens_at double bytes.now at ≡ []) (λ token. tokens_at double bytes.now at ≡ seen token ∷ tokens_at double bytes.now (end_of (seen token))) }
     ensures within { IfSome result (λ token. end_of (seen token) ≤ length bytes.now) }

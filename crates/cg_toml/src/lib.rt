@@ -1,4 +1,4 @@
-//! TOML texts: the table that bytes stand for, and what readers of formats ask of values.
+//! TOML texts: the tables that bytes represent, and access to their values for readers of formats.
 #![tactic(auto)]
 
 ghost use Rattle.std.specs.Prelude.{◌≡◌, Some, None, IfOk, IsErrOf};
@@ -24,9 +24,9 @@ pub enum TomlFault {
     NotToml,
 }
 
-/// The TOML table that the bytes stand for.
+/// Returns the TOML table that `bytes` represent.
 ///
-/// A text whose values may take more than [`MOST_MEMORY`] bytes is answered by `Memory` before it is parsed.
+/// For a text whose values may take more than [`MOST_MEMORY`] bytes it returns `Memory` without parsing the text.
 pub fn toml_table(alloc: Global, bytes: &[u8]) -> Result<Value, TomlFault>
     ensures ok { IfOk result (λ value. table_of bytes.now ≡ Some (view value)) }
     ensures not_toml { IsErrOf result TomlFault.NotToml → table_of bytes.now ≡ None }

@@ -1,4 +1,4 @@
-//! What readers of formats ask of a TOML value.
+//! Access to the parts of a TOML value, for readers of formats.
 ghost use Rattle.std.specs.Prelude.{◌≡◌, map, option_map};
 ghost use Rattle.std.specs.Option.{option_copied};
 ghost use Rattle.toml.specs.View.{view, table_view};
@@ -7,7 +7,7 @@ ghost use Rattle.cg_toml.specs.Members as spec;
 use cg_reading::has_other;
 use toml::{Table, Value};
 
-/// The text at a key.
+/// Returns the text at `key`.
 pub fn text_at<'a>(value: &'a Value, key: &str) -> Option<&'a str>
     ensures { option_copied result ≡ spec.text_at key.now (view value.now) }
 {
@@ -17,7 +17,7 @@ pub fn text_at<'a>(value: &'a Value, key: &str) -> Option<&'a str>
     }
 }
 
-/// The items of the array at a key.
+/// Returns the items of the array at `key`.
 pub fn items_at<'a>(value: &'a Value, key: &str) -> Option<&'a [Value]>
     ensures { option_map (λ items. map view items.now) result ≡ spec.items_at key.now (view value.now) }
 {
@@ -27,7 +27,7 @@ pub fn items_at<'a>(value: &'a Value, key: &str) -> Option<&'a [Value]>
     }
 }
 
-/// The items of the array at a key, none where the key is missing.
+/// Returns the items of the array at `key`, or none where the key is missing.
 pub fn items_or_none<'a>(value: &'a Value, key: &str) -> Option<&'a [Value]>
     ensures { option_map (λ items. map view items.now) result ≡ spec.items_or_none key.now (view value.now) }
 {
@@ -37,7 +37,7 @@ pub fn items_or_none<'a>(value: &'a Value, key: &str) -> Option<&'a [Value]>
     }
 }
 
-/// The items of an array.
+/// Returns the items of an array.
 pub fn items_in(value: &Value) -> Option<&[Value]>
     ensures { option_map (λ items. map view items.now) result ≡ spec.items_in (view value.now) }
 {
@@ -47,7 +47,7 @@ pub fn items_in(value: &Value) -> Option<&[Value]>
     }
 }
 
-/// The table at a key.
+/// Returns the table at `key`.
 pub fn members_at<'a>(value: &'a Value, key: &str) -> Option<&'a Table>
     ensures { option_map (λ members. table_view members.now) result ≡ spec.members_at key.now (view value.now) }
 {
@@ -57,7 +57,7 @@ pub fn members_at<'a>(value: &'a Value, key: &str) -> Option<&'a Table>
     }
 }
 
-/// A word: an integer from 0 to 4,294,967,295.
+/// Returns `value` as a word: an integer from 0 to 4,294,967,295.
 fn word_in(value: &Value) -> Option<u32>
     ensures { result ≡ spec.word_in (view value.now) }
 {
@@ -67,7 +67,7 @@ fn word_in(value: &Value) -> Option<u32>
     }
 }
 
-/// The word at a key.
+/// Returns the word at `key`.
 pub fn word_at(value: &Value, key: &str) -> Option<u32>
     ensures { result ≡ spec.word_at key.now (view value.now) }
 {
@@ -77,7 +77,7 @@ pub fn word_at(value: &Value, key: &str) -> Option<u32>
     }
 }
 
-/// The word at a key, and the default where the key is missing.
+/// Returns the word at `key`, or `default` where the key is missing.
 pub fn word_or(value: &Value, key: &str, default: u32) -> Option<u32>
     ensures { result ≡ spec.word_or key.now default (view value.now) }
 {
@@ -87,7 +87,7 @@ pub fn word_or(value: &Value, key: &str, default: u32) -> Option<u32>
     }
 }
 
-/// The boolean at a key, and the default where the key is missing.
+/// Returns the boolean at `key`, or `default` where the key is missing.
 pub fn flag_or(value: &Value, key: &str, default: bool) -> Option<bool>
     ensures { result ≡ spec.flag_or key.now default (view value.now) }
 {
@@ -97,7 +97,7 @@ pub fn flag_or(value: &Value, key: &str, default: bool) -> Option<bool>
     }
 }
 
-/// Whether a table has a key that isn't one of these.
+/// Returns whether a table has a key that isn't one of `known`.
 pub fn has_other_keys(value: &Value, known: &[&str]) -> bool
     ensures { result ≡ spec.has_other_keys (map (λ key. key.now) known.now) (view value.now) }
 {

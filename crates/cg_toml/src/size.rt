@@ -1,12 +1,12 @@
-//! How much memory a text can ask for.
+//! The memory that a text may take once parsed.
 
 /// The most bytes that the values of one text may take.
 pub const MOST_MEMORY: u64 = 1_000_000_000;
 
-/// How deep values may nest, and how many dots a key may have. The parser goes no further.
+/// The greatest depth at which values may nest, and the greatest number of dots in a key. The parser goes no further.
 const MOST_DEPTH: u32 = 96;
 
-/// Where in a text a byte stands. The quote is `"` or `'`.
+/// The place of a byte in a text. The quote is `"` or `'`.
 #[derive(Clone, Copy)]
 enum Place {
     /// Outside of strings and comments.
@@ -18,16 +18,16 @@ enum Place {
     Empty(u8),
     /// In a string of one line.
     Line(u8),
-    /// There, after a backslash.
+    /// In a string of one line, after a backslash.
     Escaped,
     /// In a string of several lines, after a number of quotes, at most three.
     Lines(u8, u8),
-    /// There, after a backslash.
+    /// In a string of several lines, after a backslash.
     EscapedInLines,
 }
 
 impl Place {
-    /// The place after one more byte.
+    /// Returns the place after one more byte, `byte`.
     fn after(self, byte: u8) -> Place {
         match self {
             Place::Bare => bare(byte),
@@ -80,10 +80,10 @@ fn in_lines(quote: u8, quotes: u8, byte: u8) -> Place {
     }
 }
 
-/// Estimates how many bytes the values of the text `bytes` take at most, with what a reader makes of them. The first key
-/// of a table takes a node of a map, and so does each dot of a key; an array with items takes a list of at least four, and
-/// each item of a list its place there. What comes after too many open brackets, or in a key after too many dots, isn't
-/// counted, since it isn't parsed.
+/// Estimates the most bytes that the values of the text `bytes` take, with what a reader makes of them. The first key
+/// of a table takes a node of a map, and so does each dot of a key; an array with items takes a list of at least four,
+/// and each item of a list its place there. What comes after too many open brackets, or in a key after too many dots,
+/// isn't counted, since it isn't parsed.
 pub(crate) fn memory_for(bytes: &[u8]) -> u64 {
     let mut memory = 0u64;
     let mut place = Place::Bare;
@@ -109,12 +109,12 @@ pub(crate) fn memory_for(bytes: &[u8]) -> u64 {
     memory
 }
 
-/// Whether a byte is outside of strings and comments, or begins a string, and is no blank.
+/// Returns whether `byte` is outside of strings and comments, or begins a string, and is not a blank.
 fn is_mark(place: Place, byte: u8) -> bool {
     matches!(place, Place::Bare | Place::Opened(_)) && !matches!(byte, b' ' | b'\t' | b'\r' | b'\n')
 }
 
-/// How many brackets are open after such a byte.
+/// Returns how many brackets are open after the byte `byte`, which `is_mark` accepts.
 fn depth_after(depth: u32, byte: u8) -> u32 {
     match byte {
         b'[' | b'{' => depth.saturating_add(1),
@@ -123,8 +123,8 @@ fn depth_after(depth: u32, byte: u8) -> u32 {
     }
 }
 
-/// Returns how many dots stand since the last bracket, comma or `=`, after `byte`. A value has at most one, so those of a
-/// key are nearly all.
+/// Returns the number of dots since the last bracket, comma or `=`, after `byte`. A value has at most one dot, so that
+/// nearly all of them belong to a key.
 fn dots_after(dots: u32, byte: u8) -> u32 {
     match byte {
         b'.' => dots.saturating_add(1),
@@ -133,7 +133,7 @@ fn dots_after(dots: u32, byte: u8) -> u32 {
     }
 }
 
-/// The bytes of memory for such a byte, after the last one before it. An `=` may be the first of its table.
+/// Returns the bytes of memory for `byte`, after the last such byte `before` it. An `=` may be the first of its table.
 fn weight(before: u8, byte: u8, is_first: bool) -> u64 {
     match (before, byte) {
         (b'[', b']') => 4,

@@ -15,14 +15,14 @@ use Rattle.cg_answers.specs.Commands.{IsAnswer, Accepts, Forbids, AgreeIn, RunWr
 
 -- ---- what words and files define
 
--- all input files were read, and the command allows it
+-- all input files were read, and the command allows the outcome
 pub record Answers (held : Held) (plan : Plan) (o : Outcome) : Type 0 where
   pub files : List File
   pub read : AreRead held plan.inputs files
   pub answer : IsAnswer plan.command files plan.outputs o
 
--- all input files were read, each of them a list of bytes, and the command allows the outcome. What a store gives is bytes even
--- where the store doesn't tell what it holds
+-- all input files were read, each of them a list of bytes, and the command allows the outcome. What is read from a
+-- store is bytes even where it isn't known what the store holds
 pub record AnswersBytes (held : Held) (plan : Plan) (o : Outcome) : Type 0 where
   pub answers : Answers held plan o
   pub bytes : All HoldsBytes answers.files
@@ -35,17 +35,17 @@ abbrev pub IsPlannedBytes : Held → Type 0 → Option Plan → Outcome → Type
 IsPlannedBytes held rose None o = o ≡ usage_outcome
 IsPlannedBytes held rose (Some plan) o = AnswersBytes held plan o ⊎ StopsAt held rose plan.inputs o
 
--- for these words, over what is held, where `rose` says that a read failed
+-- an outcome for these words, over what is held, where `rose` states that a read failed
 abbrev pub IsOutcome : List Name → Held → Type 0 → Outcome → Type 0
 IsOutcome words held rose o = IsPlanned held rose (plan_of words) o
 
--- for these words, over the files that are told, where no read fails
+-- an outcome for these words, over known files, where no read fails
 abbrev pub IsDefined : List Name → (Name → Option Bytes) → Outcome → Type 0
 IsDefined words files o = IsOutcome words (Some files) ⊥ o
 
 -- ---- how a call ends
 
--- there was an outcome, and it came, or as much of it as faults and running out of memory left
+-- there was an outcome, and it was carried out, as far as faults and running out of memory allowed
 pub record CarriedOut (words : List Name) (before after : Moment) (status : Status) : Type 0 where
   pub outcome : Outcome
   pub planned : IsPlannedBytes before.held (Rose before.read_faults after.read_faults) (plan_of words) outcome
@@ -62,19 +62,20 @@ Ends words before after status = CarriedOut words before after status ⊎ NeverS
 
 -- ---- what follows from it
 
--- how a status agrees with that of an outcome that is defined for the words: it is the same, but where the command may choose
+-- how a status agrees with that of an outcome that is defined for the words: they are equal, except where the command
+-- may choose
 abbrev pub Agrees : Option Plan → Status → Status → Type 0
 Agrees None a b = a ≡ b
 Agrees (Some plan) a b = AgreeIn plan.command a b
 
--- the status is the defined one, but for running out of memory and for faults, which show in their counts
+-- the status is the defined one, except for running out of memory and for faults, which show in their counts
 abbrev pub IsExact : List Name → Moment → Moment → Status → Type 0
 IsExact words before after status = (files : Name → Option Bytes) (o : Outcome) → before.held ≡ Some files → IsDefined words files o
     → Agrees (plan_of words) status o.status ⊎ ((status ≡ Memory)
     ⊎ (((status ≡ ReadFault) × Rose before.read_faults after.read_faults)
     ⊎ ((status ≡ WriteFault) × (Rose before.write_faults after.write_faults ⊎ Rose before.faults after.faults))))
 
--- a command was asked, all its input files were read, and what it answers has this status
+-- a command was requested, all its input files were read, and its answer has this status
 pub record IsAnswered (words : List Name) (held : Held) (status : Status) : Type 0 where
   pub plan : Plan
   pub planned : plan_of words ≡ Some plan
@@ -82,7 +83,7 @@ pub record IsAnswered (words : List Name) (held : Held) (status : Status) : Type
   pub answers : Answers held plan outcome
   pub status_is : outcome.status ≡ status
 
--- a command was asked, and its input files were read up to one of them, for which the call ended with this status
+-- a command was requested, and its input files were read up to one of them, for which the call ended with this status
 pub record IsStopped (words : List Name) (held : Held) (rose : Type 0) (status : Status) : Type 0 where
   pub plan : Plan
   pub planned : plan_of words ≡ Some plan
@@ -101,7 +102,7 @@ pub record IsByTable (words : List Name) (before after : Moment) (status : Statu
   -- 2
   pub usage : status ≡ Usage → plan_of words ≡ None
   pub unfit : plan_of words ≡ None → (status ≡ Usage) ⊎ (status ≡ Memory)
-  -- 5: the input files before the one that is named were read
+  -- 5: the input files before the one that is reported were read
   pub stopped : status ≡ ReadFault → IsStopped words before.held (Rose before.read_faults after.read_faults) ReadFault
   pub read_fault : status ≡ ReadFault → Rose before.read_faults after.read_faults
       ⊎ ((plan : Plan) × (plan_of words ≡ Some plan) × (name : Name) × Contains plan.inputs name × IsMissing before.held name)
@@ -116,21 +117,22 @@ is_answer Memory = false
 is_answer WriteFault = false
 is_answer _ = true
 
--- an outcome of this status came: all that it writes was written and nothing else, and its report was put
+-- an outcome of this status was carried out: all its writes were made and no others, and its report was put
 pub record Came (words : List Name) (before after : Moment) (status : Status) : Type 0 where
   pub outcome : Outcome
   pub is_outcome : IsOutcome words before.held (Rose before.read_faults after.read_faults) outcome
   pub status_is : outcome.status ≡ status
   pub held : Wrote before.held outcome.writes after.held
   pub put : IsPut status outcome.report before after
-  -- where the report is empty, the sink is as before, for no put was made
+  -- where the report is empty, the sink is as before, since no put was made
   pub no_put : outcome.report ≡ [] → (after.taken ≡ before.taken) × (after.faults ≡ before.faults)
 
--- what an outcome writes of bits runs a mapping of what was read
+-- the bytes that an outcome writes as bits run a mapping of what was read
 abbrev pub WritesRun : List Name → Moment → Outcome → Type 0
 WritesRun words before o = (plan : Plan) → plan_of words ≡ Some plan → RunWrites o.writes plan.command plan.inputs before
 
--- one of an outcome's writes failed: those before it were made, what is held under its name is open, and nothing was put
+-- one of an outcome's writes failed: those before it were made, what is held under its name is left open, and nothing
+-- was put
 pub record Halted (words : List Name) (before after : Moment) : Type 0 where
   pub outcome : Outcome
   pub is_outcome : IsOutcome words before.held (Rose before.read_faults after.read_faults) outcome
@@ -139,7 +141,7 @@ pub record Halted (words : List Name) (before after : Moment) : Type 0 where
   pub put : after.taken ≡ before.taken
   pub runs : WritesRun words before outcome
 
--- all was written of an outcome that is Done, and a first part of its report was put
+-- all writes of an outcome that is Done were made, and a first part of its report was put
 pub record Unput (words : List Name) (before after : Moment) : Type 0 where
   pub outcome : Outcome
   pub is_outcome : IsOutcome words before.held (Rose before.read_faults after.read_faults) outcome
@@ -149,7 +151,7 @@ pub record Unput (words : List Name) (before after : Moment) : Type 0 where
   pub put : AppendsSome before.taken outcome.report after.taken
   pub runs : WritesRun words before outcome
 
--- some first ones of an outcome's writes were made
+-- a first part of an outcome's writes was made
 pub record Begun (words : List Name) (before after : Moment) : Type 0 where
   pub outcome : Outcome
   pub is_outcome : IsOutcome words before.held (Rose before.read_faults after.read_faults) outcome
@@ -160,7 +162,7 @@ pub record Begun (words : List Name) (before after : Moment) : Type 0 where
 abbrev pub KeepsAll : Moment → Moment → Type 0
 KeepsAll before after = Wrote before.held [] after.held × (after.write_faults ≡ before.write_faults)
 
--- the words ask for no output file
+-- the words name no output file
 abbrev pub WritesNothing : Option Plan → Type 0
 WritesNothing None = Unit {0}
 WritesNothing (Some plan) = plan.outputs ≡ []
@@ -178,31 +180,31 @@ pub record IsEffect (words : List Name) (before after : Moment) (status : Status
   pub kept : leaves_all status ≡ true → KeepsAll before after
   -- nor after 8 of a command that judges a mapping
   pub judged : status ≡ No → (plan : Plan) → plan_of words ≡ Some plan → judges plan.command ≡ true → KeepsAll before after
-  -- where the words ask for no output file all is held as before, however the call ends
+  -- where the words name no output file all is held as before, however the call ends
   pub nothing_asked : WritesNothing (plan_of words) → Wrote before.held [] after.held
 
--- where words, files and counts give no cause to refuse, the command is done or memory ran out
+-- where words, files and counts give no cause to refuse, the command ends with Done or memory ran out
 abbrev pub IsComplete : List Name → Moment → Moment → Status → Type 0
 IsComplete words before after status = (files : Name → Option Bytes) (plan : Plan) (inputs : List File)
     → before.held ≡ Some files → plan_of words ≡ Some plan → AreRead (Some files) plan.inputs inputs → Accepts plan.command inputs
     → (Rose before.read_faults after.read_faults → ⊥) → (Rose before.write_faults after.write_faults → ⊥) → (Rose before.faults after.faults → ⊥)
     → (status ≡ Done) ⊎ (status ≡ Memory)
 
--- where words and files ask for an interval that a recurrence or an overfull set forbids, and no read fails, the command says
--- so, or memory ran out
+-- where words and files request an interval that a recurrence or an overfull set forbids, and no read fails, the
+-- command reports that it is impossible, or memory ran out
 abbrev pub IsImpossible : List Name → Moment → Moment → Status → Type 0
 IsImpossible words before after status = (files : Name → Option Bytes) (plan : Plan) (inputs : List File)
     → before.held ≡ Some files → plan_of words ≡ Some plan → AreRead (Some files) plan.inputs inputs → Forbids plan.command inputs
     → (Rose before.read_faults after.read_faults → ⊥)
     → (status ≡ Impossible) ⊎ (status ≡ Memory)
 
--- no count falls
+-- no count decreases
 pub record KeepsCounts (before after : Moment) : Type 0 where
   pub reads : before.read_faults ≤ after.read_faults
   pub writes : before.write_faults ≤ after.write_faults
   pub puts : before.faults ≤ after.faults
 
--- what the command that was asked leaves
+-- what the command that was requested leaves
 abbrev pub IsLeft : List Name → Moment → Moment → Status → Type 0
 IsLeft words before after status = (plan : Plan) → plan_of words ≡ Some plan → Leaves plan.command plan.inputs plan.outputs status before after
 
@@ -220,17 +222,18 @@ pub record IsCall (words : List Name) (before after : Moment) (status : Status) 
 
 -- ---- the calls of the store
 
--- the input files were asked for, each once and in order, maybe a first part of them alone
+-- the input files were read, each once and in order, possibly only a first part of them
 abbrev pub Asks : Option Plan → Names → Names → Type 0
 Asks None before after = after ≡ before
 Asks (Some plan) before after = NotesPart before plan.inputs after
 
--- it was written under the names of the output files, each once and in order, maybe a first part of them alone
+-- the output files were written, each once and in order, possibly only a first part of them
 abbrev pub Writes : Option Plan → Names → Names → Type 0
 Writes None before after = after ≡ before
 Writes (Some plan) before after = NotesPart before plan.outputs after
 
--- no other file was read or written, none more often than the words give it, and none at all where they fit no command
+-- no other file was read or written, none more often than the words name it, and none at all where the words form no
+-- command
 pub record MakesCalls (plan : Option Plan) (asked_before asked_after wrote_before wrote_after : Names) : Type 0 where
   pub asks : Asks plan asked_before asked_after
   pub writes : Writes plan wrote_before wrote_after

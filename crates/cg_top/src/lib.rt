@@ -1,4 +1,4 @@
-//! The top call: from the words of a command line to what the store holds, what the sink takes and the status.
+//! The top call: from the words of a command line to what the store holds, what the sink receives, and the status.
 #![tactic(auto)]
 
 ghost use Rattle.std.specs.Prelude.{◌≡◌, ◌≤◌, [], None, Some, IfOk, length, map, string_bytes};
@@ -24,8 +24,8 @@ pub use cg_trial_run::trial;
 pub use laws::always_defined;
 use std::alloc::{AllocError, Global};
 
-/// Does what `words` ask, the arguments after the program's name: reads the input files out of `store`, writes the
-/// output files into it, and puts the report into `out` by one call.
+/// Carries out the command in `words`, the arguments after the program's name: reads the input files from `store`,
+/// writes the output files to it, and puts the report into `out` by one call.
 ///
 /// Returns the exit status of the program.
 pub fn run_line<S: Store, O: Sink>(
@@ -38,17 +38,17 @@ pub fn run_line<S: Store, O: Sink>(
         (moment (S.held store.old) (S.read_faults store.old) (S.write_faults store.old) (O.taken out.old) (O.faults out.old))
         (moment (S.held store.new) (S.read_faults store.new) (S.write_faults store.new) (O.taken out.new) (O.faults out.new))
         result }
-    // It reads and writes the files that the words give alone, each once and in order.
+    // It reads and writes only the files that the words name, each once and in order.
     ensures calls { MakesCalls (plan_of (map string_bytes words.now))
         (S.asked store.old) (S.asked store.new) (S.wrote store.old) (S.wrote store.new) }
-    // Where the words fit no command, the store is not called.
+    // Where the words form no command, the store is not called.
     ensures no_call { plan_of (map string_bytes words.now) ≡ None → store.new ≡ store.old }
 {
     run_line_with(alloc, words, store, out, &mut Silent)
 }
 
-/// Does what [`run_line`] does, and gives `aside` notes and progress for a person: what is wrong with words or files, what a run left
-/// out, how far a search is. They change nothing: store, sink and status are as without them.
+/// Does what [`run_line`] does, and also gives `aside` notes and progress for the user: what is wrong with words or
+/// files, what a run omitted, how far a search is. They change nothing: store, sink and status are as without them.
 pub fn run_line_with<S: Store, O: Sink>(
     alloc: Global,
     words: &[String],
@@ -60,10 +60,10 @@ pub fn run_line_with<S: Store, O: Sink>(
         (moment (S.held store.old) (S.read_faults store.old) (S.write_faults store.old) (O.taken out.old) (O.faults out.old))
         (moment (S.held store.new) (S.read_faults store.new) (S.write_faults store.new) (O.taken out.new) (O.faults out.new))
         result }
-    // It reads and writes the files that the words give alone, each once and in order.
+    // It reads and writes only the files that the words name, each once and in order.
     ensures calls { MakesCalls (plan_of (map string_bytes words.now))
         (S.asked store.old) (S.asked store.new) (S.wrote store.old) (S.wrote store.new) }
-    // Where the words fit no command, the store is not called.
+    // Where the words form no command, the store is not called.
     ensures no_call { plan_of (map string_bytes words.now) ≡ None → store.new ≡ store.old }
 {
     carry_out(alloc, words, store, out, aside)
@@ -90,7 +90,7 @@ fn carry_out<S: Store, O: Sink>(
     match outcome(alloc, words, store, aside) {
         Ok(outcome) => {
             let status = finish(alloc, &outcome, store, out);
-            // Where memory runs out for the notes, the status is the same.
+            // Where memory for the notes runs out, the status is the same.
             let _ = note_files(alloc, status, &outcome, aside);
             status
         }
@@ -98,7 +98,7 @@ fn carry_out<S: Store, O: Sink>(
     }
 }
 
-/// Returns the outcome that `words` define, over what `store` gives, and notes what is wrong with them.
+/// Returns the outcome that `words` define for the files in `store`, and notes what is wrong with the words.
 fn outcome<S: Store>(
     alloc: Global,
     words: &[String],
@@ -116,7 +116,7 @@ fn outcome<S: Store>(
     ensures writes { S.write_faults store.new ≡ S.write_faults store.old }
 {
     let Some(plan) = plan_words(alloc, words)? else {
-        // Where memory runs out for the notes, the outcome is the same.
+        // Where memory for the notes runs out, the outcome is the same.
         let _ = note_words(alloc, words, aside);
         return usage(alloc);
     };
@@ -126,7 +126,7 @@ fn outcome<S: Store>(
     }
 }
 
-/// Returns the outcome of the planned command, over what `store` gives, and notes what is wrong with its files.
+/// Returns the outcome of the planned command for the files in `store`, and notes what is wrong with the files.
 fn answered<S: Store>(
     alloc: Global,
     plan: &Plan,
@@ -148,7 +148,7 @@ fn answered<S: Store>(
     noted(alloc, plan.command, ended, files.as_slice(), aside)
 }
 
-/// Returns `ended`, how `command` over `files` ended, and notes what a person needs to hear of it.
+/// Returns `ended`, the end of `command` for `files`, and gives notes on it for the user.
 fn noted(
     alloc: Global,
     command: Command,
@@ -159,7 +159,7 @@ fn noted(
     ensures { result ≡ ended }
 {
     if let Ok(outcome) | Err(Stop::Ended(outcome)) = &ended {
-        // Where memory runs out for the notes, the outcome is the same.
+        // Where memory for the notes runs out, the outcome is the same.
         let _ = note_call(alloc, command, outcome, files, aside);
     }
     ended

@@ -1,4 +1,4 @@
--- The kernel that a generator draws: 32 nodes `v0` to `v31`, of which those from `v2` to `v27` are drawn.
+-- The random kernel: 32 nodes `v0` to `v31`, of which `v2` to `v27` are random.
 use Rattle.std.specs.Prelude.{ℕ, zero, suc, ◌+◌, List, [], ◌∷◌, ◌++◌, codes, decimal, unwrap_or}
 use Rattle.rand_pcg.specs.Lcg.{Lcg}
 use Rattle.cg_word.specs.declared.op.Op.{Op}
@@ -19,21 +19,22 @@ node_name k = codes "v" ++ decimal k
 abbrev pub node_of : ℕ → Op → List Operand → Node
 node_of k op operands = record { name = node_name k; op = op; port = 0; operands = operands }
 
--- ---- drawn nodes
+-- ---- random nodes
 
--- the operation with code 4 plus a number below 16: add to select, of which each is there
+-- a random operation, whose code is 4 plus a number below 16: from add to select, all of which are defined
 abbrev pub drawn_op : Lcg → Op
 drawn_op g = unwrap_or (op_of (4 + below 16 g)) Add
 
--- an operand of node k: the value of an earlier node, 0 to 2 turns ago, and an initial word for each of these turns
+-- a random operand of node k: the value of an earlier node, 0 to 2 iterations ago, and an initial word for each of
+-- these iterations
 abbrev pub drawn_operand : ℕ → Lcg → Operand
 drawn_operand k g = Edge (below k g) (below 3 (rest g)) (words_of (below 3 (rest g)) (rest (rest g)))
 
--- the generator after it
+-- the generator after an operand
 abbrev pub after_operand : Lcg → Lcg
 after_operand g = after (below 3 (rest g)) (rest (rest g))
 
--- n operands of node k
+-- n random operands of node k
 abbrev pub drawn_operands : ℕ → ℕ → Lcg → List Operand
 drawn_operands k zero g = []
 drawn_operands k (suc n) g = drawn_operand k g ∷ drawn_operands k n (after_operand g)
@@ -43,7 +44,7 @@ abbrev pub after_operands : ℕ → Lcg → Lcg
 after_operands zero g = g
 after_operands (suc n) g = after_operands n (after_operand g)
 
--- node k: its operation, and then its operands in order
+-- random node k: its operation, and then its operands in order
 unfoldable pub drawn_node : ℕ → Lcg → Node
 drawn_node k g = node_of k (drawn_op g) (drawn_operands k (arity (drawn_op g)) (rest g))
 
@@ -51,23 +52,23 @@ drawn_node k g = node_of k (drawn_op g) (drawn_operands k (arity (drawn_op g)) (
 unfoldable pub after_node : Lcg → Lcg
 after_node g = after_operands (arity (drawn_op g)) (rest g)
 
--- n nodes, the first of them node k
+-- n random nodes, the first of them node k
 unfoldable pub drawn_nodes : ℕ → ℕ → Lcg → List Node
 drawn_nodes k zero g = []
 drawn_nodes k (suc n) g = drawn_node k g ∷ drawn_nodes (k + 1) n (after_node g)
 
--- ---- the nodes before and after them
+-- ---- the nodes before and after the random ones
 
--- the value of node u, of the same turn
+-- the value of node u, in the same iteration
 abbrev pub value_of : ℕ → Operand
 value_of u = Edge u 0 []
 
--- the turn, and a constant that is drawn
+-- the iteration number, and a random constant
 abbrev pub first_nodes : Lcg → List Node
 first_nodes g = node_of 0 Iter [] ∷ node_of 1 Const (Constant (next g) ∷ []) ∷ []
 
--- the last eight bits of `v27` are an address, from which a word is read, and to which `v27` is written; what was read is
--- sent to port 0
+-- the last eight bits of `v27` are an address, from which a word is loaded, and to which `v27` is stored; the loaded
+-- word is sent to port 0
 abbrev pub last_nodes : List Node
 last_nodes =
     node_of 28 And (value_of 27 ∷ Constant 255 ∷ [])
@@ -76,14 +77,14 @@ last_nodes =
     ∷ node_of 31 Output (value_of 29 ∷ [])
     ∷ []
 
--- the word is read before it is written in the same turn, and after it was written in the turn before
+-- the load comes before the store of the same iteration, and after the store of the previous iteration
 abbrev pub order_edges : List OrderEdge
 order_edges = record { from = 29; to = 30; distance = 0 } ∷ record { from = 30; to = 29; distance = 1 } ∷ []
 
--- the kernel
+-- the kernel that a generator determines
 unfoldable pub drawn_kernel : Lcg → Kernel
 drawn_kernel g = record { nodes = first_nodes g ++ (drawn_nodes 2 26 (rest g) ++ last_nodes); order = order_edges }
 
--- that of a seed
+-- the kernel of a seed
 unfoldable pub trial_kernel : ℕ → Kernel
 trial_kernel seed = drawn_kernel (generator seed)

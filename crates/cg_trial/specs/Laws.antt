@@ -6,7 +6,7 @@ use Rattle.cg_hub.specs.Hub.{HubEnough}
 use Rattle.cg_trial.specs.Drawn.{trial_kernel}
 use Rattle.cg_trial.specs.Trial.{trial_arch}
 
--- all accesses of the kernel that matter are ordered, in any number of turns and on any image
+-- all accesses of the kernel that matter are ordered, for every number of iterations and every image
 abbrev pub AreOrdered : Type 0
 AreOrdered = (seed n : ℕ) (image : Image) → IsUnaliased (trial_kernel seed) n image
 

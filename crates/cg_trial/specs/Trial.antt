@@ -17,7 +17,7 @@ use Rattle.cg_validate.specs.Flat.{arch_of}
 abbrev pub unit_names : List (List ℕ)
 unit_names = codes "u0" ∷ codes "u1" ∷ codes "u2" ∷ codes "u3" ∷ []
 
--- those of their outs
+-- the names of the units' outs
 abbrev pub out_names : List (List ℕ)
 out_names = map out_name unit_names
 
@@ -25,7 +25,7 @@ out_names = map out_name unit_names
 abbrev pub register_name : ℕ → List ℕ
 register_name k = codes "h" ++ decimal k
 
--- those of the first n registers
+-- the names of the first n registers
 abbrev pub register_names : ℕ → List (List ℕ)
 register_names n = map register_name (range_with_len 0 n)
 
@@ -52,7 +52,7 @@ parts_with n =
       hub = register_names n;
     }
 
--- the architecture: that with 96 registers
+-- the architecture of a trial, with 96 registers
 unfoldable pub trial_arch : Arch
 trial_arch = arch_of (parts_with 96)
 

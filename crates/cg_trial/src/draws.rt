@@ -1,4 +1,4 @@
-//! Words and numbers that a generator draws.
+//! The random words and numbers of a generator.
 ghost use Rattle.std.specs.Prelude.{◌≡◌, ◌<◌, IfOk, OnOk};
 ghost use Rattle.cg_trial.specs.Words as spec;
 
@@ -6,7 +6,7 @@ use rand_core::utils::NextWord;
 use rand_pcg::Lcg64Xsh32;
 use std::alloc::{AllocError, Global};
 
-/// The generator of a seed.
+/// Returns the generator for `seed`.
 #[tactic(auto, unfolding(crate::specs::Words::generator))]
 pub(crate) fn generator(seed: u64) -> Lcg64Xsh32
     ensures { result ≡ spec.generator seed }
@@ -14,7 +14,7 @@ pub(crate) fn generator(seed: u64) -> Lcg64Xsh32
     Lcg64Xsh32::new(seed, 0)
 }
 
-/// The next word of a generator.
+/// Returns the next random word of a generator.
 #[tactic(auto, unfolding(crate::specs::Words::next, crate::specs::Words::rest))]
 pub(crate) fn next(generator: &mut Lcg64Xsh32) -> u32
     ensures word { result ≡ spec.next generator.old }
@@ -23,7 +23,7 @@ pub(crate) fn next(generator: &mut Lcg64Xsh32) -> u32
     generator.next_word()
 }
 
-/// A number below `n`, by the next word.
+/// Returns a random number below `n`, computed from the next word.
 #[tactic(auto, unfolding(crate::specs::Words::below))]
 pub(crate) fn below(generator: &mut Lcg64Xsh32, n: u32) -> u32
     requires { 0 < n }
@@ -34,7 +34,7 @@ pub(crate) fn below(generator: &mut Lcg64Xsh32, n: u32) -> u32
     (u64::from(next(generator)) * u64::from(n) / (1 << 32)) as u32
 }
 
-/// The next `n` words.
+/// Returns the next `n` random words.
 pub(crate) fn words(
     alloc: Global,
     generator: &mut Lcg64Xsh32,

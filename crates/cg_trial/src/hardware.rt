@@ -1,4 +1,4 @@
-//! The architecture.
+//! The architecture of a trial.
 ghost use Rattle.std.specs.Prelude.{◌≡◌, [], ◌++◌, IfOk, fold, map};
 ghost use Rattle.std.specs.List.{range_with_len};
 ghost use Rattle.cg_word.specs.Sets.{with_op};
@@ -11,7 +11,7 @@ use cg_parts::{ArchFault, Element, Names, Parts};
 use cg_validate::validate;
 use std::alloc::{AllocError, Global};
 
-/// The registers of the hub.
+/// The number of registers of the hub.
 const REGISTERS: u32 = 96;
 
 /// Returns the names of `count` registers.
@@ -31,7 +31,7 @@ fn register_name(alloc: Global, number: u32) -> Result<Name, AllocError>
     Ok(Name::new(format!(in alloc; "h{number}")?))
 }
 
-/// Returns the names of the outs, and then of `count` registers.
+/// Returns the names of the outs, followed by those of `count` registers.
 fn all_names(alloc: Global, count: u32) -> Result<Vec<Name>, AllocError>
     ensures { IfOk result (λ list. list.items ≡ spec.out_names ++ spec.register_names count) }
 {
@@ -47,7 +47,7 @@ fn all_names(alloc: Global, count: u32) -> Result<Vec<Name>, AllocError>
     Ok(list)
 }
 
-/// The set of some operations.
+/// Returns the set of the operations `ops`.
 fn set_of(ops: &[Op]) -> OpSet
     ensures { result ≡ fold with_op [] ops.now }
 {
@@ -58,7 +58,7 @@ fn set_of(ops: &[Op]) -> OpSet
     set
 }
 
-/// The operations with codes 1 to 22.
+/// Returns the set of the operations with codes 1 to 22.
 fn unit_ops() -> OpSet
     ensures { result ≡ spec.unit_ops }
 {
@@ -90,7 +90,7 @@ fn unit_part(alloc: Global, count: u32, name: &str) -> Result<Element, AllocErro
     })
 }
 
-/// Returns the parts with `count` registers.
+/// Returns the parts of the architecture with `count` registers.
 #[tactic(auto, unfolding(crate::specs::Trial::parts_with))]
 fn parts_with(alloc: Global, count: u32) -> Result<Parts, AllocError>
     ensures { IfOk result (λ parts. parts ≡ spec.parts_with count) }
@@ -119,7 +119,7 @@ fn register_parts(alloc: Global, count: u32) -> Result<Vec<Element>, AllocError>
     Ok(list)
 }
 
-/// The architecture.
+/// Returns the architecture of a trial.
 #[tactic(auto, unfolding(crate::specs::Trial::trial_arch))]
 pub(crate) fn trial_arch(alloc: Global) -> Result<Arch, AllocError>
     ensures arch { IfOk result (λ arch. arch ≡ spec.trial_arch) }

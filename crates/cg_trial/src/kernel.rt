@@ -1,4 +1,4 @@
-//! The kernel that a generator draws.
+//! The random kernel of a trial.
 ghost use Rattle.std.specs.Prelude.{◌≡◌, ◌+◌, ◌<◌, ◌≤◌, ◌++◌, IfOk, OnOk};
 ghost use Rattle.cg_trial.specs.Words.{rest};
 ghost use Rattle.cg_trial.specs.Drawn as spec;
@@ -9,14 +9,14 @@ use cg_word::Op;
 use rand_pcg::Lcg64Xsh32;
 use std::alloc::{AllocError, Global};
 
-/// The name of a node.
+/// Returns the name of node `number`.
 fn node_name(alloc: Global, number: u32) -> Result<Name, AllocError>
     ensures { IfOk result (λ name. name ≡ spec.node_name number) }
 {
     Ok(Name::new(format!(in alloc; "v{number}")?))
 }
 
-/// A node that names no port.
+/// Returns node `number` with operation `op` and the operands `operands`, which names no port.
 fn node_of(alloc: Global, number: u32, op: Op, operands: Vec<Operand>) -> Result<Node, AllocError>
     ensures { IfOk result (λ node. node ≡ spec.node_of number op operands.items) }
 {
@@ -28,7 +28,7 @@ fn node_of(alloc: Global, number: u32, op: Op, operands: Vec<Operand>) -> Result
     })
 }
 
-/// The operation with code 4 plus a number below 16.
+/// Returns a random operation, whose code is 4 plus a random number below 16.
 fn drawn_op(generator: &mut Lcg64Xsh32) -> Op
     ensures op { result ≡ spec.drawn_op generator.old }
     ensures rest { generator.new ≡ rest generator.old }
@@ -37,7 +37,7 @@ fn drawn_op(generator: &mut Lcg64Xsh32) -> Op
     Op::from_code(code).unwrap_or(Op::Add)
 }
 
-/// An operand of a node: its source, its distance, and its initial words.
+/// Returns a random operand of a node: its source, its distance, and its initial words.
 fn drawn_operand(
     alloc: Global,
     generator: &mut Lcg64Xsh32,
@@ -57,7 +57,7 @@ fn drawn_operand(
     })
 }
 
-/// The operands of a node, in order.
+/// Returns the random operands of a node, in order.
 fn drawn_operands(
     alloc: Global,
     generator: &mut Lcg64Xsh32,
@@ -75,7 +75,7 @@ fn drawn_operands(
     Ok(list)
 }
 
-/// A node: its operation, and then its operands.
+/// Returns a random node: first its operation is drawn, and then its operands.
 #[tactic(auto, unfolding(crate::specs::Drawn::drawn_node, crate::specs::Drawn::after_node))]
 fn drawn_node(alloc: Global, generator: &mut Lcg64Xsh32, number: u32) -> Result<Node, AllocError>
     requires { 0 < number }
@@ -87,7 +87,7 @@ fn drawn_node(alloc: Global, generator: &mut Lcg64Xsh32, number: u32) -> Result<
     node_of(alloc, number, op, operands)
 }
 
-/// Adds `count` nodes to `nodes`, the first of them node number `first`.
+/// Adds `count` random nodes to `nodes`, the first of them with number `first`.
 fn add_drawn_nodes(
     alloc: Global,
     generator: &mut Lcg64Xsh32,
@@ -105,7 +105,7 @@ fn add_drawn_nodes(
     Ok(())
 }
 
-/// The value of a node, of the same turn.
+/// Returns the operand that is the value of `node` in the same iteration.
 fn value_of(alloc: Global, node: u32) -> Operand
     ensures { result ≡ spec.value_of node }
 {
@@ -116,7 +116,7 @@ fn value_of(alloc: Global, node: u32) -> Operand
     }
 }
 
-/// The turn, and a constant that is drawn.
+/// Returns the first two nodes: the iteration number, and a random constant.
 fn first_nodes(alloc: Global, generator: &mut Lcg64Xsh32) -> Result<Vec<Node>, AllocError>
     ensures nodes { IfOk result (λ list. list.items ≡ spec.first_nodes generator.old) }
     ensures rest { OnOk result (generator.new ≡ rest generator.old) }
@@ -128,7 +128,7 @@ fn first_nodes(alloc: Global, generator: &mut Lcg64Xsh32) -> Result<Vec<Node>, A
     ]?)
 }
 
-/// Adds the nodes that read a word, write it and send it.
+/// Adds the nodes that load a word, store a word, and send the loaded word to a port.
 fn add_last_nodes(alloc: Global, nodes: &mut Vec<Node>) -> Result<(), AllocError>
     ensures { OnOk result (nodes.new.items ≡ nodes.old.items ++ spec.last_nodes) }
 {
@@ -143,7 +143,7 @@ fn add_last_nodes(alloc: Global, nodes: &mut Vec<Node>) -> Result<(), AllocError
     Ok(())
 }
 
-/// The order of the load and the store.
+/// Returns the order edges between the load and the store.
 fn order_edges(alloc: Global) -> Result<Vec<OrderEdge>, AllocError>
     ensures { IfOk result (λ list. list.items ≡ spec.order_edges) }
 {
@@ -161,7 +161,7 @@ fn order_edges(alloc: Global) -> Result<Vec<OrderEdge>, AllocError>
     ]?)
 }
 
-/// The kernel of a seed.
+/// Returns the kernel of a trial.
 #[tactic(auto, unfolding(crate::specs::Drawn::trial_kernel, crate::specs::Drawn::drawn_kernel))]
 pub(crate) fn trial_kernel(alloc: Global, seed: u64) -> Result<Kernel, AllocError>
     ensures { IfOk result (λ kernel. kernel ≡ spec.trial_kernel seed) }

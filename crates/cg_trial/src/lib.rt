@@ -1,4 +1,4 @@
-//! A trial: an architecture with a large hub, and the kernel and the image that a number draws for it.
+//! A trial: an architecture with a large hub, and a random kernel and an image for it, from a seed.
 #![tactic(auto)]
 
 mod draws;

@@ -11,7 +11,7 @@ use cg_model::Kernel;
 use cg_pad::{Image, Words, empty_streams};
 use std::alloc::{AllocError, Global};
 
-/// An architecture, a kernel for it, and an image from which the kernel runs.
+/// The parts of a trial: an architecture, a kernel for it, and an image from which the kernel runs.
 #[derive(Drop)]
 pub struct TrialParts {
     pub arch: Arch,
@@ -19,7 +19,7 @@ pub struct TrialParts {
     pub image: Image,
 }
 
-/// The words 0 to 255.
+/// Returns the words 0 to 255.
 fn memory(alloc: Global) -> Result<Vec<u32>, AllocError>
     ensures { IfOk result (λ list. list.items ≡ range_with_len 0 256) }
 {
@@ -30,7 +30,7 @@ fn memory(alloc: Global) -> Result<Vec<u32>, AllocError>
     Ok(list)
 }
 
-/// The image.
+/// Returns the image of a trial.
 fn image_of_trial(alloc: Global) -> Result<Image, AllocError>
     ensures { IfOk result (λ image. image ≡ trial_image) }
 {
@@ -40,7 +40,7 @@ fn image_of_trial(alloc: Global) -> Result<Image, AllocError>
     })
 }
 
-/// The architecture, the kernel and the image of a seed.
+/// Returns the architecture, the kernel and the image of the trial of `seed`.
 pub fn trial_parts(alloc: Global, seed: u64) -> Result<TrialParts, AllocError>
     ensures arch { IfOk result (λ parts. parts.arch ≡ trial_arch) }
     ensures kernel { IfOk result (λ parts. parts.kernel ≡ kernel_of seed) }

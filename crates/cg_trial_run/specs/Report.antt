@@ -16,7 +16,7 @@ use Rattle.cg_hub.specs.Hub.{hub_map}
 use Rattle.cg_trial.specs.Drawn.{trial_kernel}
 use Rattle.cg_trial.specs.Trial.{trial_arch, trial_image}
 
--- the mapping of a seed's kernel: that over the hub, at an interval of 64 cycles
+-- the mapping of a seed's kernel over the hub, at an interval of 64 cycles
 abbrev pub trial_mapped : ℕ → Mapped
 trial_mapped seed = record { arch = trial_arch; kernel = trial_kernel seed; mapping = hub_map trial_arch (trial_kernel seed) 64 }
 
@@ -24,15 +24,15 @@ trial_mapped seed = record { arch = trial_arch; kernel = trial_kernel seed; mapp
 abbrev pub trial_config : ℕ → Config
 trial_config seed = configuration_of trial_arch (trial_kernel seed) (hub_map trial_arch (trial_kernel seed) 64)
 
--- how many turns each of the two runs has
+-- the number of iterations of each of the two runs
 abbrev pub trial_turns : ℕ
 trial_turns = 1000
 
--- the image that the array leaves that runs the configuration
+-- the image that the array under the configuration leaves
 abbrev pub run_image : ℕ → Image
 run_image seed = (machine_left trial_arch (trial_config seed) trial_turns trial_image).image
 
--- the image that the turns of the kernel leave, one after the other
+-- the image that the iterations of the kernel leave, one after the other
 abbrev pub turns_image : ℕ → Image
 turns_image seed = (turns_left (trial_kernel seed) trial_turns trial_image).image
 
@@ -48,7 +48,7 @@ mapping_lines seed m =
     (line_then (codes "ii " ∷ decimal m.mapping.ii ∷ [])
     (line_of (codes "stages " ∷ decimal (configuration_of m.arch m.kernel m.mapping).stages ∷ []))))
 
--- those on the number of bytes of bits, and on two digests
+-- the lines on the number of bytes of the bits, and on two digests
 abbrev pub run_lines : ℕ → Bytes → Bytes → Bytes
 run_lines bits run turns =
     line_then (codes "bits " ∷ decimal bits ∷ [])
@@ -60,11 +60,12 @@ run_lines bits run turns =
 unfoldable pub report_of : ℕ → Mapped → ℕ → Bytes → Bytes → Bytes
 report_of seed m bits run turns = mapping_lines seed m ++ run_lines bits run turns
 
--- that of a seed, where these bytes are the bits
+-- the report of a seed's trial, where these bytes are the bits
 abbrev pub trial_report : ℕ → Bytes → Bytes
 trial_report seed bits = report_of seed (trial_mapped seed) (length bits) (image_digest (run_image seed)) (image_digest (turns_image seed))
 
--- a report on a mapping, bits that spell its configuration, and the images that the array and the turns leave of an image
+-- a report on a mapping, bits that encode its configuration, and the images that the array and the iterations leave
+-- from an image
 pub record IsReport (seed : ℕ) (m : Mapped) (image : Image) (report : Bytes) : Type 0 where
   pub bits : Bytes
   pub spelled : AreBits m.arch (configuration_of m.arch m.kernel m.mapping) bits

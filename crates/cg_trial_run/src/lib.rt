@@ -1,5 +1,5 @@
-//! A trial: a drawn kernel is mapped over the hub of an architecture, and runs twice: by the array that the bits configure, and
-//! turn by turn.
+//! A trial: a random kernel is mapped over the hub of an architecture, and is run twice: by the array that the bits
+//! configure, and iteration by iteration.
 #![tactic(auto)]
 
 mod runs;

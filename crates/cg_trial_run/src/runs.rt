@@ -21,10 +21,10 @@ use cg_view::ConfigView;
 use sha2::{Digest, Sha256};
 use std::alloc::{AllocError, Global};
 
-/// How many turns each run has.
+/// The number of iterations of each run.
 pub(crate) const TURNS: u32 = 1000;
 
-/// Returns the digest of the file of `image`.
+/// Returns the digest of the file that holds `image`.
 #[tactic(auto, unfolding(crate::specs::Report::image_digest))]
 fn image_digest(alloc: Global, image: &Image) -> Result<String, AllocError>
     requires { IsStorable image.now }
@@ -34,7 +34,7 @@ fn image_digest(alloc: Global, image: &Image) -> Result<String, AllocError>
     hex::encode(alloc, Sha256::digest(bytes.as_slice()))
 }
 
-/// Runs the bits of `mapping` on its array, from `image`, and returns the digest of the image that is left.
+/// Runs the array of `mapping`, configured by its bits, from `image`, and returns the digest of the image that is left.
 pub(crate) fn run_digest(
     alloc: Global,
     mapping: &LegalMapping<'_>,
@@ -70,7 +70,8 @@ fn config_digest(
     }
 }
 
-/// Returns the only fault that a number of turns within the limit leaves, from an image that fits: memory ran out.
+/// Converts `fault` to the only fault that remains when the number of iterations is within the limit and the image
+/// fits: memory ran out.
 fn want_of_run(fault: SimFault) -> AllocError
     requires many { (t : ℕ) → fault ≡ SimFault.TooManyTurns t → ⊥ }
     requires large { (w : ℕ) → fault ≡ SimFault.ImageTooLarge w → ⊥ }
@@ -94,8 +95,8 @@ fn left_digest(alloc: Global, sim: Sim<'_, ConfigView<'_>>) -> Result<String, Al
     image_digest(alloc, &image)
 }
 
-/// Runs the turns of the kernel of `mapping`, one after the other, from `image`, and returns the digest of the image
-/// that is left.
+/// Runs the iterations of the kernel of `mapping`, one after the other, from `image`, and returns the digest of the
+/// image that is left.
 pub(crate) fn turns_digest(
     alloc: Global,
     mapping: &LegalMapping<'_>,
@@ -109,7 +110,7 @@ pub(crate) fn turns_digest(
     Ok(text)
 }
 
-/// Runs the turns of `kernel` from `image`.
+/// Runs `TURNS` iterations of `kernel` from `image`.
 fn turned(alloc: Global, kernel: &Kernel, image: &Image) -> Result<TurnsDone, AllocError>
     ensures done { IfOk result (λ d. left_of d ≡ turns_left kernel.now trial_turns image.now) }
     ensures small { IfOk result (λ d. IsSmall image.now trial_turns d.image) }
@@ -120,7 +121,7 @@ fn turned(alloc: Global, kernel: &Kernel, image: &Image) -> Result<TurnsDone, Al
     }
 }
 
-/// Returns the only fault that a number of turns within the limit leaves: memory ran out.
+/// Converts `fault` to the only fault that remains when the number of iterations is within the limit: memory ran out.
 fn want_of_turns(fault: TurnsFault) -> AllocError
     requires { (t : ℕ) → fault ≡ TurnsFault.TooManyTurns t → ⊥ }
 {

@@ -15,8 +15,9 @@ use cg_trial::laws::enough;
 use cg_trial::{TrialParts, trial_parts};
 use std::alloc::{AllocError, Global};
 
-/// Runs the trial of `seed`: its parts are mapped at an interval of 64 cycles, the bits are run by the array, and the
-/// kernel turn by turn. The report has eight lines, of which the last two say the SHA-256 of the images that are left.
+/// Runs the trial of `seed`: maps its kernel at an interval of 64 cycles, runs the bits on the array, and runs the
+/// kernel iteration by iteration. The report has eight lines; the last two contain the SHA-256 of the images that are
+/// left.
 #[tactic(auto, using(crate::proofs::Trials::same_image))]
 pub fn trial(alloc: Global, seed: u64) -> Result<Vec<u8>, AllocError>
     ensures report { IfOk result (λ v. IsTrial seed v.items) }
@@ -40,7 +41,7 @@ fn trial_on(alloc: Global, seed: u64, parts: &TrialParts) -> Result<Vec<u8>, All
     Ok(text)
 }
 
-/// Returns the report on `mapping`, which runs from `image`.
+/// Returns the report on `mapping` and its two runs from `image`.
 fn report_on(
     alloc: Global,
     seed: u64,
@@ -59,7 +60,7 @@ fn report_on(
     Ok(text)
 }
 
-/// Returns the report of `seed` and `mapping`, with the number of bytes `bits` and the digests `run` and `turns`.
+/// Returns the report for `seed` and `mapping`, with the number of bytes `bits` and the digests `run` and `turns`.
 #[tactic(auto, unfolding(crate::specs::Report::report_of))]
 fn report(
     alloc: Global,

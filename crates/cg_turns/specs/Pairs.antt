@@ -8,11 +8,11 @@ use Rattle.cg_model.specs.Order.{IsOrdered, IsUnaliased}
 use Rattle.cg_turns.specs.declared.pair.Access.{Access}
 use Rattle.cg_turns.specs.declared.pair.UnorderedPair.{UnorderedPair}
 
--- the number of an access's step, for a kernel of m nodes
+-- the number of the step of an access, for a kernel of m nodes
 abbrev pub step_of : ℕ → Access → ℕ
 step_of m a = a.turn * m + a.node
 
--- one of two nodes is a store
+-- at least one of two nodes is a store
 abbrev pub IsRival : Kernel → ℕ → ℕ → Type 0
 IsRival K u v = (is_store (node K u).op ≡ true) ⊎ (is_store (node K v).op ≡ true)
 
@@ -34,8 +34,8 @@ pub record IsUnordered (K : Kernel) (image : Image) (k l : ℕ) : Type 0 where
   pub conflict : IsConflict K image k l
   pub unordered : AreOrdered K k l → ⊥
 
--- of the unordered pairs among the first `steps` steps, the one with the least later step, and for it the latest
--- earlier step
+-- of the unordered pairs among the first `steps` steps, the one with the least later step, and with the latest earlier
+-- step for it
 pub record IsFirstPair (K : Kernel) (image : Image) (steps k l : ℕ) : Type 0 where
   pub pair : IsUnordered K image k l
   pub within : l < steps
@@ -48,7 +48,7 @@ pub record IsPair (K : Kernel) (image : Image) (steps : ℕ) (p : UnorderedPair)
   pub later : p.later.node < size K
   pub first : IsFirstPair K image steps (step_of (size K) p.earlier) (step_of (size K) p.later)
 
--- what n turns answer: None where the run is unaliased, else its first pair
+-- the result of n turns: None where the run is unaliased, else its first pair
 abbrev pub IsPairOf : Kernel → ℕ → Image → Option UnorderedPair → Type 0
 IsPairOf K n image None = IsUnaliased K n image
 IsPairOf K n image (Some p) = IsPair K image (n * size K) p

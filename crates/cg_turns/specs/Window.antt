@@ -8,12 +8,13 @@ use Rattle.cg_model.specs.declared.kernel.Operand.TheVariants.{Const as Constant
 abbrev pub row_before : ℕ → ℕ → ℕ
 row_before row d = if nat_le d row then row - d else row + 5 - d
 
--- an operand in turn i, out of the rows: where its edge goes back over no more turns than there were, from the row of that turn
+-- an operand in turn i, from the rows: where its edge goes back over no more turns than there were, from the row of
+-- that turn
 abbrev pub operand_in : List ℕ → ℕ → ℕ → ℕ → Operand → ℕ
 operand_in window row size i (Constant w) = w
 operand_in window row size i (Edge u d init) = if nat_lt i d then slice_index init i else slice_index window (row_before row d * size + u)
 
--- an operand that the rows know
+-- an operand that can be read from the rows
 abbrev pub IsNear : ℕ → Operand → Type 0
 IsNear size (Constant w) = Unit {0}
 IsNear size (Edge u d init) = (u < size) × (d ≤ most_distance)

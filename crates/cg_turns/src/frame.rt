@@ -1,4 +1,4 @@
-//! What a run keeps from step to step.
+//! The state of a run from step to step.
 ghost use Rattle.std.specs.Prelude.{◌≡◌, ◌<◌, ◌≤◌, ◌+◌, ◌*◌, ◌^◌, IfOk, OnOk, length};
 ghost use Rattle.cg_model.specs.Kernel.{IsKernel, size};
 ghost use Rattle.cg_model.specs.Limits.{most_nodes, most_turns, port_count};
@@ -14,7 +14,8 @@ use cg_model::{Kernel, Words};
 use cg_pad::{Image, Scratchpad, Work, empty_streams};
 use std::alloc::{AllocError, Global};
 
-/// What the steps so far have left: the values of the last turns, the scratchpad, the output streams and the outside count.
+/// The effects of the steps so far: the values of the last turns, the scratchpad, the output streams and the outside
+/// count.
 #[derive(Drop)]
 pub(crate) struct Frame {
     pub(crate) window: Vec<u32>,
@@ -23,7 +24,7 @@ pub(crate) struct Frame {
     pub(crate) outside: u64,
 }
 
-/// Before the first step.
+/// Returns the frame before the first step.
 pub(crate) fn start(alloc: Global, kernel: &Kernel, image: &Image) -> Result<Frame, AllocError>
     ensures at { IfOk result (λ f. IsAt kernel.now image.now 0 0 f) }
     ensures outside { IfOk result (λ f. f.outside ≡ 0) }
@@ -47,7 +48,7 @@ pub(crate) struct Program<'a> {
     ghost distances: { table.now ≡ kernel.now },
 }
 
-/// One step: a node in a turn. It gives the word of the memory that it reaches.
+/// Executes one step, a node in a turn, and returns the memory word that it accesses, if any.
 fn step(
     program: Program,
     turn: Turn,
@@ -89,7 +90,7 @@ fn step(
     Ok(word)
 }
 
-/// One turn: the nodes in program order.
+/// Executes one turn: the nodes in program order.
 pub(crate) fn one_turn(
     program: Program,
     turn: Turn,

@@ -5,18 +5,19 @@ use cg_distance::DistanceTable;
 use std::alloc::{AllocError, Global};
 use std::marker::Model;
 
-/// What stands in the place of a word's last store where there is none: no node has this number.
+/// The placeholder for a word's last store where there is none: no node has this number.
 const NO_STORE: Access = Access {
     node: u32::MAX,
     turn: 0,
 };
 
-/// The number of accesses that a word's first list has room for.
+/// The number of accesses for which a word's first list has room.
 const LEAST_ROOM: usize = 3;
 
-/// The last store to a word, and loads of it since: of each node its latest, and maybe earlier ones.
+/// The last store to a word, and the loads of it since: the latest load of each node, and possibly earlier ones.
 ///
-/// They stand in one list, so that a word takes 24 bytes until it is accessed: first the store, or `NO_STORE` where only loads came.
+/// They are kept in one list, so that a word takes 24 bytes until it is accessed: first the store, or `NO_STORE` where
+/// there were only loads.
 #[derive(Drop)]
 pub(crate) struct LastAccesses {
     accesses: Vec<Access>,
@@ -38,7 +39,7 @@ impl LastAccesses {
     ghost use Rattle.cg_turns.specs.Last.{no_store};
     ghost use Rattle.cg_turns.specs.Trace.{nothing_kept, rivals_of, IsLatest, Keeps};
 
-    /// No access.
+    /// Returns the value without accesses.
     pub(crate) fn new(alloc: Global) -> LastAccesses
         ensures { result ≡ nothing_kept }
     {
@@ -47,7 +48,8 @@ impl LastAccesses {
         }
     }
 
-    /// The latest that is unordered with an access: of the store, and of the loads where the access is a store.
+    /// Returns the latest access that is unordered with an access: among the store, and the loads where the access is a
+    /// store.
     pub(crate) fn latest_unordered(
         &self,
         table: &DistanceTable,
@@ -62,7 +64,7 @@ impl LastAccesses {
         latest_unordered(table, size, self.store(), self.rivals(stores), later)
     }
 
-    /// The last store.
+    /// Returns the last store.
     fn store(&self) -> Option<Access>
         ensures { result ≡ self.now.store }
     {
@@ -78,7 +80,7 @@ impl LastAccesses {
         }
     }
 
-    /// The loads since.
+    /// Returns the loads since the last store.
     fn loads(&self) -> &[Access]
         ensures { result.now ≡ self.now.loads }
     {
@@ -88,16 +90,16 @@ impl LastAccesses {
         }
     }
 
-    /// The loads that a store can make a pair with; a load can with none.
+    /// Returns the loads with which an access can form a pair: all for a store, none for a load.
     fn rivals(&self, stores: bool) -> &[Access]
         ensures { result.now ≡ rivals_of stores self.now }
     {
         if stores { self.loads() } else { &[] }
     }
 
-    /// Takes in an access: a store in place of all, a load in place of its node's last one or beside it.
+    /// Records an access: a store replaces everything, a load replaces its node's last load or is added.
     ///
-    /// The places tell where each node's last load stands in the list of some word.
+    /// The places give the position of each node's last load in the list of some word.
     pub(crate) fn take(
         &mut self,
         stores: bool,
@@ -122,7 +124,7 @@ ghost use Rattle.std.specs.Prelude.{◌≡◌, ◌<◌, ◌∷◌, [], IfOk, IfS
 ghost use Rattle.cg_turns.specs.Last.{with_store_place, IsThinnedBehind, TakesBehind};
 ghost use Rattle.cg_turns.specs.Trace.{no_access};
 
-/// A store in place of all.
+/// Replaces everything by `store`.
 fn store_alone(accesses: &mut Vec<Access>, store: Access) -> Result<(), AllocError>
     ensures { OnOk result (accesses.new.items ≡ store ∷ []) }
 {
@@ -132,7 +134,7 @@ fn store_alone(accesses: &mut Vec<Access>, store: Access) -> Result<(), AllocErr
     Ok(())
 }
 
-/// Gives the last store its place, where there was no access yet.
+/// Adds the placeholder for the last store, if there was no access yet.
 fn put_store_place(accesses: &mut Vec<Access>) -> Result<(), AllocError>
     ensures { OnOk result (accesses.new.items ≡ with_store_place accesses.old.items) }
 {
@@ -143,7 +145,7 @@ fn put_store_place(accesses: &mut Vec<Access>) -> Result<(), AllocError>
     Ok(())
 }
 
-/// Thins the loads where the list has no more room, and leaves room for as many accesses more.
+/// Where the list is full, thins the loads and reserves room to double the thinned list.
 fn make_room(accesses: &mut Vec<Access>, places: &mut Vec<usize>) -> Result<(), AllocError>
     requires { 0 < length accesses.old.items }
     ensures { OnOk result (IsThinnedBehind accesses.old.items accesses.new.items) }
@@ -157,7 +159,7 @@ fn make_room(accesses: &mut Vec<Access>, places: &mut Vec<usize>) -> Result<(), 
     Ok(())
 }
 
-/// The store's place, and the latest load of each node.
+/// Returns the entry of the store, and the latest load of each node.
 fn thinned(accesses: &Vec<Access>, places: &mut Vec<usize>) -> Result<Vec<Access>, AllocError>
     requires { 0 < length accesses.now.items }
     ensures { IfOk result (λ t. IsThinnedBehind accesses.now.items t.items) }
@@ -170,7 +172,8 @@ fn thinned(accesses: &Vec<Access>, places: &mut Vec<usize>) -> Result<Vec<Access
     Ok(latest)
 }
 
-/// Behind the store's place, writes a load over that of its node, where it is found and no later, or adds it.
+/// Records `load` after the store's entry: it replaces the load of its node if that is found and earlier, and is
+/// appended if none is found.
 fn take_in(
     accesses: &mut Vec<Access>,
     load: Access,
@@ -193,7 +196,7 @@ fn take_in(
     Ok(())
 }
 
-/// Where a node's load stands, if it is where the places say.
+/// Returns the position of a node's load, if it is where `places` says.
 fn place_of(accesses: &[Access], node: u32, places: &[usize]) -> Option<usize>
     ensures { IfSome result (λ p. (0 < p) × (p < length accesses.now) × ((slice_index_or accesses.now p no_access).node ≡ node)) }
 {
@@ -205,7 +208,7 @@ fn place_of(accesses: &[Access], node: u32, places: &[usize]) -> Option<usize>
     }
 }
 
-/// Says where a node's load stands.
+/// Records the position of a node's load.
 fn put_place(places: &mut Vec<usize>, node: u32, place: usize) {
     if (node as usize) < places.len() {
         places[node as usize] = place;

@@ -22,7 +22,7 @@ pub struct UnorderedPair {
     pub later: Access,
 }
 
-/// Whether the edges order an access before another.
+/// Returns whether the edges order `earlier` before `later`.
 fn is_ordered(table: &DistanceTable, earlier: Access, later: Access) -> bool
     ensures { IsTrue result ↔ IsOrdered table.now earlier.node earlier.turn later.node later.turn }
 {
@@ -35,7 +35,7 @@ fn is_ordered(table: &DistanceTable, earlier: Access, later: Access) -> bool
     }
 }
 
-/// The number of an access's step.
+/// Returns the number of the step of `access`.
 fn step_number(size: usize, access: Access) -> u64
     requires { size ≤ most_nodes }
     ensures { result ≡ step_of size access }
@@ -43,7 +43,7 @@ fn step_number(size: usize, access: Access) -> u64
     u64::from(access.turn) * size as u64 + u64::from(access.node)
 }
 
-/// The later of an access that may be known and another one.
+/// Returns the later of the access `known`, if any, and `access`.
 fn later_of(size: usize, known: Option<Access>, access: Access) -> Option<Access>
     requires { size ≤ most_nodes }
     ensures { result ≡ later_access size known access }
@@ -60,7 +60,7 @@ fn later_of(size: usize, known: Option<Access>, access: Access) -> Option<Access
     }
 }
 
-/// After a look at one access more, the latest that isn't ordered before another.
+/// Returns the latest access that isn't ordered before another, after one more access was considered.
 fn looked_at(
     table: &DistanceTable,
     size: usize,
@@ -78,7 +78,7 @@ fn looked_at(
     }
 }
 
-/// A store that may be, where it isn't ordered before an access.
+/// Returns the store, if there is one and it isn't ordered before an access.
 fn unordered_store(
     table: &DistanceTable,
     size: usize,
@@ -95,7 +95,7 @@ fn unordered_store(
     }
 }
 
-/// Of a store that may be and loads, the latest that isn't ordered before an access.
+/// Returns the latest of an optional store and loads that isn't ordered before an access.
 pub(crate) fn latest_unordered(
     table: &DistanceTable,
     size: usize,
@@ -114,7 +114,7 @@ pub(crate) fn latest_unordered(
     latest
 }
 
-/// The pair of an earlier access, where there is one, and a later one.
+/// Returns the pair of `earlier`, if there is one, and `later`.
 pub(crate) fn paired(earlier: Option<Access>, later: Access) -> Option<UnorderedPair>
     ensures { result ≡ paired_of later earlier }
 {

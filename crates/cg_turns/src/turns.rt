@@ -15,7 +15,8 @@ use cg_model::{Kernel, MOST_TURNS};
 use cg_pad::{Image, Streams};
 use std::alloc::{AllocError, Global};
 
-/// What turns leave: the memory and the output streams, how often accesses reached outside the memory, and the first two accesses that no edges order.
+/// The results of turns: the memory and the output streams, the number of accesses outside the memory, and the first
+/// two accesses that no edges order.
 #[derive(Drop)]
 pub struct TurnsDone {
     pub image: Image,
@@ -25,7 +26,8 @@ pub struct TurnsDone {
 
 /// Runs `n` turns of a kernel from an image: its nodes in program order, one turn after the other.
 ///
-/// The values of the last turns alone are kept, so the memory taken doesn't grow with `n` but for the output streams.
+/// Only the values of the last turns are kept, so the memory taken doesn't grow with `n`, except for the output
+/// streams.
 pub fn run_turns(
     alloc: Global,
     kernel: &Kernel,
@@ -66,7 +68,7 @@ fn run(alloc: Global, kernel: &Kernel, n: u32, image: &Image) -> Result<TurnsDon
     Ok(done(frame, watch.pair))
 }
 
-/// What the frame leaves.
+/// Returns the results in the frame.
 fn done(frame: Frame, pair: Option<UnorderedPair>) -> TurnsDone
     requires { length frame.streams.items ≡ port_count }
     ensures left { left_of result ≡ left_by frame.memory frame.streams.items frame.outside }

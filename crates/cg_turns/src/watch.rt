@@ -1,4 +1,4 @@
-//! What is watched of the accesses: the last ones of each word, and the first unordered pair.
+//! Watches the accesses: the last ones of each word, and the first unordered pair.
 ghost use Rattle.std.specs.Prelude.{◌≡◌, ◌<◌, ◌⊎◌, ◌↔◌, IfOk, IsTrue, OnOk, length, replicate};
 ghost use Rattle.std.specs.List.{list_any};
 ghost use Rattle.cg_word.specs.Word.{is_store as is_store_op};
@@ -18,7 +18,8 @@ use std::alloc::{AllocError, Global};
 
 /// The last accesses of each word, and the first unordered pair.
 ///
-/// Once there is a pair no more is watched. Where no node is a store, which can't give a pair, there are no words.
+/// Once there is a pair nothing more is watched. Where no node is a store, so that there can't be a pair, no words are
+/// watched.
 #[derive(Drop)]
 pub(crate) struct Watch {
     pub(crate) words: Vec<LastAccesses>,
@@ -46,7 +47,7 @@ fn watched_words(kernel: &Kernel, size: usize) -> usize
     if has_store(kernel) { size } else { 0 }
 }
 
-/// Whether a node is a store.
+/// Returns whether a node of the kernel is a store.
 fn has_store(kernel: &Kernel) -> bool
     ensures { result ≡ list_any (λ (v : Node). is_store_op v.op) kernel.now.nodes }
 {
@@ -64,7 +65,7 @@ fn no_accesses(alloc: Global, size: usize) -> Result<Vec<LastAccesses>, AllocErr
     Ok(words)
 }
 
-/// Whether a node is a store.
+/// Returns whether `node` is a store.
 fn is_store(kernel: &Kernel, node: u32) -> bool
     requires { node < size kernel.now }
     ensures { result ≡ is_store_op (node_of kernel.now node).op }
@@ -95,14 +96,14 @@ fn watch_access(
     Ok(())
 }
 
-/// Whether accesses of a word are watched.
+/// Returns whether accesses of the word at `address` are watched.
 fn is_open(watch: &Watch, address: usize) -> bool
     ensures { IsTrue result ↔ IsOpen watch.now address }
 {
     watch.pair.is_none() && address < watch.words.len()
 }
 
-/// Watches an access, where no pair is known and the word is one of those that are watched.
+/// Watches an access, if no pair is known and the word is one of those watched.
 fn watch_word(
     kernel: &Kernel,
     table: &DistanceTable,
@@ -121,7 +122,7 @@ fn watch_word(
     Ok(())
 }
 
-/// Watches a step, which accesses a word or none.
+/// Watches a step, which accesses at most one word.
 pub(crate) fn watch_step(
     kernel: &Kernel,
     table: &DistanceTable,
@@ -139,7 +140,7 @@ pub(crate) fn watch_step(
     }
 }
 
-/// Returns the word that `work` reaches in a memory of `size` words, None where it reaches none.
+/// Returns the address of the word that `work` accesses in a memory of `size` words, None where it accesses none.
 pub(crate) fn reached(work: Work, size: usize) -> Option<u32>
     ensures { IsReached size (work_of work) result }
 {

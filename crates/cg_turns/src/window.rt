@@ -31,7 +31,7 @@ pub(crate) struct Window<'a> {
     ghost long: { length values.now ≡ 5 * size },
 }
 
-/// An operand in a turn, out of the rows.
+/// Returns an operand in a turn, from the rows.
 fn operand_word(operand: &Operand, window: Window) -> u32
     requires { IsNear window.size operand.now }
     ensures { result ≡ operand_in window.entry.values.now window.entry.turn.row window.entry.size window.entry.turn.number operand.now }
@@ -56,7 +56,7 @@ fn operand_word(operand: &Operand, window: Window) -> u32
     }
 }
 
-/// The operand at a place, 0 past the last one.
+/// Returns the operand at `place`, 0 past the last one.
 pub(crate) fn argument(operands: &[Operand], place: usize, window: Window) -> u32
     requires { (p : ℕ) (o : OperandOf) → slice_get operands.now p ≡ Some o → IsNear window.size o }
     ensures { result ≡ slice_index (map (operand_in window.entry.values.now window.entry.turn.row window.entry.size window.entry.turn.number) operands.now) place }
@@ -68,7 +68,7 @@ pub(crate) fn argument(operands: &[Operand], place: usize, window: Window) -> u3
     }
 }
 
-/// The word at a place, 0 past the end.
+/// Returns the word at `place`, 0 past the end.
 fn word_at(words: &[u32], place: usize) -> u32
     ensures { result ≡ slice_index words.now place }
 {

@@ -1,4 +1,4 @@
--- The architecture that parts are, or why they are none.
+-- The architecture that parts define, or why they define none.
 use Rattle.std.specs.Prelude.{◌≡◌, ◌≢◌, ℕ, List, map, Option, Some, None, Result, Ok, Err}
 use Rattle.std.specs.Option.{option_or}
 use Rattle.cg_model.specs.Array.{Arch, resource}
@@ -22,21 +22,21 @@ HasNoCombinationalLoop parts = (loop : List ℕ) → IsCombinationalLoop (arch_o
 abbrev pub names_of : Arch → List ℕ → List (List ℕ)
 names_of A = map (λ r. (resource A r).name)
 
--- a fault that parts have: the lowest of A1 to A5, or else a loop (A6), any one, or else the lowest of A7 to A9, each at its
--- first place
+-- a fault of parts: the lowest of A1 to A5, or else any one of the loops (A6), or else the lowest of A7 to A9, each at
+-- its first place
 pub data IsFault (parts : Parts) : ArchFault → Type 0 where
   early : {f : ArchFault} → fault_before_loops parts ≡ Some f → IsFault parts f
   a_loop : {loop : List ℕ} → fault_before_loops parts ≡ None → IsCombinationalLoop (arch_of parts).resources loop → IsFault parts (fault.ZeroDelayLoop (names_of (arch_of parts) loop))
   late : {f : ArchFault} → fault_before_loops parts ≡ None → HasNoCombinationalLoop parts → fault_after_loops parts ≡ Some f → IsFault parts f
 
--- parts have no fault, and are that architecture
+-- parts have no fault and define that architecture
 pub record AreValid (parts : Parts) (A : Arch) : Type 0 where
   pub early : fault_before_loops parts ≡ None
   pub no_loop : HasNoCombinationalLoop parts
   pub late : fault_after_loops parts ≡ None
   pub is : A ≡ arch_of parts
 
--- what is answered, unless memory ran out
+-- the result of validation, unless memory ran out
 abbrev pub IsAnswer : Parts → Result Arch ArchFault → Type 0
 IsAnswer parts (Ok A) = AreValid parts A
 IsAnswer parts (Err f) = f ≢ fault.Memory → IsFault parts f

@@ -1,4 +1,4 @@
--- The flat architecture that parts stand for: their resources and units by number.
+-- The flat architecture that parts define: their resources and units by number.
 use Rattle.std.specs.Prelude.{ℕ, ◌+◌, List, [], ◌∷◌, ◌++◌, length, map, unwrap_or}
 use Rattle.std.specs.List.{range_with_len}
 use Rattle.cg_model.specs.Array.{Arch}
@@ -19,7 +19,7 @@ number_in resources name = unwrap_or (number_of resources name) 0
 abbrev pub resource_of : List Entry → Entry → Resource
 resource_of resources r = record { name = unwrap_or r.name []; kind = r.kind; drivers = map (number_in resources) r.drivers }
 
--- the unit that an element is, whose resources begin with number `first`: its ports, and then its out
+-- the unit of an element whose resources begin with number `first`: its ports, and then its out
 abbrev pub units_of : ℕ → Element → List Unit
 units_of first (element.Wire name drivers) = []
 units_of first (element.Register name drivers) = []

@@ -16,7 +16,7 @@ use Rattle.cg_parts.specs.declared.fault.ArchFault.TheVariants as fault
 use Rattle.cg_parts.specs.declared.fault.HubPlace.{HubPlace}
 use Rattle.cg_parts.specs.declared.fault.HubPlace.TheVariants as place
 
--- ---- entries: each names a register, and none stands twice
+-- ---- entries: each names a register, and none is listed twice
 
 abbrev pub is_register : Kind → Bool
 is_register Wire = false
@@ -30,7 +30,7 @@ is_register_at resources q = option_map_or (λ r. is_register r.kind) (slice_get
 abbrev pub names_register : List Entry → List ℕ → Bool
 names_register resources name = option_map_or (is_register_at resources) (number_of resources name) false
 
--- the first that names no register or stands among those before it
+-- the first entry that names no register or is among the entries before it
 abbrev pub first_bad_entry : List Entry → List (List ℕ) → List (List ℕ) → Option (List ℕ)
 first_bad_entry resources before [] = None
 first_bad_entry resources before (name ∷ names) =
@@ -45,7 +45,7 @@ first_not_driving A sources r = first_such (λ q. not (list_any (eqb q) (resourc
 abbrev pub missing : Arch → ℕ → ℕ → HubPlace
 missing A q r = place.Link (resource A q).name (resource A r).name
 
--- the first link that is missing, from some resources to others
+-- the first missing link from some resources to others
 abbrev pub first_missing : Arch → List ℕ → List ℕ → Option HubPlace
 first_missing A sources [] = None
 first_missing A sources (r ∷ rs) = option_or (option_map (λ q. missing A q r) (first_not_driving A sources r)) (first_missing A sources rs)
@@ -56,8 +56,8 @@ outs A = map (λ u. u.out) A.units
 abbrev pub all_ports : Arch → List ℕ
 all_ports A = flat_map (λ u. u.ports) A.units
 
--- the first of these links that is missing: those into hub registers in the hub's order, then those into ports in the order
--- of their numbers
+-- the first of these links that is missing: first the links into hub registers in the hub's order, then those into
+-- ports in the order of their numbers
 abbrev pub missing_link : Arch → Option HubPlace
 missing_link A = option_or (first_missing A (outs A ++ A.hub) A.hub) (first_missing A A.hub (all_ports A))
 

@@ -1,4 +1,4 @@
-//! From parts to the flat architecture that they stand for.
+//! Builds the flat architecture of parts.
 ghost use Rattle.std.specs.Prelude.{◌≡◌, ◌+◌, ◌-◌, ◌≤◌, ◌++◌, IfOk, OnOk, length, map};
 ghost use Rattle.std.specs.List.{range_with_len};
 ghost use Rattle.cg_parts.specs.Parts.{entries, entries_of};
@@ -11,7 +11,7 @@ use cg_model::{Name, Resource, Unit, Words};
 use cg_parts::{Element, Entry, Numbers, Parts, number_in};
 use std::alloc::{AllocError, Global};
 
-/// The flat architecture. The resources are those of the parts, with their numbers.
+/// Returns the flat architecture. The resources are those of the parts, with their numbers.
 #[tactic(auto, unfolding(crate::specs::Flat::arch_of))]
 pub(crate) fn flat_of(
     alloc: Global,
@@ -31,7 +31,7 @@ pub(crate) fn flat_of(
     Ok(Flat::new(name, parts.contexts, parts.memory, numbered, units, hub))
 }
 
-/// The resources with their drivers by number.
+/// Returns the resources with their drivers by number.
 fn resources_of(
     alloc: Global,
     resources: &[Entry],
@@ -70,7 +70,7 @@ fn resource_of(
     })
 }
 
-/// The numbers of the resources of those names.
+/// Returns the numbers of the resources with the given names.
 fn numbers_of(
     alloc: Global,
     names: &[Name],
@@ -102,7 +102,7 @@ fn number_of(name: &str, resources: &[Entry], numbers: &Numbers) -> u32
     }
 }
 
-/// The units of the elements.
+/// Returns the units of `elements`.
 fn units_of(alloc: Global, elements: &[Element]) -> Result<Vec<Unit>, AllocError>
     requires { length (entries elements.now) ≤ most_resources }
     ensures { IfOk result (λ units. units.items ≡ spec.units_from 0 elements.now) }
@@ -115,8 +115,8 @@ fn units_of(alloc: Global, elements: &[Element]) -> Result<Vec<Unit>, AllocError
     Ok(units)
 }
 
-/// Adds the unit that an element is, whose resources begin with number `first`, and says with which those of the next
-/// element begin.
+/// Adds the unit of an element whose resources begin with number `first`, if the element is a unit, and returns the
+/// number with which the resources of the next element begin.
 fn add_unit(
     alloc: Global,
     units: &mut Vec<Unit>,
@@ -148,7 +148,7 @@ fn add_unit(
     }
 }
 
-/// The numbers from the first on, before the last.
+/// Returns the numbers from `first` up to and excluding `last`.
 fn numbers_between(alloc: Global, first: u32, last: u32) -> Result<Vec<u32>, AllocError>
     requires { first ≤ last }
     ensures { IfOk result (λ list. list.items ≡ range_with_len first (last - first)) }

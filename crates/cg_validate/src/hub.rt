@@ -1,4 +1,4 @@
-//! Whether a hub is complete.
+//! Checks whether a hub is complete.
 ghost use Rattle.std.specs.Prelude.{◌≡◌, ◌++◌, [], IfOk, eqb, flat_map, map};
 ghost use Rattle.std.specs.Str.{bytes_eq};
 ghost use Rattle.std.specs.List.{list_any};
@@ -13,7 +13,7 @@ use cg_model::{Kind, Name, Unit};
 use cg_parts::{ArchFault, Entry, HubPlace, Numbers, Parts, number_in};
 use std::alloc::{AllocError, Global};
 
-/// A9 at its first place.
+/// Returns A9 at its first place.
 #[tactic(auto, unfolding(crate::specs::Hub::hub_fault))]
 pub(crate) fn hub_fault(
     alloc: Global,
@@ -38,7 +38,7 @@ pub(crate) fn hub_fault(
     }
 }
 
-/// The first entry that names no register or stands among those before it.
+/// Returns the first entry that names no register or is among the entries before it.
 fn first_bad_entry<'a>(
     names: &'a [Name],
     resources: &[Entry],
@@ -82,7 +82,7 @@ fn is_register(resources: &[Entry], number: usize) -> bool
     }
 }
 
-/// The first link that the hub needs and that is missing.
+/// Returns the first link that the hub needs and that is missing.
 fn missing_link(alloc: Global, flat: &Flat) -> Result<Option<HubPlace>, AllocError>
     ensures { IfOk result (λ found. found ≡ spec.missing_link flat.now) }
 {
@@ -94,7 +94,7 @@ fn missing_link(alloc: Global, flat: &Flat) -> Result<Option<HubPlace>, AllocErr
     missing_into_ports(alloc, flat, flat.units())
 }
 
-/// The units' outs, and then the hub's registers.
+/// Returns the units' outs, followed by the hub's registers.
 fn sources_of(alloc: Global, flat: &Flat) -> Result<Vec<u32>, AllocError>
     ensures { IfOk result (λ list. list.items ≡ spec.outs flat.now ++ flat.now.hub) }
 {
@@ -113,7 +113,7 @@ fn outs_of(alloc: Global, units: &[Unit]) -> Result<Vec<u32>, AllocError>
     Ok(list)
 }
 
-/// The first link from the hub's registers to the units' ports that is missing.
+/// Returns the first missing link from the hub's registers to the units' ports.
 fn missing_into_ports(
     alloc: Global,
     flat: &Flat,
@@ -130,7 +130,7 @@ fn missing_into_ports(
     Ok(None)
 }
 
-/// The first link from the sources to the targets that is missing.
+/// Returns the first missing link from the sources to the targets.
 fn first_missing(
     alloc: Global,
     flat: &Flat,
@@ -156,7 +156,7 @@ fn missing(alloc: Global, flat: &Flat, source: u32, target: u32) -> Result<HubPl
     })
 }
 
-/// The name of a resource.
+/// Returns the name of resource `number`.
 pub(crate) fn name_of(alloc: Global, flat: &Flat, number: u32) -> Result<Name, AllocError>
     ensures { IfOk result (λ name. name ≡ (resource flat.now number).name) }
 {
@@ -166,7 +166,7 @@ pub(crate) fn name_of(alloc: Global, flat: &Flat, number: u32) -> Result<Name, A
     }
 }
 
-/// The first source that doesn't drive the target.
+/// Returns the first of `sources` that doesn't drive `target`.
 fn first_not_driving(flat: &Flat, sources: &[u32], target: u32) -> Option<u32>
     ensures { result ≡ spec.first_not_driving flat.now sources.now target }
 {

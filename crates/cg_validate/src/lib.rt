@@ -1,4 +1,4 @@
-//! The architecture that parts are, or the first rule that they break.
+//! The architecture that parts define, or the first rule that they break.
 #![tactic(auto)]
 
 mod build;

@@ -1,4 +1,4 @@
-//! From parts to a valid architecture.
+//! Validates parts.
 ghost use Rattle.std.specs.Prelude.{◌≡◌, IfOk, None};
 ghost use Rattle.cg_model.specs.Array.{IsArch};
 ghost use Rattle.cg_parts.specs.Parts.{entries};
@@ -20,8 +20,9 @@ use cg_parts::{
 };
 use std::alloc::{AllocError, Global};
 
-/// The architecture that the parts are, or the lowest of A1 to A9 that applies, at its first place. Where links without
-/// delay form loops, one of these is named, from its resource of the least number on and along its links.
+/// Returns the architecture that `parts` define, or the lowest of A1 to A9 that applies, at its first place. Where
+/// links without delay form loops, one loop is reported, from its resource with the least number on and along its
+/// links.
 pub fn validate(alloc: Global, parts: &Parts) -> Result<Arch, ArchFault>
     ensures answer { spec.IsAnswer parts.now result }
     ensures valid { IfOk result IsArch }
@@ -34,7 +35,7 @@ pub fn validate(alloc: Global, parts: &Parts) -> Result<Arch, ArchFault>
     numbered(alloc, parts, &resources, &numbers)
 }
 
-/// The same for parts to which none of A1 to A5 applies.
+/// Returns the architecture or the lowest fault, for parts to which none of A1 to A5 applies.
 fn numbered(
     alloc: Global,
     parts: &Parts,
@@ -59,7 +60,7 @@ fn numbered(
     }
 }
 
-/// The same for parts whose links without delay form no loop.
+/// Returns the architecture or the lowest fault, for parts whose links without delay form no loop.
 fn ordered(
     alloc: Global,
     parts: &Parts,
@@ -82,7 +83,7 @@ fn ordered(
     Ok(keep(alloc, flat, order)?)
 }
 
-/// The lowest of A7 to A9 that applies, at its first place.
+/// Returns the lowest of A7 to A9 that applies, at its first place.
 #[tactic(auto, unfolding(crate::specs::Answer::fault_after_loops))]
 fn fault_after_loops(
     alloc: Global,
@@ -102,7 +103,7 @@ fn fault_after_loops(
     hub_fault(alloc, parts, resources, numbers, flat)
 }
 
-/// The names of resources.
+/// Returns the names of the resources `numbers`.
 fn names_of(alloc: Global, flat: &Flat, numbers: &[u32]) -> Result<Names, AllocError>
     ensures { IfOk result (λ names. names ≡ spec.names_of flat.now numbers.now) }
 {

@@ -1,5 +1,5 @@
--- A structural module, whatever its names stand for, and the tokens that it spells.
--- The syntax is a part of that of IEEE 1364-2005, clause 12: wires, and cells with their pins by name.
+-- A structural module, whatever its names denote, and its tokens. The syntax is a part of that of IEEE 1364-2005,
+-- clause 12: wires, and cells with their pins by name.
 use Rattle.std.specs.Prelude.{◌≡◌, ◌<◌, ◌≤◌, ◌-◌, ℕ, List, [], ◌∷◌, ◌++◌, codes, decimal, true}
 use Rattle.std.specs.List.{flat_map, AllByRecursion}
 use Rattle.cg_verilog.specs.Words.{is_name}
@@ -9,7 +9,7 @@ pub record PinText : Type 0 where
   pub port : List ℕ
   pub net : List ℕ
 
--- a cell of a form, with one pin at least
+-- a cell of a form, with at least one pin
 pub record CellText : Type 0 where
   pub form : List ℕ
   pub name : List ℕ
@@ -77,7 +77,7 @@ further_pin p = codes "," ∷ pin_tokens p
 abbrev pub cell_tokens : CellText → List (List ℕ)
 cell_tokens c = c.form ∷ c.name ∷ codes "(" ∷ (pin_tokens c.first ++ (flat_map further_pin c.rest ++ (codes ")" ∷ codes ";" ∷ [])))
 
--- what follows the header
+-- the tokens after the header
 abbrev pub lines_tokens : ModuleText → List (List ℕ)
 lines_tokens m = flat_map wire_tokens m.wires ++ (flat_map cell_tokens m.cells ++ (codes "endmodule" ∷ []))
 

@@ -1,4 +1,4 @@
--- What reading says of the tokens that it found and left.
+-- The relation of a read module or fault to the tokens before and after reading.
 use Rattle.std.specs.Prelude.{◌≡◌, ℕ, Bool, false, List, [], ◌∷◌, ◌++◌, map, Some, None, Result, Ok, Err}
 use Rattle.cg_tokens.specs.Tokens.{tokens_at, texts}
 use Rattle.cg_tokens.specs.Table.{run}
@@ -24,7 +24,7 @@ abbrev pub begins_with : List ℕ → List (List ℕ) → Bool
 begins_with s [] = false
 begins_with s (t ∷ rest) = same t s
 
--- whatever has to follow the symbols, the tokens go on with them up to new, and no further
+-- whatever has to follow the symbols, the tokens continue with them up to `new`, and no further
 pub record Stops (symbols : List Symbol) (old new : List (List ℕ)) : Type 0 where
   pub ran : (stack : List Symbol) → run rule (symbols ++ stack) old ≡ Some new
 

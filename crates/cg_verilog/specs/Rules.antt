@@ -17,7 +17,7 @@ is_top (d ∷ []) = is_ascii_digit d
 is_top (d ∷ e ∷ []) = is_ascii_digit e && (d == 49 || d == 50 || (d == 51 && nat_le e 49))
 is_top (d ∷ e ∷ f ∷ rest) = false
 
--- the number that it is
+-- the number that this text writes
 abbrev pub top_number : List ℕ → ℕ
 top_number [] = 0
 top_number (d ∷ []) = d - 48
@@ -50,7 +50,7 @@ pins_end = codes ")" ∷ codes ";" ∷ []
 abbrev pub cells_end : List (List ℕ)
 cells_end = codes "endmodule" ∷ []
 
--- what each symbol spells
+-- the tokens that each symbol generates
 abbrev pub Spells : Symbol → List (List ℕ) → Type 0
 Spells (Exactly s) ts = ts ≡ s ∷ []
 Spells Name ts = (t : List ℕ) × (is_name t ≡ true) × (ts ≡ t ∷ [])

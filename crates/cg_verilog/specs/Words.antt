@@ -18,10 +18,10 @@ abbrev pub is_word : List ℕ → Bool
 is_word [] = false
 is_word (b ∷ bytes) = is_letter b && list_all is_name_byte bytes
 
--- words that are no names of their own
+-- reserved words, which are not names
 abbrev pub is_reserved : List ℕ → Bool
 is_reserved t = same t (codes "module") || same t (codes "input") || same t (codes "wire") || same t (codes "endmodule")
 
--- a word that may stand for a port, a net, a cell or a form
+-- a word that may name a port, a net, a cell or a form
 abbrev pub is_name : List ℕ → Bool
 is_name t = is_word t && not (is_reserved t)

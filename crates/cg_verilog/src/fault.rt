@@ -1,21 +1,21 @@
-//! Why a text is not read.
+//! Why a text can't be read.
 use std::alloc::{AllocError, AllocFailed};
 use thiserror::Error;
 
-/// Why a step of reading stops.
+/// Why a reading step stops.
 #[derive(Debug, Drop)]
 pub enum Misfit {
     Memory,
-    /// No text goes on so.
+    /// No text continues in this way.
     Text,
 }
 
-/// Why bytes are not read.
+/// Why bytes can't be read.
 #[derive(Clone, Copy, Debug, PartialEq, Eq, Error)]
 pub enum ModuleFault {
     #[error("memory ran out")]
     Memory,
-    /// The place of the first token that no text goes on with, or the length where the text ends early.
+    /// The place of the first token with which no text continues, or the length where the text ends early.
     #[error("no module goes on so at {0}")]
     Text(usize),
 }

@@ -18,25 +18,25 @@ pub use module::{Cell, Module, Pin, Wire};
 use reader::Reader;
 use std::alloc::Global;
 
-/// The module that the bytes spell.
+/// Returns the module that `bytes` encode.
 pub fn read_module(alloc: Global, bytes: &[u8]) -> Result<Module<'_>, ModuleFault>
-    // What is read is spelled so.
+    // The bytes encode the module that is read.
     ensures found { IfOk result (λ m. IsModule (module_of m) × (texts (tokens_of None bytes.now) ≡ module_tokens (module_of m))) }
-    // What is spelled so is read, unless memory runs out.
+    // A module that the bytes encode is read, unless memory runs out.
     ensures only { (m : ModuleText) → IsModule m → texts (tokens_of None bytes.now) ≡ module_tokens m → Gives m result }
-    // So is what is printed.
+    // A printed module is read likewise.
     ensures printed { (m : ModuleText) → IsModule m → bytes.now ≡ module_text m → Gives m result }
-    // Which fault it is.
+    // The fault is the one that the bytes have.
     ensures fault { IfErr result (λ e. IsFault e bytes.now) }
 {
     read(alloc, bytes)
 }
 
-/// The same, without the laws that follow from its two clauses.
+/// Returns the module that `bytes` encode, without the laws that follow from its two clauses.
 fn read(alloc: Global, bytes: &[u8]) -> Result<Module<'_>, ModuleFault>
-    // What is read is spelled so.
+    // The bytes encode the module that is read.
     ensures found { IfOk result (λ m. IsModule (module_of m) × (texts (tokens_of None bytes.now) ≡ module_tokens (module_of m))) }
-    // Which fault it is.
+    // The fault is the one that the bytes have.
     ensures fault { IfErr result (λ e. IsFault e bytes.now) }
 {
     let mut reader = Reader::new(bytes);

@@ -1,4 +1,4 @@
-//! A module as it is read: its names are lent from the text.
+//! A module as it is read: its names are borrowed from the text.
 
 /// `.port(net)`
 #[derive(Clone, Copy, Debug)]

@@ -26,7 +26,7 @@ fn are_name_bytes(bytes: &[u8]) -> bool
         .all(|byte| is_letter(*byte) || byte.is_ascii_digit())
 }
 
-/// A letter or `_`, and then letters, digits and `_`.
+/// Checks whether `text` is a letter or `_`, and then letters, digits and `_`.
 fn is_word(text: &[u8]) -> bool
     ensures { result ≡ is_word text.now }
 {
@@ -54,7 +54,7 @@ fn same(left: &[u8], right: &[u8]) -> bool
     left == right
 }
 
-/// The greatest bit of a net: up to 31, with no leading zero.
+/// Checks whether `text` is the greatest bit of a net: a number up to 31, with no leading zero.
 fn is_top(text: &[u8]) -> bool
     ensures { result ≡ is_top text.now }
 {
@@ -68,7 +68,7 @@ fn is_top(text: &[u8]) -> bool
     }
 }
 
-/// The number that a text for a greatest bit is.
+/// Returns the number that `text` writes for a greatest bit.
 fn top_number(text: &[u8]) -> u32
     requires { is_top text.now ≡ true }
     ensures { result ≡ top_number text.now }
@@ -80,7 +80,7 @@ fn top_number(text: &[u8]) -> u32
     }
 }
 
-/// A text, and the place behind the tokens that are read.
+/// A text, and the place after the tokens that are read.
 #[derive(Clone, Copy)]
 pub struct Reader<'a> {
     pub bytes: &'a [u8],
@@ -97,7 +97,7 @@ impl<'a> Reader<'a> {
     ghost use Rattle.cg_verilog.specs.Read.{left, begins_with, Misses, pin_of, wire_of, cell_of, module_of, MissesText};
     ghost use Rattle.cg_tokens.specs.Tokens.{place_of, seen, end_of, texts, tokens_at, tokens_of};
 
-    /// Begins at the first token of `bytes`.
+    /// Returns a reader at the first token of `bytes`.
     pub fn new(bytes: &'a [u8]) -> Self
         ensures all { left result ≡ texts (tokens_of None bytes.now) }
         ensures bytes { result.bytes.now ≡ bytes.now }
@@ -116,7 +116,7 @@ impl<'a> Reader<'a> {
         next_token(None, self.bytes, self.at)
     }
 
-    /// Takes `token`, which is the next, and the blanks behind it.
+    /// Takes `token`, which is the next, and the blanks after it.
     fn take(&mut self, token: Token<'a>)
         requires next { tokens_at None self.old.bytes.now self.old.at ≡ seen token ∷ tokens_at None self.old.bytes.now (end_of (seen token)) }
         requires within { end_of (seen token) ≤ length self.old.bytes.now }
@@ -126,7 +126,7 @@ impl<'a> Reader<'a> {
         self.at = past_blanks(self.bytes, token.place + token.text.len());
     }
 
-    /// Takes this token.
+    /// Takes the token `text`.
     pub fn exactly(&mut self, text: &[u8]) -> Result<(), Misfit>
         ensures ok { OnOk result (left self.old ≡ text.now ∷ left self.new) }
         ensures misses { IfErr result (λ e. Misses e (Exactly text.now ∷ []) (left self.old) (left self.new)) }
@@ -195,7 +195,7 @@ impl<'a> Reader<'a> {
         Ok(Pin { port, net })
     }
 
-    /// Whether this is the next token.
+    /// Checks whether `text` is the next token.
     fn next_is(&self, text: &[u8]) -> bool
         ensures { result ≡ begins_with text.now (left self.now) }
     {
@@ -349,7 +349,7 @@ impl<'a> Reader<'a> {
         self.input(b"rst")
     }
 
-    /// Takes what stands between the header and the end.
+    /// Takes the lines between the header and the end.
     #[tactic(auto, using(crate::proofs::Steps::misses_lines))]
     fn lines(&mut self, alloc: Global) -> Result<Module<'a>, Misfit>
         ensures ok { IfOk result (λ m. IsModule (module_of m) × (left self.old ≡ lines_tokens (module_of m) ++ left self.new)) }
@@ -376,7 +376,7 @@ impl<'a> Reader<'a> {
         }
     }
 
-    /// The place of the next token, or `end` where there is none.
+    /// Returns the place of the next token, or `end` where there is none.
     pub fn place(&self, end: usize) -> usize
         ensures { result ≡ place_of end (tokens_at None self.now.bytes.now self.now.at) }
     {

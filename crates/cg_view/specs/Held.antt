@@ -1,4 +1,4 @@
--- What is known of the bytes that a view reads.
+-- The known properties of the bytes that a view reads.
 use Rattle.std.specs.Prelude.{◌≡◌, ℕ, ◌+◌, ◌*◌, ◌/◌, ◌<◌, ◌≤◌, ◌^◌, List, length}
 use Rattle.cg_word.specs.Word.{all_ops}
 use Rattle.cg_model.specs.Array.{Arch, IsArch}
@@ -30,7 +30,7 @@ pub record HoldsUnit (body : List ℕ) (at n : ℕ) : Type 0 where
   pub fields : AreFields all_ops (unit_in cgb2 n (bits_of_bytes body) at)
   pub arity : arity_of (unit_in cgb2 n (bits_of_bytes body) at).op ≤ n
 
--- it holds a slot at a place
+-- the body holds a slot at a place
 pub record HoldsSlot (A : Arch) (body : List ℕ) (at : ℕ) : Type 0 where
   pub inside : at + slot_len cgb2 A ≤ 8 * length body
   pub small : at < 2 ^ 48

@@ -1,4 +1,4 @@
--- What a configuration says in one slot.
+-- The contents of one slot of a configuration.
 use Rattle.std.specs.Prelude.{ℕ, ◌+◌, Bool, List, [], length, map, slice_index_or}
 use Rattle.std.specs.List.{range_with_len}
 use Rattle.cg_model.specs.declared.config.UnitFields.{UnitFields}
@@ -14,7 +14,7 @@ pub record Slot : Type 0 where
   pub selects : List ℕ
   pub units : List UnitFields
 
--- the slot of that number
+-- the slot of the given number
 abbrev pub slot_of : Config → ℕ → Slot
 slot_of C slot = record { selects = slice_index_or C.selects slot []; units = slice_index_or C.units slot [] }
 

@@ -6,8 +6,8 @@ use cg_bits::{BitsFault, Contexts, HEADER, UnitFields, check_bits, ii_in, stages
 use cg_contexts::UnitHead;
 use std::marker::Model;
 
-/// The configuration that lent bytes spell. Contracts see it as this configuration. It keeps the length of a slot in bits,
-/// which is asked for at every field.
+/// The configuration in borrowed bitstream bytes. Contracts see it as this configuration. It keeps the length of a slot
+/// in bits, which every access to a field needs.
 #[derive(Drop)]
 pub struct ConfigView<'a> {
     arch: &'a Arch,
@@ -35,12 +35,12 @@ impl<'a> ConfigView<'a> {
     ghost use Rattle.cg_bits.specs.Answers.{answer_of};
     ghost use Rattle.cg_view.specs.Slot.{slot_of};
 
-    /// The configuration that the bytes spell for the architecture, or why they spell none: the lowest fault at its least
-    /// place. It takes no memory, and never answers `Memory`.
+    /// Returns the configuration that `bytes` encode for `arch`, or why they are not valid: the fault of the lowest
+    /// number, at its first place. It allocates no memory, and never answers `Memory`.
     pub fn of(arch: &'a Arch, bytes: &'a [u8]) -> Result<ConfigView<'a>, BitsFault>
         ensures answer { result ≡ answer_of arch.now bytes.now }
         ensures bits { IfOk result (λ view. AreBits arch.now view bytes.now) }
-        // What the simulator asks of a configuration.
+        // What the simulator requires of a configuration.
         ensures canonical { IfOk result (λ view. IsCanonical arch.now view) }
         ensures all { (C : configs.Config) → AreBits arch.now C bytes.now → result ≡ Ok C }
     {
@@ -54,7 +54,7 @@ impl<'a> ConfigView<'a> {
         }
     }
 
-    /// What it says in a slot.
+    /// Returns the contents of slot number `slot`.
     pub fn context(&self, slot: u32) -> ContextView<'a>
         requires { slot < self.now.ii }
         ensures { result ≡ slot_of self.now slot }

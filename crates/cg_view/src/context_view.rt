@@ -1,11 +1,11 @@
-//! What a configuration says in one slot.
+//! The contents of one slot of a configuration.
 
 use crate::unit_view::UnitView;
 use cg_arch::Arch;
 use cg_bits::number_at;
 use std::marker::Model;
 
-/// One slot of a configuration, lent. Contracts see it as its selects and fields.
+/// One slot of a configuration, borrowed. Contracts see it as its selects and fields.
 #[derive(Drop)]
 pub struct ContextView<'a> {
     arch: &'a Arch,
@@ -32,7 +32,7 @@ impl<'a> ContextView<'a> {
     ghost use Rattle.cg_view.specs.Slot as slots;
     ghost use Rattle.cg_view.specs.Held.{HoldsSlot};
 
-    /// The slot that begins at a place in the bits.
+    /// Returns the slot of `arch` that begins at bit `at` of `body`.
     pub(crate) fn new(arch: &'a Arch, body: &'a [u8], at: usize) -> ContextView<'a>
         requires { HoldsSlot arch.now body.now at }
         ensures { result ≡ slots.slot_in arch.now (bits_of_bytes body.now) at }
@@ -40,7 +40,8 @@ impl<'a> ContextView<'a> {
         ContextView { arch, body, at }
     }
 
-    /// The select of a resource: 0 for none, else the place of a driver in the resource's list, counted from 1.
+    /// Returns the select of `resource`: 0 for none, else the position of a driver in the resource's list, counted from
+    /// 1.
     pub fn select(&self, resource: u32) -> u32
         requires { resource < length self.now.selects }
         ensures { result ≡ slice_index self.now.selects resource }
@@ -49,7 +50,7 @@ impl<'a> ContextView<'a> {
         number_at(self.body, place, self.arch.select_bits(resource))
     }
 
-    /// The fields of a unit.
+    /// Returns the fields of unit number `unit`.
     pub fn unit(&self, unit: u32) -> UnitView<'a>
         requires { unit < length self.now.units }
         ensures { result ≡ slice_index_or self.now.units unit off }

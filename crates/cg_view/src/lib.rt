@@ -1,4 +1,4 @@
-//! Configurations that are read where they lie, in the bytes of a bitstream.
+//! Configurations that are read in place, from the bytes of a bitstream.
 #![tactic(auto)]
 
 mod config_view;

@@ -29,7 +29,7 @@ const FIXED: ArgFields = ArgFields {
     init: [0; 4],
 };
 
-/// The fields of a unit in a slot, lent. Contracts see it as these fields.
+/// The fields of a unit in a slot, borrowed. Contracts see it as these fields.
 #[derive(Drop)]
 pub struct UnitView<'a> {
     body: &'a [u8],
@@ -60,7 +60,7 @@ impl<'a> UnitView<'a> {
     ghost use Rattle.cg_contexts.specs.Told.{head_of, told};
     ghost use Rattle.cg_view.specs.Held.{HoldsUnit};
 
-    /// Returns the unit of `ports` ports at place `at` in the bits of `body`.
+    /// Returns the unit of `ports` ports that begins at bit `at` of `body`.
     pub(crate) fn new(body: &'a [u8], at: usize, ports: usize) -> UnitView<'a>
         requires { HoldsUnit body.now at ports }
         ensures { result ≡ unit_in cgb2 ports (bits_of_bytes body.now) at }
@@ -68,23 +68,23 @@ impl<'a> UnitView<'a> {
         UnitView { body, at, ports }
     }
 
-    /// All fields. Of an off unit the operation alone is read. Arguments from the arity on, initial words from the count on,
-    /// and an immediate that no argument takes are zero, and aren't read.
+    /// Returns all fields. For a unit that is off only the operation is read. Arguments from the arity on, initial
+    /// words from the count on, and an immediate that no argument takes are zero, and aren't read.
     pub fn fields(&self) -> UnitFields
         ensures { result ≡ self.now }
     {
         unit_fields(self.body, self.at, self.ports)
     }
 
-    /// What it begins, without its arguments. The first 26 bits alone are read.
+    /// Returns what the unit begins, without its arguments. It reads only the first 26 bits.
     pub fn head(&self) -> UnitHead
         ensures { result ≡ head_of self.now }
     {
         unit_head(self.body, self.at, self.ports)
     }
 
-    /// The word that it is told for an argument of its operation in a turn, if any. Of the argument's bits its mode and count
-    /// are read, and of the words no more than the one that is told.
+    /// Returns the initial word or immediate that argument number `place` of the unit's operation has in iteration
+    /// `turn`, if any. It reads the argument's mode and count, and no word except the one that it returns.
     pub fn told(&self, place: usize, turn: u32) -> Option<u32>
         requires { place < arity_of self.now.op }
         ensures { result ≡ told self.now place turn }
@@ -107,8 +107,8 @@ fn unit_head(body: &[u8], at: usize, ports: usize) -> UnitHead
     }
 }
 
-/// Returns the word that a unit of `ports` ports is told for argument `place` in `turn`, if any. The argument's first
-/// four bits are its mode and the count of its initial words.
+/// Returns the initial word or immediate that argument `place` of a unit of `ports` ports has in iteration `turn`, if
+/// any. The argument's first four bits are its mode and the count of its initial words.
 fn unit_told(body: &[u8], at: usize, ports: usize, place: usize, turn: u32) -> Option<u32>
     requires held { HoldsUnit body.now at ports }
     requires port { place < ports }
@@ -137,7 +137,8 @@ fn unit_fields(body: &[u8], at: usize, ports: usize) -> UnitFields
     }
 }
 
-/// The fields of a unit with that operation. The first 26 bits are the operation's code, the stage and the port.
+/// Returns the fields of a unit of `ports` ports whose operation is `op`. Its first 26 bits, `head`, are the
+/// operation's code, the stage and the port.
 fn fields_of(op: Op, head: u32, body: &[u8], at: usize, ports: usize) -> UnitFields
     requires held { HoldsUnit body.now at ports }
     requires head { head ≡ number_at (bits_of_bytes body.now) at 26 }
@@ -155,21 +156,21 @@ fn fields_of(op: Op, head: u32, body: &[u8], at: usize, ports: usize) -> UnitFie
     }
 }
 
-/// The port in the first 26 bits, or 0 where the operation names none.
+/// Returns the port in the first 26 bits, `head`, or 0 if `op` names no port.
 fn port_of(op: Op, head: u32) -> u32
     ensures { result ≡ (if has_port op then head % 16 else 0) }
 {
     if op.has_port() { head % 16 } else { 0 }
 }
 
-/// Whether an argument is fixed.
+/// Returns whether one of `args` is the immediate.
 fn any_fixed(args: &[ArgFields; 3]) -> bool
     ensures { result ≡ ((slice_index_or args.now 0 no_arg).fixed || ((slice_index_or args.now 1 no_arg).fixed || (slice_index_or args.now 2 no_arg).fixed)) }
 {
     args[0].fixed || args[1].fixed || args[2].fixed
 }
 
-/// The immediate at a place, or 0 where it isn't asked for.
+/// Returns the immediate at bit `place` of `body`, or 0 if it isn't `asked` for.
 fn immediate_if(asked: bool, body: &[u8], place: usize) -> u32
     requires inside { place + 32 ≤ 8 * length body.now }
     requires counted { place < 2 ^ 60 }
@@ -178,7 +179,7 @@ fn immediate_if(asked: bool, body: &[u8], place: usize) -> u32
     if asked { number_at(body, place, 32) } else { 0 }
 }
 
-/// The arguments of a unit with that operation.
+/// Returns the arguments of a unit of `ports` ports whose operation is `op`.
 fn args_of(op: Op, body: &[u8], at: usize, ports: usize) -> [ArgFields; 3]
     requires held { HoldsUnit body.now at ports }
     requires op { (unit_in cgb2 ports (bits_of_bytes body.now) at).op ≡ Some op }
@@ -191,7 +192,7 @@ fn args_of(op: Op, body: &[u8], at: usize, ports: usize) -> [ArgFields; 3]
     args
 }
 
-/// The first `count` of four words from a place on, and zeros behind them.
+/// Returns the first `count` of the four words from bit `place` on, followed by zeros.
 fn words_of(body: &[u8], place: usize, count: u32) -> [u32; 4]
     requires few { count ≤ 4 }
     requires inside { place + 128 ≤ 8 * length body.now }
@@ -206,7 +207,8 @@ fn words_of(body: &[u8], place: usize, count: u32) -> [u32; 4]
     words
 }
 
-/// An argument of a unit. Its first four bits are its mode and the count of its initial words.
+/// Returns argument `p` of a unit of `ports` ports. Its first four bits are its mode and the count of its initial
+/// words.
 fn arg_of(body: &[u8], at: usize, ports: usize, p: usize) -> ArgFields
     requires held { HoldsUnit body.now at ports }
     requires port { p < ports }

@@ -1,14 +1,14 @@
--- Positions in buckets, by resource and slot: those that meet are in one.
+-- Positions in buckets, by resource and slot: positions that meet are in one bucket.
 use Rattle.std.specs.Prelude.{◌≡◌, ℕ, ◌+◌, ◌*◌, ◌%◌, ◌^◌, ◌<◌, eqb, List, [], length, map, filter, slice_index_or}
 use Rattle.cg_model.specs.Mapping.{Position}
 use Rattle.cg_check.specs.declared.stop.Stop.{Stop}
 use Rattle.cg_check.specs.Claims.{position_of}
 
--- the bucket of resource r in slot s, where there are `count` buckets
+-- the bucket of resource r in slot s, of `count` buckets
 unfoldable pub bucket_of : ℕ → ℕ → ℕ → ℕ → ℕ
 bucket_of count ii r s = (((r * ii) % 2 ^ 64 + s) % 2 ^ 64) % count
 
--- that of a position
+-- the bucket of a position
 abbrev pub bucket : ℕ → ℕ → Position → ℕ
 bucket count ii p = bucket_of count ii p.resource (p.time % ii)
 

@@ -1,4 +1,4 @@
--- Violations as tables of marks and of claims show them.
+-- Violations by the marks and the claims in tables.
 use Rattle.std.specs.Prelude.{ℕ, ◌+◌, ◌*◌, List, take}
 use Rattle.cg_below.specs.Below.{lists_below}
 use Rattle.cg_model.specs.declared.mapping.Place.{Place}
@@ -12,11 +12,11 @@ use Rattle.cg_check.specs.Slots.{place_in}
 use Rattle.cg_check.specs.Claims.{cell, is_clash}
 use Rattle.cg_violations.specs.Violations.{violation_if}
 
--- a rule on resource r in slot s, where the table has a clash there
+-- a rule on resource r in slot s, if the table has a clash there
 abbrev pub cell_violation : List Cell → ℕ → Rule → ℕ → ℕ → List Violation
 cell_violation table ii rule r s = violation_if (is_clash (cell table (r * ii + s))) rule (at.Resource r s)
 
--- in all slots of resource r
+-- a rule on resource r, in all slots in which the table has a clash
 abbrev pub row_violations : List Cell → ℕ → Rule → ℕ → List Violation
 row_violations table ii rule r = lists_below (cell_violation table ii rule r) ii
 

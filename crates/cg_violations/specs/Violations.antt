@@ -16,7 +16,7 @@ use Rattle.cg_check.specs.Places.{IsPlaceOf, KeepsAt}
 
 -- ---- the violations of each rule
 
--- a rule at a place, where a test says that it is violated there
+-- a rule at a place, if a test says that it is violated there
 abbrev pub violation_if : Bool → Rule → RulePlace → List Violation
 violation_if broken rule place = if broken then record { rule = rule; place = place } ∷ [] else []
 
@@ -56,7 +56,7 @@ route_violation A K M route = violation_if (not (is_brought A K M route)) L5 (en
 abbrev pub route_violations : Arch → Kernel → Mapping → List Violation
 route_violations A K M = flat_map (route_violation A K M) M.routes
 
--- L6 or L7, of all resources in all slots: where two positions aren't alike
+-- L6 or L7, of all resources in all slots: the places where two positions aren't alike
 abbrev pub clash_violations : (Position → Position → Bool) → Rule → Arch → Kernel → Mapping → List Violation
 clash_violations alike rule A K M =
     lists_below (λ r. lists_below (λ s. violation_if (clashes alike M.ii (positions A K M) r s) rule (at.Resource r s)) M.ii)
@@ -64,7 +64,7 @@ clash_violations alike rule A K M =
 
 -- ---- all violations
 
--- the violations of a rule; slots are judged where the interval is one of the architecture
+-- the violations of a rule; the rules of slots are checked if the interval is one of the architecture
 abbrev pub violations_by : Rule → Arch → Kernel → Mapping → List Violation
 violations_by L1 A K M = interval_violations A M
 violations_by L2 A K M = unit_violations A K M
@@ -74,13 +74,13 @@ violations_by L5 A K M = route_violations A K M
 violations_by L6 A K M = if is_interval A M then clash_violations same_value L6 A K M else []
 violations_by L7 A K M = if is_interval A M then clash_violations same_way L7 A K M else []
 
--- those of all rules
+-- the violations of all rules
 unfoldable pub violations_of : Arch → Kernel → Mapping → List Violation
 violations_of A K M = flat_map (λ rule. violations_by rule A K M) all_rules
 
--- ---- what the list says
+-- ---- correctness of the list
 
--- the rules of slots are judged where the mapping keeps L1, all others always
+-- the rules of slots are checked if the mapping keeps L1, all others always
 abbrev pub IsJudged : Rule → Arch → Kernel → Mapping → Type 0
 IsJudged L3 A K M = Keeps L1 A K M
 IsJudged L6 A K M = Keeps L1 A K M
@@ -91,10 +91,10 @@ IsJudged _ A K M = Unit {0}
 pub record AreAll (A : Arch) (K : Kernel) (M : Mapping) (vs : List Violation) : Type 0 where
   -- at each of these places the mapping breaks the rule
   pub each : (v : Violation) → Contains vs v → IsPlaceOf v.rule A K M v.place × (KeepsAt v.rule A K M v.place → ⊥)
-  -- each place at which it breaks a rule is one of these
+  -- each place at which it breaks a rule is in the list
   pub all : (rule : Rule) (p : RulePlace) → IsJudged rule A K M → IsPlaceOf rule A K M p → (KeepsAt rule A K M p → ⊥) →
       Contains vs (record { rule = rule; place = p })
   -- the first is the lowest rule that it breaks, at the first place
   pub lowest : slice_get vs 0 ≡ violation A K M
-  -- there are none just where the mapping is legal
+  -- the list is empty exactly if the mapping is legal
   pub none : (vs ≡ []) ↔ IsLegal A K M

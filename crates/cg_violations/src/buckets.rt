@@ -1,4 +1,4 @@
-//! Stops in buckets, so that those that meet are found without a look at all of them.
+//! Stops in buckets, so that stops that meet are found without a search through all of them.
 ghost use Rattle.std.specs.Prelude.{◌≡◌, ◌<◌, ◌∷◌, ◌++◌, [], IfOk, OnOk, length, map, replicate, slice_index_or, slice_set};
 ghost use Rattle.cg_check.specs.Claims.{position_of};
 ghost use Rattle.cg_violations.specs.Buckets as spec;
@@ -9,7 +9,8 @@ use cg_check::Stop;
 use cg_model::Items;
 use std::alloc::{AllocError, Global};
 
-/// The most buckets but one: as many as an architecture of 4,096 resources has in 64 slots.
+/// The greatest number of buckets less one: the number of resources in all slots of an architecture of 4,096 resources
+/// and 64 contexts.
 const MOST_BUCKETS: usize = 262_144;
 
 /// Stops in buckets by resource and slot.
@@ -21,7 +22,7 @@ pub(crate) struct Buckets {
     pub lists: Vec<Items<Stop>>,
 }
 
-/// Returns which of `count` buckets has `resource` in `slot` at the interval `ii`.
+/// Returns the number of the bucket, of `count`, for `resource` in `slot` at the interval `ii`.
 #[tactic(auto, unfolding(crate::specs::Buckets::bucket_of))]
 fn bucket_of(count: usize, ii: u32, resource: usize, slot: usize) -> usize
     requires { 0 < count }
@@ -31,7 +32,7 @@ fn bucket_of(count: usize, ii: u32, resource: usize, slot: usize) -> usize
     resource.wrapping_mul(ii as usize).wrapping_add(slot) % count
 }
 
-/// Returns which of `count` buckets has `stop` at the interval `ii`.
+/// Returns the number of the bucket, of `count`, for `stop` at the interval `ii`.
 fn bucket(count: usize, ii: u32, stop: Stop) -> usize
     requires { 0 < count }
     ensures value { result ≡ spec.bucket count ii (position_of stop) }
@@ -41,7 +42,7 @@ fn bucket(count: usize, ii: u32, stop: Stop) -> usize
     bucket_of(count, ii, stop.resource as usize, slot)
 }
 
-/// Returns `count` lists without a stop.
+/// Returns `count` empty lists.
 fn no_stops(alloc: Global, count: usize) -> Result<Vec<Items<Stop>>, AllocError>
     ensures { IfOk result (λ lists. lists.items ≡ replicate count []) }
 {
@@ -52,7 +53,7 @@ fn no_stops(alloc: Global, count: usize) -> Result<Vec<Items<Stop>>, AllocError>
     Ok(lists)
 }
 
-/// Adds `stop` to list `at` of `lists`.
+/// Adds `stop` to the list of `lists` at index `at`.
 fn add_at(lists: &mut [Items<Stop>], at: usize, stop: Stop) -> Result<(), AllocError>
     requires { at < length lists.old }
     ensures { OnOk result (lists.new ≡ slice_set lists.old at (slice_index_or lists.old at [] ++ stop ∷ [])) }
@@ -61,7 +62,7 @@ fn add_at(lists: &mut [Items<Stop>], at: usize, stop: Stop) -> Result<(), AllocE
     Ok(())
 }
 
-/// Adds each of `stops` to the list of its bucket at the interval `ii`; `lists` have none yet.
+/// Adds each of `stops` to the list of its bucket at the interval `ii`; `lists` are empty before.
 fn add_all(lists: &mut [Items<Stop>], ii: u32, stops: &[Stop]) -> Result<(), AllocError>
     requires some { 0 < length lists.old }
     requires none { spec.HasPositions (length lists.old) ii [] lists.old }
@@ -76,8 +77,8 @@ fn add_all(lists: &mut [Items<Stop>], ii: u32, stops: &[Stop]) -> Result<(), All
 }
 
 impl Buckets {
-    /// Puts `stops` into buckets at the interval `ii`, in one pass. There are about as many buckets as stops, or as many as
-    /// resources in all slots where that is less.
+    /// Distributes `stops` to buckets at the interval `ii`, in one pass. There are about as many buckets as stops, or
+    /// one for each resource in each slot if these are fewer.
     pub(crate) fn new(alloc: Global, ii: u32, stops: &[Stop]) -> Result<Buckets, AllocError>
         ensures { IfOk result (λ made. spec.IsFilled ii (map position_of stops.now) made.ii made.lists.items) }
     {

@@ -1,4 +1,4 @@
-//! The violations of L6 and L7: what routes that meet on a resource in a slot have to share.
+//! The violations of L6 and L7: what routes that meet on a resource in a slot must share.
 ghost use Rattle.std.specs.Prelude.{◌≡◌, ◌++◌, ◌+◌, ◌*◌, ◌<◌, ◌≤◌, length, OnOk};
 ghost use Rattle.cg_below.specs.Below.{lists_below};
 ghost use Rattle.cg_check.specs.Claims.{alike, is_clash as is_clash_in, rule_of as rule_by};
@@ -11,7 +11,7 @@ use cg_check::{Cell, Rule, RulePlace, Sharing, Violation, all_claims};
 use cg_model::{Kernel, Mapping};
 use std::alloc::{AllocError, Global};
 
-/// Checks whether two values that don't share what they have to are in `cell`.
+/// Returns whether `cell` has two values that don't share what they must.
 fn is_clash(cell: Cell) -> bool
     ensures { result ≡ is_clash_in cell }
 {
@@ -21,7 +21,7 @@ fn is_clash(cell: Cell) -> bool
     }
 }
 
-/// Returns the rule that says that values share `sharing`.
+/// Returns the rule that requires values to share `sharing`.
 fn rule_of(sharing: Sharing) -> Rule
     ensures { result ≡ rule_by sharing }
 {
@@ -31,7 +31,7 @@ fn rule_of(sharing: Sharing) -> Rule
     }
 }
 
-/// Adds `rule` to `found` in each slot in which `table`, which has `ii` cells a resource, has a clash on `resource`.
+/// Adds `rule` to `found` for each slot in which `table`, which has `ii` cells per resource, has a clash on `resource`.
 fn push_row(
     found: &mut Vec<Violation>,
     table: &[Cell],
@@ -66,7 +66,7 @@ fn push_table(
     Ok(())
 }
 
-/// Adds the violations of the rule that says that values share `sharing` to `found`, where L1 is kept.
+/// Adds to `found` the violations of the rule that requires values to share `sharing`, if L1 is kept.
 pub(crate) fn push_clashes(
     alloc: Global,
     found: &mut Vec<Violation>,
@@ -84,7 +84,7 @@ pub(crate) fn push_clashes(
     Ok(())
 }
 
-/// Adds the violations of that rule to `found`.
+/// Adds the violations of the rule for `sharing` to `found`.
 fn push_all(
     alloc: Global,
     found: &mut Vec<Violation>,

@@ -11,7 +11,7 @@ use cg_check::{Sharing, Violation};
 use cg_model::{Kernel, Mapping};
 use std::alloc::{AllocError, Global};
 
-/// Returns all violations by the rules, in the rules' order.
+/// Returns all violations of the rules, in the rules' order.
 fn collected(
     alloc: Global,
     arch: &Arch,
@@ -32,9 +32,9 @@ fn collected(
     Ok(found)
 }
 
-/// Returns all violations of `mapping` on `arch` by the rules L1 to L7: rule by rule, and within a rule by place. Where L1 is
-/// violated, the rules of slots (L3, L6 and L7) aren't judged. Time and memory are linear in the nodes, the lengths of the
-/// routes, and the resources and units in all slots.
+/// Returns all violations of the rules L1 to L7 by `mapping` on `arch`: rule by rule, and within a rule by place. If L1
+/// is violated, the rules of slots (L3, L6 and L7) aren't checked. Time and memory are linear in the nodes, the lengths
+/// of the routes, and the resources and units in all slots.
 pub fn violations(
     alloc: Global,
     arch: &Arch,

@@ -57,7 +57,7 @@ fn resource_name(arch: &Arch, resource: usize) -> &str
     }
 }
 
-/// Returns the name of the node whose value `stop` is, if there is one.
+/// Returns the name of the node whose value is at `stop`, if there is one.
 fn source_name(kernel: &Kernel, stop: Option<Stop>) -> &str
     ensures { result.now ≡ spec.source_name kernel.now (option_map position_of stop) }
 {
@@ -67,7 +67,7 @@ fn source_name(kernel: &Kernel, stop: Option<Stop>) -> &str
     }
 }
 
-/// Returns the name of the resource `from`; a dash where there is none.
+/// Returns the name of the resource `from`; a dash if there is none.
 fn from_name(arch: &Arch, from: Option<u32>) -> &str
     ensures { result.now ≡ spec.from_name arch.now from }
 {
@@ -77,7 +77,7 @@ fn from_name(arch: &Arch, from: Option<u32>) -> &str
     }
 }
 
-/// Returns the name of the resource that `stop` comes from, if there is a stop.
+/// Returns the name of the resource from which `stop` comes, if there is a stop.
 fn way_name(arch: &Arch, stop: Option<Stop>) -> &str
     ensures { result.now ≡ spec.way_name arch.now (option_map position_of stop) }
 {
@@ -87,7 +87,7 @@ fn way_name(arch: &Arch, stop: Option<Stop>) -> &str
     }
 }
 
-/// Returns what is said of `node` where it shares its unit and slot with an earlier one.
+/// Returns the text for `node`, which shares its unit and slot with an earlier one.
 fn shared_text(
     alloc: Global,
     arch: &Arch,
@@ -105,7 +105,7 @@ fn shared_text(
     format!(in alloc; "unit {unit} slot {slot} {first} {name}")
 }
 
-/// Returns what is said of `node` at `rule`.
+/// Returns the text for `node` at `rule`.
 fn node_text(
     alloc: Global,
     arch: &Arch,
@@ -125,7 +125,7 @@ fn node_text(
     }
 }
 
-/// Returns what values that meet have to share by `rule`.
+/// Returns what values that meet must share by `rule`.
 fn sharing_of(rule: Rule) -> Sharing
     ensures { result ≡ spec.sharing_of rule }
 {
@@ -135,7 +135,7 @@ fn sharing_of(rule: Rule) -> Sharing
     }
 }
 
-/// Returns what is said of the resource in the slot of `spot`, where `first` and `second` meet.
+/// Returns the text for the resource in the slot of `spot`, where `first` and `second` meet.
 fn meeting_text(
     alloc: Global,
     arch: &Arch,
@@ -150,7 +150,7 @@ fn meeting_text(
     format!(in alloc; "resource {name} slot {slot} {first} {second}")
 }
 
-/// Returns what is said of the resource in the slot of `spot`, where two of `stops` aren't one value.
+/// Returns the text for the resource in the slot of `spot`, where two of `stops` aren't one value.
 fn value_text(
     alloc: Global,
     arch: &Arch,
@@ -168,7 +168,7 @@ fn value_text(
     Ok(text)
 }
 
-/// Returns what is said of the resource in the slot of `spot`, where two of `stops` come from different resources.
+/// Returns the text for the resource in the slot of `spot`, where two of `stops` come from different resources.
 fn way_text(alloc: Global, arch: &Arch, stops: &[Stop], spot: Spot) -> Result<String, AllocError>
     ensures { (K : KernelOf) → IfOk result (λ text. string_bytes text ≡ spec.resource_text arch.now K spot.ii (map position_of stops.now) Sharing.Way spot.resource spot.slot) }
 {
@@ -180,7 +180,7 @@ fn way_text(alloc: Global, arch: &Arch, stops: &[Stop], spot: Spot) -> Result<St
     Ok(text)
 }
 
-/// Returns what is said of the resource in the slot of `spot`, where two of `stops` don't share what `sharing` says.
+/// Returns the text for the resource in the slot of `spot`, where two of `stops` don't share what `sharing` requires.
 fn resource_text(
     alloc: Global,
     arch: &Arch,
@@ -197,7 +197,7 @@ fn resource_text(
     }
 }
 
-/// Returns what is said of `place` at `rule`. The stops of all routes are in `buckets`.
+/// Returns the text for `place` at `rule`. The stops of all routes are in `buckets`.
 fn place_text(
     alloc: Global,
     arch: &Arch,
@@ -281,7 +281,7 @@ fn lines_of(
     Ok(text)
 }
 
-/// Returns the first `most` of `violations`, or all where they are fewer.
+/// Returns the first `most` of `violations`, or all if they are fewer.
 fn first_of(violations: &[Violation], most: usize) -> &[Violation]
     ensures { result.now ≡ take most violations.now }
 {
@@ -306,9 +306,9 @@ fn all_buckets(
     Ok(made)
 }
 
-/// Returns the lines of the first `most` of all `violations` of `mapping` on `arch`, each with a line feed. All positions of
-/// routes are looked at once; then a line of L6 or L7 takes the time of those in the bucket of its resource and slot, and one of
-/// L3 that of the nodes before its own.
+/// Returns the lines of the first `most` of all `violations` of `mapping` on `arch`, each with a line feed. All
+/// positions of routes are visited once; after that a line of L6 or L7 takes time linear in the bucket of its resource
+/// and slot, and a line of L3 time linear in the nodes before its own.
 #[tactic(auto, unfolding(crate::specs::Faults::fault_lines))]
 pub fn fault_lines(
     alloc: Global,

@@ -1,4 +1,4 @@
-//! What meets in a slot: nodes on a unit, and positions on a resource.
+//! The nodes that meet on a unit in a slot, and the positions that meet on a resource in a slot.
 ghost use Rattle.std.specs.Prelude.{◌≡◌, ◌&&◌, ℕ, Some, None, not, map, option_map, if◌then◌else◌};
 ghost use Rattle.cg_model.specs.First.{first_such};
 ghost use Rattle.cg_model.specs.Mapping.{place as place_of, same_from as same_from_by};
@@ -31,7 +31,7 @@ pub(crate) fn place(mapping: &Mapping, node: usize) -> Place
     }
 }
 
-/// Returns `earlier`, where it has the unit and the slot of `node`.
+/// Returns `earlier`, if it has the unit and the slot of `node`.
 fn meeting_at(mapping: &Mapping, node: usize, earlier: usize) -> Option<usize>
     ensures { result ≡ (if spec.meets mapping.now node earlier then Some earlier else None) }
 {
@@ -55,14 +55,14 @@ pub(crate) fn first_meeting(mapping: &Mapping, node: usize) -> Option<usize>
     None
 }
 
-/// Checks whether `stop` is on the resource of `spot` in its slot.
+/// Returns whether `stop` is on the resource of `spot` in its slot.
 fn is_on(spot: Spot, stop: Stop) -> bool
     ensures { result ≡ is_on_by spot.ii spot.resource spot.slot (position_of stop) }
 {
     stop.resource as usize == spot.resource && slot_of(stop.time, spot.ii) as usize == spot.slot
 }
 
-/// Checks whether two values come from one resource, or both begin their paths.
+/// Returns whether two values come from one resource, or both begin their paths.
 fn same_from(first: Option<u32>, second: Option<u32>) -> bool
     ensures { result ≡ same_from_by first second }
 {
@@ -73,7 +73,7 @@ fn same_from(first: Option<u32>, second: Option<u32>) -> bool
     }
 }
 
-/// Checks whether two values share what `sharing` says.
+/// Returns whether two values share what `sharing` requires.
 fn alike(sharing: Sharing, first: Stop, second: Stop) -> bool
     ensures { result ≡ alike_by sharing (position_of first) (position_of second) }
 {
@@ -95,14 +95,14 @@ pub(crate) fn first_on(stops: &[Stop], spot: Spot) -> Option<Stop>
     None
 }
 
-/// Checks whether `stop` is at `spot` and doesn't share with `first` what `sharing` says.
+/// Returns whether `stop` is at `spot` and doesn't share with `first` what `sharing` requires.
 fn is_apart(spot: Spot, sharing: Sharing, first: Stop, stop: Stop) -> bool
     ensures { result ≡ (is_on_by spot.ii spot.resource spot.slot (position_of stop) && not (alike_by sharing (position_of first) (position_of stop))) }
 {
     is_on(spot, stop) && !alike(sharing, first, stop)
 }
 
-/// Returns the first of `stops` at `spot` that doesn't share with `first` what `sharing` says.
+/// Returns the first of `stops` at `spot` that doesn't share with `first` what `sharing` requires.
 fn first_apart(stops: &[Stop], spot: Spot, sharing: Sharing, first: Stop) -> Option<Stop>
     ensures { option_map position_of result ≡ first_such (λ q. is_on_by spot.ii spot.resource spot.slot q && not (alike_by sharing (position_of first) q)) (map position_of stops.now) }
 {
@@ -114,7 +114,7 @@ fn first_apart(stops: &[Stop], spot: Spot, sharing: Sharing, first: Stop) -> Opt
     None
 }
 
-/// Returns the first of `stops` at `spot` that doesn't share with `first`, if there is one, what `sharing` says.
+/// Returns the first of `stops` at `spot` that doesn't share with `first`, if there is one, what `sharing` requires.
 pub(crate) fn first_unlike(
     stops: &[Stop],
     spot: Spot,

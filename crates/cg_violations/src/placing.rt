@@ -9,7 +9,7 @@ use cg_check::{Rule, RulePlace, Violation, is_after, is_brought, stands_well};
 use cg_model::{Kernel, Mapping, Route};
 use std::alloc::AllocError;
 
-/// Adds `rule` at `place` to `found`, where it is `broken`.
+/// Adds `rule` at `place` to `found`, if it is `broken`.
 pub(crate) fn push_if(
     found: &mut Vec<Violation>,
     broken: bool,
@@ -24,14 +24,14 @@ pub(crate) fn push_if(
     Ok(())
 }
 
-/// Checks whether the interval of `mapping` is one of `arch`.
+/// Returns whether the interval of `mapping` is one of `arch`.
 pub(crate) fn is_interval(arch: &Arch, mapping: &Mapping) -> bool
     ensures { result ≡ is_interval_of arch.now mapping.now }
 {
     0 < mapping.ii() && mapping.ii() <= arch.contexts()
 }
 
-/// Adds the violation of L1 to `found`.
+/// Adds the violation of L1, if any, to `found`.
 pub(crate) fn push_interval(
     found: &mut Vec<Violation>,
     arch: &Arch,
@@ -43,7 +43,7 @@ pub(crate) fn push_interval(
     push_if(found, !kept, Rule::L1, RulePlace::Mapping)
 }
 
-/// Adds the violation of L2 by `node` to `found`.
+/// Adds the violation of L2 by `node`, if any, to `found`.
 fn push_unit(
     found: &mut Vec<Violation>,
     arch: &Arch,
@@ -75,7 +75,7 @@ pub(crate) fn push_units(
     Ok(())
 }
 
-/// Adds the violation of L4 by the order edge `edge` to `found`.
+/// Adds the violation of L4 by the order edge `edge`, if any, to `found`.
 fn push_edge(
     found: &mut Vec<Violation>,
     kernel: &Kernel,
@@ -103,7 +103,7 @@ pub(crate) fn push_order(
     Ok(())
 }
 
-/// Adds the violation of L5 by `route` to `found`.
+/// Adds the violation of L5 by `route`, if any, to `found`.
 fn push_route(
     found: &mut Vec<Violation>,
     arch: &Arch,

@@ -14,7 +14,7 @@ use cg_check::{Rule, RulePlace, Violation};
 use cg_model::{Kernel, Mapping, Place};
 use std::alloc::{AllocError, Global};
 
-/// Returns the slot of the cycle `time` at the interval `ii`; at the interval 0 it is the cycle.
+/// Returns the slot of the cycle `time` at the interval `ii`; at the interval 0 it is the cycle itself.
 pub(crate) fn slot_of(time: u64, ii: u32) -> u64
     ensures { result ≡ time % ii }
 {
@@ -24,7 +24,7 @@ pub(crate) fn slot_of(time: u64, ii: u32) -> u64
     time % u64::from(ii)
 }
 
-/// Checks whether two places are one unit in one slot of the interval `ii`.
+/// Returns whether two places have one unit and one slot of the interval `ii`.
 pub(crate) fn are_one(first: Place, second: Place, ii: u32) -> bool
     ensures { result ≡ (eqb first.unit second.unit && eqb (first.time % ii) (second.time % ii)) }
 {
@@ -32,14 +32,14 @@ pub(crate) fn are_one(first: Place, second: Place, ii: u32) -> bool
         && slot_of(u64::from(first.time), ii) == slot_of(u64::from(second.time), ii)
 }
 
-/// Checks whether one of `places` is the unit and the slot of `place` at the interval `ii`.
+/// Returns whether one of `places` has the unit and the slot of `place` at the interval `ii`.
 fn is_among(places: &[Place], place: Place, ii: u32) -> bool
     ensures { result ≡ is_shared ii places.now place }
 {
     places.iter().any(|earlier| are_one(*earlier, place, ii))
 }
 
-/// Sets mark `at` of `taken`, and returns whether it was set.
+/// Sets the mark of `taken` at index `at`, and returns whether it was set.
 fn take_slot(taken: &mut [bool], at: usize) -> bool
     requires { at < length taken.old }
     ensures was { (d : Bool) → result ≡ slice_index_or taken.old at d }
@@ -50,9 +50,9 @@ fn take_slot(taken: &mut [bool], at: usize) -> bool
     was
 }
 
-/// Takes the slot of `node` at the interval `ii` on its unit, and returns whether an earlier node has it. `taken` has a mark
-/// for each slot of each of `units` units, those of a unit one behind the other. A unit that isn't there has no marks, so
-/// that there all earlier `places` are looked at.
+/// Takes the slot of `node` at the interval `ii` on its unit, and returns whether an earlier node has it. `taken` has a
+/// mark for each slot of each of `units` units, those of a unit adjacent. A unit that doesn't exist has no marks, so
+/// that for it all earlier `places` are searched.
 fn is_taken(taken: &mut [bool], ii: u32, units: usize, places: &[Place], node: usize) -> bool
     requires interval { 0 < ii }
     requires node { node < length places.now }
@@ -68,7 +68,7 @@ fn is_taken(taken: &mut [bool], ii: u32, units: usize, places: &[Place], node: u
     take_slot(taken, at)
 }
 
-/// Adds the violations of L3 to `found`, where L1 is kept.
+/// Adds the violations of L3 to `found`, if L1 is kept.
 pub(crate) fn push_shared(
     alloc: Global,
     found: &mut Vec<Violation>,
@@ -88,7 +88,8 @@ pub(crate) fn push_shared(
     Ok(())
 }
 
-/// Adds the violations of L3 by `places` to `found`, at the interval `ii` on `units` units. `taken` has no mark yet.
+/// Adds the violations of L3 by `places` to `found`, at the interval `ii` on `units` units. No mark of `taken` is set
+/// before.
 fn push_places(
     found: &mut Vec<Violation>,
     taken: &mut [bool],

@@ -1,4 +1,4 @@
-//! The positions of all routes, one after another.
+//! The positions of all routes, in order.
 ghost use Rattle.std.specs.Prelude.{◌≡◌, ◌++◌, ◌∷◌, ◌^◌, ◌<◌, map, IfOk, OnOk};
 ghost use Rattle.cg_model.specs.Mapping.{positions_after, of_route, positions};
 ghost use Rattle.cg_check.specs.Claims.{position_of, next_of};
@@ -8,7 +8,7 @@ use cg_check::{Stop, delay, edge_into, leaves};
 use cg_model::{Kernel, Mapping, Route};
 use std::alloc::{AllocError, Global};
 
-/// Returns the stop after `stop` on a path that goes on to `resource`.
+/// Returns the stop after `stop` on a path that continues to `resource`.
 fn next(arch: &Arch, stop: Stop, resource: u32) -> Stop
     requires { stop.time < 2 ^ 63 }
     ensures { result ≡ next_of arch.now stop resource }
@@ -21,7 +21,7 @@ fn next(arch: &Arch, stop: Stop, resource: u32) -> Stop
     }
 }
 
-/// Adds the stops of a path to `stops`: `start`, and those on the resources of `links`, to which it goes on.
+/// Adds the stops of a path to `stops`: `start`, and those on the resources of `links`, to which it continues.
 fn push_path(
     stops: &mut Vec<Stop>,
     arch: &Arch,

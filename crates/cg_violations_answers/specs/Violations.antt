@@ -12,7 +12,7 @@ use Rattle.cg_mapping_answers.specs.Check.{legal_report}
 use Rattle.cg_violations.specs.Violations.{violations_of, AreAll}
 use Rattle.cg_violations.specs.Faults.{fault_lines}
 
--- the most violations that are reported
+-- the maximum number of violations in a report
 abbrev pub most_reported : ℕ
 most_reported = 1000
 
@@ -20,12 +20,12 @@ most_reported = 1000
 abbrev pub violations_report : Mapped → Bytes
 violations_report m = fault_lines m.arch m.kernel m.mapping most_reported
 
--- by the violations
+-- given the list of violations
 abbrev pub listed_by : Mapped → List Violation → Outcome
 listed_by m [] = reports Done legal_report
 listed_by m (v ∷ vs) = reports No (violations_report m)
 
--- by what the files give
+-- given the result of parsing the files
 abbrev pub listed : Result Mapped Outcome → Outcome
 listed (Ok m) = listed_by m (violations_of m.arch m.kernel m.mapping)
 listed (Err refused) = refused
@@ -35,8 +35,8 @@ pub record IsViolations (arch kernel mapping : File) (o : Outcome) : Type 0 wher
   pub given : AreMapped arch kernel mapping mapped
   pub outcome : o ≡ listed mapped
 
--- No: the mapping that was read isn't legal. Its violations were put, of more than 1,000 the first 1,000, and in part where the
--- put failed. No write was made
+-- No: the mapping that was read isn't legal. Its violations were reported, only the first 1,000 if there are more, and
+-- in part if the put call failed. Nothing was written
 pub record IsViolatedRun (arch kernel mapping : Name) (before after : Moment) : Type 0 where
   pub mapped : Mapped
   pub read : HoldMapped arch kernel mapping before mapped

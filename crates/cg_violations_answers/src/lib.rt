@@ -1,4 +1,4 @@
-//! What `violations` answers: all places at which a mapping violates the rules of legal mappings.
+//! The answer of `violations`: all places at which a mapping violates the rules of legal mappings.
 #![tactic(auto)]
 
 mod listing;

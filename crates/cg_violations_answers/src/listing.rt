@@ -15,11 +15,11 @@ use cg_inputs::{arch_in, kernel_in, mapping_in};
 use cg_violations::{fault_lines, violations as all_violations};
 use std::alloc::Global;
 
-/// The most violations that are reported.
+/// The maximum number of violations in a report.
 const MOST_REPORTED: usize = 1000;
 
-/// Returns the outcome of `violations`: all places at which the mapping that the file `mapping` gives violates a rule of legal
-/// mappings, for the kernel of `kernel` on the architecture of `arch`.
+/// Returns the outcome of `violations`: all places at which the mapping in the file `mapping`, of the kernel in
+/// `kernel` to the architecture in `arch`, violates a rule of legal mappings.
 pub fn violations(
     alloc: Global,
     arch: &File,
@@ -34,7 +34,7 @@ pub fn violations(
     listed(alloc, &array, &graph, &placed)
 }
 
-/// Returns the outcome for `mapping`, of `kernel` on `array`.
+/// Returns the outcome for `mapping`, of `kernel` to `array`.
 fn listed(alloc: Global, array: &Arch, kernel: &Kernel, mapping: &Mapping) -> Result<Outcome, Stop>
     requires { IsShaped kernel.now mapping.now }
     ensures { Allows (λ o. o ≡ listed_by (record { arch = array.now; kernel = kernel.now; mapping = mapping.now })
@@ -55,7 +55,7 @@ fn legal(alloc: Global) -> Result<Outcome, Stop>
     Ok(Outcome::new(alloc, Status::Done, report))
 }
 
-/// Returns the outcome where these are all the violations of `mapping`, of `kernel` on `array`.
+/// Returns the outcome that lists all violations of `mapping`, of `kernel` to `array`.
 fn illegal(
     alloc: Global,
     array: &Arch,

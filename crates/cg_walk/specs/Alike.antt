@@ -1,10 +1,10 @@
--- Use tables that agree, and what depends on the numbers of uses alone.
+-- Use tables that agree: the functions of the walk depend on the numbers of uses alone.
 use Rattle.std.specs.Prelude.{◌≡◌}
 use Rattle.cg_model.specs.Mapping.{Position}
 use Rattle.cg_claims.specs.Claims.{uses}
 use Rattle.cg_claims.specs.Table.{Table}
 
--- two tables of one architecture, interval and history, in which each claim is used as often
+-- two tables of one architecture, interval and history, in which each claim is used equally often
 pub record AreAlike (T R : Table) : Type 0 where
   pub arch : T.arch ≡ R.arch
   pub interval : T.interval ≡ R.interval

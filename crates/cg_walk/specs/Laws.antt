@@ -20,7 +20,7 @@ use Rattle.cg_walk.specs.Good.{IsReady, IsGood}
 use Rattle.cg_walk.specs.Alike.{AreAlike}
 use Rattle.cg_walk.specs.Ranges.{AreInRange, most_steps}
 
--- a good state of cost 0 stands for a legal mapping
+-- a good state of cost 0 represents a legal mapping
 abbrev pub IsLegalAtZero : Type 0
 IsLegalAtZero =
     (A : Arch) (K : Kernel) (ii : ℕ) (S : State) → IsArch A → IsKernel K → IsGood A K ii S →
@@ -38,7 +38,7 @@ IsOneEnd =
     (A : Arch) (K : Kernel) (ii : ℕ) (early : List ℕ) (moves seed k l : ℕ) (g h : Lcg) (S T : State) →
     IsEnd A K ii early moves seed k g S → IsEnd A K ii early moves seed l h T → (k ≡ l) × (g ≡ h) × (S ≡ T)
 
--- and a walk that can begin has one
+-- and a walk that can begin has an end
 abbrev pub IsAlwaysEnded : Type 0
 IsAlwaysEnded =
     (A : Arch) (K : Kernel) (ii : ℕ) (early : List ℕ) (moves seed : ℕ) →
@@ -58,7 +58,7 @@ IsLegalWhereFound =
     IsArch A → IsKernel K → IsReady A K ii early → Walked A K ii early moves seed k g S →
     cost A K ii S ≡ 0 → IsLegal A K (mapping_of K ii S)
 
--- a route more: where an edge operand has none, the positions of the path that it gets are added
+-- a route is added: where an edge operand has none, the positions of the path that it gets are added
 abbrev pub IsRouteMore : Type 0
 IsRouteMore =
     (A : Arch) (K : Kernel) (ii : ℕ) (S : State) (i : ℕ) (path : List ℕ) →
@@ -66,7 +66,7 @@ IsRouteMore =
     IsMore (table_of_state A K ii S) (table_of_state A K ii (with_route S i (Some path)))
     (positions_on A (edge K i).source (ends_of A ii S.places (edge K i)).start path)
 
--- a route less: the positions of the path that an edge operand had are taken away
+-- a route is removed: the positions of the path that an edge operand had are taken away
 abbrev pub IsRouteLess : Type 0
 IsRouteLess =
     (A : Arch) (K : Kernel) (ii : ℕ) (S : State) (i : ℕ) (path : List ℕ) →
@@ -82,7 +82,7 @@ IsPlacedAlone =
     slice_get S.routes i ≢ Some (Some path)) →
     state_positions A K ii (record S { places = moved S.places m }) ≡ state_positions A K ii S
 
--- excess, aged histories and what is found depend on the numbers of uses alone
+-- excess, aged histories and the path that is found depend on the numbers of uses alone
 abbrev pub IsExcessByUses : Type 0
 IsExcessByUses = (T R : Table) → AreAlike T R → excess T ≡ excess R
 
@@ -94,7 +94,7 @@ IsFoundByUses =
     (T R : Table) (u : ℕ) (ends : Ends) (found : Option (List ℕ)) → AreAlike T R →
     IsFound T u ends found → IsFound R u ends found
 
--- so does the cost, beside the places and the number of routes
+-- so does the cost, apart from the places and the number of routes
 abbrev pub IsCostByUses : Type 0
 IsCostByUses =
     (A : Arch) (K : Kernel) (ii : ℕ) (S : State) (T : Table) → AreAlike T (table_of_state A K ii S) →

@@ -1,6 +1,5 @@
--- States of the walk that looks for a mapping: a place for each node, a route or none for each edge
--- operand, and a history for each node of the modulo routing resource graph. What a state costs, and
--- the mapping that it stands for.
+-- States of the walk that looks for a mapping: a place for each node, a route or none for each edge operand, and a
+-- history for each node of the modulo routing resource graph. What a state costs, and the mapping that it represents.
 use Rattle.std.specs.Prelude.{ℕ, suc, ◌+◌, ◌*◌, Bool, true, false, List, [], ◌∷◌, ◌++◌, Option, Some, None, count_by}
 use Rattle.cg_model.specs.declared.kernel.Node.{Node}
 use Rattle.cg_model.specs.declared.kernel.Operand.{Operand}
@@ -43,9 +42,8 @@ pub record State : Type 0 where
   pub routes : List (Option (List ℕ))
   pub history : List ℕ
 
--- where and when the route of an edge operand begins and ends: with the out of the source's unit when the value leaves
--- it, and on the port of that argument when the node that takes it begins, as many turns later as the edge's distance
--- says
+-- where and when the route of an edge operand begins and ends: at the out of the source's unit when the value leaves
+-- it, and on the port of that argument when the consumer begins, later by the edge's distance in iterations
 abbrev pub ends_of : Arch → ℕ → List Place → EdgeOperand → Ends
 ends_of A ii places e =
     let from = place_in places e.source in
@@ -92,9 +90,9 @@ missing S = count_by is_missing S.routes
 abbrev pub weight : ℕ
 weight = 1000
 
--- the cost of a state: its weight for each edge operand without a route, for each order edge that the times
--- break and for each node beyond one in a slot of a unit; and 1 for each claim beyond one at a node of
--- the modulo routing resource graph
+-- the cost of a state: `weight` for each edge operand without a route, for each order edge that the times break and for
+-- each node beyond one in a slot of a unit; and 1 for each claim beyond one at a node of the modulo routing resource
+-- graph
 unfoldable pub cost : Arch → Kernel → ℕ → State → ℕ
 cost A K ii S =
     weight * (missing S + order_violations K ii S.places + unit_excess A ii S.places)
@@ -102,13 +100,13 @@ cost A K ii S =
 
 -- ---- mappings
 
--- the routes that there are
+-- the routes of the edge operands that have one
 abbrev pub routes_by : List EdgeOperand → List (Option (List ℕ)) → List Route
 routes_by [] routes = []
 routes_by (e ∷ es) [] = []
 routes_by (e ∷ es) (None ∷ rs) = routes_by es rs
 routes_by (e ∷ es) (Some path ∷ rs) = record { node = e.node; arg = e.arg; path = path } ∷ routes_by es rs
 
--- the mapping that a state stands for
+-- the mapping that a state represents
 unfoldable pub mapping_of : Kernel → ℕ → State → Mapping
 mapping_of K ii S = record { ii = ii; places = S.places; routes = routes_by (edges K) S.routes }

@@ -1,5 +1,5 @@
 -- The walk: simulated annealing (DRESC, Mei et al. 2002) over placements and routes. It starts at the first places,
--- moves a node at a time as a generator's words say, and ends at the first state of cost 0 or after a given number of
+-- moves a node at a time by the words of a generator, and ends at the first state of cost 0 or after a given number of
 -- moves.
 use Rattle.std.specs.Prelude.{◌≡◌, ℕ, suc, ◌+◌, ◌-◌, ◌*◌, ◌/◌, ◌%◌, ◌^◌, ◌<◌, ◌⊎◌, nat_lt, nat_le, eqb, min, ◌||◌, if◌then◌else◌, Bool, List, [], ◌∷◌, length, map, filter, replicate, Option, None, slice_index_or, slice_set}
 use Rattle.std.specs.List.{range_with_len}
@@ -24,12 +24,11 @@ edge K i = slice_index_or (edges K) i (record { node = 0; arg = 0; source = 0; d
 abbrev pub all_edges : Kernel → List ℕ
 all_edges K = range_with_len 0 (length (edges K))
 
--- edge operand i has that route, or none
+-- edge operand i with that route, or without one
 abbrev pub with_route : State → ℕ → Option (List ℕ) → State
 with_route S i route = record S { routes = slice_set S.routes i route }
 
--- what is found for edge operand i: the least path between its ends in the use of all routes that there
--- are, or none
+-- the result of the search for edge operand i: the least path between its ends given the uses of all routes, or none
 abbrev pub IsFoundFor : Arch → Kernel → ℕ → State → ℕ → Option (List ℕ) → Type 0
 IsFoundFor A K ii S i found =
     IsFound (table_of_state A K ii S) (edge K i).source (ends_of A ii S.places (edge K i)) found
@@ -70,16 +69,16 @@ abbrev pub unrouted : List ℕ → State → State
 unrouted [] S = S
 unrouted (i ∷ is) S = unrouted is (with_route S i None)
 
--- the routes into and out of the move's node are taken away, and the node is placed
+-- the routes into and out of the move's node are removed, and the node is placed
 abbrev pub moved_by : Kernel → Move → State → State
 moved_by K m S =
     let S' = unrouted (touching K m.node) S in record S' { places = moved S'.places m }
 
--- the move that a generator's next three words draw
+-- the move that a generator's next three words determine
 abbrev pub proposal : Arch → Kernel → ℕ → List ℕ → Lcg → Move
 proposal A K ii early g = drawn_move A K ii early (word 0 g) (word 1 g) (word 2 g)
 
--- it is tried: then the edge operands of the node, and those whose source it is, are routed anew
+-- the move is tried: the edge operands of the node, and those whose source it is, are routed anew
 abbrev pub IsTried : Arch → Kernel → ℕ → Move → State → State → Type 0
 IsTried A K ii m S tried = IsRouted A K ii (touching K m.node) (moved_by K m S) tried
 
@@ -91,13 +90,13 @@ hottest = 64
 abbrev pub heat : ℕ → ℕ → ℕ
 heat moves k = 1 + hottest * (moves - k) / moves
 
--- move k stands by that word where the cost doesn't rise, or else with a chance that halves with each
--- `heat` of the rise
+-- move k is accepted, by the random word `chance`: always where the cost doesn't rise, else with a chance that halves
+-- with each `heat` of the rise
 abbrev pub is_taken : ℕ → ℕ → ℕ → ℕ → ℕ → Bool
 is_taken moves k before after chance =
     nat_le after before || nat_lt chance (2 ^ 32 / 2 ^ min 31 ((after - before) / heat moves k))
 
--- the histories of nodes with excess have grown
+-- the state with grown histories at nodes with excess
 abbrev pub aged_state : Arch → Kernel → ℕ → State → State
 aged_state A K ii S = record S { history = aged (table_of_state A K ii S) }
 
@@ -105,11 +104,11 @@ aged_state A K ii S = record S { history = aged (table_of_state A K ii S) }
 abbrev pub period : ℕ
 period = 64
 
--- what stands after move k: after each such number of moves the histories grow
+-- the state after move k: the histories grow after every `period` moves
 abbrev pub rested : Arch → Kernel → ℕ → ℕ → State → State
 rested A K ii k S = if eqb ((k + 1) % period) 0 then aged_state A K ii S else S
 
--- move k, by the generator's next four words: a move is tried, and stands or not
+-- move k, by the generator's next four words: a move is tried, and accepted or rejected
 abbrev pub IsMove : Arch → Kernel → ℕ → List ℕ → ℕ → ℕ → Lcg → State → State → Type 0
 IsMove A K ii early moves k g S after =
     (tried : State) × IsTried A K ii (proposal A K ii early g) S tried ×
@@ -117,7 +116,7 @@ IsMove A K ii early moves k g S after =
 
 -- ---- the walk
 
--- after k moves, of at most `moves`, the walk with that seed has that generator and that state: it makes a further move
+-- after k of at most `moves` moves, the walk with that seed has that generator and that state: it makes a further move
 -- where its state has a cost and moves are left
 pub data Walked (A : Arch) (K : Kernel) (ii : ℕ) (early : List ℕ) (moves seed : ℕ) : ℕ → Lcg → State → Type 0 where
   start : {S : State} → IsStart A K ii early S → Walked A K ii early moves seed 0 (generator seed ii) S

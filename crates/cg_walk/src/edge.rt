@@ -9,6 +9,6 @@ pub struct EdgeOperand {
     pub arg: u32,
     /// The number of the node whose value it takes.
     pub source: u32,
-    /// The number of turns that the value is old.
+    /// The number of iterations that the value is old.
     pub distance: u32,
 }

@@ -1,8 +1,8 @@
-//! The annealing walk that looks for a mapping: its states, its moves and its end as definitions, and
-//! what is true of them.
+//! The annealing walk that looks for a mapping: definitions of its states, its moves and its end, and the laws about
+//! them.
 //!
-//! Every function here has an empty body. Its clauses are laws about the definitions: a crate that
-//! calls it has them at hand for its own proofs.
+//! Every function here has an empty body. Its clauses are laws about the definitions: a crate that calls the function
+//! can use them in its own proofs.
 #![tactic(auto)]
 
 ghost use Rattle.cg_walk.specs.Laws.{IsLegalAtZero, IsLegalWhereFound, IsOneWalk, IsOneEnd, IsAlwaysEnded, IsGoodAllAlong, IsRouteMore, IsRouteLess, IsPlacedAlone, IsExcessByUses, IsAgedByUses, IsFoundByUses, IsCostByUses, AreEndsInRange, IsPathInRange, IsRoomEnough, AreHistoriesSmall, AreTimesSoon};
@@ -11,36 +11,37 @@ mod edge;
 
 pub use edge::EdgeOperand;
 
-/// A good state of cost 0 stands for a legal mapping, on every valid architecture and for every valid
-/// kernel. Every state of a walk that can begin is good, so where such a walk comes to cost 0 it has
-/// found a legal mapping.
+/// States that a good state of cost 0 represents a legal mapping, on every valid architecture and for every valid
+/// kernel. Every state of a walk that can begin is good, so a walk of this kind that comes to cost 0 has found a legal
+/// mapping.
 pub fn legal()
     ensures at_zero { IsLegalAtZero }
     ensures good { IsGoodAllAlong }
     ensures found { IsLegalWhereFound }
 {}
 
-/// There is one walk: the number of moves determines the generator and the state. And it has one end.
+/// States that there is one walk, as the number of moves determines the generator and the state, and that the walk has
+/// one end.
 pub fn one_walk()
     ensures walk { IsOneWalk }
     ensures end { IsOneEnd }
 {}
 
-/// A walk that can begin, on a valid architecture and for a valid kernel, comes to that end.
+/// States that a walk that can begin, on a valid architecture and for a valid kernel, comes to that end.
 pub fn always_ends()
     ensures { IsAlwaysEnded }
 {}
 
-/// A route more adds the positions of its path to those of a state, a route less takes them away, and a
-/// node that is placed changes none where no edge operand that touches it has a route.
+/// States that adding a route adds the positions of its path to those of a state, that removing a route removes them,
+/// and that placing a node changes no position where no edge operand that touches the node has a route.
 pub fn positions()
     ensures more { IsRouteMore }
     ensures less { IsRouteLess }
     ensures placed { IsPlacedAlone }
 {}
 
-/// The excess, the histories that grow, what is found, and so the cost, depend on how often each claim is
-/// used alone: whoever keeps a table with a state's uses has them, in whatever order paths were added.
+/// States that the excess, the aged histories, the path that is found, and so the cost, depend only on how often each
+/// claim is used: a table with a state's uses determines them, in whatever order the paths were added.
 pub fn by_uses()
     ensures excess { IsExcessByUses }
     ensures aged { IsAgedByUses }
@@ -48,8 +49,8 @@ pub fn by_uses()
     ensures cost { IsCostByUses }
 {}
 
-/// The numbers of the walk's states are small: the ends of routes, the routes, all positions together, the
-/// histories, and the earliest times.
+/// States that the numbers of the walk's states are bounded: the ends of routes, the routes, all positions together,
+/// the histories, and the earliest times.
 pub fn ranges()
     ensures ends { AreEndsInRange }
     ensures path { IsPathInRange }

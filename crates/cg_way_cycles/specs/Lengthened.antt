@@ -5,6 +5,6 @@ use Rattle.cg_edges.specs.declared.edge.EdgeId.{EdgeId}
 use Rattle.cg_recur.specs.Recurrences.{name_at}
 use Rattle.cg_way_cycles.specs.WayCycles.{registers_of, longer}
 
--- as many edges, each longer by the registers of its name
+-- one edge for each edge, longer by the registers of its name
 abbrev pub AreLonger : (ℕ → ℕ → ℕ) → List EdgeId → List Edge → List Edge → Type 0
 AreLonger far names edges long = (k : ℕ) → slice_get long k ≡ longer (registers_of far (name_at names k)) (slice_get edges k)

@@ -1,5 +1,5 @@
--- Closed chains of edges that are too long for an interval (the recurrence constraint of modulo scheduling, Rau 1994) when
--- the registers that the value of each data edge crosses at least are added to its latency.
+-- Closed chains of edges that are too long for an interval (the recurrence constraint of modulo scheduling, Rau 1994)
+-- when the least number of registers that the value of each data edge crosses is added to its latency.
 use Rattle.std.specs.Prelude.{ℕ, ◌+◌, List, Option, Some, None}
 use Rattle.std.specs.declared.vec.Vec.{Vec}
 use Rattle.std.specs.declared.alloc.Global.{Global}
@@ -11,17 +11,18 @@ use Rattle.cg_edges.specs.declared.edge.EdgeId.TheVariants.{Arg, Order}
 use Rattle.cg_edges.specs.Edges.{edge_of}
 use Rattle.cg_edges.specs.Chain.{IsCycle, IsShown}
 
--- the registers that the value of an edge crosses at least: `far v p` for operand p of node v, none for an order edge
+-- the least number of registers that the value of an edge crosses: `far v p` for operand p of node v, none for an order
+-- edge
 abbrev pub registers_of : (ℕ → ℕ → ℕ) → EdgeId → ℕ
 registers_of far (Arg v p) = far v p
 registers_of far (Order k) = 0
 
--- an edge, where there is one, with n cycles added to its latency
+-- an edge, if there is one, with n cycles added to its latency
 abbrev pub longer : ℕ → Option Edge → Option Edge
 longer n (Some e) = Some (record { source = e.source; target = e.target; latency = e.latency + n; distance = e.distance })
 longer n None = None
 
--- the edge that is named, with those registers added to its latency
+-- the edge of a name, with those registers added to its latency
 abbrev pub edge_with : Arch → Kernel → (ℕ → ℕ → ℕ) → EdgeId → Option Edge
 edge_with A K far x = longer (registers_of far x) (edge_of A K x)
 
@@ -33,7 +34,7 @@ IsWayCycle A K far ii ids = IsCycle (edge_with A K far) ii ids
 abbrev pub HasNoWayCycle : Arch → Kernel → (ℕ → ℕ → ℕ) → ℕ → Type 0
 HasNoWayCycle A K far ii = (ids : List EdgeId) → IsWayCycle A K far ii ids → ⊥
 
--- such a chain that repeats no node and begins at its least one, or none where there is none at all
+-- a closed chain of this form that repeats no node and begins at its least one, or none if there is none at all
 abbrev pub IsWayAnswer : Arch → Kernel → (ℕ → ℕ → ℕ) → ℕ → Option (Vec EdgeId Global) → Type 0
 IsWayAnswer A K far ii (Some ids) = IsWayCycle A K far ii ids.items × IsShown (edge_with A K far) ids.items
 IsWayAnswer A K far ii None = HasNoWayCycle A K far ii

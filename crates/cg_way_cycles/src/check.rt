@@ -7,9 +7,9 @@ use cg_edges::{Arch, EdgeId, Kernel, find_edge};
 use cg_pressure::far_at;
 use cg_recur::source;
 
-/// Checks whether `cycle` names the edges of a closed chain whose latencies, with the registers added that their values cross
-/// at least, exceed the interval `ii` times its distances. `far` has three numbers a node: for each operand the registers that
-/// a value crosses at least on its way there.
+/// Returns whether `cycle` names the edges of a closed chain whose latencies, plus the least numbers of registers that
+/// their values cross, exceed the interval `ii` times its distances. `far` has three numbers per node: for each operand
+/// the least number of registers that a value crosses on its way there.
 pub fn check_way_cycle(arch: &Arch, kernel: &Kernel, far: &[u32], ii: u32, cycle: &[EdgeId]) -> bool
     ensures { IsTrue result ↔ IsWayCycle arch.now kernel.now (table far.now) ii cycle.now }
 {
@@ -36,7 +36,8 @@ pub fn check_way_cycle(arch: &Arch, kernel: &Kernel, far: &[u32], ii: u32, cycle
     at == start && ii as u128 * distance < latency
 }
 
-/// Returns the number that `far` has for edge `id`: the registers that its value crosses at least; 0 for an order edge.
+/// Returns the number that `far` has for edge `id`: the least number of registers that its value crosses; 0 for an
+/// order edge.
 pub fn least_registers(far: &[u32], id: EdgeId) -> u32
     ensures { result ≡ registers_of (table far.now) id }
 {

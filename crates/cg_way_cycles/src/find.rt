@@ -10,9 +10,10 @@ use cg_edges::{Arch, Edge, EdgeId, Kernel, edges_of, latencies_are_small};
 use cg_recur::{Numbered, longest_chains, name_all};
 use std::alloc::{AllocError, Global};
 
-/// Returns a closed chain of edges whose latencies, with the registers added that their values cross at least, exceed the
-/// interval `ii` times its distances, where there is one. It meets no node twice, and begins at its least-numbered node.
-/// `far` has three numbers a node: for each operand the registers that a value crosses at least on its way there.
+/// Returns a closed chain of edges whose latencies, plus the least numbers of registers that their values cross, exceed
+/// the interval `ii` times its distances, if there is one. It meets no node twice, and begins at its least-numbered
+/// node. `far` has three numbers per node: for each operand the least number of registers that a value crosses on its
+/// way there.
 pub fn find_way_cycle(
     alloc: Global,
     arch: &Arch,
@@ -33,7 +34,7 @@ pub fn find_way_cycle(
     }
 }
 
-/// Returns `edges` with longer latencies: to each the registers are added that `far` has for the edge, none for an order edge.
+/// Returns `edges` with longer latencies: for each data edge its number in `far` is added, for an order edge nothing.
 /// `names` has the names of the edges.
 fn lengthen(
     alloc: Global,

@@ -1,5 +1,5 @@
-//! Laws of closed chains that are too long with the registers on their ways. Every function here has an empty body, and its
-//! clauses speak of the definitions alone.
+//! Laws of closed chains that are too long with the registers on their ways. Every function here has an empty body, and
+//! its contract is about the definitions alone.
 ghost use Rattle.std.specs.Prelude.{◌≡◌, ◌≤◌, ◌⊎◌, ◌↔◌, ℕ, List, length};
 ghost use Rattle.cg_model.specs.Kernel.{Kernel, IsKernel, size};
 ghost use Rattle.cg_model.specs.Array.{Arch, IsArch};
@@ -9,8 +9,8 @@ ghost use Rattle.cg_recur.specs.Recurrences.{IsRecurrence};
 ghost use Rattle.cg_pressure.specs.Pressure.{IsKept};
 ghost use Rattle.cg_way_cycles.specs.WayCycles.{IsWayCycle, HasNoWayCycle};
 
-/// States that no closed chain `ids` is too long for the interval of a legal mapping `M`, where the value of each data edge
-/// crosses at least the registers that `far` gives for its operand.
+/// States that no closed chain `ids` is too long for the interval of a legal mapping `M`, if the value of each data
+/// edge crosses at least the number of registers that `far` gives for its operand.
 pub fn excludes()
     ensures { (A : Arch) (K : Kernel) (M : Mapping) (far : ℕ → ℕ → ℕ) (ids : List EdgeId) →
         IsKernel K → IsLegal A K M → IsKept A K M far → IsWayCycle A K far M.ii ids → ⊥ }
@@ -22,14 +22,14 @@ pub fn falls()
         i ≤ j → IsWayCycle A K far j ids → IsWayCycle A K far i ids }
 {}
 
-/// States that `ids` is too long exactly where it is a recurrence, if `far` is 0 everywhere.
+/// States that `ids` is too long exactly if it is a recurrence, where `far` is 0 everywhere.
 pub fn plain()
     ensures { (A : Arch) (K : Kernel) (far : ℕ → ℕ → ℕ) (ii : ℕ) (ids : List EdgeId) →
         ((v p : ℕ) → far v p ≡ 0) → IsWayCycle A K far ii ids ↔ IsRecurrence A K ii ids }
 {}
 
-/// States that for each interval `ii` of a valid kernel on a valid architecture there is a closed chain that is too long, of no
-/// more edges than the kernel has nodes, or none at all, where values cross at most 4096 registers by `far`.
+/// States that for each interval `ii` of a valid kernel on a valid architecture there is a closed chain that is too
+/// long, with at most one edge per node of the kernel, or none at all, if values cross at most 4096 registers by `far`.
 pub fn always_decided()
     ensures { (A : Arch) (K : Kernel) (far : ℕ → ℕ → ℕ) (ii : ℕ) → IsArch A → IsKernel K → ((v p : ℕ) → far v p ≤ 4096) →
         ((ids : List EdgeId) × IsWayCycle A K far ii ids × (length ids ≤ size K)) ⊎ HasNoWayCycle A K far ii }

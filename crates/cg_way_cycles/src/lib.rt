@@ -1,5 +1,5 @@
-//! The bound by recurrences (Rau 1994) with the ways of values: closed chains of edges that are too long for an interval when
-//! the registers that each value crosses at least are added to the latencies.
+//! The bound by recurrences (Rau 1994) with the ways of values: closed chains of edges that are too long for an
+//! interval when the least number of registers that each value crosses is added to the latencies.
 #![tactic(auto)]
 
 mod check;

@@ -1,4 +1,4 @@
--- A search along links, backward from where ways end.
+-- A search along links, backward from the ends of ways.
 use Rattle.std.specs.Prelude.{◌≡◌, ℕ, ◌+◌, ◌<◌, ◌≤◌, ◌⊎◌, ◌++◌, if◌then◌else◌, eqb, List, [], length, Contains, Option, Some, None, sum_by, slice_index, slice_index_or, slice_set, replicate, Bool, true, false, ◌↔◌}
 use Rattle.cg_model.specs.Array.{Arch, resource, delay}
 use Rattle.cg_ways.specs.declared.search.Search.{Search}
@@ -12,12 +12,12 @@ Reaches A ends q n = (r : ℕ) × Contains ends r × Leads A q r n
 abbrev pub Joins : Arch → List ℕ → List ℕ → ℕ → Type 0
 Joins A from ends n = (q : ℕ) × Contains from q × Reaches A ends q n
 
--- what a search finds: the least number with a property, which is at most the number of the architecture's resources
+-- the result of a search: the least number with a property, which is at most the number of the architecture's resources
 pub record IsFound (A : Arch) (P : ℕ → Type 0) (far : Option ℕ) : Type 0 where
   pub least : IsLeast P far
   pub small : IsSmall (length A.resources) far
 
--- the number of resource r; None where it has none yet
+-- the number of resource r; None if it has none yet
 abbrev pub number : List (Option ℕ) → ℕ → Option ℕ
 number numbers r = slice_index_or numbers r None
 
@@ -43,8 +43,8 @@ abbrev pub IsDue : List (Option ℕ) → ℕ → List ℕ → List ℕ → ℕ �
 IsDue numbers level front later q n =
     IsWithin numbers q n ⊎ ((Contains front q × (level ≤ n)) ⊎ (Contains later q × (level + 1 ≤ n)))
 
--- a search under way: each number that a resource waits for is that of a way to an end; each end, and each driver of a resource
--- that has a number, has one too or waits; the first `at` resources at the front have one
+-- a search in progress: each number for which a resource waits is that of a way to an end; each end, and each driver of
+-- a resource that has a number, has one too or waits; the first `at` resources at the front have one
 pub record IsUnderWay (A : Arch) (ends : List ℕ) (numbers : List (Option ℕ)) (level : ℕ) (front : List ℕ) (at : ℕ) (later : List ℕ) : Type 0 where
   pub each : length numbers ≡ length A.resources
   pub fronts : (q : ℕ) → Contains front q → (q < length A.resources) × Reaches A ends q level
@@ -56,15 +56,15 @@ pub record IsUnderWay (A : Arch) (ends : List ℕ) (numbers : List (Option ℕ))
   pub passed : (i : ℕ) → i < at → HasNumber numbers (slice_index front i)
   pub reached : at ≤ length front
 
--- search s is under way
+-- search s is in progress
 abbrev pub IsSearch : Arch → List ℕ → Search → Type 0
 IsSearch A ends s = IsUnderWay A ends s.numbers.items s.level s.front.items s.at s.later.items
 
--- the numbers of resources within a list of that length
+-- resource numbers below `count`
 abbrev pub AreBelow : ℕ → List ℕ → Type 0
 AreBelow count list = (r : ℕ) → Contains list r → r < count
 
--- `next` is the first place from `at` on of a resource without a number, or the end of the list
+-- `next` is the first index from `at` on of a resource without a number, or the end of the list
 pub record IsNext (numbers : List (Option ℕ)) (front : List ℕ) (at next : ℕ) : Type 0 where
   pub from : at ≤ next
   pub within : next ≤ length front
@@ -84,7 +84,7 @@ pub record IsBegun (ends : List ℕ) (count : ℕ) (s : Search) : Type 0 where
   pub at : s.at ≡ 0
   pub later : s.later.items ≡ []
 
--- search t is search s gone on to the first resource from `at` on that has no number, or to the end of the front
+-- search t is search s advanced to the first resource from `at` on that has no number, or to the end of the front
 pub record IsSkipped (s t : Search) : Type 0 where
   pub numbers : t.numbers.items ≡ s.numbers.items
   pub level : t.level ≡ s.level
@@ -92,7 +92,7 @@ pub record IsSkipped (s t : Search) : Type 0 where
   pub at : IsNext s.numbers.items s.front.items s.at t.at
   pub later : t.later.items ≡ s.later.items
 
--- search t is search s gone on to the next number, for which those wait that waited for later
+-- search t is search s advanced to the next number, for which the resources of `later` now wait
 pub record IsRisen (s t : Search) : Type 0 where
   pub numbers : t.numbers.items ≡ s.numbers.items
   pub level : t.level ≡ s.level + 1
@@ -108,7 +108,8 @@ IsOpen r s = (s.at < length s.front.items) × (slice_index s.front.items s.at �
 abbrev pub IsOver : Search → Type 0
 IsOver s = (s.at ≡ length s.front.items) × (s.later.items ≡ [])
 
--- resource r has the number of the front, and its drivers wait: for that number too, or for the next one where r is a register
+-- resource r has the number of the front, and its drivers wait: for that number too, or for the next one if r is a
+-- register
 pub record IsSettled (A : Arch) (r : ℕ) (s t : Search) : Type 0 where
   pub numbers : t.numbers.items ≡ slice_set s.numbers.items r (Some s.level)
   pub level : t.level ≡ s.level

@@ -6,8 +6,8 @@ use Rattle.cg_model.specs.Kernel.{Kernel, HasOperand, node}
 use Rattle.cg_model.specs.Array.{Arch, unit}
 use Rattle.cg_model.specs.Mapping.{Mapping, Goes, leaves, place}
 
--- a path along links leads from resource q to resource r, with n registers on it: a link into a register takes one cycle,
--- every other none
+-- a path along links leads from resource q to resource r, with n registers on it: a link into a register takes one
+-- cycle, every other link none
 abbrev pub Leads : Arch → ℕ → ℕ → ℕ → Type 0
 Leads A q r n = (path : List ℕ) × Goes A q 0 path r n
 
@@ -19,27 +19,27 @@ IsWay A x y p n = (port : ℕ) × (slice_get (unit A y).ports p ≡ Some port) �
 abbrev pub Offers : Arch → ℕ → Op → Type 0
 Offers A x op = (x < length A.units) × Contains (unit A x).ops op
 
--- units x and y may hold the ends of an edge from node u to node v at interval ii: they offer the operations of the nodes, and
--- are one unit where u is v, and two units where it isn't and the interval is 1, in which a unit holds one node
+-- units x and y may hold the ends of an edge from node u to node v at interval ii: they offer the operations of the
+-- nodes, and are one unit if u is v, and two units if it isn't and the interval is 1, in which a unit holds one node
 pub record MayHold (A : Arch) (K : Kernel) (ii u v x y : ℕ) : Type 0 where
   pub source : Offers A x (node K u).op
   pub target : Offers A y (node K v).op
   pub one : u ≡ v → x ≡ y
   pub apart : ii ≡ 1 → x ≡ y → u ≡ v
 
--- operand number p of node v is an edge, and there is a way of n registers for it at interval ii: from the out of a unit to port
--- p of a unit that may hold its ends
+-- operand number p of node v is an edge, and there is a way of n registers for it at interval ii: from the out of a
+-- unit to port p of a unit that may hold its ends
 abbrev pub HasWay : Arch → Kernel → ℕ → ℕ → ℕ → ℕ → Type 0
 HasWay A K ii v p n =
     (u : ℕ) × (d : ℕ) × (init : List ℕ) × HasOperand K v p (Edge u d init) ×
     (x : ℕ) × (y : ℕ) × MayHold A K ii u v x y × IsWay A x y p n
 
--- the least number with a property; None where no number has it
+-- the least number with a property; None if no number has it
 abbrev pub IsLeast : (ℕ → Type 0) → Option ℕ → Type 0
 IsLeast P (Some n) = P n × ((m : ℕ) → P m → n ≤ m)
 IsLeast P None = (n : ℕ) → P n → ⊥
 
--- the least number of registers on a way for operand number p of node v at interval ii; None where there is no way
+-- the least number of registers on a way for operand number p of node v at interval ii; None if there is no way
 abbrev pub IsFar : Arch → Kernel → ℕ → ℕ → ℕ → Option ℕ → Type 0
 IsFar A K ii v p far = IsLeast (HasWay A K ii v p) far
 
@@ -47,8 +47,8 @@ IsFar A K ii v p far = IsLeast (HasWay A K ii v p) far
 abbrev pub far_of : List (List (Option ℕ)) → ℕ → ℕ → Option ℕ
 far_of rows v p = slice_index_or (slice_index_or rows v []) p None
 
--- in a legal mapping there is a way for each edge, and the node that takes the value begins no earlier than the value can
--- pass the registers of the shortest one
+-- in a legal mapping there is a way for each edge, and the node that takes the value begins no earlier than the value
+-- can pass the registers of the way with the fewest
 abbrev pub KeepsFar : Arch → Kernel → Mapping → Type 0
 KeepsFar A K M =
     (v p u d : ℕ) (init : List ℕ) (far : Option ℕ) → HasOperand K v p (Edge u d init) → IsFar A K M.ii v p far →
@@ -58,7 +58,7 @@ KeepsFar A K M =
 abbrev pub AreWays : Arch → Kernel → ℕ → List (List (Option ℕ)) → Type 0
 AreWays A K ii rows = (v p : ℕ) → IsFar A K ii v p (far_of rows v p)
 
--- a number, where it is there, is at most `most`
+-- a number, if there is one, is at most `most`
 abbrev pub IsSmall : ℕ → Option ℕ → Type 0
 IsSmall most far = (n : ℕ) → far ≡ Some n → n ≤ most
 
@@ -66,7 +66,8 @@ IsSmall most far = (n : ℕ) → far ≡ Some n → n ≤ most
 abbrev pub AreSmall : ℕ → List (List (Option ℕ)) → Type 0
 AreSmall most rows = (v p : ℕ) → IsSmall most (far_of rows v p)
 
--- in a mapping the node that takes the value of an edge begins no earlier than the value can pass as many registers as a table says
+-- in a mapping the node that takes the value of an edge begins no earlier than the value can pass the number of
+-- registers in a table
 abbrev pub KeepsWays : Arch → Kernel → Mapping → List (List (Option ℕ)) → Type 0
 KeepsWays A K M rows =
     (v p u d : ℕ) (init : List ℕ) → HasOperand K v p (Edge u d init) →

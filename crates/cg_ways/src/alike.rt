@@ -1,11 +1,11 @@
-//! Operations that the same units offer, whose questions have the same answers.
+//! Operations that the same units offer, whose questions therefore have the same answers.
 ghost use Rattle.std.specs.Prelude.{◌≡◌, ℕ, Option, true};
 ghost use Rattle.cg_ways.specs.Question.{AreAlike, IsAnswer};
 
 use crate::question::Question;
 use cg_arch::{Arch, Op};
 
-/// Checks whether the same units offer `a` and `b`.
+/// Returns whether the same units offer `a` and `b`.
 fn are_alike(arch: &Arch, a: Op, b: Op) -> bool
     ensures { result ≡ true → AreAlike arch.now a b }
 {
@@ -31,7 +31,8 @@ fn first_alike(arch: &Arch, op: Op) -> Op
     op
 }
 
-/// Returns a question with the same answer, about the first operations that the same units offer as those of `question`.
+/// Returns a question with the same answer as `question`, with each operation replaced by the first one that the same
+/// units offer.
 pub(crate) fn shared(arch: &Arch, question: Question) -> Question
     ensures { (far : Option ℕ) → IsAnswer arch.now result far → IsAnswer arch.now question far }
 {

@@ -1,4 +1,4 @@
-//! The answers to questions, which are kept.
+//! A cache of the answers to questions.
 ghost use Rattle.std.specs.Prelude.{◌≡◌, ◌<◌, IfOk, OnOk, IfSome, length, slice_index_or};
 ghost use Rattle.cg_ways.specs.Question.{IsAnswer, AreAnswers};
 ghost use Rattle.cg_ways.specs.declared.answers.Answer as answers_kept;
@@ -9,14 +9,14 @@ use crate::units::work_out;
 use cg_arch::Arch;
 use std::alloc::{AllocError, Global};
 
-/// The answer to a question: None where there is no way.
+/// The answer to a question: `None` if there is no way.
 #[derive(Clone, Copy, Drop)]
 pub(crate) struct Answer {
     pub question: Question,
     pub far: Option<u32>,
 }
 
-/// Finds the place of the answer to a question among those that are kept.
+/// Finds the index of the answer to `question` in `answers`.
 fn find(answers: &[Answer], question: Question) -> Option<usize>
     ensures { IfSome result (λ place. (place < length answers.now) × ((a : answers_kept.Answer) → (slice_index_or answers.now place a).question ≡ question)) }
 {
@@ -28,7 +28,7 @@ fn find(answers: &[Answer], question: Question) -> Option<usize>
     None
 }
 
-/// Answers a question by what is kept, or anew, and keeps the answer.
+/// Answers `question` from the cache, or computes the answer and caches it.
 fn ask(
     alloc: Global,
     arch: &Arch,
@@ -47,7 +47,7 @@ fn ask(
     Ok(far)
 }
 
-/// Answers a question, once for all operations that the same units offer.
+/// Answers `question`, computing it once for all operations that the same units offer.
 pub(crate) fn ask_shared(
     alloc: Global,
     arch: &Arch,

@@ -7,16 +7,16 @@ ghost use Rattle.cg_ways.specs.Table.{IsMissing, IsFirstMissing, HasAllNumbers};
 use crate::table::Ways;
 use cg_model::{Kernel, Operand};
 
-/// A data edge for which there is no way, by the operand in which it ends.
+/// A data edge for which there is no way, by the operand at which it ends.
 #[derive(Clone, Copy, Debug, PartialEq, Eq, Drop)]
 pub struct Missing {
     /// The number of the node that takes the value.
     pub node: u32,
-    /// Which of its operands the edge is, from 0 on.
+    /// The number of its operand that is the edge, counted from 0.
     pub arg: u32,
 }
 
-/// Checks whether operand number `arg` of a node is an edge for which `ways` has no number.
+/// Returns whether operand number `arg` of `node` is an edge for which `ways` has no number.
 fn is_missing(kernel: &Kernel, ways: &Ways, node: u32, arg: u32) -> bool
     requires node { node < kernels.size kernel.now }
     requires arg { arg < length (kernels.node kernel.now node).operands }
@@ -29,7 +29,7 @@ fn is_missing(kernel: &Kernel, ways: &Ways, node: u32, arg: u32) -> bool
     }
 }
 
-/// Finds the first operand of a node that is an edge for which `ways` has no number.
+/// Finds the first operand of `node` that is an edge for which `ways` has no number.
 fn first_at(kernel: &Kernel, ways: &Ways, node: u32) -> Option<u32>
     requires { node < kernels.size kernel.now }
     ensures { IsLeast (IsMissing kernel.now ways.now node) result }

@@ -4,19 +4,19 @@ ghost use Rattle.cg_ways.specs.Question.{AreEnds};
 
 use cg_arch::Op;
 
-/// Which units the ends of an edge may be.
+/// The pairs of units that the ends of an edge may be.
 #[derive(Clone, Copy, PartialEq, Eq)]
 pub(crate) enum Ends {
-    /// Any two units, or one.
+    /// Any two units, equal or different.
     Any,
     /// One unit.
     One,
-    /// Two units.
+    /// Two different units.
     Apart,
 }
 
 impl Ends {
-    /// Checks whether units number `x` and `y` are such ends.
+    /// Returns whether units number `x` and `y` satisfy the condition.
     pub(crate) fn fit(self, x: usize, y: usize) -> bool
         ensures { IsTrue result ↔ AreEnds self x y }
     {
@@ -28,18 +28,18 @@ impl Ends {
     }
 }
 
-/// A question: the least number of registers on a way from the out of a unit that offers `from` to port number `arg` of a unit
-/// that offers `to`.
+/// A question: the least number of registers on a way from the out of a unit that offers `from` to port number `arg` of
+/// a unit that offers `to`.
 #[derive(Clone, Copy, Drop)]
 pub(crate) struct Question {
     pub from: Op,
     pub to: Op,
     pub arg: usize,
-    /// Which units these may be.
+    /// Which pairs of units these may be.
     pub ends: Ends,
 }
 
-/// Checks whether `a` and `b` are one question.
+/// Returns whether `a` and `b` are one question.
 pub(crate) fn is_same(a: Question, b: Question) -> bool
     ensures { result ≡ true → a ≡ b }
 {

@@ -1,4 +1,4 @@
-//! The search backward along links: the least number of registers on a way between resources.
+//! The search backward along links for the least number of registers on a way between resources.
 ghost use Rattle.std.specs.Prelude.{◌≡◌, ℕ, ◌+◌, ◌<◌, ◌≤◌, List, IfOk, OnOk, IfSome, IfNone, length};
 ghost use Rattle.cg_model.specs.Array as arrays;
 ghost use Rattle.cg_ways.specs.Search.{AreBelow, IsNext, AreMarks, IsBegun, IsSkipped, IsRisen, IsSearch, IsOpen, IsOver, IsSettled, Joins, IsFound};
@@ -7,22 +7,23 @@ use cg_arch::{Arch, Kind};
 use std::alloc::{AllocError, Global};
 use std::mem::swap;
 
-/// Resources with the least numbers of registers on ways from them to where the search began, and those that wait for one.
+/// The state of the search: the resources whose least number of registers on a way to its ends is known, and those that
+/// wait for a number.
 #[derive(Drop)]
 struct Search {
-    /// The number of each resource that has one.
+    /// The number of each resource; `None` if it isn't known yet.
     numbers: Vec<Option<u32>>,
-    /// The number that the resources at the front wait for.
+    /// The number for which the resources at the front wait.
     level: u32,
     /// The resources at the front.
     front: Vec<u32>,
-    /// The place in the front from which on resources may lack a number.
+    /// The index in the front from which on resources may lack a number.
     at: usize,
     /// The resources that wait for the next number.
     later: Vec<u32>,
 }
 
-/// Marks the resources of a list among `count` resources.
+/// Marks the resources of `list` among `count` resources.
 fn marks(alloc: Global, count: usize, list: &[u32]) -> Result<Vec<bool>, AllocError>
     requires { AreBelow count list.now }
     ensures { IfOk result (λ marks. AreMarks list.now (length list.now) count marks.items) }
@@ -34,7 +35,7 @@ fn marks(alloc: Global, count: usize, list: &[u32]) -> Result<Vec<bool>, AllocEr
     Ok(marks)
 }
 
-/// Finds the first place from `at` on of a resource without a number, or the end of the front.
+/// Finds the first index from `at` on of a resource without a number, or the end of the front.
 fn next_lacking(front: &[u32], at: usize, numbers: &[Option<u32>]) -> usize
     requires at { at ≤ length front.now }
     requires known { AreBelow (length numbers.now) front.now }
@@ -48,7 +49,7 @@ fn next_lacking(front: &[u32], at: usize, numbers: &[Option<u32>]) -> usize
 }
 
 impl Search {
-    /// Begins at `ends`, among `count` resources.
+    /// Begins the search at `ends`, among `count` resources.
     fn new(alloc: Global, count: usize, ends: &[u32]) -> Result<Search, AllocError>
         ensures { IfOk result (IsBegun ends.now count) }
     {
@@ -63,7 +64,7 @@ impl Search {
         })
     }
 
-    /// Goes on to the first resource at the front without a number.
+    /// Advances to the first resource at the front without a number.
     fn skip(&mut self)
         requires at { self.old.at ≤ length self.old.front.items }
         requires known { AreBelow (length self.old.numbers.items) self.old.front.items }
@@ -72,7 +73,7 @@ impl Search {
         self.at = next_lacking(&self.front, self.at, &self.numbers);
     }
 
-    /// Goes on to the next number.
+    /// Advances to the next number.
     fn rise(&mut self)
         requires { self.old.level < 4294967295 }
         ensures { IsRisen self.old self.new }
@@ -83,7 +84,7 @@ impl Search {
         self.level += 1;
     }
 
-    /// Goes on to a resource with the least number among those that wait and have none.
+    /// Advances to a resource with the least number among those that wait and have none, and returns it.
     fn take(&mut self) -> Option<u32>
         requires at { self.old.at ≤ length self.old.front.items }
         requires front { AreBelow (length self.old.numbers.items) self.old.front.items }
@@ -107,7 +108,7 @@ impl Search {
         }
     }
 
-    /// Gives a resource the number of the front, and lets its drivers wait.
+    /// Gives `resource` the number of the front, and adds its drivers to those that wait.
     fn settle(&mut self, arch: &Arch, resource: u32) -> Result<(), AllocError>
         requires known { resource < length arch.now.resources }
         requires each { length self.old.numbers.items ≡ length arch.now.resources }
@@ -125,7 +126,8 @@ impl Search {
     }
 }
 
-/// Finds the least number of registers on a way from one of the resources `from` to one of `ends`; None where there is no way.
+/// Finds the least number of registers on a way from one of the resources `from` to one of `ends`; `None` if there is
+/// no way.
 pub(crate) fn least(
     alloc: Global,
     arch: &Arch,

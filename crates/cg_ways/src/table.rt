@@ -5,7 +5,8 @@ use cg_model::Items;
 use std::alloc::{AllocError, Global};
 use std::marker::Model;
 
-/// The least number of registers on a way for each edge of a kernel, which contracts see as a row of numbers for each node.
+/// The least number of registers on a way for each edge of a kernel, which contracts see as a row of numbers for each
+/// node.
 #[derive(Drop)]
 pub struct Ways {
     rows: Vec<Items<Option<u32>>>,
@@ -19,7 +20,7 @@ impl Model for Ways {
     ghost view = { λ w. w.rows.items };
 }
 
-/// Returns entry `arg` of a row, and 0 where there is none.
+/// Returns entry `arg` of `row`, and 0 if there is none.
 fn number_at(row: &[Option<u32>], arg: usize) -> u32
     ensures { result ≡ unwrap_or (slice_index_or row.now arg None) 0 }
 {
@@ -35,14 +36,15 @@ impl Ways {
     ghost use Rattle.cg_ways.specs.Ways.{far_of, AreSmall};
     ghost use Rattle.cg_ways.specs.Table.{AreThreeANode};
 
-    /// Makes the table of these rows.
+    /// Returns the table of `rows`.
     pub(crate) fn new(rows: Vec<Items<Option<u32>>>) -> Ways
         ensures { result ≡ rows.items }
     {
         Ways { rows }
     }
 
-    /// Returns the least number of registers on a way for operand number `arg` of node `node`; None where there is no way.
+    /// Returns the least number of registers on a way for operand number `arg` of node `node`; `None` if there is no
+    /// way.
     pub fn far(&self, node: u32, arg: u32) -> Option<u32>
         ensures { result ≡ far_of self.now node arg }
     {
@@ -56,7 +58,7 @@ impl Ways {
         row[arg as usize]
     }
 
-    /// Lists the numbers, three for each node, with 0 where there is none.
+    /// Returns the numbers, three for each node, with 0 if there is none.
     pub fn three_a_node(&self, alloc: Global) -> Result<Vec<u32>, AllocError>
         ensures numbers { IfOk result (λ list. AreThreeANode self.now list.items) }
         ensures small { IfOk result (λ list. (n : ℕ) → AreSmall n self.now → (i : ℕ) → slice_index list.items i ≤ n) }

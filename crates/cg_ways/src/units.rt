@@ -9,7 +9,7 @@ use crate::search::least;
 use cg_arch::{Arch, Op, Unit};
 use std::alloc::{AllocError, Global};
 
-/// Lists the outs of the units that offer `op` and are such ends with unit number `place`.
+/// Returns the outs of the units that offer `op` and fit the ends with unit number `place`.
 fn outs(
     alloc: Global,
     arch: &Arch,
@@ -30,7 +30,7 @@ fn outs(
     Ok(outs)
 }
 
-/// Returns port number `arg` of a unit that offers `op`; None where it doesn't, or has no such port.
+/// Returns port number `arg` of a unit that offers `op`; `None` if it doesn't, or has no such port.
 fn port_for(unit: &Unit, op: Op, arg: usize) -> Option<u32>
     ensures { result ≡ (if among unit.now.ops op then slice_get unit.now.ports arg else None) }
 {
@@ -41,7 +41,7 @@ fn port_for(unit: &Unit, op: Op, arg: usize) -> Option<u32>
     }
 }
 
-/// Lists port number `arg` of each unit that offers `op`.
+/// Returns port number `arg` of each unit that offers `op`.
 fn ports(alloc: Global, arch: &Arch, op: Op, arg: usize) -> Result<Vec<u32>, AllocError>
     ensures known { IfOk result (λ list. AreBelow (length arch.now.resources) list.items) }
     ensures exact { IfOk result (λ list. ArePorts arch.now op arg (length arch.now.units) list.items) }
@@ -56,7 +56,7 @@ fn ports(alloc: Global, arch: &Arch, op: Op, arg: usize) -> Result<Vec<u32>, All
     Ok(ports)
 }
 
-/// Returns the lesser of two numbers where both are there.
+/// Returns the lesser of two numbers if both exist, else the one that exists.
 fn lesser(a: Option<u32>, b: Option<u32>) -> Option<u32>
     ensures { result ≡ lesser a b }
 {
@@ -67,18 +67,18 @@ fn lesser(a: Option<u32>, b: Option<u32>) -> Option<u32>
     }
 }
 
-/// Finds the least number of registers on a way for a question, whichever units its ends are.
+/// Finds the least number of registers on a way for `question`, without a condition on the units at its ends.
 fn at_any(alloc: Global, arch: &Arch, question: Question) -> Result<Option<u32>, AllocError>
     ensures floor { IfOk result (IsFloor arch.now question) }
     ensures answer { question.ends ≡ Ends.Any → IfOk result (IsAnswer arch.now question) }
 {
-    // Units that may be any leave none out, whichever the other is.
+    // With `Ends::Any` no unit is left out, whichever the other unit is.
     let outs = outs(alloc, arch, question.from, Ends::Any, 0)?;
     let ports = ports(alloc, arch, question.to, question.arg)?;
     least(alloc, arch, &outs, &ports)
 }
 
-/// Finds the least number of registers on a way for a question to the port of unit number `place`.
+/// Finds the least number of registers on a way for `question` to the port of unit number `place`.
 fn at_unit(
     alloc: Global,
     arch: &Arch,
@@ -97,7 +97,7 @@ fn at_unit(
     }
 }
 
-/// Answers a question unit by unit, until an answer is `floor`, below which there is none.
+/// Answers `question` unit by unit, until an answer is `floor`, below which no answer is possible.
 fn at_units(
     alloc: Global,
     arch: &Arch,
@@ -117,7 +117,7 @@ fn at_units(
     Ok(best)
 }
 
-/// Answers a question.
+/// Answers `question`.
 pub(crate) fn work_out(
     alloc: Global,
     arch: &Arch,

@@ -11,8 +11,8 @@ use cg_arch::Arch;
 use cg_model::{Items, Kernel, Operand};
 use std::alloc::{AllocError, Global};
 
-/// Returns which units may hold nodes number `source` and `target` at interval `ii`: one where they are one node, and two where
-/// they aren't and the interval is 1, in which a unit holds one node.
+/// Returns which units may hold nodes number `source` and `target` at interval `ii`: one unit if they are one node, and
+/// two different units if they aren't and the interval is 1, in which a unit holds one node.
 fn ends_at(source: usize, target: usize, ii: u32) -> Ends
     ensures { (x y : ℕ) → AreEnds result x y ↔ MayBeEnds ii source target x y }
 {
@@ -25,7 +25,7 @@ fn ends_at(source: usize, target: usize, ii: u32) -> Ends
     }
 }
 
-/// Returns the question that operand number `arg` of a node asks at interval `ii`; None where it is no edge.
+/// Returns the question of operand number `arg` of `node` at interval `ii`; `None` if it isn't an edge.
 fn question_at(kernel: &Kernel, ii: u32, node: usize, arg: usize) -> Option<Question>
     requires node { node < kernels.size kernel.now }
     requires arg { arg < length (kernels.node kernel.now node).operands }
@@ -49,7 +49,8 @@ fn question_at(kernel: &Kernel, ii: u32, node: usize, arg: usize) -> Option<Ques
     }
 }
 
-/// Finds the least number of registers on a way for operand number `arg` of a node at interval `ii`; None where there is no way.
+/// Finds the least number of registers on a way for operand number `arg` of a node at interval `ii`; `None` if there is
+/// no way.
 fn far_at(
     alloc: Global,
     arch: &Arch,

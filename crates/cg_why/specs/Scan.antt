@@ -1,4 +1,4 @@
--- How least intervals are found, one interval after another or by halves.
+-- How least intervals are found, by linear or by binary search.
 use Rattle.std.specs.Prelude.{◌≡◌, ℕ, ◌+◌, ◌-◌, ◌<◌, ◌≤◌, List, Option, Some, None}
 use Rattle.cg_model.specs.Kernel.{Kernel}
 use Rattle.cg_model.specs.Array.{Arch}
@@ -14,42 +14,42 @@ use Rattle.cg_why.specs.Why.{far_at, IsExcluded, Shows, kind_of, Excludes, IsImp
 
 -- ---- one interval
 
--- a reason of that kind, or None where none excludes the interval
+-- a reason of the given kind, or None if none excludes the interval
 abbrev pub IsFound : Arch → Kernel → (ℕ → ℕ → ℕ) → ℕ → Kind → Option Reason → Type 0
 IsFound A K far ii kind (Some r) = Shows A K far ii r × (kind_of r ≡ kind)
 IsFound A K far ii kind None = IsExcluded A K far ii kind → ⊥
 
--- a reason, or None where no recurrence, no set of operations and no ways exclude the interval
+-- a reason, or None if no recurrence, no set of operations and no ways exclude the interval
 abbrev pub IsOther : Arch → Kernel → (ℕ → ℕ → ℕ) → ℕ → Option Reason → Type 0
 IsOther A K far ii (Some r) = Shows A K far ii r
 IsOther A K far ii None =
     (IsExcluded A K far ii kinds.Recurrence → ⊥) × (IsExcluded A K far ii kinds.Class → ⊥) × (IsExcluded A K far ii kinds.Ways → ⊥)
 
--- a reason that excludes interval ii; or times that show that no registers exclude it, where no reason does
+-- a reason that excludes interval ii; or times that show that registers don't exclude it, if no reason does
 abbrev pub IsVerdict : Arch → Kernel → Fars → ℕ → Verdict → Type 0
 IsVerdict A K f ii (Excluded r) = Shows A K (far_at f ii) ii r
 IsVerdict A K f ii (Open t) = (IsImpossible A K f ii → ⊥) × AreLoose A K (far_at f ii) ii t
 
--- ---- one interval after another
+-- ---- linear search
 
--- each interval below ii is excluded by a reason of that kind, and one for the greatest of them is given
+-- each interval below ii is excluded by a reason of the given kind, and one for the greatest of them is given
 pub record IsBoundTo (A : Arch) (K : Kernel) (f : Fars) (kind : Kind) (ii : ℕ) (below : Option Reason) : Type 0 where
   pub excluded : (i : ℕ) → 1 ≤ i → i < ii → Excludes A K f kind i
   pub shown : IsShown A K f kind (ii - 1) below
 
--- each interval below that one is impossible, and the least interval of a kind says it of the greatest of them
+-- each interval below l is impossible, and the least interval of a kind shows this for the greatest of them
 pub record MayBegin (A : Arch) (K : Kernel) (f : Fars) (bounds : List Bound) (l : ℕ) : Type 0 where
   pub some : 1 ≤ l
   pub within : l ≤ A.contexts + 1
   pub below : (i : ℕ) → 1 ≤ i → i < l → IsImpossible A K f i
   pub said : IsSaid A K f bounds (l - 1) None
 
--- so is each from there on up to ii, where a reason that excludes the interval below ii is given
+-- each interval from there on up to ii is impossible too, and a reason that excludes the interval below ii is given
 pub record IsLeastTo (A : Arch) (K : Kernel) (f : Fars) (bounds : List Bound) (ii : ℕ) (below : Option Reason) : Type 0 where
   pub each : (i : ℕ) → 1 ≤ i → i < ii → IsImpossible A K f i
   pub said : IsSaid A K f bounds (ii - 1) below
 
--- ---- by halves
+-- ---- binary search
 
 -- registers exclude each interval up to `low`, with a reason for that one, and they don't exclude `high`
 pub record IsBetween (A : Arch) (K : Kernel) (f : Fars) (low high : ℕ) (below : Option Reason) : Type 0 where

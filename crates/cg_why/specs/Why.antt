@@ -28,7 +28,7 @@ use Rattle.cg_why.specs.declared.why.Why.{Why}
 
 -- ---- the registers on ways
 
--- far gives for each data edge the least number of registers on its ways at interval ii, and 0 where there is no way
+-- far gives for each data edge the least number of registers on its ways at interval ii, and 0 if there is no way
 abbrev pub AreFars : Arch → Kernel → ℕ → (ℕ → ℕ → ℕ) → Type 0
 AreFars A K ii far =
     (v p u d : ℕ) (init : List ℕ) → HasOperand K v p (Edge u d init) → (o : Option ℕ) × IsFar A K ii v p o × (far v p ≡ unwrap_or o 0)
@@ -37,18 +37,18 @@ AreFars A K ii far =
 abbrev pub HasNoWay : Arch → Kernel → ℕ → ℕ → ℕ → Type 0
 HasNoWay A K ii v p = (u : ℕ) × (d : ℕ) × (init : List ℕ) × HasOperand K v p (Edge u d init) × IsFar A K ii v p None
 
--- a data edge without a way, or None where each has one
+-- a data edge without a way, or None if each has one
 abbrev pub IsMissing : Arch → Kernel → ℕ → Option Missing → Type 0
 IsMissing A K ii (Some m) = HasNoWay A K ii m.node m.arg
 IsMissing A K ii None = (v p : ℕ) → HasNoWay A K ii v p → ⊥
 
--- the numbers of an interval: a table with three numbers a node, and a data edge without a way, if there is one
+-- the numbers of an interval: a table with three numbers per node, and a data edge without a way, if there is one
 pub record AreNumbers (A : Arch) (K : Kernel) (ii : ℕ) (n : Numbers) : Type 0 where
   pub fars : AreFars A K ii (table n.far.items)
   pub missing : IsMissing A K ii n.missing
   pub small : (k : ℕ) → slice_index n.far.items k ≤ 4096
 
--- those of interval 1, and those of every greater one
+-- the numbers of interval 1, and those of every greater interval
 pub record AreAllNumbers (A : Arch) (K : Kernel) (f : Fars) : Type 0 where
   pub first : AreNumbers A K 1 f.first
   pub rest : (ii : ℕ) → 2 ≤ ii → AreNumbers A K ii f.rest
@@ -62,7 +62,7 @@ far_at f ii = table (numbers_at f ii).far.items
 
 -- ---- reasons
 
--- a reason of that kind excludes the interval
+-- a reason of the given kind excludes the interval
 abbrev pub IsExcluded : Arch → Kernel → (ℕ → ℕ → ℕ) → ℕ → Kind → Type 0
 IsExcluded A K far ii kinds.Recurrence = (ids : List EdgeId) × IsRecurrence A K ii ids
 IsExcluded A K far ii kinds.Class = (set : List Op) × IsOverfull A K ii set
@@ -70,7 +70,7 @@ IsExcluded A K far ii kinds.Ways =
     ((v : ℕ) × (p : ℕ) × HasNoWay A K ii v p) ⊎ ((ids : List EdgeId) × IsWayCycle A K far ii ids)
 IsExcluded A K far ii kinds.Registers = (P : Pressure) × IsPressure A K far ii P
 
--- a reason shows what it says, by lists that are short
+-- a reason is right, with lists that are short
 abbrev pub Shows : Arch → Kernel → (ℕ → ℕ → ℕ) → ℕ → Reason → Type 0
 Shows A K far ii (Recurrence ids) = IsRecurrence A K ii ids.items
 Shows A K far ii (Class set) = IsOverfull A K ii set
@@ -95,20 +95,20 @@ kind_of (Registers P) = kinds.Registers
 
 -- ---- least intervals
 
--- the least number from 1 to `most` without a property; None where each has it
+-- the least number from 1 to `most` without a property; None if each has it
 abbrev pub IsLeastWithout : (ℕ → Type 0) → ℕ → Option ℕ → Type 0
 IsLeastWithout P most (Some l) = (1 ≤ l) × (l ≤ most) × (P l → ⊥) × ((i : ℕ) → 1 ≤ i → i < l → P i)
 IsLeastWithout P most None = (i : ℕ) → 1 ≤ i → i ≤ most → P i
 
--- a reason of that kind excludes interval ii
+-- a reason of the given kind excludes interval ii
 abbrev pub Excludes : Arch → Kernel → Fars → Kind → ℕ → Type 0
 Excludes A K f kind ii = IsExcluded A K (far_at f ii) ii kind
 
--- some reason does
+-- some reason excludes interval ii
 abbrev pub IsImpossible : Arch → Kernel → Fars → ℕ → Type 0
 IsImpossible A K f ii = (kind : Kind) × Excludes A K f kind ii
 
--- a reason that excludes interval ii, or None where none does
+-- a reason that excludes interval ii, or None if none does
 abbrev pub IsExclusion : Arch → Kernel → Fars → ℕ → Option Reason → Type 0
 IsExclusion A K f ii (Some r) = Shows A K (far_at f ii) ii r
 IsExclusion A K f ii None = IsImpossible A K f ii → ⊥
@@ -118,7 +118,7 @@ abbrev pub below_of : ℕ → Option ℕ → ℕ
 below_of most (Some l) = l - 1
 below_of most None = most
 
--- a reason of that kind that excludes interval ii, or None where ii is 0
+-- a reason of the given kind that excludes interval ii, or None if ii is 0
 abbrev pub IsShown : Arch → Kernel → Fars → Kind → ℕ → Option Reason → Type 0
 IsShown A K f kind ii (Some r) = Shows A K (far_at f ii) ii r × (kind_of r ≡ kind)
 IsShown A K f kind ii None = ii ≡ 0
@@ -137,15 +137,15 @@ pub record AreBounds (A : Arch) (K : Kernel) (f : Fars) (k : ℕ) (bounds : List
   pub each : map (λ (bound : Bound). bound.kind) bounds ≡ take k all_kinds
   pub right : (bound : Bound) → Contains bounds bound → IsBound A K f bound
 
--- times that show that no registers exclude the least interval; none where there is no such interval
+-- times that show that registers don't exclude the least interval; none if there is no least interval
 abbrev pub AreFree : Arch → Kernel → Fars → Option ℕ → Option Times → Type 0
 AreFree A K f (Some l) (Some t) = AreLoose A K (far_at f l) l t
 AreFree A K f None None = ⊤
 AreFree A K f (Some l) None = ⊥
 AreFree A K f None (Some t) = ⊥
 
--- a reason that excludes interval ii, where one is given; where none is, ii is 0, or below the least interval of a kind, whose
--- reason excludes it
+-- a reason that excludes interval ii, if one is given; if none is, ii is 0, or below the least interval of a kind,
+-- whose reason excludes it
 abbrev pub IsSaid : Arch → Kernel → Fars → List Bound → ℕ → Option Reason → Type 0
 IsSaid A K f bounds ii (Some r) = Shows A K (far_at f ii) ii r
 IsSaid A K f bounds ii None = (ii ≡ 0) ⊎ ((bound : Bound) × Contains bounds bound × (below_of A.contexts bound.least ≡ ii))
@@ -156,7 +156,7 @@ pub record IsLeast (A : Arch) (K : Kernel) (f : Fars) (bounds : List Bound) (l :
   pub free : AreFree A K f l.interval l.times
   pub said : IsSaid A K f bounds (below_of A.contexts l.interval) l.below
 
--- it, and the least intervals of each kind
+-- the least interval that no reason excludes, and the least intervals of each kind
 pub record IsWhy (A : Arch) (K : Kernel) (w : Why) : Type 0 where
   pub fars : AreAllNumbers A K w.fars
   pub bounds : AreBounds A K w.fars 4 w.bounds.items

@@ -15,14 +15,14 @@ use std::alloc::{AllocError, Global};
 pub struct Bound {
     /// The kind.
     pub kind: Kind,
-    /// The interval, in cycles, at most the architecture's contexts; None where each is excluded.
+    /// The interval, in cycles, at most the architecture's contexts; `None` if each is excluded.
     pub least: Option<u32>,
-    /// What excludes the interval below it, or the greatest of all; None where it is 1.
+    /// What excludes the interval below it, or the greatest of all; `None` if the least interval is 1.
     pub below: Option<Reason>,
 }
 
-/// Finds the least interval that no reason of kind `kind` excludes, from `from` to the contexts of `arch`, where reasons
-/// exclude each below `from`, and `below` the greatest of them.
+/// Finds the least interval that no reason of kind `kind` excludes, from `from` to the contexts of `arch`. Reasons
+/// exclude each interval below `from`; `below` excludes the greatest of them.
 fn scan(
     alloc: Global,
     arch: &Arch,
@@ -60,8 +60,9 @@ fn scan(
     })
 }
 
-/// Finds the least interval that no registers exclude, by halves: they exclude interval 1 by `reason`, and don't exclude
-/// `free`. Below an interval that they don't exclude, they exclude each interval below one that they do.
+/// Finds the least interval that registers don't exclude, by binary search: they exclude interval 1 by `reason`, and
+/// don't exclude `free`. Below an interval that they don't exclude, they exclude each interval below one that they
+/// exclude.
 fn halve(
     alloc: Global,
     arch: &Arch,
@@ -99,7 +100,7 @@ fn halve(
     })
 }
 
-/// Finds the least interval that no registers exclude, from 1 to the contexts of `arch`.
+/// Finds the least interval that registers don't exclude, from 1 to the contexts of `arch`.
 fn find_for_registers(
     alloc: Global,
     arch: &Arch,
@@ -143,7 +144,7 @@ fn find_bound(
     }
 }
 
-/// Lists the kinds, in order.
+/// Returns the kinds, in order.
 fn kinds() -> [Kind; 4]
     ensures { result ≡ all_kinds }
 {

@@ -14,8 +14,8 @@ use cg_recur::{Recur, recurrence};
 use cg_way_cycles::find_way_cycle;
 use std::alloc::{AllocError, Global};
 
-/// Finds a reason of kind `kind` that excludes interval `ii`, for which `numbers` has the registers on the ways; None where
-/// none does.
+/// Finds a reason of kind `kind` that excludes interval `ii`, for which `numbers` has the registers on the ways; `None`
+/// if no reason does.
 pub(crate) fn find_reason(
     alloc: Global,
     arch: &Arch,
@@ -88,7 +88,7 @@ pub(crate) fn by_ways(
     }
 }
 
-/// Finds a circulation by which values stay in more registers than there are at interval `ii`.
+/// Finds a circulation by which values need more registers than there are at interval `ii`.
 fn by_registers(
     alloc: Global,
     arch: &Arch,

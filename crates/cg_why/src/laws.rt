@@ -1,4 +1,4 @@
-//! Laws of reasons. Every function here has an empty body, and its clauses speak of the definitions alone.
+//! Laws of reasons. Every function here has an empty body, and its contract is about the definitions alone.
 ghost use Rattle.std.specs.Prelude.{ℕ};
 ghost use Rattle.cg_model.specs.Kernel.{Kernel, IsKernel};
 ghost use Rattle.cg_model.specs.Array.{Arch, IsArch};
@@ -14,8 +14,8 @@ pub fn excludes()
         IsKernel K → AreAllNumbers A K f → IsLegal A K M → Excludes A K f kind M.ii → ⊥ }
 {}
 
-/// States that each valid kernel on a valid architecture has a least interval that no reason excludes, or none, with what
-/// excludes those below it.
+/// States that each valid kernel on a valid architecture has a least interval that no reason excludes, or none, with
+/// what excludes those below it.
 pub fn always_explained()
     ensures { (A : Arch) (K : Kernel) → IsArch A → IsKernel K → (w : Why) × IsWhy A K w }
 {}

@@ -17,20 +17,20 @@ use std::alloc::{AllocError, Global};
 /// The least interval that no reason excludes.
 #[derive(Drop)]
 pub struct Least {
-    /// The interval, in cycles, at most the architecture's contexts; None where each is excluded.
+    /// The interval, in cycles, at most the architecture's contexts; `None` if each is excluded.
     pub interval: Option<u32>,
     /// Times of the nodes at that interval, with stays of their values that fit in the registers.
     pub times: Option<Times>,
-    /// What excludes the interval below it, or the greatest of all, where the least intervals of the kinds don't say it.
+    /// What excludes the interval below it, or the greatest of all, if the least intervals of the kinds don't give it.
     pub below: Option<Reason>,
 }
 
-/// What is found of an interval.
+/// The verdict on an interval.
 #[derive(Drop)]
 pub(crate) enum Verdict {
     /// A reason that excludes it.
     Excluded(Reason),
-    /// Times whose stays fit in the registers, where no reason excludes it.
+    /// Times whose stays fit in the registers, if no reason excludes it.
     Open(Times),
 }
 
@@ -80,7 +80,8 @@ fn find_verdict(
     }
 }
 
-/// Finds a reason that excludes interval `ii`, from 1 to the contexts of `arch`, by the numbers `fars`; None where none does.
+/// Finds a reason that excludes interval `ii`, from 1 to the contexts of `arch`, by the numbers `fars`; `None` if no
+/// reason does.
 pub fn find_exclusion(
     alloc: Global,
     arch: &Arch,
@@ -106,8 +107,8 @@ fn later(a: u32, b: u32) -> u32
     if a < b { b } else { a }
 }
 
-/// Returns an interval below which each is impossible by the least intervals `bounds` of the kinds: the greatest of them, or
-/// one more than the contexts of `arch`.
+/// Returns an interval below which each is impossible by the least intervals `bounds` of the kinds: the greatest of
+/// them, or the contexts of `arch` plus 1.
 fn first_unknown(arch: &Arch, kernel: &Kernel, fars: &Fars, bounds: &[Bound]) -> u32
     requires { (bound : declared.Bound) → Contains bounds.now bound → IsBound arch.now kernel.now fars.now bound }
     ensures { MayBegin arch.now kernel.now fars.now bounds.now result }

@@ -1,5 +1,5 @@
-//! Why no legal mapping of a kernel has an interval: recurrences, overfull sets of operations, ways that are missing or too
-//! long, and too few registers; and the least interval that none of them excludes.
+//! Why no legal mapping of a kernel has an interval: recurrences, overfull sets of operations, ways that are missing or
+//! too long, and too few registers; and the least interval that none of them excludes.
 #![tactic(auto)]
 
 mod bounds;

@@ -9,18 +9,18 @@ use std::alloc::{AllocError, Global};
 /// The numbers for an interval.
 #[derive(Drop)]
 pub struct Numbers {
-    /// Three numbers a node: for each operand the registers that a value crosses at least on its way there.
+    /// Three numbers per node: for each operand the least number of registers that a value crosses on its way there.
     pub far: Vec<u32>,
-    /// The first data edge for which there is no way; None where each has one.
+    /// The first data edge for which there is no way; `None` if each has one.
     pub missing: Option<Missing>,
 }
 
 /// The numbers for all intervals. In an interval of one cycle no unit holds two nodes, so some ways are longer there.
 #[derive(Drop)]
 pub struct Fars {
-    /// Those for interval 1.
+    /// The numbers for interval 1.
     pub first: Numbers,
-    /// Those for every greater one.
+    /// The numbers for every greater interval.
     pub rest: Numbers,
 }
 

@@ -10,11 +10,11 @@ use cg_word::OpSet;
 pub enum Kind {
     /// A closed chain of edges that is too long.
     Recurrence,
-    /// A set of operations that more nodes have than the units can begin.
+    /// A set of operations for which there are more nodes than the units can begin.
     Class,
     /// A data edge without a way, or a closed chain that is too long with the registers on the ways.
     Ways,
-    /// Values that stay in more registers than there are.
+    /// Values that need more registers than there are.
     Registers,
 }
 
@@ -27,9 +27,9 @@ pub enum Reason {
     Class(OpSet),
     /// A data edge for which there is no way through the architecture.
     NoWay(Missing),
-    /// The edges of a closed chain whose latencies, with the registers added that their values cross at least, exceed the
-    /// interval times its distances.
+    /// The edges of a closed chain whose latencies, plus the least numbers of registers that their values cross, exceed
+    /// the interval times its distances.
     Ways(Vec<EdgeId>),
-    /// The edges of a circulation, by which values stay in more register slots than there are.
+    /// The edges of a circulation, by which values need more register slots than there are.
     Registers(Pressure),
 }

@@ -1,4 +1,4 @@
-//! What excludes the intervals of a kernel on an architecture.
+//! The reasons that exclude the intervals of a kernel on an architecture.
 ghost use Rattle.std.specs.Prelude.{IfOk};
 ghost use Rattle.cg_why.specs.Why.{IsWhy};
 
@@ -8,10 +8,10 @@ use crate::numbers::{Fars, find_fars};
 use cg_edges::{Arch, Kernel};
 use std::alloc::{AllocError, Global};
 
-/// What excludes the intervals of a kernel on an architecture.
+/// The reasons that exclude the intervals of a kernel on an architecture.
 #[derive(Drop)]
 pub struct Why {
-    /// The registers on the ways of the data edges, on which reasons stand.
+    /// The registers on the ways of the data edges, on which the reasons rest.
     pub fars: Fars,
     /// The least interval that no reason of a kind excludes, for each kind.
     pub bounds: Vec<Bound>,
@@ -19,8 +19,8 @@ pub struct Why {
     pub least: Least,
 }
 
-/// Finds the least interval that no recurrence, no overfull set of operations, no ways and no registers exclude, with what
-/// excludes the intervals below it.
+/// Finds the least interval that no recurrence, no overfull set of operations, no ways and no registers exclude, with
+/// reasons that exclude the intervals below it.
 pub fn explain(alloc: Global, arch: &Arch, kernel: &Kernel) -> Result<Why, AllocError>
     ensures { IfOk result (IsWhy arch.now kernel.now) }
 {

@@ -12,13 +12,14 @@ use Rattle.cg_why.specs.declared.why.Why.{Why}
 use Rattle.cg_why.specs.Why.{IsWhy}
 use Rattle.cg_why_text.specs.Text.{why_text}
 
--- which reasons are shown is left open where several serve, and so are the times that show that there are enough registers
+-- where several reasons are valid, which ones are shown is left open, and so are the times that show that there are
+-- enough registers
 pub record IsExplained (p : Pair) (o : Outcome) : Type 0 where
   pub why : Why
   pub is_why : IsWhy p.arch p.kernel why
   pub outcome : o ≡ reports Done (why_text p.arch p.kernel why)
 
--- by what the files give
+-- given the result of parsing the files
 abbrev pub IsExplaining : Result Pair Outcome → Outcome → Type 0
 IsExplaining (Ok p) o = IsExplained p o
 IsExplaining (Err refused) o = o ≡ refused
@@ -28,8 +29,9 @@ pub record IsWhyOf (arch kernel : File) (o : Outcome) : Type 0 where
   pub given : ArePaired arch kernel pair
   pub explaining : IsExplaining pair o
 
--- Done: an architecture and a kernel were read; what was put is the least interval that no reason excludes, and what excludes
--- those below it. No mapping of a lower interval is legal, and where there is no such interval none is
+-- Done: an architecture and a kernel were read; the least interval that no reason excludes was reported, and what
+-- excludes those below it. No mapping of a lower interval is legal, and where there is no such interval no mapping is
+-- legal
 pub record IsWhyRun (arch kernel : Name) (before after : Moment) : Type 0 where
   pub pair : Pair
   pub read : HoldPair arch kernel before pair

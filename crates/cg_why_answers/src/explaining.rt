@@ -11,8 +11,8 @@ use cg_why::explain;
 use cg_why_text::why_report;
 use std::alloc::Global;
 
-/// Returns the outcome of `why`: the least interval that no reason excludes for the kernel that the file `kernel` gives on
-/// the architecture that `arch` gives, and what excludes those below it.
+/// Returns the outcome of `why`: the least interval that no reason excludes for the kernel in the file `kernel` on the
+/// architecture in `arch`, and what excludes those below it.
 pub fn why(alloc: Global, arch: &File, kernel: &File) -> Result<Outcome, Stop>
     ensures { Allows (IsWhyOf (file_of arch.now) (file_of kernel.now)) result }
 {

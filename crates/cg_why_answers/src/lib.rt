@@ -1,4 +1,4 @@
-//! What `why` answers. From the bytes of input files to an outcome.
+//! The answer of `why`: from the bytes of input files to an outcome.
 #![tactic(auto)]
 
 mod explaining;

@@ -1,5 +1,5 @@
-//! Runs worked cases: for each pair of an architecture and a kernel that its arguments name, prints the least interval that no
-//! reason excludes, and what excludes those below it.
+//! Runs worked cases: for each pair of an architecture and a kernel that its arguments name, prints the least interval
+//! that no reason excludes, and what excludes those below it.
 #![tactic(auto)]
 
 use cg_kernel::read_kernel;
@@ -21,7 +21,7 @@ fn main(rt: HostRuntime) -> io::Result<()> {
     Ok(())
 }
 
-/// Reads the architecture `arch` and the kernel `kernel`, and prints what is found of them.
+/// Reads the architecture in the file `arch` and the kernel in the file `kernel`, and prints the reasons for them.
 fn run_pair(rt: &(impl Files + Print + AllocGlobal), arch: &str, kernel: &str) -> io::Result<()> {
     let alloc = rt.alloc();
     let tiles = fs::read(rt, format!(in alloc; "{arch}.toml")?.as_str())?;

@@ -1,4 +1,4 @@
--- What is reported of the least interval that no reason excludes.
+-- The report on the least interval that no reason excludes.
 use Rattle.std.specs.Prelude.{ℕ, zero, suc, ◌+◌, ◌*◌, ⊤, eqb, if◌then◌else◌, List, [], ◌++◌, length, flat_map, sum_by, codes, decimal, Option, Some, None}
 use Rattle.cg_model.specs.Kernel.{Kernel, size}
 use Rattle.cg_model.specs.Array.{Arch}
@@ -38,7 +38,7 @@ way_cycle_text A K far ids =
 abbrev pub weight_word : ℕ → List ℕ
 weight_word weight = codes " " ++ decimal weight
 
--- edges of a circulation, each after a blank; a weight behind it
+-- edges of a circulation, each after a blank, with a weight after it
 abbrev pub stay_word : Kernel → Stay → List ℕ
 stay_word K s = edge_word K (Arg s.node s.arg)
 
@@ -59,7 +59,7 @@ circulation_text K P =
     ++ (heading (codes " pull") (length P.pulls.items) ++ (flat_map (pull_word K) P.pulls.items
     ++ (heading (codes " tie") (length P.ties.items) ++ flat_map (tie_word K) P.ties.items))))
 
--- how many register slots the values need at least, of how many, and by which circulation
+-- the least number of register slots that the values need, the number that there are, and the circulation that shows it
 abbrev pub registers_text : Arch → Kernel → (ℕ → ℕ → ℕ) → ℕ → Pressure → List ℕ
 registers_text A K far ii P =
     codes "registers " ++ (decimal (least_stays A K far ii P) ++ (codes " of " ++ (decimal (ii * registers A) ++ circulation_text K P)))
@@ -74,7 +74,7 @@ reason_text A K far ii (NoWay m) = no_way_text K m
 reason_text A K far ii (Ways ids) = way_cycle_text A K far ids.items
 reason_text A K far ii (Registers P) = registers_text A K far ii P
 
--- that a reason excludes an interval, behind a colon
+-- that a reason excludes an interval, after a colon
 abbrev pub impossible_words : ℕ → List ℕ
 impossible_words ii = codes ": impossible at ii " ++ (decimal ii ++ codes ": ")
 
@@ -85,7 +85,7 @@ impossible_text A K f ii r = impossible_words ii ++ reason_text A K (far_at f ii
 abbrev pub excluded_line : Arch → Kernel → Fars → ℕ → Reason → List ℕ
 excluded_line A K f ii r = codes "ii " ++ (decimal ii ++ (codes " impossible: " ++ (reason_text A K (far_at f ii) ii r ++ codes "\n")))
 
--- the lists of a reason are short, where there is one
+-- the lists of a reason are short, if there is one
 abbrev pub HasShortBelow : Option Reason → Type 0
 HasShortBelow (Some r) = HasShortLists r
 HasShortBelow None = ⊤
@@ -111,21 +111,22 @@ abbrev pub bound_line : Arch → Kernel → Fars → Bound → List ℕ
 bound_line A K f bound =
     kind_word bound.kind ++ (least_word bound.least ++ (below_text A K f (below_of A.contexts bound.least) bound.below ++ codes "\n"))
 
--- the lines of those whose least interval is one more than `below`
+-- the lines of the bounds whose least interval is `below` plus 1
 abbrev pub lines_above : Arch → Kernel → Fars → List Bound → ℕ → List ℕ
 lines_above A K f bounds below = flat_map (λ bound. if eqb (below_of A.contexts bound.least) below then bound_line A K f bound else []) bounds
 
--- the lines of those whose least interval is at most n, the greatest first
+-- the lines of the bounds whose least interval is at most n, the greatest first
 abbrev pub lines_to : Arch → Kernel → Fars → List Bound → ℕ → List ℕ
 lines_to A K f bounds zero = []
 lines_to A K f bounds (suc n) = lines_above A K f bounds n ++ lines_to A K f bounds n
 
--- the least interval that no reason excludes, and what excludes the one below it where the lines of the kinds don't say it
+-- the least interval that no reason excludes, and what excludes the one below it if the lines of the kinds don't give
+-- it
 abbrev pub least_line : Arch → Kernel → Fars → Least → List ℕ
 least_line A K f least =
     codes "least " ++ (least_word least.interval ++ (below_text A K f (below_of A.contexts least.interval) least.below ++ codes "\n"))
 
--- how many register slots are enough at the least interval, of how many
+-- the number of register slots that are enough at the least interval, and the number that there are
 abbrev pub free_line : Arch → Kernel → Option ℕ → Option Times → List ℕ
 free_line A K (Some l) (Some t) =
     codes "free " ++ (decimal l ++ (codes ": " ++ (decimal (total (size K) (longest t))

@@ -1,4 +1,4 @@
-//! What is reported of the least interval that no reason excludes.
+//! The report on the least interval that no reason excludes.
 #![tactic(auto)]
 
 mod lines;

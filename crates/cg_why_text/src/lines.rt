@@ -41,14 +41,14 @@ pub(crate) fn below_of(arch: &Arch, least: Option<u32>) -> u32
     }
 }
 
-/// Returns the words that an interval is impossible, behind a colon and before another.
+/// Returns the words that an interval is impossible, between two colons.
 fn impossible_words(alloc: Global, ii: u32) -> Result<String, AllocError>
     ensures { IfOk result (λ words. string_bytes words ≡ impossible_words_of ii) }
 {
     format!(in alloc; ": impossible at ii {ii}: ")
 }
 
-/// Adds why interval `ii` is impossible, behind a colon.
+/// Adds why interval `ii` is impossible, after a colon.
 fn push_impossible(
     alloc: Global,
     text: &mut Vec<u8>,
@@ -69,7 +69,7 @@ fn push_impossible(
     Ok(())
 }
 
-/// Adds what excludes interval `ii` behind a colon, where there is a reason.
+/// Adds what excludes interval `ii` after a colon, if there is a reason.
 fn push_below(
     alloc: Global,
     text: &mut Vec<u8>,
@@ -88,7 +88,7 @@ fn push_below(
     }
 }
 
-/// Adds the word `name`, the least interval `least` and what excludes the one below it, as a line.
+/// Adds a line with the word `name`, the least interval `least` and what excludes the interval below it.
 pub(crate) fn push_line(
     alloc: Global,
     text: &mut Vec<u8>,
@@ -118,7 +118,7 @@ pub(crate) fn push_line(
     Ok(())
 }
 
-/// Adds the lines of those whose least interval is one more than `below`.
+/// Adds the lines of the bounds whose least interval is `below` plus 1.
 fn push_lines_above(
     alloc: Global,
     text: &mut Vec<u8>,

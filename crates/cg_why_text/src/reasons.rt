@@ -14,7 +14,7 @@ use cg_why::Reason;
 use std::alloc::{AllocError, Global};
 
 /// Adds the text of `reason` to `text`, as `cycle x.0 a.0 latency 3 distance 1`. `far` has the registers on the ways at
-/// interval `ii`, three numbers a node.
+/// interval `ii`, three numbers per node.
 pub fn push_reason(
     alloc: Global,
     text: &mut Vec<u8>,
@@ -61,7 +61,7 @@ fn push_no_way(
     )
 }
 
-/// Adds `word`.
+/// Adds `word` to `text`.
 fn push_word(text: &mut Vec<u8>, word: &str) -> Result<(), AllocError>
     ensures { OnOk result (text.new.items ≡ text.old.items ++ word.now) }
 {
@@ -69,7 +69,7 @@ fn push_word(text: &mut Vec<u8>, word: &str) -> Result<(), AllocError>
     Ok(())
 }
 
-/// Returns the sum of the registers that the values of the edges `ids` cross at least.
+/// Returns the sum of the least numbers of registers that the values of the edges `ids` cross.
 fn sum_of_registers(far: &[u32], ids: &[EdgeId]) -> u128
     ensures { result ≡ sum_by (registers_on (table far.now)) ids.now }
 {
@@ -107,7 +107,7 @@ fn push_weight(alloc: Global, text: &mut Vec<u8>, weight: u32) -> Result<(), All
     push_word(text, word.as_str())
 }
 
-/// Adds the edges that stay, each after a blank.
+/// Adds the edges whose stays count, each after a blank.
 fn push_stays(
     alloc: Global,
     text: &mut Vec<u8>,
@@ -126,7 +126,7 @@ fn push_stays(
     Ok(())
 }
 
-/// Adds the data edges against them, each with its weight.
+/// Adds the opposite data edges, each with its weight.
 fn push_pulls(
     alloc: Global,
     text: &mut Vec<u8>,
@@ -146,7 +146,7 @@ fn push_pulls(
     Ok(())
 }
 
-/// Adds the order edges against them, each with its weight.
+/// Adds the opposite order edges, each with its weight.
 fn push_ties(
     alloc: Global,
     text: &mut Vec<u8>,
@@ -166,7 +166,7 @@ fn push_ties(
     Ok(())
 }
 
-/// Adds `name`, the name of a list of `count` edges, where that isn't 0.
+/// Adds `name`, the name of a list of `count` edges, if `count` isn't 0.
 fn push_heading(text: &mut Vec<u8>, name: &str, count: usize) -> Result<(), AllocError>
     ensures { OnOk result (text.new.items ≡ text.old.items ++ heading name.now count) }
 {
@@ -193,7 +193,8 @@ fn push_circulation(
     push_ties(alloc, text, kernel, &pressure.ties)
 }
 
-/// Adds how many register slots the values need at least, of how many, and the circulation that shows it.
+/// Adds the least number of register slots that the values need, the number that there are, and the circulation that
+/// shows it.
 fn push_registers(
     alloc: Global,
     text: &mut Vec<u8>,

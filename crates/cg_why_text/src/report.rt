@@ -10,7 +10,7 @@ use cg_pressure::{Times, all_stays, count_registers};
 use cg_why::{Fars, Reason, Why};
 use std::alloc::{AllocError, Global};
 
-/// Adds how many register slots are enough at the least interval.
+/// Adds the number of register slots that are enough at the least interval.
 fn push_free(
     alloc: Global,
     text: &mut Vec<u8>,
@@ -52,8 +52,9 @@ pub fn excluded_line(
     Ok(line)
 }
 
-/// Returns the report on `why`, a line each: the least interval that no reason excludes; those of the kinds of reasons, the
-/// greatest first, each with what excludes the interval below it; and how many register slots are enough at the least one.
+/// Returns the report on `why`, in lines: the least interval that no reason excludes; those of the kinds of reasons,
+/// the greatest first, each with what excludes the interval below it; and the number of register slots that are enough
+/// at the least one.
 pub fn why_report(
     alloc: Global,
     arch: &Arch,

@@ -11,7 +11,7 @@ abbrev pub among : List Op → Op → Bool
 among [] op = false
 among (o ∷ os) op = if eqb (code o) (code op) then true else among os op
 
--- a set with one operation more, in the order of their codes
+-- a set with one more operation, in the order of their codes
 abbrev pub with_op : List Op → Op → List Op
 with_op ops op = filter (λ o. eqb (code op) (code o) || among ops o) all_ops
 
@@ -19,7 +19,7 @@ with_op ops op = filter (λ o. eqb (code op) (code o) || among ops o) all_ops
 abbrev pub is_marked : List Bool → Op → Bool
 is_marked marks op = slice_index_or marks (code op - 1) false
 
--- those of a list that are marked
+-- the marked operations of a list
 abbrev pub marked : List Bool → List Op → List Op
 marked marks [] = []
 marked marks (op ∷ ops) = if is_marked marks op then op ∷ marked marks ops else marked marks ops
@@ -32,7 +32,7 @@ ops_with marks = marked marks all_ops
 unfoldable pub marks_of : List Op → List Bool
 marks_of ops = map (among ops) all_ops
 
--- ---- each undoes the other (here, since the type's declaration cites it)
+-- ---- each function undoes the other (here, since the type's declaration cites it)
 
 pub all_among : (op : Op) → among all_ops op ≡ true
 all_among Const = refl

@@ -1,4 +1,4 @@
--- The operations on words of 32 bits, one row of each table an operation.
+-- The operations on words of 32 bits; each table has one row for each operation.
 use Rattle.std.specs.Prelude.{ℕ, ◌+◌, ◌-◌, ◌*◌, ◌/◌, ◌%◌, ◌^◌, nat_lt, eqb, if◌then◌else◌, Bool, true, false, List, [], ◌∷◌, Option, find, codes, bytes_eq, bit_and, bit_or, bit_xor}
 pub use Rattle.cg_word.specs.declared.op.Op.{Op}
 pub use Rattle.cg_word.specs.declared.op.Op.TheVariants.{Const, Iter, Input, Add, Sub, Mul, And, Or, Xor, Shl, Shr, Sar, Eq, Ne, Lts, Ltu, Mins, Maxs, Select, Load, Store, Output, LoadIf, StoreIf, OutputIf}
@@ -106,7 +106,7 @@ is_guarded StoreIf = true
 is_guarded OutputIf = true
 is_guarded _ = false
 
--- those that reach a word of the scratchpad
+-- the operations that access the scratchpad memory
 abbrev pub is_access : Op → Bool
 is_access Load = true
 is_access Store = true
@@ -114,19 +114,19 @@ is_access LoadIf = true
 is_access StoreIf = true
 is_access _ = false
 
--- those that write it
+-- the operations that write it
 abbrev pub is_store : Op → Bool
 is_store Store = true
 is_store StoreIf = true
 is_store _ = false
 
--- those that append to a stream
+-- the operations that append to a stream
 abbrev pub is_output : Op → Bool
 is_output Output = true
 is_output OutputIf = true
 is_output _ = false
 
--- those with a value that data edges may carry
+-- the operations with a value that data edges may carry
 abbrev pub has_value : Op → Bool
 has_value Store = false
 has_value Output = false
@@ -134,7 +134,7 @@ has_value StoreIf = false
 has_value OutputIf = false
 has_value _ = true
 
--- those that name a stream's port
+-- the operations that name a stream's port
 abbrev pub has_port : Op → Bool
 has_port Input = true
 has_port Output = true
@@ -157,7 +157,7 @@ last_arg _ = 1
 abbrev pub words : ℕ
 words = 2 ^ 32
 
--- a word's place in the signed order, from the least on
+-- a word's rank in the signed order, counted from the least word
 abbrev pub rank : ℕ → ℕ
 rank a = (a + 2 ^ 31) % words
 
@@ -165,11 +165,11 @@ rank a = (a + 2 ^ 31) % words
 abbrev pub one_if : Bool → ℕ
 one_if b = if b then 1 else 0
 
--- shifted right by k, the sign bit in
+-- shifted right by k bits, with the sign bit shifted in
 abbrev pub sar : ℕ → ℕ → ℕ
 sar a k = if nat_lt a (2 ^ 31) then a / 2 ^ k else words - 1 - (words - 1 - a) / 2 ^ k
 
--- the value of an operation that needs its operands alone; 0 for the others
+-- the value of an operation that needs only its operands; 0 for the others
 unfoldable pub apply_of : Op → ℕ → ℕ → ℕ → ℕ
 apply_of Const a b c = a
 apply_of Iter a b c = 0

@@ -1,13 +1,13 @@
-//! What operations compute.
+//! The values of operations.
 ghost use Rattle.std.specs.Prelude.{◌≡◌, ◌<◌, ◌+◌, ◌%◌, ◌^◌};
 ghost use Rattle.cg_word.specs.Word.{apply_of, rank, sar, words};
 
 use crate::op::Op;
 
-/// The value of an operation that needs its operands alone, on words of 32 bits.
+/// Returns the value of an operation that needs its operands alone, on words of 32 bits.
 ///
-/// Operands past the arity are not looked at. Operations whose value comes from elsewhere (`iter`, `input`, the loads)
-/// and those without a value give 0.
+/// Operands past the arity are ignored. Operations whose value comes from elsewhere (`iter`, `input`, the loads) and
+/// those without a value give 0.
 #[tactic(auto, unfolding(crate::specs::Word::apply_of))]
 pub fn apply(op: Op, a: u32, b: u32, c: u32) -> u32
     ensures { result ≡ apply_of op a b c }
@@ -49,14 +49,14 @@ pub fn apply(op: Op, a: u32, b: u32, c: u32) -> u32
     }
 }
 
-/// A word's place in the order of two's complement, from the least on.
+/// Returns the rank of the word `a` in the order of two's complement, counted from the least word.
 fn signed_rank(a: u32) -> u32
     ensures { result ≡ rank a }
 {
     a.wrapping_add(0x8000_0000)
 }
 
-/// A word shifted right with its sign bit.
+/// Returns the word `a` shifted right by `by` bits, with its sign bit shifted in.
 fn shifted_signed(a: u32, by: u32) -> u32
     requires { by < 32 }
     ensures { result ≡ sar a by }

@@ -1,6 +1,6 @@
-//! The operations, with what a table says of each.
+//! The operations and their properties: codes, names, arities and kinds.
 
-/// An operation of a kernel's node and of an array's unit.
+/// An operation of a kernel's node or of an array's unit.
 ///
 /// `LoadIf`, `StoreIf` and `OutputIf` are guarded: they act only where their first operand isn't 0.
 #[derive(Clone, Copy, Debug, PartialEq, Eq)]
@@ -66,7 +66,7 @@ impl Op {
         Op::OutputIf,
     ];
 
-    /// Its code in bits and tables, from 1 on.
+    /// Returns its code in bits and tables, counted from 1.
     pub fn code(self) -> u32
         ensures { result ≡ code self }
     {
@@ -99,7 +99,7 @@ impl Op {
         }
     }
 
-    /// Its name in kernel and architecture files.
+    /// Returns its name in kernel and architecture files.
     pub fn name(self) -> &'static str
         ensures { result.now ≡ name_of self }
     {
@@ -132,7 +132,7 @@ impl Op {
         }
     }
 
-    /// The number of its operands.
+    /// Returns the number of its operands.
     pub fn arity(self) -> u32
         ensures count { result ≡ arity self }
         ensures few { result ≤ 3 }
@@ -162,49 +162,49 @@ impl Op {
         }
     }
 
-    /// Whether it acts only where its first operand, the guard, isn't 0.
+    /// Returns whether it acts only where its first operand, the guard, isn't 0.
     pub fn is_guarded(self) -> bool
         ensures { result ≡ is_guarded self }
     {
         matches!(self, Op::LoadIf | Op::StoreIf | Op::OutputIf)
     }
 
-    /// Whether it reaches a word of the scratchpad.
+    /// Returns whether it accesses the scratchpad memory.
     pub fn is_access(self) -> bool
         ensures { result ≡ is_access self }
     {
         matches!(self, Op::Load | Op::Store | Op::LoadIf | Op::StoreIf)
     }
 
-    /// Whether it is an access that writes.
+    /// Returns whether it is an access that writes.
     pub fn is_store(self) -> bool
         ensures { result ≡ is_store self }
     {
         matches!(self, Op::Store | Op::StoreIf)
     }
 
-    /// Whether it appends to an output stream.
+    /// Returns whether it appends to an output stream.
     pub fn is_output(self) -> bool
         ensures { result ≡ is_output self }
     {
         matches!(self, Op::Output | Op::OutputIf)
     }
 
-    /// Whether it has a value that data edges may carry.
+    /// Returns whether it has a value that data edges may carry.
     pub fn has_value(self) -> bool
         ensures { result ≡ has_value self }
     {
         !matches!(self, Op::Store | Op::Output | Op::StoreIf | Op::OutputIf)
     }
 
-    /// Whether it names the port of a stream.
+    /// Returns whether it names the port of a stream.
     pub fn has_port(self) -> bool
         ensures { result ≡ has_port self }
     {
         matches!(self, Op::Input | Op::Output | Op::OutputIf)
     }
 
-    /// Which of its operands is the address, for an access.
+    /// Returns the number of the operand that is the address, for an access.
     pub fn address_arg(self) -> usize
         ensures place { result ≡ address_arg self }
         ensures few { result < 3 }
@@ -215,7 +215,7 @@ impl Op {
         }
     }
 
-    /// Which of its operands is stored or sent, for a store or an output: the last one.
+    /// Returns the number of the operand that is stored or sent, for a store or an output: the last one.
     pub fn last_arg(self) -> usize
         ensures place { result ≡ last_arg self }
         ensures few { result < 3 }
@@ -227,10 +227,10 @@ impl Op {
         }
     }
 
-    /// The operation with that code.
+    /// Returns the operation with the code `number`.
     pub fn from_code(number: u32) -> Option<Op>
         ensures value { result ≡ op_of number }
-        // None exactly for a code that the table lacks.
+        // None exactly for a code that no operation has.
         ensures exact { (op : ops.Op) → (result ≡ Some op) ↔ (code op ≡ number) }
     {
         Op::find_code(number)
@@ -243,10 +243,10 @@ impl Op {
         Op::ALL.iter().copied().find(|op| op.code() == number)
     }
 
-    /// The operation of that name.
+    /// Returns the operation with the name `name`.
     pub fn from_name(name: &str) -> Option<Op>
         ensures value { result ≡ op_named name.now }
-        // None exactly for a name that the table lacks.
+        // None exactly for a name that no operation has.
         ensures exact { (op : ops.Op) → (result ≡ Some op) ↔ (name_of op ≡ name.now) }
     {
         Op::find_name(name)

@@ -32,14 +32,14 @@ impl OpSet {
     ghost use Rattle.cg_word.specs.Sets.{among, with_op};
     ghost use Rattle.cg_word.specs.declared.op.Op as ops;
 
-    /// The set without operations.
+    /// Returns the empty set.
     pub fn empty() -> OpSet
         ensures { result ≡ [] }
     {
         OpSet { marks: [false; 25] }
     }
 
-    /// The set with one operation more.
+    /// Returns the set with `op` added.
     pub fn with(self, op: Op) -> OpSet
         ensures value { result ≡ with_op self op }
         ensures has { (o : ops.Op) → among result o ≡ (eqb (code op) (code o) || among self o) }
@@ -50,7 +50,7 @@ impl OpSet {
         OpSet { marks }
     }
 
-    /// Whether the operation is in the set.
+    /// Returns whether `op` is in the set.
     pub fn has(self, op: Op) -> bool
         ensures { result ≡ among self op }
     {

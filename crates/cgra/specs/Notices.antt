@@ -1,11 +1,11 @@
--- What is said on the standard error, beside the report.
+-- The notices on the standard error, separate from the report.
 use Rattle.std.specs.Prelude.{◌==◌, ℕ, List, [], ◌∷◌, codes, if◌then◌else◌}
 use Rattle.cg_ending.specs.declared.outcome.Status.{Status}
 use Rattle.cg_ending.specs.declared.outcome.Status.TheVariants.{Memory, WriteFault}
 use Rattle.cg_ending.specs.Outcome.{line_of}
 
--- where a call ends with that status, and `write_faults` writes of files failed in it; where none did, a write fault is
--- of the report
+-- the notice for a call that ends with that status, in which `write_faults` writes of files failed; where none did, a
+-- write fault is one of the report
 abbrev pub notice_of : Status → ℕ → List ℕ
 notice_of Memory write_faults = line_of (codes "cgra: out of memory" ∷ [])
 notice_of WriteFault write_faults =

@@ -1,4 +1,4 @@
-//! `cgra`: hands its words to the top call, over the files of the system and the standard output.
+//! `cgra`: passes its arguments to the top call, with the files of the system and the standard output.
 #![tactic(auto)]
 
 ghost use Rattle.std.specs.Prelude.{◌≡◌};
@@ -23,10 +23,10 @@ const WANTS_MEMORY: u8 = 1;
 /// The exit status where an argument isn't text.
 const NO_TEXT: u8 = 9;
 
-/// The variable of the environment that is `1` where progress is to be shown.
+/// The environment variable that is `1` where progress is to be shown.
 const PROGRESS: &str = "CGRA_PROGRESS";
 
-/// The arguments after the program's name.
+/// Returns the arguments after the program's name.
 fn arguments<R: Env + AllocGlobal>(rt: &R) -> io::Result<Vec<String>> {
     Ok(env::args(rt)?.skip(1).collect(rt.alloc())?)
 }
@@ -39,7 +39,7 @@ fn shows_progress<R: Env + AllocGlobal>(rt: &R) -> bool {
     }
 }
 
-/// What the program ends with.
+/// Returns the exit code of the program for `status`.
 fn exit_code(status: Status) -> ExitCode
     ensures { exit_status result ≡ number_of status }
 {
@@ -66,7 +66,7 @@ fn main(rt: HostRuntime) -> ExitCode {
     );
     let said = notice(status, store.write_faults(), out.faults());
     if !said.is_empty() {
-        // The call ends alike where this can't be written.
+        // The call ends the same way where this can't be written.
         let _ = rt.eprint(said);
     }
     exit_code(status)

@@ -3,18 +3,18 @@
 use cg_aside::Aside;
 use std::alloc::AllocError;
 
-/// Writes notes to the standard error, a line each. Progress is shown there on one line that is written over.
+/// A writer of notes to the standard error, a line each. Progress is shown there on one line that is overwritten.
 #[derive(Drop)]
 pub(crate) struct Notes<'r, R> {
     rt: &'r R,
     /// Whether progress is shown.
     shows_progress: bool,
-    /// The length of the line of progress that is shown, in bytes; 0 where none is.
+    /// The length of the progress line that is shown, in bytes; 0 where none is.
     shown: usize,
 }
 
 impl<'r, R: Eprint + AllocGlobal> Notes<'r, R> {
-    /// Returns notes that go to the standard error of `rt`, and progress too where `shows_progress` is true.
+    /// Returns a writer to the standard error of `rt`, which shows progress too where `shows_progress` is true.
     pub(crate) fn new(rt: &'r R, shows_progress: bool) -> Notes<'r, R> {
         Notes {
             rt,
@@ -23,21 +23,21 @@ impl<'r, R: Eprint + AllocGlobal> Notes<'r, R> {
         }
     }
 
-    /// Writes over the line of progress that a search at the interval `ii`, in cycles, made `moves` moves and met `least`
-    /// at the least.
+    /// Overwrites the progress line: a search at the interval `ii`, in cycles, made `moves` moves, and `least` is the
+    /// least number that it reached.
     fn show(&mut self, ii: u32, moves: u32, least: u32) -> Result<(), AllocError> {
         let mut line = format!(in self.rt.alloc(); "\rii {ii}: {moves} moves, least {least}")?;
         let length = line.len();
         for _ in length..self.shown {
             line.push(' ')?;
         }
-        // The search goes on alike where this can't be written.
+        // The search continues the same way where this can't be written.
         let _ = self.rt.eprint(line.as_str());
         self.shown = length;
         Ok(())
     }
 
-    /// Takes the line of progress away, where one is shown.
+    /// Erases the progress line, if one is shown.
     fn clear(&mut self) {
         if self.shown > 0 {
             let _ = self.rt.eprint("\r");
@@ -53,13 +53,13 @@ impl<'r, R: Eprint + AllocGlobal> Notes<'r, R> {
 impl<'r, R: Eprint + AllocGlobal> Aside for Notes<'r, R> {
     fn note(&mut self, text: &str) {
         self.clear();
-        // The call ends alike where this can't be written.
+        // The call ends the same way where this can't be written.
         let _ = self.rt.eprintln(text);
     }
 
     fn progress(&mut self, ii: u32, moves: u32, least: u32) {
         if self.shows_progress {
-            // Where memory runs out for the line, it isn't shown.
+            // Where memory for the line runs out, it isn't shown.
             let _ = self.show(ii, moves, least);
         }
     }

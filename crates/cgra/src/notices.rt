@@ -1,4 +1,4 @@
-//! What is said on the standard error, beside the report.
+//! The notices on the standard error, separate from the report.
 ghost use Rattle.std.specs.Prelude.{◌≡◌, ◌<◌, ◌⊎◌};
 ghost use Rattle.cgra.specs.Notices.{notice_of};
 
@@ -7,14 +7,14 @@ use cg_top::Status;
 /// The notice where memory ran out.
 pub const NO_MEMORY: &str = "cgra: out of memory\n";
 
-/// At a write fault of the store.
+/// The notice at a write fault of the store.
 pub const NO_FILE: &str = "cgra: an output file couldn't be written\n";
 
-/// At a write fault of the sink.
+/// The notice at a write fault of the sink.
 pub const NO_REPORT: &str = "cgra: the report couldn't be written\n";
 
-/// Returns what is said where a call ends with `status`, and `write_faults` writes of files and `put_faults` puts of
-/// reports failed in it.
+/// Returns the notice for a call that ends with `status`, in which `write_faults` writes of files and `put_faults` puts
+/// of reports failed.
 pub fn notice(status: Status, write_faults: u64, put_faults: u64) -> &'static str
     requires { status ≡ Status.WriteFault → (0 < write_faults) ⊎ (0 < put_faults) }
     ensures { result.now ≡ notice_of status write_faults }

@@ -31,7 +31,7 @@ impl<'g, 'a> Walk<'g, 'a> {
     ghost use Rattle.cg_claims.specs.Table.{excess};
     ghost use Rattle.cg_walk.specs.State.{cost, table_of_state};
 
-    /// Returns a placement of the walk's places. It has earliest times of 0, which no count asks for.
+    /// Returns a placement of the walk's places. Its earliest times are 0, as no count depends on them.
     fn placement_anew(&self, alloc: Global) -> Result<PlainPlacement<'a>, AllocError>
         ensures arch { IfOk result (λ p. p.arch ≡ self.now.arch) }
         ensures kernel { IfOk result (λ p. p.kernel ≡ self.now.kernel) }

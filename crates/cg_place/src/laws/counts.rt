@@ -1,4 +1,4 @@
-//! The excess of units, counted place by place.
+//! The excess of units, counted over all places.
 ghost use Rattle.std.specs.Prelude.{◌≡◌, ◌<◌, ◌≤◌, length, count_by};
 ghost use Rattle.cg_model.specs.Limits.{most_contexts, most_nodes};
 ghost use Rattle.cg_place.specs.Counts as spec;
@@ -6,7 +6,7 @@ ghost use Rattle.cg_place.specs.Counts as spec;
 use cg_arch::Arch;
 use cg_model::Place;
 
-/// By how many the nodes are more than one in a slot of a unit, over all.
+/// Returns the number of nodes beyond one in a slot of a unit, summed over all slots and units.
 pub(crate) fn unit_excess(arch: &Arch, places: &[Place], ii: u32) -> u32
     requires some { 0 < ii }
     requires few { ii ≤ most_contexts }
@@ -20,7 +20,7 @@ pub(crate) fn unit_excess(arch: &Arch, places: &[Place], ii: u32) -> u32
     excess
 }
 
-/// By how many they are in a slot of one unit.
+/// Returns the number of nodes beyond one in a slot of `unit`, summed over its slots.
 fn excess_on(places: &[Place], ii: u32, unit: u32) -> u32
     requires some { 0 < ii }
     requires few { ii ≤ most_contexts }
@@ -35,7 +35,7 @@ fn excess_on(places: &[Place], ii: u32, unit: u32) -> u32
     excess
 }
 
-/// How many nodes begin on a unit in a slot.
+/// Returns the number of nodes that begin on `unit` in `slot`.
 fn count_at(places: &[Place], ii: u32, unit: u32, slot: u32) -> u32
     requires some { 0 < ii }
     requires nodes { length places.now ≤ most_nodes }

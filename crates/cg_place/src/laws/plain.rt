@@ -9,8 +9,8 @@ use cg_model::{Kernel, Place};
 use std::alloc::{AllocError, Global};
 use std::marker::Model;
 
-/// Where and when each node of a kernel begins on an architecture, at an interval. It keeps the places alone, and counts
-/// at each question.
+/// A placement: the unit and the time at which each node of a kernel begins on an architecture, at an interval. It
+/// keeps only the places, and counts at each query.
 #[derive(Drop)]
 pub struct PlainPlacement<'a> {
     arch: &'a Arch,
@@ -38,7 +38,7 @@ impl<'a> PlainPlacement<'a> {
     ghost use Rattle.cg_place.specs.Counts as counts;
     ghost use Rattle.cg_place.specs.Draws.{drawn_move};
 
-    /// Each node at its earliest time on the lowest-numbered unit that offers its operation.
+    /// Returns the placement of each node at its earliest time on the lowest-numbered unit that offers its operation.
     pub fn start(
         alloc: Global,
         arch: &'a Arch,
@@ -62,7 +62,8 @@ impl<'a> PlainPlacement<'a> {
         })
     }
 
-    /// A node, one of the units that offer its operation, and one of the times from its earliest on, each drawn by a word.
+    /// Returns a random move: a node, one of the units that offer its operation, and one of the times from its earliest
+    /// on, from the random words `w1`, `w2` and `w3`.
     pub fn propose(&self, w1: u32, w2: u32, w3: u32) -> Move
         requires { 0 < size self.now.kernel }
         ensures value { result ≡ drawn_move self.now.arch self.now.kernel self.now.ii self.now.early w1 w2 w3 }
@@ -73,7 +74,7 @@ impl<'a> PlainPlacement<'a> {
         drawn(self.arch, self.kernel, self.ii, early, w1, w2, w3)
     }
 
-    /// Places a node, and gives the move that undoes it.
+    /// Applies the move `change`, and returns the move that undoes it.
     pub fn apply(&mut self, change: Move) -> Move
         requires { IsMove self.old change }
         ensures new { self.new ≡ after self.old change }
@@ -89,7 +90,7 @@ impl<'a> PlainPlacement<'a> {
         }
     }
 
-    /// Places a node.
+    /// Applies the move `change`, which undoes another.
     pub fn undo(&mut self, change: Move)
         requires { IsMove self.old change }
         ensures new { self.new ≡ after self.old change }
@@ -98,7 +99,7 @@ impl<'a> PlainPlacement<'a> {
         let _ = self.apply(change);
     }
 
-    /// Where and when a node begins.
+    /// Returns the unit and the time at which `node` begins.
     pub fn place(&self, node: u32) -> Place
         requires { node < size self.now.kernel }
         ensures value { result ≡ place_in self.now.places node }
@@ -107,7 +108,7 @@ impl<'a> PlainPlacement<'a> {
         self.places[node as usize]
     }
 
-    /// By how many the nodes are more than one in a slot of a unit, over all.
+    /// Returns the number of nodes beyond one in a slot of a unit, summed over all slots and units.
     pub fn unit_excess(&self) -> u32
         ensures value { result ≡ counts.unit_excess self.now.arch self.now.ii self.now.places }
         ensures valid { IsPlacement self.now }
@@ -115,7 +116,7 @@ impl<'a> PlainPlacement<'a> {
         unit_excess(self.arch, &self.places, self.ii)
     }
 
-    /// How many order edges have a target that doesn't begin at least a cycle after its source.
+    /// Returns the number of order edges whose target doesn't begin at least a cycle after its source.
     pub fn order_violations(&self) -> u32
         ensures value { result ≡ counts.order_violations self.now.kernel self.now.ii self.now.places }
         ensures valid { IsPlacement self.now }
