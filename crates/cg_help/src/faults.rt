@@ -1,19 +1,19 @@
-//! What is wrong with the words of a command.
+//! Faults of the words of a command.
 
 use crate::numbers::Range;
 use crate::usages::{SEEDS, TURNS, Usage};
 use std::fmt;
 
-/// What is wrong with the words after a command's name.
+/// A fault of the words after a command's name.
 #[derive(Clone, Copy)]
 pub(crate) enum Fault<'a> {
-    /// The command `usage` doesn't take the option `word`, which has its hyphens; it may be that `nearest` is meant.
+    /// The command `usage` has no option `word`, given with its hyphens; `nearest` is a similar option, if there is one.
     NoOption {
         usage: &'static Usage,
         word: &'a str,
         nearest: Option<&'static str>,
     },
-    /// The option `name` was given before.
+    /// The option `name` is given twice.
     Twice {
         name: &'static str,
     },
@@ -26,7 +26,7 @@ pub(crate) enum Fault<'a> {
         name: &'static str,
         value: &'a str,
     },
-    /// The value `value` of the option `name` is none of the numbers of `range`.
+    /// The value `value` of the option `name` isn't a number of `range`.
     ValueOutOfRange {
         name: &'static str,
         range: Range,
@@ -34,24 +34,28 @@ pub(crate) enum Fault<'a> {
     },
     /// A plain word is empty.
     EmptyWord,
-    /// The plain word `word`, which stands after `--`, begins with a hyphen.
+    /// The plain word `word`, which comes after `--`, begins with a hyphen.
     HyphenInFile {
         word: &'a str,
     },
-    /// The number `count` of the plain words is that of none of the command's forms, which are `forms`.
+    /// There are `count` plain words, which is the number of none of the command's forms, `forms`.
     NoForm {
         forms: &'static [&'static str],
         count: usize,
     },
-    /// The word `word` at `TURNS` is no number.
+    /// A word is missing, and `word`, which isn't a number, is at the place of `TURNS`.
+    MissingTurns {
+        word: &'a str,
+    },
+    /// The word `word` at `TURNS` isn't a number.
     NoTurns {
         word: &'a str,
     },
-    /// The word `word` at `TURNS` is a number above the most turns.
+    /// The word `word` at `TURNS` is a number above the limit of turns.
     ManyTurns {
         word: &'a str,
     },
-    /// The word `word` at `SEED` is no seed.
+    /// The word `word` at `SEED` isn't a seed.
     NoSeed {
         word: &'a str,
     },
@@ -73,7 +77,7 @@ impl fmt::Display for Fault<'_> {
                 write!(f, "no option {word}; ")?;
                 write_options(f, usage)
             }
-            Fault::Twice { name } => write!(f, "--{name} stands twice"),
+            Fault::Twice { name } => write!(f, "--{name} is given twice"),
             Fault::NoValue { name } => write!(f, "--{name} needs a value"),
             Fault::HyphenInValue { name, value } => write!(
                 f,
@@ -90,9 +94,13 @@ impl fmt::Display for Fault<'_> {
             ),
             Fault::NoForm { forms, count } => {
                 write_forms(f, forms)?;
-                write_count(f, count)
+                write_count(f, count)?;
+                write_missing(f, forms, count)
             }
-            Fault::NoTurns { word } => write!(f, "TURNS is a number, got {word}"),
+            Fault::MissingTurns { word } => {
+                write!(f, "TURNS is missing, got {word} in its place")
+            }
+            Fault::NoTurns { word } => write!(f, "TURNS is {TURNS}, got {word}"),
             Fault::ManyTurns { word } => {
                 let most = TURNS.most;
                 write!(f, "TURNS is at most {most}, got {word}")
@@ -113,7 +121,7 @@ fn write_forms<W: fmt::Write>(f: &mut fmt::Formatter<W>, forms: &[&str]) -> fmt:
     Ok(())
 }
 
-/// Writes to `f` that there are `count` words.
+/// Writes to `f` that `count` words are given.
 fn write_count<W: fmt::Write>(f: &mut fmt::Formatter<W>, count: usize) -> fmt::Result {
     match count {
         1 => write!(f, ", got 1 word"),
@@ -121,7 +129,22 @@ fn write_count<W: fmt::Write>(f: &mut fmt::Formatter<W>, count: usize) -> fmt::R
     }
 }
 
-/// Writes to `f` which options the command `usage` takes.
+/// Writes to `f` the last word of the form among `forms` with one word more than `count`, if there is one.
+fn write_missing<W: fmt::Write>(
+    f: &mut fmt::Formatter<W>,
+    forms: &[&str],
+    count: usize,
+) -> fmt::Result {
+    for form in forms {
+        if form.split(' ').count() == count.saturating_add(1) {
+            let last = form.split(' ').last().unwrap_or("");
+            return write!(f, ": {last} is missing");
+        }
+    }
+    Ok(())
+}
+
+/// Writes to `f` the options that the command `usage` takes.
 fn write_options<W: fmt::Write>(f: &mut fmt::Formatter<W>, usage: &Usage) -> fmt::Result {
     let name = usage.name;
     if usage.options.is_empty() {

@@ -1,4 +1,4 @@
-//! The help: what is wrong with words that fit no command, and which words would fit.
+//! The help: the first fault of words that fit no command, and the words that would fit.
 #![tactic(auto)]
 
 mod commands;

@@ -1,22 +1,22 @@
-//! Names that may be meant.
+//! The name that a misspelt word may mean.
 
 use std::alloc::{AllocError, Global};
 use strsim::levenshtein;
 
-/// The most edits from a word to a name that may be meant.
+/// The greatest number of edits between a word and a name that it may mean.
 const MOST_EDITS: usize = 2;
 
-/// The most bytes that few edits add.
+/// The greatest number of bytes that so few edits add.
 const MOST_BYTES: usize = 4 * MOST_EDITS;
 
-/// The most bytes of a word for which a name is sought.
+/// The greatest length of a word for which a name is sought, in bytes.
 const LONGEST_WORD: usize = 64;
 
-/// The most names that are looked at.
+/// The greatest number of names that are compared with a word.
 const MOST_NAMES: usize = 4096;
 
-/// Returns the one of `names` that may be meant by `word`: the nearest and of several the first, where it is few edits
-/// away. Capitals count as small letters. Of many names the first are looked at, and for a long word none.
+/// Returns the name among `names` that `word` may mean: the nearest, and the first of several, if it is few edits away.
+/// Case is ignored. Only the first `MOST_NAMES` names are compared, and none for a long word.
 pub fn nearest_name<'a>(
     alloc: Global,
     word: &str,
@@ -39,7 +39,7 @@ pub fn nearest_name<'a>(
     Ok(nearest)
 }
 
-/// Returns how many edits it takes from `word`, in small letters, to `name`; too many where their lengths are far apart.
+/// Returns the number of edits from `word`, in lower case, to `name`; too many if their lengths are far apart.
 fn edits_to(alloc: Global, word: &str, name: &str) -> Result<usize, AllocError> {
     if name.len() > word.len().saturating_add(MOST_BYTES) {
         return Ok(MOST_EDITS + 1);
@@ -48,8 +48,8 @@ fn edits_to(alloc: Global, word: &str, name: &str) -> Result<usize, AllocError> 
     levenshtein(alloc, word, name.as_str())
 }
 
-/// Returns the least number of edits from `word` at which a name isn't meant by it: more than a few, or than half of its
-/// characters, rounded up. By one character no other one is meant.
+/// Returns the least number of edits from `word` that is too many: more than a few, or than half of its characters,
+/// rounded up. A single character never means another name.
 fn too_many_edits(word: &str) -> usize {
     match word.chars().count() {
         0 | 1 => 1,

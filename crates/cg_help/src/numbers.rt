@@ -1,4 +1,4 @@
-//! Numbers in words.
+//! Numbers among the words of a command.
 
 use std::fmt;
 
@@ -10,7 +10,7 @@ pub(crate) struct Range {
 }
 
 impl Range {
-    /// Checks whether `word` writes one of the numbers.
+    /// Checks whether `word` denotes one of the numbers.
     pub(crate) fn has(&self, word: &str) -> bool {
         match number_of(word) {
             Some(number) => self.least <= number && number <= self.most,
@@ -29,12 +29,12 @@ impl fmt::Display for Range {
     }
 }
 
-/// Checks whether `word` is one of 1 to 20 decimal digits.
+/// Checks whether `word` consists of 1 to 20 decimal digits.
 pub(crate) fn is_number(word: &str) -> bool {
     !word.is_empty() && word.len() <= 20 && word.bytes().all(|byte| byte.is_ascii_digit())
 }
 
-/// Returns the number that `word` writes; None where it writes none, or one above those of 64 bits.
+/// Returns the number that `word` denotes; None if it denotes none, or one that needs more than 64 bits.
 fn number_of(word: &str) -> Option<u64> {
     if is_number(word) {
         word.parse::<u64>().ok()

@@ -34,7 +34,7 @@ enum Next {
     Any,
     /// The value of this option.
     Value(&'static Choice),
-    /// A plain word alone, since `--` stood before it.
+    /// Only a plain word, since `--` came before it.
     Plain,
 }
 
@@ -43,13 +43,13 @@ enum Next {
 struct Reader<'a> {
     usage: &'static Usage,
     next: Next,
-    /// The names of the options that were given.
+    /// The names of the given options.
     given: Vec<&'static str>,
     /// The plain words, in order.
     plain: Vec<&'a str>,
 }
 
-/// Reads `words`, those after the name of the command `usage`, up to the first thing that is wrong.
+/// Reads `words`, those after the name of the command `usage`, up to the first fault.
 pub(crate) fn read_words<'a>(
     alloc: Global,
     usage: &'static Usage,
@@ -87,7 +87,7 @@ impl<'a> Reader<'a> {
         }
     }
 
-    /// Reads `word`, which is two hyphens and `option`.
+    /// Reads `word`, two hyphens followed by `option`.
     fn read_option(
         &mut self,
         alloc: Global,
@@ -120,6 +120,9 @@ impl<'a> Reader<'a> {
             return Err(Stop::Wrong(Fault::EmptyWord));
         }
         if let Some(name) = word.strip_prefix('-') {
+            if let Some(fault) = self.negative(word, name) {
+                return Err(Stop::Wrong(fault));
+            }
             return Err(match self.next {
                 Next::Plain => Stop::Wrong(Fault::HyphenInFile { word }),
                 _ => no_option(alloc, self.usage, word, name),
@@ -127,6 +130,22 @@ impl<'a> Reader<'a> {
         }
         self.plain.push(word)?;
         Ok(())
+    }
+
+    /// Returns the fault of `word`, a hyphen followed by `rest`, if it is a negative number where a number is expected.
+    fn negative(&self, word: &'a str, rest: &str) -> Option<Fault<'a>> {
+        if !is_number(rest) {
+            return None;
+        }
+        let index = self.plain.len();
+        for form in self.usage.forms {
+            match form.split(' ').nth(index) {
+                Some("TURNS") => return Some(Fault::NoTurns { word }),
+                Some("SEED") => return Some(Fault::NoSeed { word }),
+                _ => {}
+            }
+        }
+        None
     }
 
     /// Ends the words.
@@ -203,8 +222,23 @@ fn fault_in<'a>(usage: &Usage, words: &[&'a str]) -> Option<Fault<'a>> {
             .split(' ')
             .zip(words)
             .find_map(|(place, word)| fault_at(place, word)),
-        None => Some(Fault::NoForm { forms, count }),
+        None => match shifted(forms, words) {
+            Some(word) => Some(Fault::MissingTurns { word }),
+            None => Some(Fault::NoForm { forms, count }),
+        },
     }
+}
+
+/// Returns the one of `words` that is at the place of `TURNS` but isn't a number, where one of `forms` has one word more.
+fn shifted<'a>(forms: &[&str], words: &[&'a str]) -> Option<&'a str> {
+    for form in forms {
+        if form.split(' ').count() == words.len().saturating_add(1) {
+            let index = form.split(' ').position(|place| place == "TURNS")?;
+            let word = *words.get(index)?;
+            return if is_number(word) { None } else { Some(word) };
+        }
+    }
+    None
 }
 
 /// Returns what is wrong with `word` at the place `place` of a form, if something is.

@@ -7,7 +7,7 @@ use cg_model::{MOST_CONTEXTS, MOST_MOVES, MOST_TURNS};
 pub(crate) struct Usage {
     /// Its name.
     pub(crate) name: &'static str,
-    /// The plain words of each of its forms, parted by single blanks.
+    /// The plain words of each of its forms, separated by single blanks.
     pub(crate) forms: &'static [&'static str],
     /// Its options.
     pub(crate) options: &'static [Choice],
@@ -17,7 +17,7 @@ pub(crate) struct Usage {
 pub(crate) struct Choice {
     /// Its name, without the two hyphens.
     pub(crate) name: &'static str,
-    /// The numbers that its value is one of; None where the value is the name of a file.
+    /// The range of its value; None if the value is the name of a file.
     pub(crate) range: Option<Range>,
 }
 
@@ -27,7 +27,7 @@ pub(crate) const SEEDS: Range = Range {
     most: u64::MAX,
 };
 
-/// The numbers of turns.
+/// The range of numbers of turns.
 pub(crate) const TURNS: Range = Range {
     least: 0,
     most: MOST_TURNS as u64,

@@ -7,7 +7,7 @@ use crate::usages::{USAGES, Usage, usage_of};
 use cg_aside::Aside;
 use std::alloc::{AllocError, Global};
 
-/// Notes what is wrong with `words`, which fit no command, and which words would fit.
+/// Notes the first fault of `words`, which fit no command, and the words that would fit.
 pub fn note_words(
     alloc: Global,
     words: &[String],
@@ -30,7 +30,7 @@ pub fn note_words(
     }
 }
 
-/// Notes the help that `words`, those after `help`, ask for.
+/// Notes the help for which `words`, those after `help`, ask.
 fn note_help(alloc: Global, words: &[String], aside: &mut dyn Aside) -> Result<(), AllocError> {
     let Some(name) = words.first() else {
         note_commands(aside);
@@ -45,7 +45,7 @@ fn note_help(alloc: Global, words: &[String], aside: &mut dyn Aside) -> Result<(
     }
 }
 
-/// Notes what is wrong with `words`, those after the name of the command `usage`, and the lines of the command.
+/// Notes the first fault of `words`, those after the name of the command `usage`, and the lines of the command.
 fn note_misuse(
     alloc: Global,
     usage: &'static Usage,
@@ -80,7 +80,7 @@ fn note_unknown(alloc: Global, name: &str, aside: &mut dyn Aside) -> Result<(), 
     Ok(())
 }
 
-/// Returns the name of the command that may be meant by `name`.
+/// Returns the name of the command that `name` may mean.
 fn nearest_command(alloc: Global, name: &str) -> Result<Option<&'static str>, AllocError> {
     let names: Vec<&'static str> = USAGES.iter().map(|usage| usage.name).collect(alloc)?;
     nearest_name(alloc, name, names.as_slice())
@@ -102,7 +102,7 @@ fn note_command(usage: &Usage, aside: &mut dyn Aside) {
     }
 }
 
-/// Notes `text` as one line: a control character in it, as a line feed, is written as in a literal.
+/// Notes `text` as one line: a control character in it, such as a line feed, is escaped as in a literal.
 fn note_text(alloc: Global, text: &str, aside: &mut dyn Aside) -> Result<(), AllocError> {
     let mut line = String::new(alloc);
     for character in text.chars() {

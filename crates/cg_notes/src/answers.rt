@@ -1,12 +1,18 @@
-//! Notes on answers that say no.
+//! Notes on negative answers.
 
+use cg_ending::File;
+use cg_json::{items_at, json_value, text_at};
+use cg_notes_texts::{MOST_PARSED, Place};
+use cg_places::{Step, json_value_at};
+use serde_json::Value;
 use std::alloc::{AllocError, Global};
 
-/// Adds to `notes` what `report`, of a command that said no, means: why an interval is impossible, that two accesses are left open, or
-/// what to try where no mapping was found.
+/// Adds to `notes` what `report`, of a command that answered no, means: why an interval is impossible, which two
+/// accesses are left unordered, or what to try if no mapping was found.
 pub(crate) fn note_answer(
     alloc: Global,
     report: &str,
+    files: &[File],
     notes: &mut Vec<String>,
 ) -> Result<(), AllocError> {
     let Some(line) = telling_line(report) else {
@@ -14,7 +20,7 @@ pub(crate) fn note_answer(
     };
     match line.split_once(' ') {
         Some(("unordered", rest)) => note_unordered(alloc, rest, notes),
-        Some(("impossible", rest)) => note_impossible(alloc, rest, notes),
+        Some(("impossible", rest)) => note_impossible(alloc, rest, files, notes),
         Some(("ii", rest)) if rest.contains(" cost ") || rest.contains(" faults ") => {
             notes.push(String::from_str(
                 alloc,
@@ -26,7 +32,8 @@ pub(crate) fn note_answer(
     }
 }
 
-/// Returns the line of `report` that says why: the first of those of intervals, the last of others.
+/// Returns the line of `report` that gives the reason: the first line if the report is on intervals, the last line
+/// otherwise.
 fn telling_line(report: &str) -> Option<&str> {
     let first = report.lines().next()?;
     if first.starts_with("ii ") {
@@ -36,8 +43,13 @@ fn telling_line(report: &str) -> Option<&str> {
     }
 }
 
-/// Notes what the certificate at the end of `rest` says: which interval nodes or edges need.
-fn note_impossible(alloc: Global, rest: &str, notes: &mut Vec<String>) -> Result<(), AllocError> {
+/// Adds to `notes` what the certificate at the end of `rest` says: the interval that nodes or edges need.
+fn note_impossible(
+    alloc: Global,
+    rest: &str,
+    files: &[File],
+    notes: &mut Vec<String>,
+) -> Result<(), AllocError> {
     let mut words = rest.split(' ').rev();
     let last = words.next().and_then(|word| word.parse::<u32>().ok());
     let what = words.next();
@@ -48,7 +60,9 @@ fn note_impossible(alloc: Global, rest: &str, notes: &mut Vec<String>) -> Result
     let note = match (what, last) {
         (Some("units"), 0) => {
             let op = class_of(rest);
-            format!(in alloc; "no unit offers {op}, at any interval")?
+            let place = user_of(alloc, files, op)?;
+            let place = place.as_str();
+            format!(in alloc; "{place}no unit offers {op}: add it to the ops of a unit")?
         }
         (Some("units"), last) => {
             let least = first.div_ceil(last);
@@ -59,13 +73,53 @@ fn note_impossible(alloc: Global, rest: &str, notes: &mut Vec<String>) -> Result
         (Some("distance"), 1..) => {
             let least = first.div_ceil(last);
             format!(in alloc;
-                "cycles round these edges: {first}, turns round them: {last}; so the interval is at least {least}: contexts and --ii may not be below"
+                "cycles around these edges: {first}, turns around them: {last}; so the interval is at least {least}: contexts and --ii may not be below"
             )?
         }
         _ => return Ok(()),
     };
     notes.push(note)?;
     Ok(())
+}
+
+/// Returns the beginning of a note on the first node with the operation `op` in one of `files`, a kernel:
+/// `NAME:LINE:COLUMN: node NUMBER "NODE": `. Returns an empty text if no kernel is found.
+fn user_of(alloc: Global, files: &[File], op: &str) -> Result<String, AllocError> {
+    for file in files {
+        let bytes = file.bytes.as_slice();
+        if bytes.len() > MOST_PARSED || file.name.as_str().contains('\n') {
+            continue;
+        }
+        if let Ok(value) = json_value(alloc, bytes) {
+            if let Some(text) = user_in(alloc, file.name.as_str(), bytes, &value, op)? {
+                return Ok(text);
+            }
+        }
+    }
+    Ok(String::new(alloc))
+}
+
+/// Returns the beginning of a note on the first node with the operation `op` in `kernel`, the value of `bytes`, the file
+/// `name`.
+fn user_in(
+    alloc: Global,
+    name: &str,
+    bytes: &[u8],
+    kernel: &Value,
+    op: &str,
+) -> Result<Option<String>, AllocError> {
+    let nodes = items_at(kernel, "nodes").unwrap_or(&[]);
+    for (number, node) in nodes.iter().enumerate() {
+        if text_at(node, "op") == Some(op) {
+            let path = [Step::Key("nodes"), Step::Item(number), Step::Key("op")];
+            let at = json_value_at(bytes, &path).unwrap_or(0);
+            let place = Place::at(bytes, at);
+            let user = text_at(node, "name").unwrap_or("");
+            let text = format!(in alloc; "{name}:{place}: node {number} \"{user}\": ")?;
+            return Ok(Some(text));
+        }
+    }
+    Ok(None)
 }
 
 /// Returns the operations of the certificate in `rest`, `.. class OPERATIONS nodes ..`.
@@ -79,7 +133,7 @@ fn class_of(rest: &str) -> &str {
     }
 }
 
-/// Notes that the accesses that `rest` says, `NODE TURN NODE TURN`, are left open.
+/// Adds to `notes` that the accesses that `rest` gives, `NODE TURN NODE TURN`, are left unordered.
 fn note_unordered(alloc: Global, rest: &str, notes: &mut Vec<String>) -> Result<(), AllocError> {
     let Some((first, others)) = rest.split_once(' ') else {
         return Ok(());
@@ -91,7 +145,7 @@ fn note_unordered(alloc: Global, rest: &str, notes: &mut Vec<String>) -> Result<
         return Ok(());
     };
     let note = format!(in alloc;
-        "{first} in turn {turn} and {second} in turn {last} reach one word, and no edge orders them: depend adds what is needed"
+        "{first} in turn {turn} and {second} in turn {last} reach the same word, but no edge orders them: the command depend adds the missing edges"
     )?;
     notes.push(note)?;
     Ok(())

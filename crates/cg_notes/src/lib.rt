@@ -1,4 +1,4 @@
-//! Notes on refused files: where in a text the fault stands, and what a person needs to hear of it.
+//! Notes for the user on refused files: where in a text the fault lies, and what is wrong there.
 #![tactic(auto)]
 
 mod answers;

@@ -5,17 +5,17 @@ use crate::sentences::{sentence_of, sentence_without_place};
 use crate::slips::{Noted, slips_in};
 use crate::values::find_value;
 use cg_ending::File;
-use cg_notes_elements::{find_hub, find_limit, find_loop};
+use cg_notes_elements::{find_hub, find_limit, find_loop, other_drivers};
 use cg_notes_loops::find_token;
 use cg_notes_netlists::find_in_netlist;
 use cg_notes_texts::{Finding, find_in_json, find_in_text, find_in_toml};
 use std::alloc::{AllocError, Global};
 
-/// The most places of one fault that are noted, and the most of further ones.
+/// The maximum number of places of one fault that are noted, and of places of further faults.
 const MOST_NOTED: usize = 8;
 
-/// Adds to `notes` what a person needs to hear of `report`, what a call over `files` puts: where in a text a fault stands, or what an
-/// answer means.
+/// Adds to `notes` the notes for the user on `report`, the report of a call over `files`: where in a text a fault lies,
+/// or what an answer means.
 pub fn report_notes(
     alloc: Global,
     report: &[u8],
@@ -24,14 +24,14 @@ pub fn report_notes(
 ) -> Result<(), AllocError> {
     note_refused(alloc, report, files, notes)?;
     match std::str::from_utf8(report) {
-        Ok(text) => note_answer(alloc, text, notes),
+        Ok(text) => note_answer(alloc, text, files, notes),
         Err(_) => Ok(()),
     }
 }
 
-/// Adds to `notes` where in a text the fault stands that `report` gives of one of `files`, and what is wrong there, as
-/// `FILE:LINE:COLUMN: TEXT`: each of its places, up to a few, and then faults of other kinds as further ones. Adds nothing where
-/// the report is no refusal of a text, or a line feed in the file's name would break the line.
+/// Adds to `notes` where in a text the fault lies that `report` gives for one of `files`, and what is wrong there, as
+/// `FILE:LINE:COLUMN: TEXT`: each of its places, up to a limit, and then faults of other kinds as further ones. Adds
+/// nothing if the report isn't a refusal of a text, or if a line feed in the file's name would break the line.
 fn note_refused(
     alloc: Global,
     report: &[u8],
@@ -60,14 +60,14 @@ pub struct Refusal<'a> {
 }
 
 impl Refusal<'_> {
-    /// Returns the refusal that `report` gives of one of `files`, and `None` where it gives none.
+    /// Returns the refusal that `report` gives of one of `files`, and `None` if it gives none.
     pub fn read<'a>(report: &'a [u8], files: &'a [File]) -> Option<Refusal<'a>> {
         let text = std::str::from_utf8(report).ok()?;
         let line = text.strip_suffix('\n')?.strip_prefix("malformed ")?;
         files.iter().find_map(|file| Refusal::of_file(file, line))
     }
 
-    /// Returns the refusal that `line` gives of `file`, where it begins with its name: `NAME: CODE FAULT PLACE`.
+    /// Returns the refusal of `file` in `line`, if that begins with the name of `file`: `NAME: CODE FAULT PLACE`.
     fn of_file<'a>(file: &'a File, line: &'a str) -> Option<Refusal<'a>> {
         let fault = line.strip_prefix(file.name.as_str())?.strip_prefix(": ")?;
         let (code, rest) = fault.split_once(' ')?;
@@ -75,7 +75,7 @@ impl Refusal<'_> {
         Some(Refusal { file, code, place })
     }
 
-    /// Adds what `slips` say to `notes`, or what there is to say of the fault's place where none is of its code.
+    /// Adds the sentences of `slips` to `notes`, or the finding at the fault's place if none of them has its code.
     fn note_slips(
         &self,
         alloc: Global,
@@ -89,8 +89,8 @@ impl Refusal<'_> {
         self.note_some(alloc, slips, false, "further: ", notes)
     }
 
-    /// Adds the first `slips` of the refusal's code to `notes`, or where `is_own` is false those of other codes, with `front` before
-    /// their texts.
+    /// Adds to `notes` the first of `slips` with the refusal's code or, if `is_own` is false, with other codes, with
+    /// `front` before their texts.
     fn note_some(
         &self,
         alloc: Global,
@@ -125,10 +125,11 @@ impl Refusal<'_> {
         Ok(())
     }
 
-    /// Adds what there is to say of the place that the report gives to `notes`.
+    /// Adds to `notes` the finding at the place that the report gives.
     fn note_place(&self, alloc: Global, notes: &mut Vec<String>) -> Result<(), AllocError> {
         if let Some(finding) = self.find(alloc)? {
-            return self.note(alloc, &finding, "", notes);
+            self.note(alloc, &finding, "", notes)?;
+            return self.note_others(alloc, &finding, notes);
         }
         if let Some(sentence) = count_sentence(alloc, self.code, self.place)? {
             return self.note_sentence(alloc, sentence.as_str(), notes);
@@ -137,6 +138,21 @@ impl Refusal<'_> {
             Some(sentence) => self.note_sentence(alloc, sentence, notes),
             None => Ok(()),
         }
+    }
+
+    /// Adds to `notes` the other places of the fault of `first`, if it is a reference to a resource that doesn't exist.
+    fn note_others(
+        &self,
+        alloc: Global,
+        first: &Finding,
+        notes: &mut Vec<String>,
+    ) -> Result<(), AllocError> {
+        if self.code == "A4" {
+            for finding in &other_drivers(alloc, self.file.bytes.as_slice(), first)? {
+                self.note(alloc, finding, "", notes)?;
+            }
+        }
+        Ok(())
     }
 
     /// Adds `sentence`, on the file as a whole, to `notes`.
@@ -152,7 +168,7 @@ impl Refusal<'_> {
         Ok(())
     }
 
-    /// Returns what there is to say of the file's text, and `None` where there is nothing.
+    /// Returns the finding in the file's text, and `None` if there is none.
     fn find(&self, alloc: Global) -> Result<Option<Finding>, AllocError> {
         let bytes = self.file.bytes.as_slice();
         match self.code {
@@ -173,7 +189,7 @@ impl Refusal<'_> {
         }
     }
 
-    /// Returns what there is to say of the value at the fault's place in `bytes`.
+    /// Returns the finding on the value at the fault's place in `bytes`.
     fn find_value(&self, alloc: Global, bytes: &[u8]) -> Result<Option<Finding>, AllocError> {
         match sentence_of(self.code) {
             Some(sentence) => find_value(alloc, bytes, self.code, self.place, sentence),
@@ -182,13 +198,13 @@ impl Refusal<'_> {
     }
 }
 
-/// Returns how many bytes stand before the place `byte N`, and `None` where `place` is no such place.
+/// Returns the number of bytes before the place `byte N`, and `None` if `place` isn't of that form.
 fn byte_place(place: &str) -> Option<usize> {
     place.strip_prefix("byte ")?.parse().ok()
 }
 
-/// Returns what the number in `place` says at the fault `code`: how many nodes or order edges a kernel would have, words an image or
-/// contexts an architecture.
+/// Returns the sentence on the number in `place` at the fault `code`: the number of nodes or order edges that a kernel
+/// would have, of words of an image, or of contexts of an architecture.
 fn count_sentence(alloc: Global, code: &str, place: &str) -> Result<Option<String>, AllocError> {
     if !matches!(code, "Q7" | "Y1" | "G2" | "S2") {
         return Ok(None);
@@ -196,7 +212,7 @@ fn count_sentence(alloc: Global, code: &str, place: &str) -> Result<Option<Strin
     match place.split_once(' ') {
         Some(("contexts", count)) => {
             let text = format!(in alloc;
-                "the interval that --ii asks is above the contexts of the architecture, which are {count}"
+                "the interval given by --ii is greater than the number of contexts of the architecture, {count}"
             )?;
             Ok(Some(text))
         }
@@ -208,13 +224,13 @@ fn count_sentence(alloc: Global, code: &str, place: &str) -> Result<Option<Strin
         }
         Some(("nodes", count)) => {
             let text = format!(in alloc;
-                "the kernel would have {count} nodes, and at most 1024 are allowed"
+                "the kernel would have {count} nodes, but at most 1024 are allowed"
             )?;
             Ok(Some(text))
         }
         Some(("order", count)) => {
             let text = format!(in alloc;
-                "the kernel would have {count} order edges, and at most 4096 are allowed"
+                "the kernel would have {count} order edges, but at most 4096 are allowed"
             )?;
             Ok(Some(text))
         }

@@ -8,20 +8,21 @@ use cg_notes_texts::{Finding, MOST_PARSED, Place};
 use cg_slips::Slip;
 use std::alloc::{AllocError, Global};
 
-/// The most slips of a file that are placed.
+/// The maximum number of slips of a file whose places are sought.
 const MOST_PLACED: usize = 24;
 
-/// What there is to say of a slip.
+/// The finding on a slip.
 #[derive(Drop)]
 pub(crate) struct Noted {
-    /// Whether its code is that of the refusal.
+    /// Whether its code is the code of the refusal.
     pub(crate) is_own: bool,
     /// What is wrong, and where.
     pub(crate) finding: Finding,
 }
 
-/// Returns what is wrong in `bytes`, a file that is refused by the fault `code` in a call over `files`: first the faults of that
-/// code. Returns nothing of files other than kernels, mappings and architectures, and of texts that are none of JSON or TOML.
+/// Returns the findings on the faults in `bytes`, a file that is refused by the fault `code` in a call over `files`:
+/// first those with that code. Returns none for files other than kernels, mappings and architectures, and for texts
+/// that aren't valid JSON or TOML.
 pub(crate) fn slips_in(
     alloc: Global,
     code: &str,
@@ -35,8 +36,9 @@ pub(crate) fn slips_in(
         (Some(b'K'), _) => placed(alloc, code, bytes, kernel_slips(alloc, bytes)?.as_slice()),
         (Some(b'P'), [arch, kernel, ..]) => {
             let arch = arch.bytes.as_slice();
+            let name = kernel.name.as_str();
             let kernel = kernel.bytes.as_slice();
-            let slips = mapping_slips(alloc, arch, kernel, bytes)?;
+            let slips = mapping_slips(alloc, arch, kernel, name, bytes)?;
             placed(alloc, code, bytes, slips.as_slice())
         }
         (Some(b'M' | b'A'), _) => placed(alloc, code, bytes, arch_slips(alloc, bytes)?.as_slice()),
@@ -44,12 +46,12 @@ pub(crate) fn slips_in(
     }
 }
 
-/// A slip, of whatever language.
+/// A slip in a file of either language.
 trait AnySlip {
     /// Returns the code of its fault.
     fn code(&self) -> &'static str;
 
-    /// Returns the byte of `bytes`, the file, at which it stands.
+    /// Returns the byte of `bytes`, the file, at which the slip lies.
     fn offset(&self, bytes: &[u8]) -> usize;
 
     /// Returns what is wrong.
@@ -84,7 +86,7 @@ impl AnySlip for TomlSlip {
     }
 }
 
-/// Returns `slips` with their places in `bytes`, those of `code` first.
+/// Returns `slips` with their places in `bytes`, those with `code` first.
 fn placed<S: AnySlip>(
     alloc: Global,
     code: &str,
@@ -97,7 +99,7 @@ fn placed<S: AnySlip>(
     Ok(noted)
 }
 
-/// Adds to `noted` the `slips` of `code`, or where `is_own` is false those of other codes.
+/// Adds to `noted` those of `slips` with `code` or, if `is_own` is false, with other codes.
 fn add_slips<S: AnySlip>(
     alloc: Global,
     noted: &mut Vec<Noted>,

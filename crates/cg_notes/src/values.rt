@@ -1,4 +1,4 @@
-//! Faults of values, which their reports give the place of an item, an element or a key.
+//! Faults of values whose reports give the place of an item, an element or a key.
 
 use cg_notes_elements::{find_element, find_key, find_letter, find_tile_part};
 use cg_notes_heads::{find_in_file, find_row};
@@ -6,8 +6,8 @@ use cg_notes_texts::{Finding, Place};
 use cg_places::{Step, json_value_at};
 use std::alloc::{AllocError, Global};
 
-/// Returns what there is to say of the fault `code` of `bytes`, a kernel, a mapping or an architecture, at `place`, of which
-/// `sentence` says it in general; `None` where there is nothing.
+/// Returns the finding of the fault `code` at `place` of `bytes`, a kernel, a mapping or an architecture; `None` if
+/// there is none. `sentence` is the general sentence on the fault.
 pub(crate) fn find_value(
     alloc: Global,
     bytes: &[u8],
@@ -31,10 +31,10 @@ pub(crate) fn find_value(
     }
 }
 
-/// The bytes of a text that are looked through first for an item.
+/// The number of bytes of a text in which an item is sought first.
 const FIRST_SOUGHT: usize = 1_000_000;
 
-/// Returns that `sentence` is wrong of item `number` of `list` in the JSON text `bytes`.
+/// Returns the finding with `sentence` on item `number` of `list` in the JSON text `bytes`.
 fn find_item(
     alloc: Global,
     bytes: &[u8],
@@ -48,8 +48,8 @@ fn find_item(
     }
 }
 
-/// Returns the byte at which item `number` of `list` begins in the JSON text `bytes`. In a long text it is sought in the first part
-/// alone where it stands there, so that a second `list` far behind it isn't seen.
+/// Returns the byte at which item `number` of `list` begins in the JSON text `bytes`. In a long text, only the first
+/// part is searched if the item is found there, so that a second `list` far after it isn't seen.
 fn item_at(bytes: &[u8], list: &str, number: usize) -> Option<usize> {
     let path = [Step::Key(list), Step::Item(number)];
     let first = bytes.get(..FIRST_SOUGHT).unwrap_or(bytes);

@@ -13,8 +13,8 @@ pub fn key_line(bytes: &[u8], key: &str) -> Option<usize> {
     None
 }
 
-/// Returns the first bare key that isn't one of `keys`, and its place, in the lines of `bytes` from byte `first` on, up to
-/// one that begins with a bracket. The line at `first` may be the header of a table itself.
+/// Returns the first bare key that isn't one of `keys`, and its place, in the lines of `bytes` from byte `first` on, up
+/// to one that begins with a bracket. The line at `first` may itself be the header of a table.
 pub fn unknown_key_line<'a>(
     bytes: &'a [u8],
     first: usize,
@@ -36,8 +36,8 @@ pub fn unknown_key_line<'a>(
     None
 }
 
-/// Returns the byte at which the line of `bytes` sets the bare key `key` that is the first to do so from byte `first` on, up to
-/// one that begins with a bracket. The line at `first` may be the header of a table itself.
+/// Returns the byte at which the first line of `bytes` begins that sets the bare key `key`, from byte `first` on, up to
+/// a line that begins with a bracket. The line at `first` may itself be the header of a table.
 pub fn key_line_in(bytes: &[u8], first: usize, key: &str) -> Option<usize> {
     let mut at = first;
     for line in bytes.get(first..)?.split(|byte| *byte == b'\n') {
@@ -54,12 +54,12 @@ pub fn key_line_in(bytes: &[u8], first: usize, key: &str) -> Option<usize> {
     None
 }
 
-/// Checks whether the first byte of `line` that is no blank is a bracket.
+/// Checks whether the first byte of `line` that isn't a blank is a bracket.
 fn begins_with_bracket(line: &[u8]) -> bool {
     line.iter().find(|byte| !is_blank(**byte)) == Some(&b'[')
 }
 
-/// Returns the bare key that `line` sets, and how many blanks stand before it.
+/// Returns the bare key that `line` sets, and the number of blanks before it.
 fn key_of(line: &[u8]) -> Option<(usize, &str)> {
     let text = std::str::from_utf8(line).ok()?;
     let (left, _) = text.split_once('=')?;

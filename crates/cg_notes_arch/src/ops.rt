@@ -7,7 +7,7 @@ use cg_word::Op;
 use std::alloc::{AllocError, Global};
 use toml::Value;
 
-/// The greatest latency.
+/// The maximum latency.
 const MOST_LATENCY: i64 = 4;
 
 /// Adds to `slips` what is wrong with the operations of `value`, the unit `here`.
@@ -22,10 +22,16 @@ pub(crate) fn note_ops(
     };
     let at = place_of(here, "ops");
     let Some(ops) = found.as_array() else {
-        return slips.add(alloc, "M2", here, at, "\"ops\" has to be a list of texts");
+        return slips.add(alloc, "M2", here, at, "\"ops\" must be a list of strings");
     };
     if ops.is_empty() {
-        slips.add(alloc, "A7", here, at, "a unit has at least one operation")?;
+        slips.add(
+            alloc,
+            "A7",
+            here,
+            at,
+            "a unit must have at least one operation",
+        )?;
     }
     for op in ops.iter() {
         note_op(alloc, slips, here, at, op)?;
@@ -33,7 +39,7 @@ pub(crate) fn note_ops(
     note_arity(alloc, slips, here, value)
 }
 
-/// Adds to `slips` what is wrong with `op`, an item of the operations at byte `at`.
+/// Adds to `slips` the faults of `op`, an item of the operations at byte `at`.
 fn note_op(
     alloc: Global,
     slips: &mut TomlSlips,
@@ -42,7 +48,7 @@ fn note_op(
     op: &Value,
 ) -> Result<(), AllocError> {
     match op.as_str() {
-        None => slips.add(alloc, "M2", here, at, "\"ops\" has to be a list of texts"),
+        None => slips.add(alloc, "M2", here, at, "\"ops\" must be a list of strings"),
         Some(name) if Op::from_name(name).is_none() => {
             let text = unknown_operation(alloc, name)?;
             slips.add(alloc, "M6", here, at, text.as_str())
@@ -51,7 +57,7 @@ fn note_op(
     }
 }
 
-/// Adds to `slips` where `value`, the unit `here`, has fewer ports than an operation takes arguments, the first such one.
+/// Adds to `slips` the first operation of `value`, the unit `here`, that takes more arguments than the unit has ports.
 fn note_arity(
     alloc: Global,
     slips: &mut TomlSlips,
@@ -77,7 +83,7 @@ fn note_arity(
             if arity as usize > ports {
                 let name = op.name();
                 let text = format!(in alloc;
-                    "{name} takes {arity} arguments, and the unit has {ports} ports"
+                    "{name} takes {arity} arguments, but the unit has ports for {ports}"
                 )?;
                 return slips.add(alloc, "A7", here, place_of(here, "ports"), text.as_str());
             }
@@ -111,7 +117,7 @@ pub(crate) fn note_latency(
             "M2",
             here,
             at,
-            "\"latency\" has to be a number from 1 to 4",
+            "\"latency\" must be a number from 1 to 4",
         ),
         Some(latency) if latency < 1 || latency > MOST_LATENCY => {
             let code = if latency < 0 || latency > i64::from(u32::MAX) {
@@ -119,7 +125,7 @@ pub(crate) fn note_latency(
             } else {
                 "A7"
             };
-            let text = format!(in alloc; "a latency is 1 to 4, this one is {latency}")?;
+            let text = format!(in alloc; "a latency is 1 to 4, but this one is {latency}")?;
             slips.add(alloc, code, here, at, text.as_str())
         }
         Some(_) => Ok(()),

@@ -18,7 +18,7 @@ const NET_KEYS: [&str; 3] = ["wire", "reg", "from"];
 /// The keys of a unit.
 const UNIT_KEYS: [&str; 4] = ["unit", "ops", "latency", "ports"];
 
-/// The keys of the file, which stand before its tiles.
+/// The keys of the file, which come before its tiles.
 const FILE_KEYS: [&str; 7] = [
     "format", "name", "contexts", "memory", "grid", "torus", "hub",
 ];
@@ -26,12 +26,34 @@ const FILE_KEYS: [&str; 7] = [
 /// The keys of a part of any kind.
 const ALL_KEYS: [&str; 7] = ["wire", "reg", "unit", "from", "ops", "latency", "ports"];
 
-/// Returns the byte at which `key` stands in the part `here`, or that at which the part begins.
+/// Returns the byte of the line that sets `key` in the part `here`, or the byte at which the part begins if there is no
+/// such line.
 pub(crate) fn place_of(here: Here<'_>, key: &str) -> usize {
     if here.is_listed {
         return here.at;
     }
     key_line_in(here.bytes, here.at, key).unwrap_or(here.at)
+}
+
+/// Adds to `slips` that `value`, the part `here`, has several of the keys wire, reg and unit, at the last of them.
+fn note_heads(
+    alloc: Global,
+    slips: &mut TomlSlips,
+    here: Here<'_>,
+    value: &Value,
+) -> Result<(), AllocError> {
+    note_keys(alloc, slips, here, value, &ALL_KEYS)?;
+    let mut last = here.at;
+    for head in &HEADS {
+        if value.get(*head).is_some() {
+            last = last.max(place_of(here, *head));
+        }
+    }
+    let tile = here.tile;
+    let text = format!(in alloc;
+        "a part must have only one of the keys wire, reg and unit: is a header [[tiles.{tile}]] missing before this one?"
+    )?;
+    slips.add(alloc, "M2", here, last, text.as_str())
 }
 
 /// Adds to `slips` what is wrong with `value`, the part `here`.
@@ -45,9 +67,12 @@ pub(crate) fn note_part(
         .iter()
         .filter(|head| value.get(**head).is_some())
         .count();
-    if heads != 1 {
+    if heads > 1 {
+        return note_heads(alloc, slips, here, value);
+    }
+    if heads == 0 {
         note_keys(alloc, slips, here, value, &ALL_KEYS)?;
-        let text = "a part has one of the keys wire, reg and unit";
+        let text = "a part must have one of the keys wire, reg and unit";
         return slips.add(alloc, "M2", here, here.at, text);
     }
     if value.get("unit").is_some() {
@@ -79,7 +104,7 @@ fn note_keys(
         let key = key.as_str();
         if !(&*keys).contains(&key) {
             let text = if FILE_KEYS.contains(&key) {
-                format!(in alloc; "\"{key}\" is a key of the file, and stands before its tiles")?
+                format!(in alloc; "\"{key}\" is a key of the file and must come before the tiles")?
             } else {
                 unknown_key(alloc, key, keys)?
             };
@@ -103,19 +128,19 @@ fn note_name(
     let at = place_of(here, key);
     match found.as_str() {
         None => {
-            let text = format!(in alloc; "\"{key}\" has to be a text")?;
+            let text = format!(in alloc; "\"{key}\" must be a string")?;
             slips.add(alloc, "M2", here, at, text.as_str())
         }
         Some(name) if !is_name(name, LONGEST_NAME) => {
             let length = name.len();
             let text = if length > LONGEST_NAME {
                 format!(in alloc;
-                    "a name has at most {LONGEST_NAME} characters with its cell, as r0c0_ before it, and this one alone {length}"
+                    "a name has at most {LONGEST_NAME} characters including the prefix of its cell, such as r0c0_, but this one alone has {length}"
                 )?
             } else {
                 String::from_str(
                     alloc,
-                    "a name is a letter or _ and then letters, digits or _",
+                    "a name is a letter or _, followed by letters, digits or _",
                 )?
             };
             slips.add(alloc, "A2", here, at, text.as_str())
@@ -124,7 +149,7 @@ fn note_name(
     }
 }
 
-/// Adds to `slips` that the part `here` has no key `key`.
+/// Adds to `slips` that the part `here` lacks the key `key`.
 pub(crate) fn note_missing(
     alloc: Global,
     slips: &mut TomlSlips,
@@ -132,11 +157,11 @@ pub(crate) fn note_missing(
     key: &str,
 ) -> Result<(), AllocError> {
     let example = example_of(key);
-    let text = format!(in alloc; "the key \"{key}\" is missing, as {example}")?;
+    let text = format!(in alloc; "the key \"{key}\" is missing, for example {example}")?;
     slips.add(alloc, "M2", here, here.at, text.as_str())
 }
 
-/// Returns a line that sets the key `key` of a part.
+/// Returns an example of a line that sets the key `key` of a part.
 fn example_of(key: &str) -> &'static str {
     match key {
         "ops" => "ops = [\"add\", \"sub\"]",

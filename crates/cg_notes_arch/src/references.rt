@@ -6,12 +6,12 @@ use cg_slips::shown;
 use std::alloc::{AllocError, Global};
 use toml::Value;
 
-/// The most ports of a unit.
+/// The maximum number of ports of a unit.
 const MOST_PORTS: usize = 3;
 
-/// What is wrong with ports that aren't lists.
+/// The message on ports that aren't lists.
 const WRONG_PORTS: &str =
-    "\"ports\" has to be a list of lists of references, one for each port, as [[\"x\", \"y\"], [\"x\"]]";
+    "\"ports\" must be a list of lists of references, one for each port, such as [[\"x\", \"y\"], [\"x\"]]";
 
 /// Adds to `slips` what is wrong with the drivers of `value`, the wire or register `here`.
 pub(crate) fn note_from(
@@ -31,7 +31,7 @@ pub(crate) fn note_from(
             "M2",
             here,
             at,
-            "\"from\" has to be a list of references, as [\"x\", \"N.x\"]",
+            "\"from\" must be a list of references, such as [\"x\", \"N.x\"]",
         ),
     }
 }
@@ -52,7 +52,7 @@ pub(crate) fn note_ports(
     };
     let count = ports.len();
     if count > MOST_PORTS {
-        let text = format!(in alloc; "a unit has at most three ports, this one has {count}")?;
+        let text = format!(in alloc; "a unit has at most three ports, but this one has {count}")?;
         slips.add(alloc, "A7", here, at, text.as_str())?;
     }
     for port in ports.iter() {
@@ -64,7 +64,7 @@ pub(crate) fn note_ports(
     Ok(())
 }
 
-/// Adds to `slips` what is wrong with `references`, which stand at byte `at`.
+/// Adds to `slips` the faults of `references`, the list at byte `at`.
 fn note_references(
     alloc: Global,
     slips: &mut TomlSlips,
@@ -74,14 +74,14 @@ fn note_references(
 ) -> Result<(), AllocError> {
     for reference in references {
         match reference.as_str() {
-            None => slips.add(alloc, "M2", here, at, "a reference has to be a text")?,
+            None => slips.add(alloc, "M2", here, at, "a reference must be a string")?,
             Some(text) => note_reference(alloc, slips, here, at, text)?,
         }
     }
     Ok(())
 }
 
-/// Adds to `slips` where `text` is no reference.
+/// Adds a slip to `slips` if `text` isn't a reference.
 fn note_reference(
     alloc: Global,
     slips: &mut TomlSlips,
@@ -93,12 +93,14 @@ fn note_reference(
         return Ok(());
     }
     let why = match text.split_once('.') {
-        Some(_) => "a neighbour is N, E, S or W, as in \"N.x\"",
-        None => "it is a name, a neighbour's as \"N.x\", or a flat one as \"/r0c0_x\"",
+        Some(_) =>
+            "a neighbour is N, E, S or W, as in \"N.x\"; a resource of another cell has a flat name, such as \"/r0c0_x\"",
+        None =>
+            "a reference is a name, a neighbour's name such as \"N.x\", or a flat name such as \"/r0c0_x\"",
     };
     let text = shown(alloc, text)?;
     let text = text.as_str();
-    let text = format!(in alloc; "\"{text}\" is no reference: {why}")?;
+    let text = format!(in alloc; "\"{text}\" is not a reference: {why}")?;
     slips.add(alloc, "M2", here, at, text.as_str())
 }
 
@@ -112,7 +114,7 @@ fn is_reference(text: &str) -> bool {
     is_word(name)
 }
 
-/// Checks whether `name` is a letter or `_`, and then letters, digits or `_`.
+/// Checks whether `name` is a letter or `_`, followed by letters, digits or `_`.
 fn is_word(name: &str) -> bool {
     match name.as_bytes() {
         [] => false,

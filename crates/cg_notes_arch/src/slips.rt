@@ -7,7 +7,7 @@ use cg_toml::toml_table;
 use std::alloc::{AllocError, Global};
 use toml::Value;
 
-/// The most slips that are kept of a file.
+/// The maximum number of slips that are kept per file.
 const MOST_SLIPS: usize = 256;
 
 /// What is wrong at a place of a TOML file.
@@ -15,13 +15,13 @@ const MOST_SLIPS: usize = 256;
 pub struct TomlSlip {
     /// The code of the fault.
     pub code: &'static str,
-    /// The byte of the file at which it stands.
+    /// The byte of the file at which it lies.
     pub at: usize,
     /// What is wrong, in a sentence.
     pub text: String,
 }
 
-/// A part of a tile, as its slips speak of it.
+/// A part of a tile, as slips refer to it.
 #[derive(Clone, Copy, Drop)]
 pub(crate) struct Here<'a> {
     /// The file.
@@ -32,9 +32,9 @@ pub(crate) struct Here<'a> {
     pub(crate) tile: &'a str,
     /// The number of the part, from 0.
     pub(crate) part: usize,
-    /// Whether the grid has the tile.
+    /// Whether the grid uses the tile.
     pub(crate) is_used: bool,
-    /// Whether it stands in a list, so that its keys have no lines of their own.
+    /// Whether the part is an item of a list, so that its keys have no lines of their own.
     pub(crate) is_listed: bool,
 }
 
@@ -45,8 +45,8 @@ pub(crate) struct TomlSlips {
 }
 
 impl TomlSlips {
-    /// Adds that `text` is wrong of the part `here`, at byte `at`, a fault of `code`, unless there are too many. The faults of
-    /// elements, whose codes begin with A, are none where the grid hasn't the tile.
+    /// Adds the slip `text` on the part `here`, at byte `at`, a fault of `code`, unless there are too many. Faults of
+    /// elements, whose codes begin with A, are left out if the grid doesn't use the tile.
     pub(crate) fn add(
         &mut self,
         alloc: Global,
@@ -65,7 +65,8 @@ impl TomlSlips {
     }
 }
 
-/// Returns what is wrong in the parts of the tiles in `bytes`, an architecture file that is a TOML document, by tile and part.
+/// Returns the faults in the parts of the tiles in `bytes`, an architecture file that is a TOML document, by tile and
+/// part.
 pub fn arch_slips(alloc: Global, bytes: &[u8]) -> Result<Vec<TomlSlip>, AllocError> {
     let mut slips = TomlSlips {
         found: Vec::new(alloc),
@@ -81,7 +82,7 @@ pub fn arch_slips(alloc: Global, bytes: &[u8]) -> Result<Vec<TomlSlip>, AllocErr
     };
     for (tile, parts) in tiles.iter() {
         let tile = tile.as_str();
-        // Other names are no tiles, and there may be many.
+        // Other names aren't tiles, and there may be many.
         if tile.len() == 1 {
             let is_used = is_in_grid(&table, tile);
             note_tile(alloc, &mut slips, bytes, tile, is_used, parts)?;
@@ -90,7 +91,7 @@ pub fn arch_slips(alloc: Global, bytes: &[u8]) -> Result<Vec<TomlSlip>, AllocErr
     Ok(slips.found)
 }
 
-/// Checks whether the grid of `table`, an architecture, has the tile `tile`.
+/// Checks whether the grid of `table`, an architecture, uses the tile `tile`.
 fn is_in_grid(table: &Value, tile: &str) -> bool {
     let Some(grid) = table.get("grid") else {
         return false;
@@ -109,7 +110,7 @@ fn has_cell(row: &Value, tile: &str) -> bool {
     }
 }
 
-/// Adds to `slips` what is wrong with `parts`, those of `tile`, which the grid has where `is_used` is true.
+/// Adds to `slips` the faults of `parts`, the parts of `tile`. The grid uses the tile if `is_used` is true.
 fn note_tile(
     alloc: Global,
     slips: &mut TomlSlips,
@@ -145,7 +146,7 @@ fn note_tile(
     Ok(())
 }
 
-/// Returns the byte at which the line of `bytes` begins that sets `tile`, where its parts have no headers of their own.
+/// Returns the byte at which the line of `bytes` begins that sets `tile`, if its parts have no headers of their own.
 fn line_of(bytes: &[u8], tile: &str) -> Option<usize> {
     match tile_part_at(bytes, tile, 0) {
         Some(_) => None,
@@ -153,7 +154,7 @@ fn line_of(bytes: &[u8], tile: &str) -> Option<usize> {
     }
 }
 
-/// Returns the byte of `bytes` at which the first part of `tile` begins from byte `from` on.
+/// Returns the byte of `bytes`, from byte `from` on, at which the first part of `tile` begins.
 fn part_from(bytes: &[u8], tile: &str, from: usize) -> Option<usize> {
     let at = tile_part_at(bytes.get(from..)?, tile, 0)?;
     Some(from.saturating_add(at))

@@ -11,10 +11,10 @@ use cg_tiles::read_arch;
 use cg_word::Op;
 use std::alloc::{AllocError, Global};
 
-/// Where a field stands.
+/// The place of a field.
 #[derive(Clone, Copy, Drop)]
 struct Spot<'a> {
-    /// The bits' file.
+    /// The bytes of the file of bits.
     bytes: &'a [u8],
     /// Their format.
     format: Format,
@@ -22,12 +22,12 @@ struct Spot<'a> {
     slot: usize,
     /// The first bit of the field in the file.
     bit: usize,
-    /// How many bits of the fields of its resource or unit stand before it.
+    /// The number of bits before it among the fields of its resource or unit.
     before: usize,
 }
 
-/// Returns what the fault `code` at `place` says of `bytes`, bits for the architecture whose file has the bytes `arch`. Returns
-/// None where there is no more to say than what the fault says of all bits.
+/// Returns the note on the fault `code` at `place` of `bytes`, bits for the architecture whose file has the bytes
+/// `arch`. Returns None if there is no more to say than the general sentence on the fault.
 pub fn bits_note(
     alloc: Global,
     arch: &[u8],
@@ -55,7 +55,7 @@ pub fn bits_note(
     }
 }
 
-/// Returns the format of the bits whose faults have codes as `code`; None where `code` is no fault of bits.
+/// Returns the format of the bits to whose faults `code` belongs; None if `code` isn't a fault of bits.
 fn format_of(code: &str) -> Option<Format> {
     if code.starts_with('B') {
         Some(CGB2)
@@ -66,14 +66,14 @@ fn format_of(code: &str) -> Option<Format> {
     }
 }
 
-/// Returns what `bytes` are, which the fault `code` says are no bits of its format, where that can be told.
+/// Returns what `bytes` are, which by the fault `code` aren't bits of its format, if that can be seen.
 fn sign_note(alloc: Global, code: &str, bytes: &[u8]) -> Result<Option<String>, AllocError> {
     let note = if bytes.starts_with(b"CGI1") {
-        "this is an image, and bits are asked"
+        "this is an image, but bits are expected"
     } else if code == "B1" && bytes.starts_with(b"CGB1") {
-        "these are bits of the first format: migrate ARCH BITS OUT turns them into those of today"
+        "these are bits of the first format: migrate ARCH BITS OUT converts them to the current format"
     } else if code == "C1" && bytes.starts_with(b"CGB2") {
-        "these are bits of today's format, and need no migration"
+        "these are bits of the current format and need no migration"
     } else {
         match text_for_bits(bytes) {
             Some(note) => note,
@@ -83,22 +83,22 @@ fn sign_note(alloc: Global, code: &str, bytes: &[u8]) -> Result<Option<String>, 
     Ok(Some(String::from_str(alloc, note)?))
 }
 
-/// Returns the bit that `place` says, `bit N`.
+/// Returns the bit that `place` gives, `bit N`.
 fn bit_place(place: &str) -> Option<usize> {
     place.strip_prefix("bit ")?.parse().ok()
 }
 
-/// Returns the interval that the header of `bytes` gives.
+/// Returns the interval in the header of `bytes`.
 fn interval(bytes: &[u8]) -> u32 {
     number(bytes, 32, 16)
 }
 
-/// Returns the stages that the header of `bytes` gives.
+/// Returns the number of stages in the header of `bytes`.
 fn stages(bytes: &[u8]) -> u32 {
     number(bytes, 48, 16)
 }
 
-/// Returns how long `bytes` are, and how long they have to be.
+/// Returns the note on the length of `bytes`, and on the length that they must have.
 fn length_note(
     alloc: Global,
     arch: &Arch,
@@ -107,19 +107,19 @@ fn length_note(
 ) -> Result<Option<String>, AllocError> {
     let length = bytes.len();
     if length < HEADER_BITS / 8 {
-        let note = format!(in alloc; "the file has {length} bytes, and the header alone 40")?;
+        let note = format!(in alloc; "the file has {length} bytes, but the header alone takes 40")?;
         return Ok(Some(note));
     }
     let ii = interval(bytes);
     let slots = slot_bits(arch, format).saturating_mul(ii as usize);
     let needed = slots.saturating_add(HEADER_BITS).div_ceil(8);
     let note = format!(in alloc;
-        "the file has {length} bytes, and the header and {ii} slots take {needed}"
+        "the file has {length} bytes, but the header and {ii} slots take {needed}"
     )?;
     Ok(Some(note))
 }
 
-/// Returns what the header of `bytes` says, beside what `arch` allows.
+/// Returns the note on what the header of `bytes` says, and on what `arch` allows.
 fn header_note(alloc: Global, arch: &Arch, bytes: &[u8]) -> Result<Option<String>, AllocError> {
     let ii = interval(bytes);
     let stages = stages(bytes);
@@ -130,7 +130,7 @@ fn header_note(alloc: Global, arch: &Arch, bytes: &[u8]) -> Result<Option<String
     Ok(Some(note))
 }
 
-/// Returns what the fault `code` says of bit `bit` of `bytes`.
+/// Returns the note on the fault `code` at bit `bit` of `bytes`.
 fn bit_note(
     alloc: Global,
     arch: &Arch,
@@ -178,12 +178,12 @@ fn select_note(
     let width = crate::fields::select_bits(resource);
     let select = number(spot.bytes, spot.bit, width);
     let note = format!(in alloc;
-        "slot {slot}: resource {name} selects driver {select}, and has {drivers}"
+        "slot {slot}: resource {name} selects driver {select}, but has {drivers}"
     )?;
     Ok(Some(note))
 }
 
-/// Returns what the fault `code` says of the field of `unit` at `spot`.
+/// Returns the note on the fault `code` of the field of `unit` at `spot`.
 fn unit_note(
     alloc: Global,
     spot: Spot<'_>,
@@ -214,7 +214,7 @@ fn unit_note(
     Ok(Some(note))
 }
 
-/// Returns the name of the operation of that code.
+/// Returns the name of the operation with the code `code`.
 fn op_name(code: u32) -> &'static str {
     match Op::from_code(code) {
         Some(op) => op.name(),
@@ -222,11 +222,11 @@ fn op_name(code: u32) -> &'static str {
     }
 }
 
-/// Returns why the field `part` of the unit at `spot` may not be what it is.
+/// Returns why the field `part` of the unit at `spot` may not have its value.
 fn reason_at(spot: Spot<'_>, part: Part) -> &'static str {
     let from = spot.bit.saturating_sub(spot.before);
     if number(spot.bytes, from, spot.format.op_bits as usize) == 0 {
-        "where the unit is off"
+        "but the unit is off"
     } else {
         part.reason()
     }

@@ -8,7 +8,7 @@ use cg_model::{Resource, Unit};
 /// The bits of a file's header.
 pub(crate) const HEADER_BITS: usize = 320;
 
-/// What fields of a slot belong to.
+/// The owner of fields of a slot.
 #[derive(Clone, Copy, Drop)]
 pub(crate) enum Owner<'a> {
     /// A resource, which selects one of its drivers.
@@ -20,19 +20,20 @@ pub(crate) enum Owner<'a> {
 /// The fields of a resource or a unit in a slot.
 #[derive(Clone, Copy, Drop)]
 pub(crate) struct Fields<'a> {
-    /// What they belong to.
+    /// The owner of the fields.
     pub(crate) owner: Owner<'a>,
-    /// How many bits of the slot stand before them.
+    /// The number of bits of the slot before them.
     pub(crate) from: usize,
 }
 
-/// Returns how many bits the select of `resource` takes: the least number that tells off and its drivers apart.
+/// Returns the number of bits of the select of `resource`: the least number that distinguishes off and each of its
+/// drivers.
 pub(crate) fn select_bits(resource: &Resource) -> usize {
     let drivers = resource.drivers.as_slice().len() as u64;
     64usize.saturating_sub(drivers.leading_zeros() as usize)
 }
 
-/// Returns how many bits the fields of `unit` take in `format`.
+/// Returns the number of bits of the fields of `unit` in `format`.
 pub fn unit_bits(unit: &Unit, format: Format) -> usize {
     let ports = unit.ports.as_slice().len();
     (format.op_bits as usize)
@@ -40,7 +41,7 @@ pub fn unit_bits(unit: &Unit, format: Format) -> usize {
         .saturating_add(ports.saturating_mul(ARG_BITS))
 }
 
-/// Returns how many bits the selects of all resources of `arch` take in a slot.
+/// Returns the number of bits of the selects of all resources of `arch` in a slot.
 fn all_select_bits(arch: &Arch) -> usize {
     let mut bits = 0usize;
     for resource in arch.resources() {
@@ -49,8 +50,8 @@ fn all_select_bits(arch: &Arch) -> usize {
     bits
 }
 
-/// Returns how many bits of a slot stand before the fields of unit number `unit` of `arch`, in `format`; how many the slot has
-/// where there are no more than `unit` units.
+/// Returns the number of bits of a slot before the fields of unit number `unit` of `arch`, in `format`; the number of
+/// bits of the whole slot if there are no more than `unit` units.
 pub fn unit_from(arch: &Arch, format: Format, unit: usize) -> usize {
     let mut bits = all_select_bits(arch);
     for unit in arch.units().iter().take(unit) {
@@ -59,12 +60,12 @@ pub fn unit_from(arch: &Arch, format: Format, unit: usize) -> usize {
     bits
 }
 
-/// Returns how many bits a slot of `arch` has in `format`.
+/// Returns the number of bits of a slot of `arch` in `format`.
 pub(crate) fn slot_bits(arch: &Arch, format: Format) -> usize {
     unit_from(arch, format, arch.units().len())
 }
 
-/// Returns how many bits of a file of bits for `arch`, in the format of today, stand before slot number `slot`.
+/// Returns the number of bits before slot number `slot` in a file of bits for `arch`, in the current format.
 pub fn slot_from(arch: &Arch, slot: usize) -> usize {
     slot_bits(arch, CGB2)
         .saturating_mul(slot)
@@ -85,8 +86,8 @@ pub(crate) fn fields_at(arch: &Arch, format: Format, bit: usize) -> Option<Field
     unit_fields_at(arch, format, bit, from)
 }
 
-/// Returns the fields of a unit of `arch` in `format` that bit `bit` of a slot belongs to, where `first` bits stand before those of
-/// the first unit.
+/// Returns the fields of a unit of `arch` in `format` that bit `bit` of a slot belongs to, where the fields of the
+/// first unit begin at bit `first`.
 fn unit_fields_at(arch: &Arch, format: Format, bit: usize, first: usize) -> Option<Fields<'_>> {
     let mut from = first;
     for unit in arch.units() {

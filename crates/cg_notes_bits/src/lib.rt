@@ -1,4 +1,5 @@
-//! Notes on refused bits and images: which field of which unit or resource, or which word of a memory or a stream, is wrong.
+//! Notes on refused bits and images: which field of which unit or resource is wrong, or which word of a memory or a
+//! stream.
 #![tactic(auto)]
 
 mod bits;

@@ -22,7 +22,7 @@ pub(crate) fn number(bytes: &[u8], from: usize, width: usize) -> u32 {
     number
 }
 
-/// Returns the fields of an argument that stand in `bytes` from bit `from` on.
+/// Returns the fields of an argument in `bytes` from bit `from` on.
 fn arg_fields(bytes: &[u8], from: usize) -> ArgFields {
     let word = |place: usize| number(bytes, from.saturating_add(place), 32);
     ArgFields {
@@ -32,8 +32,8 @@ fn arg_fields(bytes: &[u8], from: usize) -> ArgFields {
     }
 }
 
-/// Returns the fields of a unit, in the format of today, that stand in `bytes` from bit `from` on. Those of arguments that the
-/// unit has no port for are those of what follows.
+/// Returns the fields of a unit, in the current format, in `bytes` from bit `from` on. The fields of arguments for
+/// which the unit has no port are read from the bits that follow the unit's fields.
 pub fn unit_fields(bytes: &[u8], from: usize) -> UnitFields {
     let head = from.saturating_add(CGB2.op_bits as usize);
     let arg = |place: usize| {

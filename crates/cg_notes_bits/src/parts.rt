@@ -16,9 +16,9 @@ pub(crate) enum Part {
     Stage,
     Port,
     Immediate,
-    /// Whether that argument is the immediate.
+    /// Whether an argument is the immediate.
     Mode(usize),
-    /// How many initial words that argument has.
+    /// The number of initial words of an argument.
     Count(usize),
     /// An initial word.
     Word { arg: usize, word: usize },
@@ -51,7 +51,7 @@ impl Part {
         }
     }
 
-    /// Returns how many bits it takes in `format`.
+    /// Returns the number of bits of the field in `format`.
     pub(crate) fn bits(self, format: Format) -> usize {
         match self {
             Part::Operation => format.op_bits as usize,
@@ -63,17 +63,17 @@ impl Part {
         }
     }
 
-    /// Returns what is wrong with it where a unit that isn't off has it out of its one spelling.
+    /// Returns what is wrong with the field if its value, in a unit that isn't off, isn't the one valid encoding.
     pub(crate) fn reason(self) -> &'static str {
         match self {
             Part::Operation => "no operation",
-            Part::Stage => "above the greatest stage",
-            Part::Port => "where the operation has no port",
-            Part::Immediate => "where no argument is the immediate",
+            Part::Stage => "greater than the greatest stage",
+            Part::Port => "but the operation has no port",
+            Part::Immediate => "but no argument is the immediate",
             Part::Mode(_) =>
-                "where the operation takes no such argument, or another one is the immediate",
-            Part::Count(_) => "above 4, or of an argument without initial words",
-            Part::Word { .. } => "behind the words that its argument has",
+                "but the operation doesn't take this argument, or another argument is the immediate",
+            Part::Count(_) => "greater than 4, or for an argument without initial words",
+            Part::Word { .. } => "after the initial words of its argument",
         }
     }
 }

@@ -1,4 +1,4 @@
-//! Notes on what a command did, or said no to.
+//! Notes on what a command did, or on its answer no.
 
 use cg_command::Command;
 use cg_ending::File;
@@ -8,7 +8,7 @@ use cg_notes_runs::{array_notes, image_notes, turns_notes, unordered_notes};
 use cg_notes_texts::MOST_PARSED;
 use std::alloc::{AllocError, Global};
 
-/// Adds to `notes` what a person needs to hear of `command`, which did its work over `files` and gave `report`.
+/// Adds to `notes` the notes for the user on `command`, which did its work over `files` and gave `report`.
 pub(crate) fn add_done(
     alloc: Global,
     command: Command,
@@ -35,7 +35,7 @@ pub(crate) fn add_done(
     }
 }
 
-/// Adds to `notes` what a person needs to hear of `command`, which said no over `files` by `report`.
+/// Adds to `notes` the notes for the user on `command`, which answered no over `files` with `report`.
 pub(crate) fn add_no(
     alloc: Global,
     command: Command,
@@ -55,7 +55,7 @@ pub(crate) fn add_no(
     }
 }
 
-/// Adds to `notes` what a run of `turns` turns left out, of a kernel from an image: the `files`.
+/// Adds to `notes` what a run of `turns` iterations of a kernel from an image, the `files`, left out.
 fn add_turns(
     alloc: Global,
     turns: u32,
@@ -76,8 +76,9 @@ fn add_turns(
     }
 }
 
-/// Adds to `notes` what a run of `turns` turns left out, of an architecture under bits from an image: the first of `files`. Of a run
-/// of a netlist, whose file is the fourth, it isn't said where it reached outside the memory.
+/// Adds to `notes` what a run of `turns` iterations of an architecture, configured by bits, from an image, the first of
+/// `files`, left out. For a run of a netlist, whose file is the fourth, the notes don't say where it reached outside
+/// the memory.
 fn add_run(
     alloc: Global,
     turns: u32,
@@ -99,8 +100,8 @@ fn add_run(
     }
 }
 
-/// Adds to `notes` which rules a mapping violates: `files` are its architecture, its kernel and itself. Adds nothing where a line feed
-/// in the mapping's name would break the lines.
+/// Adds to `notes` the rules that a mapping violates: `files` are its architecture, its kernel and itself. Adds nothing
+/// if a line feed in the mapping's name would break the lines.
 fn add_violations(
     alloc: Global,
     files: &[File],

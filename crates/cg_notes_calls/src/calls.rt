@@ -8,8 +8,8 @@ use cg_ending::{File, Outcome, Status};
 use cg_notes::report_notes;
 use std::alloc::{AllocError, Global};
 
-/// Notes to `aside` what a person needs to hear of `outcome`, that of `command` over `files`: where in a text a fault stands, what an
-/// answer means, or what a run left out.
+/// Writes to `aside` the notes for the user on `outcome`, the outcome of `command` over `files`: where in a text a
+/// fault lies, what an answer means, or what a run left out.
 pub fn note_call(
     alloc: Global,
     command: Command,
@@ -25,7 +25,7 @@ pub fn note_call(
     noted
 }
 
-/// Adds to `notes` what a person needs to hear of `outcome`.
+/// Adds to `notes` the notes for the user on `outcome`.
 fn add_notes(
     alloc: Global,
     command: Command,

@@ -4,8 +4,8 @@ use cg_aside::Aside;
 use cg_ending::{Outcome, Status};
 use std::alloc::{AllocError, Global};
 
-/// Notes to `aside` which file couldn't be read by `outcome`, or is too long; or which files it writes, where `status` says that one
-/// of them, or the report, couldn't be written.
+/// Writes to `aside` which file couldn't be read by `outcome`, or is too long; or which files it writes, if `status`
+/// says that one of them, or the report, couldn't be written.
 pub fn note_files(
     alloc: Global,
     status: Status,
@@ -24,30 +24,30 @@ pub fn note_files(
     Ok(())
 }
 
-/// Returns a note on the file that couldn't be read: the report of `outcome` names it.
+/// Returns a note on the file that couldn't be read, which the report of `outcome` names.
 fn read_notes(alloc: Global, outcome: &Outcome) -> Result<Vec<String>, AllocError> {
     let mut notes = Vec::new(alloc);
     if let Some(name) = name_in(outcome, "read fault ", "") {
         notes.push(format!(in alloc;
-            "{name}: there is no such file, or it may not be read, or it is a folder"
+            "{name}: the file doesn't exist, can't be read, or is a directory"
         )?)?;
     }
     Ok(notes)
 }
 
-/// Returns a note on the file that is too long, where the report of `outcome` says so.
+/// Returns a note on the file that is too long, if the report of `outcome` says so.
 fn long_notes(alloc: Global, outcome: &Outcome) -> Result<Vec<String>, AllocError> {
     let mut notes = Vec::new(alloc);
     if let Some(name) = name_in(outcome, "malformed ", ": G1 TooLong limit 16777216") {
         notes.push(format!(in alloc;
-            "{name}: the file is too long, and isn't looked at: at most 16777216 bytes are read"
+            "{name}: the file is too long and isn't read: the limit is 16777216 bytes"
         )?)?;
     }
     Ok(notes)
 }
 
-/// Returns the name of a file in the report of `outcome`, a line with `front` before it and `end` behind it; None where the report
-/// isn't such a line.
+/// Returns the name of a file in the report of `outcome`, a line with `front` before the name and `end` after it; None
+/// if the report isn't such a line.
 fn name_in<'a>(outcome: &'a Outcome, front: &str, end: &str) -> Option<&'a str> {
     let report = std::str::from_utf8(outcome.report.as_slice()).ok()?;
     let name = report

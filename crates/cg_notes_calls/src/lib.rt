@@ -1,4 +1,4 @@
-//! Notes on a call of a command: what a person needs to hear of its report, and of what it did.
+//! Notes for the user on a call of a command: on its report, and on what it did.
 #![tactic(auto)]
 
 mod answered;

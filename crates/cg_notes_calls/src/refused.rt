@@ -26,7 +26,7 @@ pub(crate) fn add_refused(
     }
 }
 
-/// Returns what is wrong with an image or with bits, where `refusal`, of one of `files`, is of such.
+/// Returns what is wrong with an image or with bits, if `refusal`, of one of `files`, refuses one.
 fn refusal_note(
     alloc: Global,
     refusal: Refusal<'_>,
@@ -52,7 +52,7 @@ fn refusal_note(
     }
 }
 
-/// Returns `note` behind the name of `file`.
+/// Returns `note` with the name of `file` before it.
 fn with_name(alloc: Global, file: &File, note: &str) -> Result<String, AllocError> {
     let name = file.name.as_str();
     format!(in alloc; "{name}: {note}")

@@ -13,8 +13,8 @@ use toml::Value;
 /// The bit by which a capital and its small letter differ.
 const CASE_BIT: u8 = 0x20;
 
-/// Returns what is wrong with the part that `rest` says, `TILE part NUMBER`, in the architecture file `bytes`, of which
-/// `sentence` says it in general.
+/// Returns what is wrong with the part that `rest` gives, `TILE part NUMBER`, in the architecture file `bytes`.
+/// `sentence` is the general sentence on the fault.
 pub fn find_tile_part(
     alloc: Global,
     bytes: &[u8],
@@ -35,7 +35,8 @@ pub fn find_tile_part(
     Ok(Some(Finding { place, text }))
 }
 
-/// Returns the byte of `bytes` at which part number `part` of `tile` begins, or the line that has all of them.
+/// Returns the byte of `bytes` at which part number `part` of `tile` begins, or at which the line with all of its parts
+/// begins.
 pub(crate) fn part_at(bytes: &[u8], tile: &str, part: usize) -> Option<usize> {
     match tile_part_at(bytes, tile, part) {
         Some(at) => Some(at),
@@ -43,8 +44,8 @@ pub(crate) fn part_at(bytes: &[u8], tile: &str, part: usize) -> Option<usize> {
     }
 }
 
-/// Returns the byte of `bytes` at which the drivers of part number `part` of `tile` stand, the line of its key `from` or `ports`; that
-/// of the part itself where its keys have no lines.
+/// Returns the byte of `bytes` at which the drivers of part number `part` of `tile` are set, in the line of its key
+/// `from` or `ports`; the byte of the part itself if its keys have no lines.
 pub(crate) fn drivers_at(bytes: &[u8], tile: &str, part: usize) -> Option<usize> {
     let Some(at) = tile_part_at(bytes, tile, part) else {
         return key_line(bytes, tile);
@@ -54,8 +55,8 @@ pub(crate) fn drivers_at(bytes: &[u8], tile: &str, part: usize) -> Option<usize>
         .or(Some(at))
 }
 
-/// Returns what the fault `code` says of the element that `rest` says, `NUMBER` or `NUMBER driver NAME`, in the architecture file
-/// `bytes`, of which `sentence` says it in general.
+/// Returns the finding of the fault `code` at the element that `rest` gives, `NUMBER` or `NUMBER driver NAME`, in the
+/// architecture file `bytes`. `sentence` is the general sentence on the fault.
 pub fn find_element(
     alloc: Global,
     bytes: &[u8],
@@ -99,19 +100,19 @@ pub fn find_element(
     Ok(Some(Finding { place, text }))
 }
 
-/// Where an element of an architecture comes from.
+/// The origin of an element of an architecture.
 #[derive(Clone, Copy, Drop)]
 pub(crate) struct Origin<'a> {
     /// Its cell.
     pub(crate) cell: Cell,
     /// The tile of that cell.
     pub(crate) tile: &'a str,
-    /// The number of its part there.
+    /// The number of its part in the tile.
     pub(crate) part: usize,
 }
 
-/// Returns what the fault `code` says of the element from `origin` in `table`, an architecture, of which `sentence` says it in
-/// general.
+/// Returns the message of the fault `code` on the element from `origin` in `table`, an architecture. `sentence` is the
+/// general sentence on the fault.
 fn wrong_element(
     alloc: Global,
     table: &Value,
@@ -124,13 +125,13 @@ fn wrong_element(
             Some(text) => Ok(text),
             None => String::from_str(alloc, sentence),
         },
-        "A2" => format!(in alloc; "{sentence} with its cell, as r0c0_ before it"),
+        "A2" => format!(in alloc; "{sentence}, including the prefix of its cell, such as r0c0_"),
         _ => String::from_str(alloc, sentence),
     }
 }
 
-/// Returns where element `element` of the architecture `table` comes from: elements are counted through the tiles of the grid, row
-/// by row.
+/// Returns the origin of element number `element` of the architecture `table`: elements are counted through the tiles
+/// of the grid, row by row.
 fn origin_of(table: &Value, element: usize) -> Option<Origin<'_>> {
     let mut left = element;
     for (row, cells) in table.get("grid")?.as_array()?.iter().enumerate() {
@@ -152,7 +153,7 @@ fn origin_of(table: &Value, element: usize) -> Option<Origin<'_>> {
     None
 }
 
-/// Returns that `sentence` is wrong of the key `key` of the architecture file `bytes`.
+/// Returns the finding with `sentence` on the key `key` of the architecture file `bytes`.
 pub fn find_key(
     alloc: Global,
     bytes: &[u8],
@@ -165,7 +166,8 @@ pub fn find_key(
     }
 }
 
-/// Returns that the cell `ROW column COLUMN`, which `cell` says, of the grid of the architecture file `bytes` has no tile.
+/// Returns the finding that the cell that `cell` gives, `ROW column COLUMN`, of the grid of the architecture file
+/// `bytes` has no tile.
 pub fn find_letter(alloc: Global, bytes: &[u8], cell: &str) -> Result<Option<Finding>, AllocError> {
     if bytes.len() > MOST_PARSED {
         return Ok(None);
@@ -185,7 +187,7 @@ pub fn find_letter(alloc: Global, bytes: &[u8], cell: &str) -> Result<Option<Fin
     find_key(alloc, bytes, "grid", text.as_str())
 }
 
-/// Returns the tile of `table`, an architecture, that is called by `letter` as a capital or as a small letter.
+/// Returns the tile of `table`, an architecture, whose letter is `letter` in the other case.
 fn other_case<'a>(table: &'a Value, letter: &str) -> Option<&'a str> {
     for (tile, _) in table.get("tiles")?.as_table()?.iter() {
         let tile = tile.as_str();
@@ -197,7 +199,7 @@ fn other_case<'a>(table: &'a Value, letter: &str) -> Option<&'a str> {
     None
 }
 
-/// Returns the letter of the cell `ROW column COLUMN` of the grid of `table`, an architecture.
+/// Returns the letter of the cell that `cell` gives, `ROW column COLUMN`, of the grid of `table`, an architecture.
 fn letter_of<'a>(table: &'a Value, cell: &str) -> Option<&'a str> {
     let (row, column) = cell.split_once(" column ")?;
     tile_at(table, row.parse().ok()?, column.parse().ok()?)

@@ -11,7 +11,7 @@ const NETS: [&str; 2] = ["wire", "reg"];
 /// The letters of the ports of a unit.
 const PORTS: [&str; 3] = ["a", "b", "c"];
 
-/// Returns the row and the column that a resource's flat name begins with, and what stands behind them.
+/// Returns the row and the column that a resource's flat name begins with, and the rest of the name.
 pub(crate) fn cell_of(name: &str) -> Option<(usize, usize, &str)> {
     let (cell, rest) = name.split_once('_')?;
     let (row, column) = cell.strip_prefix('r')?.split_once('c')?;
@@ -30,12 +30,12 @@ pub(crate) fn parts_of<'a>(table: &'a Value, tile: &str) -> Option<&'a [Value]> 
     Some(parts.as_slice())
 }
 
-/// Returns the text of `key` in `part`.
+/// Returns the text at `key` of `part`.
 pub(crate) fn said<'a>(part: &'a Value, key: &str) -> Option<&'a str> {
     part.get(key)?.as_str()
 }
 
-/// Checks whether `part` of a tile has the resource `name`: itself, or a port or the out of a unit.
+/// Checks whether `part` of a tile has the resource `name`: the part itself, or a port or the out of a unit.
 pub(crate) fn has_resource(part: &Value, name: &str) -> bool {
     if said(part, "wire") == Some(name) || said(part, "reg") == Some(name) {
         return true;
@@ -46,7 +46,7 @@ pub(crate) fn has_resource(part: &Value, name: &str) -> bool {
     }
 }
 
-/// Adds to `names` those of the resources of `part`, and where `with_units` is true that of its unit.
+/// Adds to `names` the names of the resources of `part`, and the name of its unit if `with_units` is true.
 pub(crate) fn add_names(
     alloc: Global,
     part: &Value,
@@ -72,7 +72,7 @@ pub(crate) fn add_names(
     Ok(())
 }
 
-/// Adds to `names` that of the resource of `part` that may drive others: a wire, a register or the out of a unit.
+/// Adds to `names` the name of the resource of `part` that may drive others: a wire, a register or the out of a unit.
 pub(crate) fn add_driver(
     alloc: Global,
     part: &Value,
@@ -89,7 +89,7 @@ pub(crate) fn add_driver(
     Ok(())
 }
 
-/// Returns the first of `names`, a comma between two.
+/// Returns the first of `names`, separated by commas.
 pub(crate) fn list_of(alloc: Global, names: &[String]) -> Result<String, AllocError> {
     let mut known: Vec<&str> = Vec::new(alloc);
     for name in names {
@@ -98,7 +98,7 @@ pub(crate) fn list_of(alloc: Global, names: &[String]) -> Result<String, AllocEr
     short_list(alloc, known.as_slice())
 }
 
-/// Returns how many ports `part`, a unit, has.
+/// Returns the number of ports of `part`, a unit.
 fn port_count(part: &Value) -> usize {
     match part.get("ports").and_then(|ports| ports.as_array()) {
         Some(ports) => ports.len(),
@@ -122,7 +122,8 @@ pub(crate) fn near_name(
     }
 }
 
-/// Returns which name of part number `part` of `tile` in `table`, an architecture, an earlier part of the tile has too.
+/// Returns which name of part number `part` of `tile` in `table`, an architecture, an earlier part of the tile has
+/// already.
 pub(crate) fn repeated_name(
     alloc: Global,
     table: &Value,
@@ -138,7 +139,7 @@ pub(crate) fn repeated_name(
         let mut taken = Vec::new(alloc);
         add_names(alloc, earlier, true, &mut taken)?;
         if let Some(name) = common_name(names.as_slice(), taken.as_slice()) {
-            let text = format!(in alloc; "{name} is a name of part {number}")?;
+            let text = format!(in alloc; "{name} is already a name of part {number}")?;
             return Ok(Some(text));
         }
     }

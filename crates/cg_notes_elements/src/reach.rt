@@ -7,7 +7,7 @@ use cg_toml::toml_table;
 use std::alloc::{AllocError, Global};
 use toml::Value;
 
-/// Returns which limit the architecture file `bytes` passes by `place`, which names what there is too much of.
+/// Returns the finding on the limit that the architecture file `bytes` exceeds. `place` names what it has too much of.
 pub fn find_limit(alloc: Global, bytes: &[u8], place: &str) -> Result<Option<Finding>, AllocError> {
     match place {
         "grid" => find_key(
@@ -20,7 +20,7 @@ pub fn find_limit(alloc: Global, bytes: &[u8], place: &str) -> Result<Option<Fin
             alloc,
             bytes,
             "memory",
-            "the memory has more than 1048576 words",
+            "memory is a number of words, at most 1048576",
         ),
         "resources" => find_key(
             alloc,
@@ -44,11 +44,11 @@ pub fn find_limit(alloc: Global, bytes: &[u8], place: &str) -> Result<Option<Fin
     }
 }
 
-/// The most wires of a loop that are named.
+/// The maximum number of wires of a loop that are named.
 const MOST_NAMED: usize = 8;
 
-/// Returns where in the architecture file `bytes` the loop of wires begins that `names` gives, from its first one on, with the line of
-/// each.
+/// Returns the finding on the loop of wires that `names` gives in the architecture file `bytes`, at its first wire and
+/// with the line of each.
 pub fn find_loop(alloc: Global, bytes: &[u8], names: &str) -> Result<Option<Finding>, AllocError> {
     let Some(first) = names.split(' ').next() else {
         return Ok(None);
@@ -62,13 +62,13 @@ pub fn find_loop(alloc: Global, bytes: &[u8], names: &str) -> Result<Option<Find
     let list = wires_with_lines(alloc, bytes, &table, names)?;
     let list = list.as_str();
     let what = format!(in alloc;
-        "these wires drive one another in a ring, and a register has to be between, so that one of them is a reg: {list}"
+        "these wires drive one another in a loop without a register; make one of them a reg, or drop a reference: {list}"
     )?;
     find_drivers(alloc, bytes, first, what.as_str())
 }
 
-/// Returns the first of `names`, those of wires of `table`, which the architecture file `bytes` stands for, each with the line at which
-/// its drivers stand.
+/// Returns the first of `names`, names of wires of `table`, which the architecture file `bytes` describes, each with
+/// the line of its drivers.
 fn wires_with_lines(
     alloc: Global,
     bytes: &[u8],
@@ -94,19 +94,20 @@ fn wires_with_lines(
     Ok(list)
 }
 
-/// Returns the byte of the architecture file `bytes`, which stands for `table`, at which the drivers of the resource `name` stand.
+/// Returns the byte of the architecture file `bytes`, which describes `table`, at which the drivers of the resource
+/// `name` are set.
 fn drivers_of(bytes: &[u8], table: &Value, name: &str) -> Option<usize> {
     let (tile, part) = part_of_name(table, name)?;
     drivers_at(bytes, tile, part)
 }
 
-/// Returns what the hub of the architecture file `bytes` lacks by `place`, `hub NAME` or `link FROM TO`.
+/// Returns the finding on what the hub of the architecture file `bytes` lacks by `place`, `hub NAME` or `link FROM TO`.
 pub fn find_hub(alloc: Global, bytes: &[u8], place: &str) -> Result<Option<Finding>, AllocError> {
     if let Some(name) = place.strip_prefix("hub ") {
         let what = match cell_of(name) {
-            Some(_) => format!(in alloc; "the hub's {name} is no register, or is named twice")?,
+            Some(_) => format!(in alloc; "the hub's {name} is not a register, or is named twice")?,
             None => format!(in alloc;
-                "the hub's {name} is no register: a flat name begins with its cell, as r0c0_{name}"
+                "the hub's {name} is not a register: a flat name begins with its cell, for example r0c0_{name}"
             )?,
         };
         return find_key(alloc, bytes, "hub", what.as_str());
@@ -121,7 +122,7 @@ pub fn find_hub(alloc: Global, bytes: &[u8], place: &str) -> Result<Option<Findi
     find_drivers(alloc, bytes, to, what.as_str())
 }
 
-/// Returns that `what` is wrong with the drivers of the resource `name` in the architecture file `bytes`.
+/// Returns the finding that `what` is wrong with the drivers of the resource `name` in the architecture file `bytes`.
 fn find_drivers(
     alloc: Global,
     bytes: &[u8],
@@ -145,7 +146,8 @@ fn find_drivers(
     Ok(Some(Finding { place, text }))
 }
 
-/// Returns the tile and the number of the part of the architecture `table` that the resource `name` comes from, as `r0c1_h`.
+/// Returns the tile and the number of the part of the architecture `table` from which the resource `name`, such as
+/// `r0c1_h`, comes.
 fn part_of_name<'a>(table: &'a Value, name: &str) -> Option<(&'a str, usize)> {
     let (row, column, rest) = cell_of(name)?;
     let tile = tile_at(table, row, column)?;

@@ -7,8 +7,8 @@ use cg_toml::{flag_or, items_at, items_in};
 use std::alloc::{AllocError, Global};
 use toml::Value;
 
-/// Returns what the fault `code` says of `driver`, the flat name of a driver of the element from `origin` in `table`, an
-/// architecture, of which `sentence` says it in general.
+/// Returns the message of the fault `code` on `driver`, the flat name of a driver of the element from `origin` in
+/// `table`, an architecture. `sentence` is the general sentence on the fault.
 pub(crate) fn wrong_driver(
     alloc: Global,
     table: &Value,
@@ -17,24 +17,55 @@ pub(crate) fn wrong_driver(
     driver: &str,
     sentence: &str,
 ) -> Result<String, AllocError> {
-    let reference = reference_to(table, origin, driver).unwrap_or(driver);
+    let written = match written_for(table, origin, driver) {
+        Some(written) => written,
+        None => Written {
+            reference: driver,
+            list: &[],
+        },
+    };
+    let reference = written.reference;
     match code {
-        "A4" => unknown_driver(alloc, table, reference, driver),
+        "A4" => unknown_driver(alloc, table, written, driver),
         _ => format!(in alloc; "{reference}: {sentence}"),
     }
 }
 
-/// Returns that there is no resource with the flat name `driver`, which a part calls `reference`, in `table`, an architecture, and
-/// which may be meant.
-fn unknown_driver(
+/// The reference that a part writes for a driver, with its list.
+#[derive(Clone, Copy, Drop)]
+pub(crate) struct Written<'a> {
+    /// The reference.
+    pub(crate) reference: &'a str,
+    /// The list in which it is written.
+    pub(crate) list: &'a [Value],
+}
+
+impl Written<'_> {
+    /// Checks whether the list contains `reference`.
+    fn has(self, reference: &str) -> bool {
+        self.list
+            .iter()
+            .any(|item| item.as_str() == Some(reference))
+    }
+}
+
+/// Returns the message that `table`, an architecture, has no resource with the flat name `driver`, for which a part
+/// writes `written`, and which one may be meant.
+pub(crate) fn unknown_driver(
     alloc: Global,
     table: &Value,
-    reference: &str,
+    written: Written<'_>,
     driver: &str,
 ) -> Result<String, AllocError> {
+    let reference = written.reference;
+    if is_flat_name(alloc, table, reference)? {
+        return format!(in alloc;
+            "no resource is called {reference}: a flat name is written with a slash, /{reference}"
+        );
+    }
     let Some((row, column, name)) = cell_of(driver) else {
         return format!(in alloc;
-            "no resource is called {driver}: a flat name begins with its cell, as r0c0_{driver}"
+            "no resource is called {driver}: a flat name begins with its cell, for example r0c0_{driver}"
         );
     };
     let Some(tile) = tile_at(table, row, column) else {
@@ -48,38 +79,86 @@ fn unknown_driver(
         );
     };
     if parts.iter().any(|part| said(part, "unit") == Some(name)) {
-        return format!(in alloc; "{reference} is a unit, which drives by its out: {reference}_o");
+        return format!(in alloc; "{reference} is a unit: write {reference}_o, its output");
     }
+    unknown_name(alloc, tile, parts, name, written)
+}
+
+/// Checks whether `name` is the flat name of a resource of `table`, an architecture, that may drive others.
+fn is_flat_name(alloc: Global, table: &Value, name: &str) -> Result<bool, AllocError> {
+    let Some((row, column, rest)) = cell_of(name) else {
+        return Ok(false);
+    };
+    let Some(parts) = tile_at(table, row, column).and_then(|tile| parts_of(table, tile)) else {
+        return Ok(false);
+    };
     let mut names = Vec::new(alloc);
     for part in parts {
         add_driver(alloc, part, &mut names)?;
     }
-    match near_name(alloc, name, names.as_slice())? {
-        Some(near) => {
-            let front = reference.strip_suffix(name).unwrap_or("");
-            let near = near.as_str();
-            format!(in alloc; "no resource is called {reference}, did you mean {front}{near}?")
-        }
-        None => {
-            let known = list_of(alloc, names.as_slice())?;
-            let known = known.as_str();
-            format!(in alloc;
-                "no resource is called {reference}: tile {tile} has no {name}, and what drives there is {known}"
-            )
-        }
-    }
+    Ok(names.iter().any(|known| known.as_str() == rest))
 }
 
-/// Returns the first reference to the resource with the flat name `driver` that the part of `origin` in `table`, an architecture,
-/// writes.
-fn reference_to<'a>(table: &'a Value, origin: Origin<'_>, driver: &str) -> Option<&'a str> {
+/// Returns the message that none of `parts`, those of `tile`, drives by `name`, for which a part writes `written`, and
+/// which name may be meant: one that its list doesn't contain yet.
+fn unknown_name(
+    alloc: Global,
+    tile: &str,
+    parts: &[Value],
+    name: &str,
+    written: Written<'_>,
+) -> Result<String, AllocError> {
+    let reference = written.reference;
+    let front = reference.strip_suffix(name).unwrap_or("");
+    let mut names = Vec::new(alloc);
+    for part in parts {
+        add_driver(alloc, part, &mut names)?;
+    }
+    let others = names_beside(alloc, names.as_slice(), front, written)?;
+    if let Some(near) = near_name(alloc, name, others.as_slice())? {
+        let near = near.as_str();
+        return format!(in alloc; "no resource is called {reference}, did you mean {front}{near}?");
+    }
+    if near_name(alloc, name, names.as_slice())?.is_some() {
+        return format!(in alloc;
+            "no resource is called {reference}: tile {tile} has no {name}; declare it as a part, [[tiles.{tile}]] with reg = \"{name}\", or remove the reference"
+        );
+    }
+    let known = list_of(alloc, names.as_slice())?;
+    let known = known.as_str();
+    format!(in alloc;
+        "no resource is called {reference}: tile {tile} has no {name}; its drivers are {known}"
+    )
+}
+
+/// Returns those of `names` that, with `front` before them, the list of `written` doesn't contain.
+fn names_beside(
+    alloc: Global,
+    names: &[String],
+    front: &str,
+    written: Written<'_>,
+) -> Result<Vec<String>, AllocError> {
+    let mut others = Vec::new(alloc);
+    for name in names {
+        let name = name.as_str();
+        let reference = format!(in alloc; "{front}{name}")?;
+        if !written.has(reference.as_str()) {
+            others.push(String::from_str(alloc, name)?)?;
+        }
+    }
+    Ok(others)
+}
+
+/// Returns the first reference that the part of `origin` in `table`, an architecture, writes to the resource with the
+/// flat name `driver`.
+fn written_for<'a>(table: &'a Value, origin: Origin<'_>, driver: &str) -> Option<Written<'a>> {
     let part = parts_of(table, origin.tile)?.get(origin.part)?;
     let grid = grid_of(table)?;
     let Some(ports) = items_at(part, "ports") else {
-        return reference_in(items_at(part, "from")?, grid, origin.cell, driver);
+        return written_in(items_at(part, "from")?, grid, origin.cell, driver);
     };
     for port in ports {
-        let found = reference_in(items_in(port)?, grid, origin.cell, driver);
+        let found = written_in(items_in(port)?, grid, origin.cell, driver);
         if found.is_some() {
             return found;
         }
@@ -88,7 +167,7 @@ fn reference_to<'a>(table: &'a Value, origin: Origin<'_>, driver: &str) -> Optio
 }
 
 /// Returns the grid of `table`, an architecture.
-fn grid_of(table: &Value) -> Option<Grid> {
+pub(crate) fn grid_of(table: &Value) -> Option<Grid> {
     let rows = items_at(table, "grid")?;
     Some(Grid {
         rows: rows.len(),
@@ -97,23 +176,20 @@ fn grid_of(table: &Value) -> Option<Grid> {
     })
 }
 
-/// Returns the first of `references`, which are written in `cell` of `grid`, to the resource with the flat name `driver`.
-fn reference_in<'a>(
-    references: &'a [Value],
-    grid: Grid,
-    cell: Cell,
-    driver: &str,
-) -> Option<&'a str> {
-    for reference in references {
-        let reference = reference.as_str()?;
+/// Returns the first reference in `list`, which is written in `cell` of `grid`, to the resource with the flat name
+/// `driver`.
+fn written_in<'a>(list: &'a [Value], grid: Grid, cell: Cell, driver: &str) -> Option<Written<'a>> {
+    for item in list {
+        let reference = item.as_str()?;
         if is_to(reference, grid, cell, driver) {
-            return Some(reference);
+            return Some(Written { reference, list });
         }
     }
     None
 }
 
-/// Checks whether `reference`, which is written in `cell` of `grid`, is to the resource with the flat name `driver`.
+/// Checks whether `reference`, which is written in `cell` of `grid`, refers to the resource with the flat name
+/// `driver`.
 fn is_to(reference: &str, grid: Grid, cell: Cell, driver: &str) -> bool {
     if let Some(flat) = reference.strip_prefix('/') {
         return flat == driver;
@@ -127,8 +203,9 @@ fn is_to(reference: &str, grid: Grid, cell: Cell, driver: &str) -> bool {
     }
 }
 
-/// Returns on which side the resource lies that `reference` is to, which is no flat name, and its name there.
-fn sided(reference: &str) -> (Side, &str) {
+/// Returns the side on which the resource lies that `reference`, which isn't a flat name, refers to, and its name
+/// there.
+pub(crate) fn sided(reference: &str) -> (Side, &str) {
     match reference.split_once('.') {
         Some(("N", name)) => (Side::North, name),
         Some(("E", name)) => (Side::East, name),

@@ -1,4 +1,4 @@
-//! First keys of files whose values are of another kind than they have to be.
+//! Top-level keys of files whose values are of the wrong kind.
 
 use crate::wholes::missing;
 use cg_json::{json_value, word_in};
@@ -8,14 +8,14 @@ use cg_places::{Step, json_value_at, tile_part_at};
 use cg_toml::toml_table;
 use std::alloc::{AllocError, Global};
 
-/// What a value has to be.
+/// The kind that a value must have.
 #[derive(Clone, Copy, Drop)]
 pub(crate) enum Kind {
     /// A text.
     Text,
-    /// That text.
+    /// This text.
     Exactly(&'static str),
-    /// A whole number from 0 to that one.
+    /// A whole number from 0 to this one.
     UpTo(u32),
     /// A list.
     List,
@@ -27,7 +27,7 @@ pub(crate) enum Kind {
     Table,
 }
 
-/// A key, what its value has to be, and the sentence that says so.
+/// A key, the kind of its value, and the sentence that states this kind.
 #[derive(Clone, Copy, Drop)]
 pub(crate) struct Head {
     pub(crate) key: &'static str,
@@ -35,54 +35,55 @@ pub(crate) struct Head {
     pub(crate) sentence: &'static str,
 }
 
-/// The first keys of an architecture.
+/// The top-level keys of an architecture.
 const OF_ARCHITECTURE: [Head; 8] = [
     Head {
         key: "format",
         kind: Kind::Exactly("cga1"),
-        sentence: "\"format\" has to be \"cga1\"",
+        sentence: "\"format\" must be \"cga1\"",
     },
     Head {
         key: "name",
         kind: Kind::Text,
-        sentence: "\"name\" has to be a text",
+        sentence: "\"name\" must be a string",
     },
     Head {
         key: "contexts",
         kind: Kind::UpTo(u32::MAX),
-        sentence: "\"contexts\" has to be a number from 1 to 64",
+        sentence: "\"contexts\" must be a number from 1 to 64",
     },
     Head {
         key: "memory",
         kind: Kind::UpTo(u32::MAX),
-        sentence: "\"memory\" has to be a number of words, up to 1048576",
+        sentence: "\"memory\" must be a number of words, up to 1048576",
     },
     Head {
         key: "grid",
         kind: Kind::Texts,
-        sentence: "\"grid\" has to be a list of texts, one a row",
+        sentence: "\"grid\" must be a list of strings, one per row",
     },
     Head {
         key: "torus",
         kind: Kind::Flag,
-        sentence: "\"torus\" has to be true or false",
+        sentence: "\"torus\" must be true or false",
     },
     Head {
         key: "hub",
         kind: Kind::Texts,
-        sentence: "\"hub\" has to be a list of names, as [\"r0c0_h\"]",
+        sentence: "\"hub\" must be a list of names, as [\"r0c0_h\"]",
     },
     Head {
         key: "tiles",
         kind: Kind::Table,
-        sentence: "\"tiles\" has to be tables, one a part: [[tiles.A]]",
+        sentence: "\"tiles\" must be tables, one per part: [[tiles.A]]",
     },
 ];
 
 /// The keys that an architecture must have.
 const NEEDED: [&str; 4] = ["format", "name", "contexts", "grid"];
 
-/// Returns the first of `heads` in `bytes`, a JSON text that has to be a `noun`, whose value is of another kind.
+/// Returns the finding on the first of `heads` whose value is of the wrong kind in `bytes`, a JSON text that must be a
+/// `noun`.
 pub(crate) fn wrong_kind_in_json(
     alloc: Global,
     bytes: &[u8],
@@ -96,7 +97,7 @@ pub(crate) fn wrong_kind_in_json(
         return Ok(None);
     };
     if !value.is_object() {
-        let text = format!(in alloc; "a {noun} has to be an object, in braces")?;
+        let text = format!(in alloc; "a {noun} must be an object, in braces")?;
         let place = Place::START;
         return Ok(Some(Finding { place, text }));
     }
@@ -128,7 +129,7 @@ fn is_json(value: &serde_json::Value, kind: Kind) -> bool {
     }
 }
 
-/// Returns the first key that the architecture file `bytes` lacks, or whose value is of another kind than it has to be.
+/// Returns the finding on the first key that the architecture file `bytes` lacks, or whose value is of the wrong kind.
 pub(crate) fn wrong_kind_in_toml(
     alloc: Global,
     bytes: &[u8],
@@ -157,7 +158,8 @@ pub(crate) fn wrong_kind_in_toml(
     wrong_letter(alloc, bytes, &table)
 }
 
-/// Returns what is wrong with the letters of the grid and the tiles of `table`, which the architecture file `bytes` stands for.
+/// Returns what is wrong with the letters of the grid and the tiles of `table`, which the architecture file `bytes`
+/// describes.
 fn wrong_letter(
     alloc: Global,
     bytes: &[u8],
@@ -165,7 +167,7 @@ fn wrong_letter(
 ) -> Result<Option<Finding>, AllocError> {
     if has_other_cell(table) {
         let at = key_line(bytes, "grid");
-        let sentence = "a cell of the grid is a letter, or a point where it is empty";
+        let sentence = "a cell of the grid is a letter, or a dot where it is empty";
         return Ok(Some(finding_at(alloc, bytes, at, sentence)?));
     }
     let Some(tiles) = table.get("tiles").and_then(|tiles| tiles.as_table()) else {
@@ -176,7 +178,7 @@ fn wrong_letter(
         let tile = tile.as_str();
         if !is_letter(tile) {
             let at = tile_part_at(bytes, tile, 0);
-            let sentence = "a tile is called by one letter";
+            let sentence = "the name of a tile is a single letter";
             return Ok(Some(finding_at(alloc, bytes, at, sentence)?));
         }
         if parts.as_array().is_none() {
@@ -227,7 +229,7 @@ fn is_toml(value: &toml::Value, kind: Kind) -> bool {
     }
 }
 
-/// Returns that `sentence` is wrong of byte `at` of `bytes`, or of their beginning where that isn't known.
+/// Returns the finding with `sentence` at byte `at` of `bytes`, or at their beginning if `at` is None.
 fn finding_at(
     alloc: Global,
     bytes: &[u8],

@@ -1,4 +1,4 @@
-//! Notes on files as wholes: their first keys, and of which kind the values of these are.
+//! Notes on files as wholes: their top-level keys, and the kinds of their values.
 #![tactic(auto)]
 
 mod heads;

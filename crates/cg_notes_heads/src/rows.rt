@@ -7,8 +7,8 @@ use cg_toml::toml_table;
 use std::alloc::{AllocError, Global};
 use toml::Value;
 
-/// Returns what is wrong with row `row`, a number, of the grid of the architecture file `bytes`: its length beside that of the first
-/// row. Says `sentence` where that isn't known.
+/// Returns the finding on row `row`, a number, of the grid of the architecture file `bytes`: its length, compared with
+/// that of the first row. It says `sentence` if the lengths aren't known.
 pub fn find_row(
     alloc: Global,
     bytes: &[u8],
@@ -38,7 +38,7 @@ fn wrong_row(alloc: Global, bytes: &[u8], number: usize) -> Result<Option<String
     let Some(first) = row_of(&table, 0) else {
         let text = String::from_str(
             alloc,
-            "the grid has no rows: write one at least, as grid = [\"A\"]",
+            "the grid has no rows: write at least one, for example grid = [\"A\"]",
         )?;
         return Ok(Some(text));
     };
@@ -47,7 +47,7 @@ fn wrong_row(alloc: Global, bytes: &[u8], number: usize) -> Result<Option<String
     };
     let text = if row.is_empty() {
         format!(in alloc;
-            "row {number} of the grid, counted from 0, is empty: a cell is a letter, or a point where nothing is"
+            "row {number} of the grid, counted from 0, is empty: a cell is a letter, or a dot if it is empty"
         )?
     } else {
         let length = row.len();
@@ -57,7 +57,7 @@ fn wrong_row(alloc: Global, bytes: &[u8], number: usize) -> Result<Option<String
         let first = shown(alloc, first)?;
         let first = first.as_str();
         format!(in alloc;
-            "row {number} of the grid, counted from 0, is \"{row}\" of length {length}, and row 0 is \"{first}\" of length {others}: all rows are of one length, with a point for an empty cell"
+            "row {number} of the grid, counted from 0, is \"{row}\" of length {length}, but row 0 is \"{first}\" of length {others}: all rows have the same length, with a dot for each empty cell"
         )?
     };
     Ok(Some(text))
@@ -68,8 +68,8 @@ fn row_of(table: &Value, number: usize) -> Option<&str> {
     table.get("grid")?.as_array()?.get(number)?.as_str()
 }
 
-/// Returns the byte of `bytes` at which text `number`, counted from 0, begins behind byte `from`: that of its quote. Comments are
-/// passed over.
+/// Returns the byte of `bytes` at which string `number`, counted from 0, begins after byte `from`: the byte of its
+/// quote. Comments are skipped.
 fn text_from(bytes: &[u8], from: usize, number: usize) -> Option<usize> {
     let mut left = number;
     let mut quote = 0u8;

@@ -1,4 +1,4 @@
-//! Faults of whole files: their first keys.
+//! Faults of whole files: their top-level keys.
 
 use crate::heads::{Head, Kind, wrong_kind_in_json, wrong_kind_in_toml};
 use cg_notes_arch::unknown_key_line;
@@ -7,25 +7,25 @@ use cg_places::{Step, json_key_at, json_value_at};
 use cg_slips::unknown_key;
 use std::alloc::{AllocError, Global};
 
-/// The most keys of a file that are looked at.
+/// The maximum number of keys of a file that are looked at.
 const MOST_KEYS: usize = 16;
 
-/// The most bytes of a name that are shown.
+/// The maximum number of bytes of a name that are shown.
 const MOST_SHOWN: usize = 40;
 
-/// What is known of the files of a format.
+/// The properties of the files of a format.
 struct Format {
-    /// How the codes of its faults begin.
+    /// The beginning of the codes of its faults.
     code: &'static str,
-    /// What such a file is called.
+    /// The name for its files.
     noun: &'static str,
-    /// What `format` may be.
+    /// The values that `format` may have.
     names: &'static [&'static str],
-    /// The keys that it must have.
+    /// The required keys.
     needed: &'static [&'static str],
-    /// All keys that it may have.
+    /// All keys that a file may have.
     keys: &'static [&'static str],
-    /// What the values of keys have to be.
+    /// The kinds of the values of the keys.
     heads: &'static [Head],
 }
 
@@ -41,17 +41,17 @@ const FORMATS: [Format; 2] = [
             Head {
                 key: "format",
                 kind: Kind::Text,
-                sentence: "\"format\" has to be \"cgk2\"",
+                sentence: "\"format\" must be \"cgk2\"",
             },
             Head {
                 key: "nodes",
                 kind: Kind::List,
-                sentence: "\"nodes\" has to be a list of nodes, in brackets",
+                sentence: "\"nodes\" must be a list of nodes, in brackets",
             },
             Head {
                 key: "order",
                 kind: Kind::List,
-                sentence: "\"order\" has to be a list of order edges, in brackets",
+                sentence: "\"order\" must be a list of order edges, in brackets",
             },
         ],
     },
@@ -65,22 +65,22 @@ const FORMATS: [Format; 2] = [
             Head {
                 key: "format",
                 kind: Kind::Text,
-                sentence: "\"format\" has to be \"cgm1\"",
+                sentence: "\"format\" must be \"cgm1\"",
             },
             Head {
                 key: "ii",
                 kind: Kind::UpTo(65_535),
-                sentence: "\"ii\" has to be a whole number up to 65535",
+                sentence: "\"ii\" must be a whole number up to 65535",
             },
             Head {
                 key: "places",
                 kind: Kind::List,
-                sentence: "\"places\" has to be a list of places, in brackets",
+                sentence: "\"places\" must be a list of places, in brackets",
             },
             Head {
                 key: "routes",
                 kind: Kind::List,
-                sentence: "\"routes\" has to be a list of routes, in brackets",
+                sentence: "\"routes\" must be a list of routes, in brackets",
             },
         ],
     },
@@ -91,7 +91,7 @@ const ARCH_KEYS: [&str; 8] = [
     "format", "name", "contexts", "memory", "grid", "torus", "hub", "tiles",
 ];
 
-/// Returns what is wrong with `bytes` as a whole at the fault `code`, of which `sentence` says it in general.
+/// Returns what is wrong with `bytes` as a whole at the fault `code`. `sentence` is the general sentence on the fault.
 pub fn find_in_file(
     alloc: Global,
     bytes: &[u8],
@@ -131,7 +131,7 @@ fn wrong_json(alloc: Global, bytes: &[u8], format: &Format) -> Result<Option<Fin
     Ok(None)
 }
 
-/// Returns that `bytes` say that they are of another format than `format`.
+/// Returns the finding that `bytes` declare another format than `format`.
 fn other_format(
     alloc: Global,
     bytes: &[u8],
@@ -150,18 +150,18 @@ fn other_format(
     let text = match FORMATS.iter().find(|other| other.names.contains(&name)) {
         Some(other) => {
             let is = other.noun;
-            format!(in alloc; "this is a {is}, and a {noun} is asked")?
+            format!(in alloc; "this is a {is}, but a {noun} is expected")?
         }
         None => {
             let last = format.names.last().copied().unwrap_or("");
-            format!(in alloc; "\"{name}\" is no format of a {noun}, which is \"{last}\"")?
+            format!(in alloc; "\"{name}\" is not the format of a {noun}, which is \"{last}\"")?
         }
     };
     let place = Place::at(bytes, at);
     Ok(Some(Finding { place, text }))
 }
 
-/// Returns the first key that `bytes`, a JSON text, lack to be of `format`.
+/// Returns the finding on the first key that `bytes`, a JSON text, lack to be of `format`.
 fn missing_in_json(
     alloc: Global,
     bytes: &[u8],
@@ -191,21 +191,21 @@ fn wrong_toml(alloc: Global, bytes: &[u8]) -> Result<Option<Finding>, AllocError
     wrong_kind_in_toml(alloc, bytes)
 }
 
-/// Returns that the key `key` of an architecture is missing.
+/// Returns the finding that the key `key` of an architecture is missing.
 pub(crate) fn missing(alloc: Global, key: &str) -> Result<Finding, AllocError> {
     missing_as(alloc, key, example_of(key))
 }
 
-/// Returns that the key `key` is missing, which `example` sets.
+/// Returns the finding that the key `key`, which `example` sets, is missing.
 fn missing_as(alloc: Global, key: &str, example: &str) -> Result<Finding, AllocError> {
-    let text = format!(in alloc; "the key \"{key}\" is missing, as {example}")?;
+    let text = format!(in alloc; "the key \"{key}\" is missing, for example {example}")?;
     Ok(Finding {
         place: Place::START,
         text,
     })
 }
 
-/// Returns a line that sets the key `key` of an architecture.
+/// Returns an example of a line that sets the key `key` of an architecture.
 fn example_of(key: &str) -> &'static str {
     match key {
         "format" => "format = \"cga1\"",
@@ -215,7 +215,7 @@ fn example_of(key: &str) -> &'static str {
     }
 }
 
-/// Returns the text between the quotes that begin at byte `at`, where it is a short one without escapes.
+/// Returns the text between the quotes that begin at byte `at`, if it is short and has no escapes.
 fn text_at(bytes: &[u8], at: usize) -> Option<&str> {
     let inside = bytes.get(at..)?.strip_prefix(b"\"")?;
     let length = inside

@@ -1,4 +1,4 @@
-//! Which rules order edges break.
+//! The rules that order edges break.
 
 use crate::nodes::no_node;
 use cg_kernel::{WrittenEdge, WrittenKernel};
@@ -7,7 +7,7 @@ use cg_names::{Numbers, number_in};
 use cg_slips::{Slips, Spot, shown};
 use std::alloc::{AllocError, Global};
 
-/// Adds to `slips` which rules the order edges of `written` break.
+/// Adds to `slips` the faults of the order edges of `written`.
 pub(crate) fn note_edges(
     alloc: Global,
     slips: &mut Slips,
@@ -38,7 +38,7 @@ pub(crate) fn note_edges(
     Ok(())
 }
 
-/// Adds to `slips` where `name`, the end at `key` of order edge `number` of `written`, is no node.
+/// Adds a slip to `slips` if `name`, the end at `key` of order edge `number` of `written`, isn't a node.
 fn note_end(
     alloc: Global,
     slips: &mut Slips,
@@ -57,7 +57,7 @@ fn note_end(
     slips.add("K9", "order", number, Spot::Key(key), text)
 }
 
-/// Adds to `slips` where the order edge `edge`, which has that number, leads back or too far.
+/// Adds a slip to `slips` if `edge`, order edge `number`, leads back or too far.
 fn note_order(
     alloc: Global,
     slips: &mut Slips,
@@ -81,7 +81,7 @@ fn note_order(
             let from = from.as_str();
             let to = to.as_str();
             let text = format!(in alloc;
-                "order edge {number}: \"{from}\" isn't before \"{to}\": it needs a \"distance\" of at least 1"
+                "order edge {number}: \"{from}\" doesn't come before \"{to}\": the edge needs a \"distance\" of at least 1"
             )?;
             slips.add("K11", "order", number, Spot::Key("from"), text)
         }

@@ -1,26 +1,26 @@
-//! Which rules nodes break.
+//! The rules that nodes break.
 
 use crate::args::note_args;
 use crate::shapes::node_prefix;
 use cg_kernel::{WrittenArg, WrittenKernel, WrittenNode, op_of};
 use cg_model::{LAST_PORT, LONGEST_NODE_NAME, is_name};
 use cg_names::{Numbers, number_in};
-use cg_slips::{Slips, Spot, no_name, unknown_operation};
+use cg_slips::{Slips, Spot, no_name, shown, unknown_operation};
 use cg_word::Op;
 use std::alloc::{AllocError, Global};
 
-/// A node that is looked at.
+/// A node that is being checked.
 #[derive(Clone, Copy, Drop)]
 pub(crate) struct Here<'a> {
-    /// The kernel as its file writes it.
+    /// The kernel, as its file writes it.
     pub(crate) written: &'a WrittenKernel,
     /// The node's number.
     pub(crate) number: usize,
-    /// How sentences on it begin.
+    /// The beginning of the sentences on the node.
     pub(crate) prefix: &'a str,
 }
 
-/// Adds to `slips` which rules the nodes of `written` break, whose names have these `numbers`.
+/// Adds to `slips` the faults of the nodes of `written`. `numbers` gives their numbers by name.
 pub(crate) fn note_nodes(
     alloc: Global,
     slips: &mut Slips,
@@ -41,7 +41,8 @@ pub(crate) fn note_nodes(
     Ok(())
 }
 
-/// Returns that no node of `written` is called `name`, and which one may be meant, unless there are many `slips`.
+/// Returns the message that no node of `written` is called `name`, and which one may be meant, unless there are many
+/// `slips`.
 pub(crate) fn no_node(
     alloc: Global,
     slips: &Slips,
@@ -58,7 +59,7 @@ pub(crate) fn no_node(
     no_name(alloc, "node", name, names.as_slice())
 }
 
-/// Adds to `slips` what is wrong with the name of `node`.
+/// Adds to `slips` the faults of the name of `node`.
 fn note_name(
     alloc: Global,
     slips: &mut Slips,
@@ -70,7 +71,7 @@ fn note_name(
     let name = node.name.as_str();
     if !is_name(name, LONGEST_NODE_NAME) {
         let text = format!(in alloc;
-            "{prefix}a name is a letter or _ and then letters, digits or _, at most 32 in all"
+            "{prefix}a name is a letter or _, followed by letters, digits or _, with at most 32 characters"
         )?;
         slips.add("K5", "nodes", number, Spot::Key("name"), text)?;
     }
@@ -83,7 +84,7 @@ fn note_name(
     }
 }
 
-/// Adds to `slips` what is wrong with the operation of `node`, the number of its arguments, and its port.
+/// Adds to `slips` the faults of the operation of `node`, of the number of its arguments, and of its port.
 fn note_operation(
     alloc: Global,
     slips: &mut Slips,
@@ -107,15 +108,17 @@ fn note_operation(
     note_output(alloc, slips, here, op, node.port)
 }
 
-/// Returns that the format knows no operation `name`.
+/// Returns the message that the format has no operation `name`.
 fn unsupported(alloc: Global, name: &str) -> Result<String, AllocError> {
     match Op::from_name(name) {
-        Some(_) => format!(in alloc; "{name} is an operation of the format cgk2"),
+        Some(_) => format!(in alloc;
+            "{name} is an operation of the format cgk2: write \"format\":\"cgk2\""
+        ),
         None => unknown_operation(alloc, name),
     }
 }
 
-/// Adds to `slips` where `count` isn't how many arguments `op` takes.
+/// Adds a slip to `slips` if `count` isn't the number of arguments of `op`.
 fn note_count(
     alloc: Global,
     slips: &mut Slips,
@@ -136,7 +139,7 @@ fn note_count(
     slips.add("K8", "nodes", number, Spot::Item, text)
 }
 
-/// Adds to `slips` where more than one argument of `node` is a number, the second such one.
+/// Adds a slip to `slips` at the second argument of `node` that is a number, if there is more than one.
 fn note_constants(
     alloc: Global,
     slips: &mut Slips,
@@ -155,12 +158,12 @@ fn note_constants(
         return Ok(());
     };
     let text = format!(in alloc;
-        "{prefix}more than one argument is a number: a node with \"op\":\"const\" gives the other"
+        "{prefix}more than one argument is a number: use a node with \"op\":\"const\" for the other"
     )?;
     slips.add("K14", "nodes", number, Spot::Element("args", place), text)
 }
 
-/// Adds to `slips` what is wrong with `port`, the port of a node with the operation `op`.
+/// Adds to `slips` the faults of `port`, the port of a node with the operation `op`.
 fn note_port(
     alloc: Global,
     slips: &mut Slips,
@@ -176,7 +179,7 @@ fn note_port(
             slips.add("K15", "nodes", number, Spot::Item, text)
         }
         Some(_) if !op.has_port() => {
-            let text = format!(in alloc; "{prefix}{name} has no \"port\"")?;
+            let text = format!(in alloc; "{prefix}{name} takes no \"port\"")?;
             slips.add("K15", "nodes", number, Spot::Key("port"), text)
         }
         Some(port) if port > LAST_PORT => {
@@ -187,7 +190,7 @@ fn note_port(
     }
 }
 
-/// Adds to `slips` where an earlier output has the port of this one.
+/// Adds a slip to `slips` if an earlier output has the port of this one.
 fn note_output(
     alloc: Global,
     slips: &mut Slips,
@@ -211,7 +214,11 @@ fn note_output(
             break;
         }
         if node.port == Some(port) && op_of(written, node).is_some_and(|op| op.is_output()) {
-            let text = format!(in alloc; "{prefix}node {other} has port {port} already")?;
+            let name = shown(alloc, node.name.as_str())?;
+            let name = name.as_str();
+            let text = format!(in alloc;
+                "{prefix}node {other} \"{name}\" already has port {port}: each output needs its own"
+            )?;
             return slips.add("K16", "nodes", number, Spot::Key("port"), text);
         }
     }

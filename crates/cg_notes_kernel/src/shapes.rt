@@ -7,7 +7,7 @@ use cg_slips::{
 use serde_json::Value;
 use std::alloc::{AllocError, Global};
 
-/// Nodes.
+/// The shape of a node.
 const NODE: Shape = Shape {
     list: "nodes",
     codes: ["K2", "K3"],
@@ -35,7 +35,7 @@ const NODE: Shape = Shape {
     ],
 };
 
-/// Order edges.
+/// The shape of an order edge.
 const EDGE: Shape = Shape {
     list: "order",
     codes: ["K2", "K3"],
@@ -61,7 +61,7 @@ const EDGE: Shape = Shape {
 /// The keys of an argument that is an object.
 const ARGUMENT_KEYS: [&str; 3] = ["from", "distance", "init"];
 
-/// Adds to `slips` what is wrong with the shapes of the nodes and order edges of the kernel file `value`.
+/// Adds to `slips` the faults in the shapes of the nodes and order edges of the kernel file `value`.
 pub(crate) fn note_shapes(
     alloc: Global,
     slips: &mut Slips,
@@ -76,7 +76,7 @@ pub(crate) fn note_shapes(
     Ok(())
 }
 
-/// Returns the items of the list at `key` of `value`, none where there is none.
+/// Returns the items of the list at `key` of `value`; none if there is no list.
 fn items_at<'a>(value: &'a Value, key: &str) -> &'a [Value] {
     match value.get(key) {
         Some(found) => items_of(found),
@@ -84,7 +84,7 @@ fn items_at<'a>(value: &'a Value, key: &str) -> &'a [Value] {
     }
 }
 
-/// Returns how sentences on node `number` begin, which is called `name` where it has one.
+/// Returns the beginning of the sentences on node `number`, with `name` if it has a name.
 pub(crate) fn node_prefix(
     alloc: Global,
     number: usize,
@@ -100,7 +100,7 @@ pub(crate) fn node_prefix(
     }
 }
 
-/// Adds to `slips` what is wrong with the shape of `node`, which has that number.
+/// Adds to `slips` the faults in the shape of `node`, node `number`.
 fn note_node(
     alloc: Global,
     slips: &mut Slips,
@@ -121,7 +121,7 @@ fn note_node(
     Ok(())
 }
 
-/// Adds to `slips` what is wrong with the shape of the order edge `edge`, which has that number.
+/// Adds to `slips` the faults in the shape of `edge`, order edge `number`.
 fn note_edge(
     alloc: Global,
     slips: &mut Slips,
@@ -134,7 +134,7 @@ fn note_edge(
     note_keys(alloc, slips, &EDGE, number, prefix, edge)
 }
 
-/// Adds to `slips` what is wrong with the shape of `argument`, that at `place` of node `number`.
+/// Adds to `slips` the faults in the shape of `argument`, at `place` of node `number`.
 fn note_argument(
     alloc: Global,
     slips: &mut Slips,
@@ -150,18 +150,41 @@ fn note_argument(
     if word_in(argument).is_some() {
         return Ok(());
     }
-    let text = match negative(argument) {
-        Some(word) => format!(in alloc;
-            "{prefix}argument {place}: a number has no sign, and {word} is written for this one"
-        )?,
-        None => format!(in alloc;
-            "{prefix}argument {place} has to be a whole number from 0 to 4294967295, or an object with \"from\""
-        )?,
-    };
+    let text = shape_text(alloc, prefix, place, argument)?;
     slips.add("K2", "nodes", number, Spot::Element("args", place), text)
 }
 
-/// Returns the word that `value`, a negative number of 32 bits, is written as.
+/// Returns the message that `argument`, at `place`, is neither a word nor an object. `prefix` names the node.
+fn shape_text(
+    alloc: Global,
+    prefix: &str,
+    place: usize,
+    argument: &Value,
+) -> Result<String, AllocError> {
+    if let Some(word) = negative(argument) {
+        return format!(in alloc;
+            "{prefix}argument {place}: numbers have no sign; write {word} for this one"
+        );
+    }
+    if let Some(name) = argument.as_str() {
+        if name.parse::<u32>().is_ok() {
+            return format!(in alloc;
+                "{prefix}argument {place}: a number is written without quotes"
+            );
+        }
+        let name = shown(alloc, name)?;
+        let name = name.as_str();
+        let (open, close) = ('{', '}');
+        return format!(in alloc;
+            "{prefix}argument {place}: a node is given by an object, {open}\"from\":\"{name}\"{close}"
+        );
+    }
+    format!(in alloc;
+        "{prefix}argument {place} must be a whole number from 0 to 4294967295, or an object with \"from\""
+    )
+}
+
+/// Returns the word that represents `value`, a negative number of 32 bits.
 fn negative(value: &Value) -> Option<u32> {
     let number = value.as_i64()?;
     let size = u32::try_from(number.unsigned_abs()).ok()?;
@@ -172,7 +195,7 @@ fn negative(value: &Value) -> Option<u32> {
     }
 }
 
-/// Adds to `slips` what is wrong with the values of `argument`, an object.
+/// Adds to `slips` the faults in the values of `argument`, an object.
 fn note_fields(
     alloc: Global,
     slips: &mut Slips,
@@ -187,46 +210,46 @@ fn note_fields(
             slips.add("K2", "nodes", number, Spot::Element("args", place), text)?;
         }
         Some(from) if !from.is_string() => {
-            let text = format!(in alloc; "{prefix}argument {place}: \"from\" has to be a text")?;
-            slips.add(
-                "K2",
-                "nodes",
-                number,
-                Spot::ElementKey("args", place, "from"),
-                text,
-            )?;
+            note_field(alloc, slips, number, prefix, place, "from", "a string")?;
         }
         Some(_) => {}
     }
-    if let Some(distance) = argument.get("distance") {
-        if word_in(distance).is_none() {
-            let text = format!(in alloc;
-                "{prefix}argument {place}: \"distance\" has to be a whole number from 0 to 4"
-            )?;
-            slips.add(
-                "K2",
-                "nodes",
-                number,
-                Spot::ElementKey("args", place, "distance"),
-                text,
-            )?;
+    match argument.get("distance") {
+        Some(distance) if word_in(distance).is_none() => {
+            let noun = "a whole number from 0 to 4";
+            note_field(alloc, slips, number, prefix, place, "distance", noun)?;
         }
+        _ => {}
     }
-    if let Some(init) = argument.get("init") {
-        if !are_words(init) {
-            let text = format!(in alloc;
-                "{prefix}argument {place}: \"init\" has to be a list of whole numbers from 0 to 4294967295"
-            )?;
-            slips.add(
-                "K2",
-                "nodes",
-                number,
-                Spot::ElementKey("args", place, "init"),
-                text,
-            )?;
+    match argument.get("init") {
+        Some(init) if !are_words(init) => {
+            let noun = "a list of whole numbers from 0 to 4294967295";
+            note_field(alloc, slips, number, prefix, place, "init", noun)?;
         }
+        _ => {}
     }
     Ok(())
+}
+
+/// Adds to `slips` that the value of `key` in argument number `place` of node number `number` must be `noun`. `prefix` names
+/// the node.
+fn note_field(
+    alloc: Global,
+    slips: &mut Slips,
+    number: usize,
+    prefix: &str,
+    place: usize,
+    key: &'static str,
+    noun: &str,
+) -> Result<(), AllocError> {
+    let text = format!(in alloc; "{prefix}argument {place}: \"{key}\" must be {noun}")?;
+    slips.add(
+        "K2",
+        "nodes",
+        number,
+        Spot::ElementKey("args", place, key),
+        text,
+    )
 }
 
 /// Checks whether `value` is a list of words.
@@ -234,7 +257,7 @@ fn are_words(value: &Value) -> bool {
     value.is_array() && items_of(value).iter().all(|item| word_in(item).is_some())
 }
 
-/// Adds to `slips` each key of `argument`, an object, that the format doesn't know.
+/// Adds to `slips` each key of `argument`, an object, that isn't one of the format's.
 fn note_other_keys(
     alloc: Global,
     slips: &mut Slips,

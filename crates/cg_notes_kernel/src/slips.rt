@@ -9,8 +9,8 @@ use cg_names::{Numbers, numbers_of};
 use cg_slips::Slips;
 use std::alloc::{AllocError, Global};
 
-/// Returns what is wrong in `bytes`, a kernel file that is a JSON text, but for its first keys: of each kind of fault the
-/// places in the order of the file. Of a file in which a shape is wrong the other kinds aren't looked for.
+/// Returns the faults in `bytes`, a kernel file that is a JSON text, except those of its top-level keys: for each kind
+/// of fault, the places in the order of the file. If a shape is wrong, the other kinds aren't looked for.
 pub fn kernel_slips(alloc: Global, bytes: &[u8]) -> Result<Slips, AllocError> {
     let mut slips = Slips::new(alloc);
     let Ok(value) = json_value(alloc, bytes) else {
@@ -23,7 +23,7 @@ pub fn kernel_slips(alloc: Global, bytes: &[u8]) -> Result<Slips, AllocError> {
     Ok(slips)
 }
 
-/// Adds to `slips` which rules `written` breaks.
+/// Adds to `slips` the rules that `written` breaks.
 fn note_rules(alloc: Global, slips: &mut Slips, written: &WrittenKernel) -> Result<(), AllocError> {
     let numbers: Numbers = numbers_of(alloc, written.nodes.as_slice())?;
     note_nodes(alloc, slips, &numbers, written)?;

@@ -7,19 +7,19 @@ use std::alloc::{AllocError, Global};
 /// The words of an array.
 #[derive(Clone, Copy, Drop)]
 struct Extent {
-    /// The address of the first.
+    /// The address of the first word.
     first: u64,
-    /// How many there are.
+    /// The number of words.
     length: u64,
 }
 
 impl Extent {
-    /// Returns the address behind the last word.
+    /// Returns the address after the last word.
     fn end(self) -> u64 {
         self.first.saturating_add(self.length)
     }
 
-    /// Checks whether it has a word that `other` has.
+    /// Checks whether it shares a word with `other`.
     fn meets(self, other: Extent) -> bool {
         self.first < other.end() && other.first < self.end()
     }
@@ -34,31 +34,33 @@ pub(crate) fn describe_array(
 ) -> Result<String, AllocError> {
     let words = words_of(alloc, bytes.get(offset..).unwrap_or(&[]), 5)?;
     let Some(extent) = extent_of(words.as_slice()) else {
-        return format!(in alloc; "the array {name} has no words, or lies past the memory");
+        return format!(in alloc;
+            "the array {name} is empty, or extends past the end of the memory"
+        );
     };
     let Extent { first, length } = extent;
     if length == 0 {
-        return format!(in alloc; "the array {name} has no words: its len is 0");
+        return format!(in alloc; "the array {name} is empty: its len is 0");
     }
     let end = extent.end();
     if end > u64::from(MOST_MEMORY) {
         return format!(in alloc;
-            "the array {name} lies past the memory: it has {length} words from {first} on, and addresses are below 1048576"
+            "the array {name} extends past the end of the memory: it has {length} words from {first} on, and addresses are below 1048576"
         );
     }
     let last = end.saturating_sub(1);
     match met_array(alloc, bytes.get(..offset).unwrap_or(&[]), extent)? {
         Some(other) => {
             let other = other.as_str();
-            format!(in alloc; "the array {name}, the words {first} to {last}, meets {other}")
+            format!(in alloc; "the array {name}, words {first} to {last}, overlaps {other}")
         }
         None => format!(in alloc;
-            "the array {name}, the words {first} to {last}, meets another array"
+            "the array {name}, words {first} to {last}, overlaps another array"
         ),
     }
 }
 
-/// Returns the extent that `words`, `NAME at FIRST len LENGTH`, give.
+/// Returns the extent that `words` give, which are `NAME at FIRST len LENGTH`.
 fn extent_of(words: &[&str]) -> Option<Extent> {
     match words {
         [_, "at", first, "len", length, ..] => Some(Extent {
@@ -69,7 +71,7 @@ fn extent_of(words: &[&str]) -> Option<Extent> {
     }
 }
 
-/// Returns the first array declared in `before` that meets `extent`, with its words; None in a long text.
+/// Returns the first array declared in `before` that overlaps `extent`, with its words; None in a long text.
 fn met_array(alloc: Global, before: &[u8], extent: Extent) -> Result<Option<String>, AllocError> {
     let most = if before.len() > MOST_PARSED {
         0
@@ -86,7 +88,7 @@ fn met_array(alloc: Global, before: &[u8], extent: Extent) -> Result<Option<Stri
             if extent.meets(other) {
                 let first = other.first;
                 let last = other.end().saturating_sub(1);
-                let text = format!(in alloc; "{name}, the words {first} to {last}")?;
+                let text = format!(in alloc; "{name}, words {first} to {last}")?;
                 return Ok(Some(text));
             }
         }

@@ -1,20 +1,20 @@
 //! Words of other languages in loop bodies.
 
-/// Words that other languages have before the names of values.
+/// Words that other languages write before the names of values.
 const TYPES: [&str; 28] = [
     "int", "uint", "long", "short", "char", "float", "double", "bool", "unsigned", "signed",
     "size_t", "int8_t", "int16_t", "int32_t", "int64_t", "uint8_t", "uint16_t", "uint32_t",
     "uint64_t", "i32", "u32", "i64", "u64", "var", "const", "auto", "static", "mut",
 ];
 
-/// Words of other languages, and what is written here.
+/// Words of other languages, and what to write instead.
 #[derive(Clone, Copy, Drop)]
 struct Foreign {
     words: &'static [&'static str],
     hint: &'static str,
 }
 
-/// Words that other languages call.
+/// Words that other languages call as functions.
 static CALLS: [Foreign; 12] = [
     Foreign {
         words: &["gt", "sgt", "greater"],
@@ -34,11 +34,11 @@ static CALLS: [Foreign; 12] = [
     },
     Foreign {
         words: &["not", "inv"],
-        hint: "write a == 0 for not(a), or xor(a, 4294967295) bit by bit",
+        hint: "write a == 0 for not(a), or xor(a, 4294967295) for the bitwise not",
     },
     Foreign {
         words: &["div", "divide", "mod", "rem", "modulo"],
-        hint: "nothing divides: shr(a, 1) halves, and and(a, 7) is the rest by 8",
+        hint: "there is no division: shr(a, 1) halves a, and and(a, 7) is the remainder of a division by 8",
     },
     Foreign {
         words: &["abs"],
@@ -46,11 +46,11 @@ static CALLS: [Foreign; 12] = [
     },
     Foreign {
         words: &["load", "read", "ld", "loadif"],
-        hint: "an array is read by its index, as a[turn]",
+        hint: "an array is read by index, for example a[turn]",
     },
     Foreign {
         words: &["store", "write", "st", "storeif"],
-        hint: "an array is written by its index, as a[turn] = s;",
+        hint: "an array is written by index, for example a[turn] = s;",
     },
     Foreign {
         words: &["in", "input", "recv", "receive"],
@@ -60,11 +60,11 @@ static CALLS: [Foreign; 12] = [
         words: &[
             "out", "output", "outputif", "print", "printf", "send", "return",
         ],
-        hint: "an output is written as out 0 = s; with the number of its stream",
+        hint: "an output is written out 0 = s; with the number of its stream",
     },
     Foreign {
         words: &["iter", "index", "i"],
-        hint: "the number of the turn is the word turn alone",
+        hint: "the number of the turn is just the word turn",
     },
 ];
 
@@ -73,7 +73,7 @@ pub(crate) fn is_type(word: &str) -> bool {
     TYPES.contains(&word)
 }
 
-/// Returns what is written for a call of `name`, where that is one of other languages that has another form here.
+/// Returns what to write instead of a call of `name`, if it is a word of other languages that has another form here.
 pub(crate) fn call_hint(name: &str) -> Option<&'static str> {
     for foreign in &CALLS {
         if foreign.words.contains(&name) {

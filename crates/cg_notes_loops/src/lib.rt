@@ -2,6 +2,7 @@
 #![tactic(auto)]
 
 mod arrays;
+mod conditions;
 mod foreign;
 mod hints;
 mod scope;

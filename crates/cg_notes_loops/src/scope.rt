@@ -5,45 +5,84 @@ use cg_help::nearest_name;
 use cg_notes_texts::{Place, is_word_byte, last_word, short_list};
 use std::alloc::{AllocError, Global};
 
-/// The most names that are looked at for the nearest one.
+/// The maximum number of names among which the nearest one is sought.
 const MOST_NAMES: usize = 256;
 
-/// Names that other languages give the number of a turn.
+/// Names that other languages give to the number of an iteration.
 const COUNTERS: [&str; 8] = ["i", "j", "k", "n", "t", "iter", "idx", "index"];
 
 /// The words before a name that is declared.
 const DECLARING: [&[u8]; 3] = [b"array", b"carry", b"let"];
 
-/// Returns what is wrong with the assignments of the carry `name`, at byte `offset` of the loop body `bytes`: that of its declaration
-/// where there is none.
+/// Returns what is wrong with the assignments of the carry `name`, at byte `offset` of the loop body `bytes`, which is
+/// the place of its declaration if it has no assignment.
 pub(crate) fn describe_carry(
     alloc: Global,
     bytes: &[u8],
     offset: usize,
     name: Token<'_>,
 ) -> Result<String, AllocError> {
-    match std::str::from_utf8(last_word(bytes.get(..offset).unwrap_or(&[]))) {
-        Ok("carry") => format!(in alloc;
-            "the carry {name} is never assigned: a word that never changes is a number, and {name} = {name}; keeps one"
-        ),
-        _ => format!(in alloc;
-            "the carry {name} is assigned twice: it is set once in a turn, and select(c, x, y) chooses its value"
-        ),
+    let before = bytes.get(..offset).unwrap_or(&[]);
+    if last_word(before) == b"carry".as_slice() {
+        return format!(in alloc;
+            "the carry {name} is never assigned: assign it once, as {name} = ..; or write a constant as a number"
+        );
+    }
+    let line = assigned_line(before, name);
+    format!(in alloc;
+        "the carry {name} is assigned in line {line} already, but a carry is assigned once per turn; combine both into one expression, or name the first value with let t = ..; to choose by a condition, use select(c, x, y)"
+    )
+}
+
+/// Returns the line of the first statement of `before` that begins with `name`.
+fn assigned_line(before: &[u8], name: Token<'_>) -> usize {
+    let mut at = 0usize;
+    for statement in before.split(|byte| *byte == b';') {
+        let blanks = statement
+            .iter()
+            .take_while(|byte| byte.is_ascii_whitespace())
+            .count();
+        let words = statement.get(blanks..).unwrap_or(&[]);
+        at = at.saturating_add(blanks);
+        if begins_with(words, name) {
+            break;
+        }
+        at = at.saturating_add(words.len()).saturating_add(1);
+    }
+    let Place { line, .. } = Place::at(before, at);
+    line
+}
+
+/// Checks whether `words` begin with the token `name`.
+fn begins_with(words: &[u8], name: Token<'_>) -> bool {
+    match (Token::at_start(words), name) {
+        (Some(Token::Word(word)), Token::Word(name)) => word == name,
+        _ => false,
     }
 }
 
-/// Returns that `name` is declared in `before`, the loop body before it, and in which line.
+/// Returns the message that `name`, at byte `offset` of the loop body `bytes`, is already declared, and in which line.
 pub(crate) fn describe_repeated(
     alloc: Global,
-    before: &[u8],
+    bytes: &[u8],
+    offset: usize,
     name: &str,
 ) -> Result<String, AllocError> {
+    let before = bytes.get(..offset).unwrap_or(&[]);
+    if last_word(before) == b"let".as_slice() && is_carry(before, name) {
+        return format!(in alloc; "{name} is a carry: assign it without let, as {name} = ..;");
+    }
     match declared_line(before, name) {
         Some(line) => format!(in alloc;
-            "{name} is declared before, in line {line}: choose another name"
+            "{name} is already declared in line {line}: choose another name"
         ),
-        None => format!(in alloc; "{name} is declared before: choose another name"),
+        None => format!(in alloc; "{name} is already declared: choose another name"),
     }
+}
+
+/// Checks whether `before` declares `name` as a carry.
+pub(crate) fn is_carry(before: &[u8], name: &str) -> bool {
+    declared_as(before, before.len(), name) == b"carry".as_slice()
 }
 
 /// Returns the line of `before` that declares `name`.
@@ -63,7 +102,8 @@ fn declared_line(before: &[u8], name: &str) -> Option<usize> {
     None
 }
 
-/// Returns what is wrong with `name` at byte `offset` of the loop body `bytes`, which isn't known there as what it is used for.
+/// Returns what is wrong with `name` at byte `offset` of the loop body `bytes`, where it isn't known as what it is used
+/// as.
 pub(crate) fn describe_name(
     alloc: Global,
     bytes: &[u8],
@@ -72,15 +112,34 @@ pub(crate) fn describe_name(
 ) -> Result<String, AllocError> {
     match std::str::from_utf8(declared_as(bytes, offset, name)) {
         Ok("array") => format!(in alloc; "{name} is an array, which needs an index"),
-        Ok("let") => format!(in alloc;
-            "{name} is a let: only an array has an index, and only a carry is assigned"
-        ),
+        Ok("let") => describe_let(alloc, bytes, offset, name),
         Ok("carry") => format!(in alloc; "{name} is a carry, and only an array has an index"),
         _ => describe_unknown(alloc, bytes.get(..offset).unwrap_or(&[]), name),
     }
 }
 
-/// Returns that no name `name` is declared in `before`, the loop body before it, and which name may be meant.
+/// Returns the message that `name`, which a let declares, has an index or is assigned at byte `offset` of the loop body
+/// `bytes`.
+fn describe_let(
+    alloc: Global,
+    bytes: &[u8],
+    offset: usize,
+    name: &str,
+) -> Result<String, AllocError> {
+    let rest = bytes
+        .get(offset.saturating_add(name.len())..)
+        .unwrap_or(&[]);
+    let next = rest.iter().find(|byte| !byte.is_ascii_whitespace());
+    if next == Some(&b'[') {
+        return format!(in alloc; "{name} is declared by let, and only an array has an index");
+    }
+    format!(in alloc;
+        "{name} is declared by let, and only a carry is assigned: name the new value by another let, or, to keep it from turn to turn, declare carry {name} = 0; before the first statement"
+    )
+}
+
+/// Returns the message that no name `name` is declared in `before`, the part of the loop body before it, and which name
+/// may be meant.
 fn describe_unknown(alloc: Global, before: &[u8], name: &str) -> Result<String, AllocError> {
     let mut names: Vec<&str> = Vec::new(alloc);
     names.push("turn")?;
@@ -94,11 +153,11 @@ fn describe_unknown(alloc: Global, before: &[u8], name: &str) -> Result<String, 
     let known = short_list(alloc, names.as_slice())?;
     let known = known.as_str();
     format!(in alloc;
-        "unknown name {name}, the names here are {known}; an array or a carry is declared at the beginning, another value by let"
+        "unknown name {name}, the names here are {known}; arrays and carries are declared at the beginning, other values with let"
     )
 }
 
-/// Adds to `names` those that `before` declares, up to a limit.
+/// Adds to `names` the names that `before` declares, up to a limit.
 fn add_declared<'a>(before: &'a [u8], names: &mut Vec<&'a str>) -> Result<(), AllocError> {
     let mut last: &'a [u8] = &[];
     for word in before.split(|byte| !is_word_byte(*byte)) {
@@ -114,7 +173,7 @@ fn add_declared<'a>(before: &'a [u8], names: &mut Vec<&'a str>) -> Result<(), Al
     Ok(())
 }
 
-/// Returns the word before the first `name` among the first `offset` bytes of `bytes`; empty where there is none.
+/// Returns the word before the first `name` among the first `offset` bytes of `bytes`; empty if there is none.
 fn declared_as<'a>(bytes: &'a [u8], offset: usize, name: &str) -> &'a [u8] {
     let before = bytes.get(..offset).unwrap_or(&[]);
     let mut last: &'a [u8] = &[];

@@ -1,10 +1,10 @@
-//! What may be wrong with a statement as a whole.
+//! Hints on statements as a whole.
 
 use crate::token::Token;
 use cg_notes_texts::{Place, is_word_byte};
 use std::alloc::{AllocError, Global};
 
-/// Returns what `before`, the part of a text before an unexpected token, has of the statement in which that stands.
+/// Returns the last statement in `before`, the part of a text before an unexpected token, as far as it lies there.
 fn statement_in(before: &[u8]) -> &[u8] {
     let length = before
         .iter()
@@ -16,7 +16,7 @@ fn statement_in(before: &[u8]) -> &[u8] {
         .unwrap_or(&[])
 }
 
-/// Returns the first word of the statement that `before` ends in; empty where it has none.
+/// Returns the first word of the last statement in `before`; empty if it has none.
 pub(crate) fn first_word(before: &[u8]) -> &str {
     let statement = statement_in(before);
     for word in statement.split(|byte| !is_word_byte(*byte)) {
@@ -27,26 +27,27 @@ pub(crate) fn first_word(before: &[u8]) -> &str {
     ""
 }
 
-/// Returns what is wrong where `token` follows `before` in a loop body: a second sign of an assignment, or before the first how the
-/// statement is written that begins with its first word; empty where that can't be said.
+/// Returns a hint on `token` after `before` in a loop body: on a second assignment sign or, before the first one, on
+/// the form of the statement that begins with its first word; empty if there is none.
 pub(crate) fn statement_hint(before: &[u8], token: Token<'_>) -> &'static str {
     if statement_in(before).contains(&b'=') {
         return match token {
-            Token::Byte(b'=') => "; == compares, and one = stands in a statement",
+            Token::Byte(b'=') => "; == compares, and a statement has only one =",
             _ => "",
         };
     }
     match first_word(before) {
         "array" =>
-            "; an array is declared as array a at 0 len 8; by the address of its first word and by its length",
-        "carry" => "; a carry is declared as carry s = 0; with a number",
-        "let" => "; a value is named as let x = s + 1;",
-        "out" => "; an output is written as out 0 = s; with the number of its stream",
+            "; an array is declared array a at 0 len 8; with the address of its first word and its length",
+        "carry" => "; a carry is declared carry s = 0; with a number",
+        "let" => "; a value is named by let x = s + 1;",
+        "out" => "; an output is written out 0 = s; with the number of its stream",
         _ => "",
     }
 }
 
-/// Returns that a bracket of the statement that `before` ends in isn't closed, where `token` ends the statement; None where all are.
+/// Returns the message that a bracket of the last statement in `before` isn't closed, if `token` ends the statement;
+/// None otherwise.
 pub(crate) fn open_hint(
     alloc: Global,
     before: &[u8],
@@ -65,11 +66,11 @@ pub(crate) fn open_hint(
         None => return Ok(None),
     };
     let place = Place::at(before, from.saturating_add(open));
-    let text = format!(in alloc; "unexpected ;; the {bracket} of {place} isn't closed")?;
+    let text = format!(in alloc; "unexpected \";\"; the {bracket} at {place} isn't closed")?;
     Ok(Some(text))
 }
 
-/// Returns the place in `statement` of its last bracket that is open at its end.
+/// Returns the place in `statement` of the last bracket that is still open at its end.
 fn open_in(statement: &[u8]) -> Option<usize> {
     let mut closed = 0usize;
     for back in 0..statement.len() {

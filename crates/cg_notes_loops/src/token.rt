@@ -3,20 +3,20 @@
 use cg_notes_texts::is_word_byte;
 use std::fmt;
 
-/// The most bytes of a word that are shown.
+/// The maximum number of bytes of a word that are shown.
 const MOST_SHOWN: usize = 40;
 
-/// What begins at a place of a text.
+/// A token at a place of a text.
 #[derive(Clone, Copy, Drop)]
 pub(crate) enum Token<'a> {
-    /// Letters, digits and `_`, of which `MOST_SHOWN` bytes at most are kept.
+    /// Letters, digits and `_`, of which at most `MOST_SHOWN` bytes are kept.
     Word(&'a str),
     /// Another byte.
     Byte(u8),
 }
 
 impl Token<'_> {
-    /// Returns the token that `rest` begins with, and `None` where it is empty.
+    /// Returns the token that `rest` begins with, and `None` if `rest` is empty.
     pub(crate) fn at_start(rest: &[u8]) -> Option<Token<'_>> {
         let first = *rest.first()?;
         let shown = &rest[..rest.len().min(MOST_SHOWN)];
@@ -46,7 +46,21 @@ impl fmt::Display for Token<'_> {
     }
 }
 
-/// Returns the last byte of `bytes` that is no blank and no line end.
+/// A token in a message: in double quotes, if it can be printed.
+#[derive(Clone, Copy, Drop)]
+pub(crate) struct Quoted<'a>(pub(crate) Token<'a>);
+
+impl fmt::Display for Quoted<'_> {
+    fn fmt<W: fmt::Write>(&self, f: &mut fmt::Formatter<W>) -> fmt::Result {
+        let token = self.0;
+        match token {
+            Token::Byte(byte) if !byte.is_ascii_graphic() => write!(f, "{token}"),
+            _ => write!(f, "\"{token}\""),
+        }
+    }
+}
+
+/// Returns the last byte of `bytes` that is neither a blank nor a line end.
 pub(crate) fn last_byte(bytes: &[u8]) -> Option<u8> {
     bytes
         .iter()
@@ -55,12 +69,12 @@ pub(crate) fn last_byte(bytes: &[u8]) -> Option<u8> {
         .copied()
 }
 
-/// Checks whether `rest` begins as comments do elsewhere.
+/// Checks whether `rest` begins as comments do in other languages.
 pub(crate) fn begins_comment(rest: &[u8]) -> bool {
     rest.starts_with(b"//") || rest.starts_with(b"/*") || rest.starts_with(b"#")
 }
 
-/// Checks whether `before` ends with a line end, and a word or a bracket before it.
+/// Checks whether `before` ends with a line end after a word or a bracket.
 pub(crate) fn ends_without_semicolon(before: &[u8]) -> bool {
     let ends_line = before
         .iter()

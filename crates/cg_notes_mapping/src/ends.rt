@@ -1,6 +1,7 @@
 //! Names that a mapping uses, and arguments at which its routes end.
 
 use crate::known::Known;
+use crate::paths::note_path;
 use crate::shapes::{items_at, text_of};
 use cg_json::word_in;
 use cg_model::Operand;
@@ -8,7 +9,8 @@ use cg_slips::{Slips, Spot, no_name, shown};
 use serde_json::Value;
 use std::alloc::{AllocError, Global};
 
-/// Adds to `slips` each name of the mapping file `value` that isn't one of `known`, and each route to what is no edge.
+/// Adds to `slips` each name in the mapping file `value` that isn't one of `known`, and each route that doesn't end at
+/// an edge.
 pub(crate) fn note_names(
     alloc: Global,
     slips: &mut Slips,
@@ -20,13 +22,13 @@ pub(crate) fn note_names(
     }
     for (number, route) in items_at(value, "routes").iter().enumerate() {
         note_end(alloc, slips, known, number, route)?;
-        note_path(alloc, slips, known, number, route)?;
+        note_path(alloc, slips, known, value, number, route)?;
     }
     Ok(())
 }
 
-/// Adds to `slips` that no `noun` of those `known` is called `name`, the value at `spot` of item `number` of `list`, each of which
-/// is called `item`.
+/// Adds to `slips` that no `noun` of `known` is called `name`, the value at `spot` of item `number` of `list`. The
+/// items of that list are called `item`.
 fn note_unknown(
     alloc: Global,
     slips: &mut Slips,
@@ -44,34 +46,66 @@ fn note_unknown(
     slips.add("P4", list, number, spot, text)
 }
 
-/// Returns that no `noun` of those `known` is called `name`, and which may be meant, unless there are many `slips`.
-fn unknown_name(
+/// Returns the message that no `noun` of `known` is called `name`, and which one may be meant, unless there are many
+/// `slips` or the mapping is of another kernel.
+pub(crate) fn unknown_name(
     alloc: Global,
     slips: &Slips,
     known: &Known<'_>,
     noun: &str,
     name: &str,
 ) -> Result<String, AllocError> {
-    if !slips.are_few() {
+    if !slips.are_few() || (known.is_other && noun == "node") {
         return no_name(alloc, noun, name, &[]);
     }
     if noun == "resource" && known.has_unit(name) {
         return format!(in alloc;
-            "no resource is called \"{name}\", which is a unit: its out is \"{name}_o\""
+            "no resource is called \"{name}\": that is a unit, whose output is \"{name}_o\""
         );
     }
     let names = known.names(noun);
-    match flat_name(names, name) {
-        Some(flat) => {
-            let name = shown(alloc, name)?;
-            let name = name.as_str();
-            format!(in alloc; "no {noun} is called \"{name}\", did you mean \"{flat}\"?")
-        }
+    match look_alike(names, name).or(flat_name(names, name)) {
+        Some(meant) => meant_name(alloc, noun, name, meant),
         None => no_name(alloc, noun, name, names),
     }
 }
 
-/// Returns the first of `names` that is `name` behind a cell, as `r0c0_alu` is `alu`.
+/// Returns the message that no `noun` is called `name`, and that `meant` may be meant.
+fn meant_name(alloc: Global, noun: &str, name: &str, meant: &str) -> Result<String, AllocError> {
+    let name = shown(alloc, name)?;
+    let name = name.as_str();
+    format!(in alloc; "no {noun} is called \"{name}\", did you mean \"{meant}\"?")
+}
+
+/// Returns the first of `names` that looks like `name`.
+fn look_alike<'a>(names: &[&'a str], name: &str) -> Option<&'a str> {
+    for known in names {
+        if known.len() == name.len() && alike(known.as_bytes(), name.as_bytes()) {
+            return Some(*known);
+        }
+    }
+    None
+}
+
+/// Checks whether each byte of `first` looks like the byte in its place in `second`.
+fn alike(first: &[u8], second: &[u8]) -> bool {
+    first
+        .iter()
+        .zip(second)
+        .all(|(one, other)| seen_as(*one) == seen_as(*other))
+}
+
+/// Returns the byte that represents all bytes that look like `byte`: a digit for letters that look like it, a small
+/// letter for a capital.
+fn seen_as(byte: u8) -> u8 {
+    match byte {
+        b'O' | b'o' => b'0',
+        b'L' | b'l' => b'1',
+        _ => byte.to_ascii_lowercase(),
+    }
+}
+
+/// Returns the first of `names` that is `name` with a cell before it, as `r0c0_alu` is for `alu`.
 fn flat_name<'a>(names: &[&'a str], name: &str) -> Option<&'a str> {
     for known in names {
         if let Some(front) = known.strip_suffix(name) {
@@ -83,7 +117,7 @@ fn flat_name<'a>(names: &[&'a str], name: &str) -> Option<&'a str> {
     None
 }
 
-/// Adds to `slips` which names of `place`, which has that number, are unknown.
+/// Adds to `slips` the unknown names of `place`, place `number`.
 fn note_place(
     alloc: Global,
     slips: &mut Slips,
@@ -110,7 +144,7 @@ fn note_place(
     Ok(())
 }
 
-/// Adds to `slips` what is wrong with the end of `route`, which has that number.
+/// Adds to `slips` the faults of the end of `route`, route `number`.
 fn note_end(
     alloc: Global,
     slips: &mut Slips,
@@ -127,19 +161,31 @@ fn note_end(
             alloc, slips, known, "routes", "route", number, spot, "node", to,
         );
     }
-    let Some(found) = route.get("arg") else {
-        return Ok(());
-    };
-    let Some(arg) = word_in(found) else {
-        return Ok(());
-    };
-    let operands = known.operands(to);
-    let to = shown(alloc, to)?;
-    let to = to.as_str();
+    match arg_of(route) {
+        Some(arg) => note_arg(alloc, slips, number, to, arg, known.operands(to)),
+        None => Ok(()),
+    }
+}
+
+/// Returns the number of the argument at which `route` ends.
+fn arg_of(route: &Value) -> Option<u32> {
+    word_in(route.get("arg")?)
+}
+
+/// Adds a slip to `slips` if argument `arg` of the node `to`, which has the operands `operands`, isn't an edge: route
+/// `number` ends there.
+fn note_arg(
+    alloc: Global,
+    slips: &mut Slips,
+    number: usize,
+    to: &str,
+    arg: u32,
+    operands: &[Operand],
+) -> Result<(), AllocError> {
     let text = match operands.get(arg as usize) {
         Some(Operand::Edge { .. }) => return Ok(()),
         Some(Operand::Const(_)) => format!(in alloc;
-            "route {number}: argument {arg} of \"{to}\" is a number, which needs no route"
+            "route {number}: argument {arg} of \"{to}\" is a number and needs no route"
         )?,
         None => {
             let count = operands.len();
@@ -149,26 +195,4 @@ fn note_end(
         }
     };
     slips.add("P4", "routes", number, Spot::Key("arg"), text)
-}
-
-/// Adds to `slips` the first resource on the path of `route`, which has that number, that is unknown.
-fn note_path(
-    alloc: Global,
-    slips: &mut Slips,
-    known: &Known<'_>,
-    number: usize,
-    route: &Value,
-) -> Result<(), AllocError> {
-    for (place, item) in items_at(route, "path").iter().enumerate() {
-        match item.as_str() {
-            Some(name) if !known.has_resource(name) => {
-                let spot = Spot::Element("path", place);
-                return note_unknown(
-                    alloc, slips, known, "routes", "route", number, spot, "resource", name,
-                );
-            }
-            _ => {}
-        }
-    }
-    Ok(())
 }

@@ -4,6 +4,8 @@
 mod ends;
 mod known;
 mod missing;
+mod other;
+mod paths;
 mod shapes;
 mod slips;
 

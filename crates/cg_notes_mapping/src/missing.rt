@@ -1,4 +1,4 @@
-//! Nodes and edges with no place or route, or several.
+//! Nodes and edges without a place or route, or with several.
 
 use crate::shapes::{items_at, text_of};
 use cg_json::word_in;
@@ -7,12 +7,11 @@ use cg_slips::{Slips, Spot};
 use serde_json::Value;
 use std::alloc::{AllocError, Global};
 
-/// The most bytes by which nodes are looked up one by one in the lists of a mapping.
+/// The maximum number of comparisons for which nodes are looked up one by one in the lists of a mapping.
 const MOST_COMPARED: usize = 4_000_000;
 
-/// Adds to `slips` each node of `kernel` that has no place in the mapping file `value`, or several, and each edge that has no
-/// route, or several. Does nothing where a list is
-/// missing, or that would take long.
+/// Adds to `slips` each node of `kernel` that has no place in the mapping file `value`, or several, and each edge that
+/// has no route, or several. Does nothing if a list is missing, or if the check would take long.
 pub(crate) fn note_missing(
     alloc: Global,
     slips: &mut Slips,
@@ -42,7 +41,7 @@ pub(crate) fn note_missing(
     Ok(())
 }
 
-/// Adds to `slips` where the node `name` has no place among `places`, or several.
+/// Adds a slip to `slips` if the node `name` has no place among `places`, or several.
 fn note_node(
     alloc: Global,
     slips: &mut Slips,
@@ -53,7 +52,7 @@ fn note_node(
     for (number, place) in places.iter().enumerate() {
         if text_of(place, "node") == Some(name) {
             if let Some(earlier) = first {
-                let text = format!(in alloc; "node {name} has a place already, number {earlier}")?;
+                let text = format!(in alloc; "node {name} already has a place, place {earlier}")?;
                 return slips.add("P6", "places", number, Spot::Item, text);
             }
             first = Some(number);
@@ -66,7 +65,7 @@ fn note_node(
     slips.add("P6", "places", 0, Spot::List, text)
 }
 
-/// Adds to `slips` where the edge to argument `arg` of the node `name` has no route among `routes`, or several.
+/// Adds a slip to `slips` if the edge to argument `arg` of the node `name` has no route among `routes`, or several.
 fn note_edge(
     alloc: Global,
     slips: &mut Slips,
@@ -79,7 +78,7 @@ fn note_edge(
         if text_of(route, "to") == Some(name) && has_argument(route, arg) {
             if let Some(earlier) = first {
                 let text = format!(in alloc;
-                    "argument {arg} of {name} has a route already, number {earlier}"
+                    "argument {arg} of {name} already has a route, route {earlier}"
                 )?;
                 return slips.add("P6", "routes", number, Spot::Item, text);
             }
@@ -93,7 +92,7 @@ fn note_edge(
     slips.add("P6", "routes", 0, Spot::List, text)
 }
 
-/// Checks whether `route` ends at an argument of that number.
+/// Checks whether `route` ends at an argument with the number `arg`.
 fn has_argument(route: &Value, arg: usize) -> bool {
     match route.get("arg") {
         Some(found) => word_in(found).is_some_and(|word| word as usize == arg),

@@ -6,10 +6,10 @@ use cg_slips::{Field, Kind, Shape, Slips, Spot, items_of, note_keys, note_shape}
 use serde_json::Value;
 use std::alloc::{AllocError, Global};
 
-/// The most resources of a path.
+/// The maximum number of resources of a path.
 const LONGEST_PATH: usize = 65_535;
 
-/// Places.
+/// The shape of a place.
 const PLACE: Shape = Shape {
     list: "places",
     codes: ["P2", "P3"],
@@ -32,7 +32,7 @@ const PLACE: Shape = Shape {
     ],
 };
 
-/// Routes.
+/// The shape of a route.
 const ROUTE: Shape = Shape {
     list: "routes",
     codes: ["P2", "P3"],
@@ -55,7 +55,7 @@ const ROUTE: Shape = Shape {
     ],
 };
 
-/// Returns the items of the list at `key` of `value`, none where there is none.
+/// Returns the items of the list at `key` of `value`; none if there is no list.
 pub(crate) fn items_at<'a>(value: &'a Value, key: &str) -> &'a [Value] {
     match value.get(key) {
         Some(found) => items_of(found),
@@ -63,7 +63,7 @@ pub(crate) fn items_at<'a>(value: &'a Value, key: &str) -> &'a [Value] {
     }
 }
 
-/// Returns the text at `key` of `value`, where there is one.
+/// Returns the text at `key` of `value`, if there is one.
 pub(crate) fn text_of<'a>(value: &'a Value, key: &str) -> Option<&'a str> {
     match value.get(key) {
         Some(found) => found.as_str(),
@@ -71,7 +71,7 @@ pub(crate) fn text_of<'a>(value: &'a Value, key: &str) -> Option<&'a str> {
     }
 }
 
-/// Adds to `slips` what is wrong with the shapes and the numbers of the places and routes of the mapping file `value`.
+/// Adds to `slips` the faults in the shapes and the numbers of the places and routes of the mapping file `value`.
 pub(crate) fn note_shapes(
     alloc: Global,
     slips: &mut Slips,
@@ -92,7 +92,7 @@ pub(crate) fn note_shapes(
     Ok(())
 }
 
-/// Adds to `slips` where the time of `place`, which has that number, is too late.
+/// Adds a slip to `slips` if the time of `place`, place `number`, is too late.
 fn note_time(
     alloc: Global,
     slips: &mut Slips,
@@ -113,7 +113,7 @@ fn note_time(
     }
 }
 
-/// Adds to `slips` where the path of `route`, which has that number, is too long.
+/// Adds a slip to `slips` if the path of `route`, route `number`, is too long.
 fn note_length(
     alloc: Global,
     slips: &mut Slips,

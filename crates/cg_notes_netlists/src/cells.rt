@@ -1,11 +1,11 @@
-//! The forms of cells of netlists, as their faults speak of them.
+//! The forms of cells of netlists, as the messages on their faults give them.
 
 /// A form of cells.
 #[derive(Clone, Copy, Drop)]
 pub(crate) struct Form {
-    /// How names of its modules begin.
+    /// The beginning of the names of its modules.
     pub(crate) front: &'static str,
-    /// Its pins in order, and which numbers stand in the name.
+    /// Its pins in order, and the range of the numbers in the name.
     pub(crate) pins: &'static str,
     /// How its cells are named.
     pub(crate) names: &'static str,
@@ -53,15 +53,15 @@ pub(crate) fn form_of(module: &str) -> Option<Form> {
         .copied()
 }
 
-/// Returns the number that stands in `module` behind its front.
-fn number_in(module: &str) -> u32 {
+/// Returns the number in `module` after the beginning that its form gives.
+pub(crate) fn number_in(module: &str) -> u32 {
     match module.rsplit_once('_') {
         Some((_, number)) => number.parse::<u32>().unwrap_or(0),
         None => 0,
     }
 }
 
-/// Returns how many bits the net of `pin` of a cell of `module` has to have.
+/// Returns the number of bits that the net of `pin` of a cell of `module` must have.
 pub(crate) fn pin_bits(module: &str, pin: &str) -> u32 {
     let number = number_in(module);
     match pin {

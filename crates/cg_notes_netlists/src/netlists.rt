@@ -1,20 +1,23 @@
-//! Faults of netlists, which their reports give a net, a cell or a unit of.
+//! Faults of netlists whose reports name a net, a cell or a unit.
 
-use crate::cells::{form_of, pin_bits};
+use crate::cells::{form_of, number_in, pin_bits};
 use cg_help::nearest_name;
 use cg_notes_texts::{Finding, MOST_PARSED, Place, is_word_byte, last_word, words_of};
 use std::alloc::{AllocError, Global};
 
-/// The most bytes of a word that are shown.
+/// The maximum number of bytes of a word that are shown.
 const MOST_SHOWN: usize = 60;
 
-/// The most pins of a cell whose nets are looked at.
+/// The maximum number of drivers of a net that are counted.
+const MOST_DRIVERS: usize = 8;
+
+/// The maximum number of pins of a cell whose nets are looked at.
 const MOST_PINS: usize = 64;
 
-/// The words that statements begin with which aren't cells.
+/// The words with which statements begin that aren't cells.
 const KEYWORDS: [&str; 5] = ["module", "input", "output", "wire", "endmodule"];
 
-/// Returns what the fault `code` says of `bytes`, a netlist, at `place`.
+/// Returns the finding of the fault `code` at `place` of `bytes`, a netlist.
 pub fn find_in_netlist(
     alloc: Global,
     bytes: &[u8],
@@ -35,11 +38,10 @@ pub fn find_in_netlist(
             Err(_) => Ok(None),
         },
         "net" => {
-            let sentence = if code == "V3" {
-                unknown_net(alloc, bytes, name)?
-            } else {
-                drivers_of(alloc, bytes, name)?
-            };
+            if code != "V3" {
+                return find_drivers(alloc, bytes, name);
+            }
+            let sentence = unknown_net(alloc, bytes, name)?;
             find_net(alloc, bytes, name, sentence.as_str())
         }
         "unit" => find_unit(alloc, bytes, name),
@@ -47,13 +49,20 @@ pub fn find_in_netlist(
     }
 }
 
-/// Returns why the net `name` of `bytes` isn't known, or is declared where it may not be. Of a long text it says all causes.
+/// Returns why the net `name` of `bytes` is unknown, or is declared where it may not be. For a long text, names all
+/// possible causes.
 fn unknown_net(alloc: Global, bytes: &[u8], name: &str) -> Result<String, AllocError> {
     if bytes.len() > MOST_PARSED {
-        return String::from_str(alloc, "no wire declares this net, or two do");
+        return String::from_str(
+            alloc,
+            "this net is not declared by a wire, or is declared twice",
+        );
     }
     if name == "clk" || name == "rst" {
-        return String::from_str(alloc, "clk and rst are inputs, and no wire is called so");
+        return String::from_str(
+            alloc,
+            "clk and rst are inputs, so no wire may have these names",
+        );
     }
     let mut wires: Vec<&str> = Vec::new(alloc);
     for statement in bytes.split(|byte| *byte == b';') {
@@ -64,10 +73,55 @@ fn unknown_net(alloc: Global, bytes: &[u8], name: &str) -> Result<String, AllocE
     if wires.contains(&name) {
         return String::from_str(alloc, "two wires declare this net");
     }
-    match nearest_name(alloc, name, wires.as_slice())? {
-        Some(near) => format!(in alloc; "no wire declares this net, did you mean {near}?"),
-        None => String::from_str(alloc, "no wire declares this net"),
+    if let Some(near) = nearest_name(alloc, name, wires.as_slice())? {
+        if may_stand_for(alloc, bytes, near, name)? {
+            return format!(in alloc; "no wire declares this net, did you mean {near}?");
+        }
     }
+    undeclared(alloc, bytes, name)
+}
+
+/// Checks whether the net `near` of `bytes` may be meant by `name`: whether `name` occurs there only once, and the two
+/// aren't both driven.
+fn may_stand_for(alloc: Global, bytes: &[u8], near: &str, name: &str) -> Result<bool, AllocError> {
+    let mut uses = 0usize;
+    let words = words_of(alloc, bytes, bytes.len())?;
+    for word in words.as_slice() {
+        if *word == name {
+            uses = uses.saturating_add(1);
+        }
+    }
+    Ok(uses < 2 && !(is_driven(bytes, name) && is_driven(bytes, near)))
+}
+
+/// Returns the message that no wire of `bytes` declares the net `name`, with its declaration if a cell's pin gives its
+/// width.
+fn undeclared(alloc: Global, bytes: &[u8], name: &str) -> Result<String, AllocError> {
+    for statement in bytes.split(|byte| *byte == b';') {
+        if is_cell(behind_blanks(statement)) {
+            if let Some(top) = top_bit(alloc, statement, name)? {
+                return format!(in alloc;
+                    "no wire declares this net; declare it: wire [{top}:0] {name};"
+                );
+            }
+        }
+    }
+    String::from_str(alloc, "no wire declares this net")
+}
+
+/// Returns the number of the highest bit of the net `name`, by the pin that is on it in `statement`, a cell; None if no
+/// pin is.
+fn top_bit(alloc: Global, statement: &[u8], name: &str) -> Result<Option<u32>, AllocError> {
+    let words = words_of(alloc, statement, MOST_PINS)?;
+    let module = words.first().copied().unwrap_or("");
+    for pin in words.get(2..).unwrap_or(&[]).chunks(2) {
+        if let [pin, net] = pin {
+            if *net == name {
+                return Ok(pin_bits(module, pin).checked_sub(1));
+            }
+        }
+    }
+    Ok(None)
 }
 
 /// Returns the name of the net that `statement` declares.
@@ -79,7 +133,7 @@ fn wire_of(statement: &[u8]) -> Option<&str> {
     }
 }
 
-/// Returns how many bits the net `name` of `bytes` has; None where none is declared so.
+/// Returns the number of bits of the net `name` of `bytes`; None if no wire declares it.
 fn bits_of(alloc: Global, bytes: &[u8], name: &str) -> Result<Option<u32>, AllocError> {
     for statement in bytes.split(|byte| *byte == b';') {
         if wire_of(statement) == Some(name) {
@@ -91,26 +145,53 @@ fn bits_of(alloc: Global, bytes: &[u8], name: &str) -> Result<Option<u32>, Alloc
     Ok(None)
 }
 
-/// Returns how many cells of `bytes` drive the net `name`.
-fn drivers_of(alloc: Global, bytes: &[u8], name: &str) -> Result<String, AllocError> {
-    let mut count = 0usize;
-    for statement in bytes.split(|byte| *byte == b';') {
-        if is_cell(behind_blanks(statement)) && drives(statement, name) {
-            count = count.saturating_add(1);
-        }
-    }
-    match count {
-        0 => String::from_str(alloc, "no cell drives this net by its pin q"),
-        _ => format!(in alloc; "{count} cells drive this net by their pins q"),
-    }
+/// Returns the finding that none or several of the cells of `bytes` drive the net `name`: in the second case at the second
+/// of them.
+fn find_drivers(alloc: Global, bytes: &[u8], name: &str) -> Result<Option<Finding>, AllocError> {
+    let places = driver_places(alloc, bytes, name)?;
+    let [first, second, ..] = places.as_slice() else {
+        return find_net(alloc, bytes, name, "no cell drives this net by its pin q");
+    };
+    let Place { line, .. } = *first;
+    let text = match places.len() {
+        2 => format!(in alloc;
+            "{name}: the cell in line {line} drives this net too, by its pin q"
+        )?,
+        count => format!(in alloc;
+            "{name}: {count} cells drive this net by their pins q, the first in line {line}"
+        )?,
+    };
+    let place = *second;
+    Ok(Some(Finding { place, text }))
 }
 
-/// Checks whether the cell of `statement` drives the net `name`: its last pin is its output.
+/// Checks whether a cell of `bytes` drives the net `name`.
+fn is_driven(bytes: &[u8], name: &str) -> bool {
+    bytes.split(|byte| *byte == b';').any(|statement| is_cell(behind_blanks(statement))
+        && drives(statement, name))
+}
+
+/// Returns the places of the first cells of `bytes` that drive the net `name`, up to a limit.
+fn driver_places(alloc: Global, bytes: &[u8], name: &str) -> Result<Vec<Place>, AllocError> {
+    let mut places = Vec::new(alloc);
+    let mut at = 0usize;
+    for statement in bytes.split(|byte| *byte == b';') {
+        let words = behind_blanks(statement);
+        let begins = at.saturating_add(statement.len().saturating_sub(words.len()));
+        if is_cell(words) && drives(statement, name) && places.len() < MOST_DRIVERS {
+            places.push(Place::at(bytes, begins))?;
+        }
+        at = at.saturating_add(statement.len()).saturating_add(1);
+    }
+    Ok(places)
+}
+
+/// Checks whether the cell in `statement` drives the net `name`: whether the net is on its last pin, its output.
 fn drives(statement: &[u8], name: &str) -> bool {
     last_word(statement) == name.as_bytes()
 }
 
-/// Returns what the fault `code` says of cell number `cell` of `bytes`.
+/// Returns the finding of the fault `code` at cell number `cell` of `bytes`.
 fn find_cell(
     alloc: Global,
     bytes: &[u8],
@@ -125,7 +206,7 @@ fn find_cell(
     let module = word_of(rest);
     let name = word_of(behind_blanks(rest.get(module.len()..).unwrap_or(&[])));
     let why = match code {
-        "V2" => wrong_form(alloc, module)?,
+        "V2" => wrong_form(alloc, module, statement)?,
         "E2" => wrong_pin(alloc, bytes, module, statement)?,
         "E4" => String::from_str(alloc, "an earlier cell has this name")?,
         _ => wrong_name(alloc, module)?,
@@ -136,26 +217,61 @@ fn find_cell(
     Ok(Some(Finding { place, text }))
 }
 
-/// Returns what is wrong with the name or the pins of a cell of `module`.
-fn wrong_form(alloc: Global, module: &str) -> Result<String, AllocError> {
+/// Returns what is wrong with the name or the pins of `statement`, a cell of `module`.
+fn wrong_form(alloc: Global, module: &str, statement: &[u8]) -> Result<String, AllocError> {
+    if let Some(text) = other_count(alloc, module, statement)? {
+        return Ok(text);
+    }
     match form_of(module) {
         Some(form) => String::from_str(alloc, form.pins),
         None => format!(in alloc;
-            "no cell is a {module}; there are cg_ctx_W, cg_pre_W, cg_mux_K, cg_reg_K, cg_zero and cg_unit_P_L_H"
+            "there is no module {module}; the modules are cg_ctx_W, cg_pre_W, cg_mux_K, cg_reg_K, cg_zero and cg_unit_P_L_H"
         ),
     }
 }
 
-/// Returns how a cell of `module` is named.
+/// Returns which module has the number of pins d of `statement`, a cell of `module`, if that is a mux or a register
+/// with another number of them. Returns None otherwise.
+fn other_count(
+    alloc: Global,
+    module: &str,
+    statement: &[u8],
+) -> Result<Option<String>, AllocError> {
+    let (front, pins) = match module.rsplit_once('_') {
+        Some(("cg_mux", _)) => ("cg_mux", "s"),
+        Some(("cg_reg", _)) => ("cg_reg", "clk, rst, s"),
+        _ => return Ok(None),
+    };
+    let number = number_in(module);
+    let words = words_of(alloc, statement, MOST_PINS)?;
+    let mut count = 0u32;
+    for pin in words.get(2..).unwrap_or(&[]).chunks(2) {
+        if let [pin, _] = pin {
+            if pin.starts_with('d') {
+                count = count.saturating_add(1);
+            }
+        }
+    }
+    if number == 0 || count == 0 || count == number || words.len() >= MOST_PINS {
+        return Ok(None);
+    }
+    let text = format!(in alloc;
+        "the pins of {module} are {pins}, d1 to d{number}, q in this order: with d1 to d{count} it is a {front}_{count}"
+    )?;
+    Ok(Some(text))
+}
+
+/// Returns the message on how a cell of `module` is named.
 fn wrong_name(alloc: Global, module: &str) -> Result<String, AllocError> {
     let names = match form_of(module) {
         Some(form) => form.names,
         None => "",
     };
-    format!(in alloc; "the architecture has nothing for it: {names}")
+    format!(in alloc; "nothing in the architecture corresponds to this cell: {names}")
 }
 
-/// Returns the first pin that is on a wrong net in `statement`, a cell of `module` in `bytes`. Of a long text it says all causes.
+/// Returns what is wrong with the first pin that is on a wrong net in `statement`, a cell of `module` in `bytes`. For a
+/// long text, names all possible causes.
 fn wrong_pin(
     alloc: Global,
     bytes: &[u8],
@@ -177,11 +293,11 @@ fn wrong_pin(
     }
     String::from_str(
         alloc,
-        "a pin is on a net of another width, or clk or rst is on another net",
+        "a pin is connected to a net of another width, or clk or rst to another net",
     )
 }
 
-/// Returns what is wrong where `pin` of a cell of `module` is on `net` of `bytes`.
+/// Returns what is wrong if `pin` of a cell of `module` is on `net` of `bytes`.
 fn wrong_net(
     alloc: Global,
     bytes: &[u8],
@@ -193,7 +309,9 @@ fn wrong_net(
         if net == pin {
             return Ok(None);
         }
-        let text = format!(in alloc; "the pin {pin} is on the net {net}, and belongs on {pin}")?;
+        let text = format!(in alloc;
+            "the pin {pin} is connected to the net {net}, but belongs to {pin}"
+        )?;
         return Ok(Some(text));
     }
     let needed = pin_bits(module, pin);
@@ -201,12 +319,14 @@ fn wrong_net(
         Some(bits) if bits == needed => Ok(None),
         Some(bits) => {
             let text = format!(in alloc;
-                "the pin {pin} is on the net {net} of {bits} bits, and needs {needed}"
+                "the pin {pin} is connected to the net {net} of {bits} bits, but needs {needed}"
             )?;
             Ok(Some(text))
         }
         None => {
-            let text = format!(in alloc; "the pin {pin} is on {net}, which is no wire")?;
+            let text = format!(in alloc;
+                "the pin {pin} is connected to {net}, which is not a wire"
+            )?;
             Ok(Some(text))
         }
     }
@@ -245,7 +365,7 @@ fn behind_blanks(bytes: &[u8]) -> &[u8] {
     bytes.get(blanks..).unwrap_or(&[])
 }
 
-/// Returns the name that `bytes` begin with, or its beginning where it is long.
+/// Returns the name that `bytes` begin with, or the beginning of a long one.
 fn word_of(bytes: &[u8]) -> &str {
     let length = bytes
         .iter()
@@ -258,7 +378,7 @@ fn word_of(bytes: &[u8]) -> &str {
     }
 }
 
-/// Returns that `sentence` is wrong of the net `name` of `bytes`, where that name stands first.
+/// Returns the finding with `sentence` on the net `name` of `bytes`, at the first occurrence of that name.
 fn find_net(
     alloc: Global,
     bytes: &[u8],
@@ -285,7 +405,7 @@ fn name_at(bytes: &[u8], name: &[u8]) -> Option<usize> {
     None
 }
 
-/// Returns that the unit `name` has no cell in `bytes`, at their end.
+/// Returns the finding that the unit `name` has no cell in `bytes`, at their end.
 fn find_unit(alloc: Global, bytes: &[u8], name: &str) -> Result<Option<Finding>, AllocError> {
     let Some(at) = name_at(bytes, b"endmodule") else {
         return Ok(None);

@@ -1,4 +1,4 @@
-//! Notes on mappings that aren't legal: what each violation is, with names and cycles.
+//! Notes on mappings that aren't legal: a sentence for each violation, with names and cycles.
 #![tactic(auto)]
 
 mod meeting;

@@ -4,6 +4,7 @@ use crate::names::Mapped;
 use crate::places::MappingFile;
 use cg_check::{Rule, RulePlace, delay, edge_into, leaves};
 use cg_model::Route;
+use cg_notes_texts::Place;
 use std::alloc::{AllocError, Global};
 
 /// A resource in a slot.
@@ -17,20 +18,20 @@ struct Spot {
 /// A value on a resource.
 #[derive(Clone, Copy, Drop)]
 struct Stay {
-    /// The node whose value it is.
+    /// The node whose result it is.
     source: u32,
-    /// The cycle, for the value of turn 0.
+    /// The cycle in which the result of turn 0 is there.
     time: u64,
-    /// The resource that it comes from; None where its route begins.
+    /// The resource that it comes from; None at the beginning of its route.
     from: Option<u32>,
-    /// The node at which its route ends.
+    /// The node to which its route leads.
     node: u32,
     /// The argument of that node.
     arg: u32,
 }
 
 impl Stay {
-    /// Checks whether `other` shares what `rule` says: the value at L6, else the way.
+    /// Checks whether `other` agrees in what `rule` compares: the value for L6, the previous resource for L7.
     fn is_alike(self, other: Stay, rule: Rule) -> bool {
         match rule {
             Rule::L6 => self.source == other.source && self.time == other.time,
@@ -39,7 +40,8 @@ impl Stay {
     }
 }
 
-/// Returns what meets on resource number `resource` of `mapped`, the mapping of `file`, in `slot`, which `rule` forbids.
+/// Returns the note on a violation of `rule` on resource number `resource` in `slot`: which two values, or which two
+/// routes, meet there. `mapped` is the mapping of `file`; None if no two meet.
 pub(crate) fn meeting_note(
     alloc: Global,
     file: &MappingFile<'_>,
@@ -66,7 +68,25 @@ pub(crate) fn meeting_note(
     Ok(Some(note))
 }
 
-/// Returns that the values of two stays are on one resource in one cycle.
+/// Returns the line and column in `file` of the first route of `mapped` that comes to resource number `resource` in
+/// `slot`.
+pub(crate) fn meeting_place(
+    file: &MappingFile<'_>,
+    mapped: Mapped<'_>,
+    rule: Rule,
+    resource: usize,
+    slot: usize,
+) -> Option<Place> {
+    let spot = Spot {
+        resource,
+        slot: slot as u64,
+        ii: u64::from(mapped.mapping.ii()),
+    };
+    let Stay { node, arg, .. } = first_stay(mapped, spot, rule, None)?;
+    file.place_of(mapped, RulePlace::Arg { node, arg })
+}
+
+/// Returns the note that the values of `first` and `second` are on the resource of `spot` in one cycle.
 fn values_note(
     alloc: Global,
     file: &MappingFile<'_>,
@@ -89,7 +109,7 @@ fn values_note(
     )
 }
 
-/// Returns the turn whose value stays as `stay` does in `cycle`, at the interval `ii`.
+/// Returns the turn of the value that `stay` brings to its resource in `cycle`, at interval `ii`.
 fn turn_in(stay: Stay, cycle: u64, ii: u64) -> u64 {
     match cycle.saturating_sub(stay.time).checked_div(ii) {
         Some(turn) => turn,
@@ -97,7 +117,7 @@ fn turn_in(stay: Stay, cycle: u64, ii: u64) -> u64 {
     }
 }
 
-/// Returns that two stays come to one resource by different ways.
+/// Returns the note that `first` and `second` come to the resource of `spot` from different resources.
 fn ways_note(
     alloc: Global,
     file: &MappingFile<'_>,
@@ -117,7 +137,8 @@ fn ways_note(
     )
 }
 
-/// Returns by which routes of `mapped`, the mapping of `file`, two stays are at `spot`, and what mends it.
+/// Returns the end of a note: the routes of `mapped`, the mapping of `file`, by which `first` and `second` come to
+/// `spot`, and what fixes the violation.
 fn routes_of(
     alloc: Global,
     file: &MappingFile<'_>,
@@ -131,17 +152,17 @@ fn routes_of(
     if first.node == second.node && first.arg == second.arg {
         let ii = spot.ii;
         return format!(in alloc;
-            "both on the way to {one}: after the interval, {ii} cycles, the value of the next turn comes there; other registers on the way, or a greater interval, mend it"
+            "both on the way to {one}: after the interval, {ii} cycles, the value of the next turn comes there; other registers on the way, or a greater interval, fix it"
         );
     }
     let other = route_name(alloc, file, mapped, second)?;
     let other = other.as_str();
     format!(in alloc;
-        "on the ways to {one} and {other}; another way or time for one of them mends it"
+        "on the ways to {one} and {other}; another way or time for one of them fixes it"
     )
 }
 
-/// Returns the route of `mapped` that has `stay`, by the argument at which it ends and where it stands in `file`.
+/// Returns the name of the route of `stay`: the argument to which it leads, and its line and column in `file`.
 fn route_name(
     alloc: Global,
     file: &MappingFile<'_>,
@@ -156,7 +177,7 @@ fn route_name(
     }
 }
 
-/// Returns the name of the resource that `stay` comes from.
+/// Returns the name of the resource from which `stay` comes.
 fn way_name(mapped: Mapped<'_>, stay: Stay) -> &str {
     match stay.from {
         Some(from) => mapped.resource_name(from as usize),
@@ -164,7 +185,7 @@ fn way_name(mapped: Mapped<'_>, stay: Stay) -> &str {
     }
 }
 
-/// Returns the first stay of `mapped` at `spot`, or the first there that isn't alike with `other` by `rule`.
+/// Returns the first value of `mapped` at `spot`; if `other` is given, the first that violates `rule` together with it.
 fn first_stay(mapped: Mapped<'_>, spot: Spot, rule: Rule, other: Option<Stay>) -> Option<Stay> {
     for route in mapped.mapping.routes() {
         if let Some(stay) = stay_on(mapped, route, spot, rule, other) {
@@ -174,7 +195,7 @@ fn first_stay(mapped: Mapped<'_>, spot: Spot, rule: Rule, other: Option<Stay>) -
     None
 }
 
-/// Returns the first such stay on `route`.
+/// Returns the first value at `spot` on `route`, by the same conditions as [`first_stay`].
 fn stay_on(
     mapped: Mapped<'_>,
     route: &Route,
@@ -204,7 +225,7 @@ fn stay_on(
     None
 }
 
-/// Checks whether `stay` is in the slot of `spot`, and isn't alike with `other` by `rule`.
+/// Checks whether `stay` is in the slot of `spot`, and violates `rule` together with `other`, if that is given.
 fn is_met(stay: Stay, spot: Spot, rule: Rule, other: Option<Stay>) -> bool {
     if stay.time.checked_rem(spot.ii) != Some(spot.slot) {
         return false;

@@ -1,4 +1,4 @@
-//! A mapping with its kernel and its architecture, and what their numbers are called.
+//! A mapping with its kernel and its architecture, and the names of their nodes, units and resources.
 
 use cg_arch::Arch;
 use cg_model::{Kernel, Mapping, Node, Place, Unit};
@@ -17,7 +17,7 @@ impl<'a> Mapped<'a> {
         self.kernel.nodes().get(node)
     }
 
-    /// Returns the name of node number `node`; empty where there is none.
+    /// Returns the name of node number `node`; empty if there is none.
     pub(crate) fn node_name(self, node: usize) -> &'a str {
         match self.node(node) {
             Some(node) => node.name.as_str(),
@@ -38,12 +38,12 @@ impl<'a> Mapped<'a> {
         }
     }
 
-    /// Returns the unit on which node number `node` stands.
+    /// Returns the unit on which node number `node` is placed.
     pub(crate) fn unit(self, node: usize) -> Option<&'a Unit> {
         self.arch.units().get(self.place(node)?.unit as usize)
     }
 
-    /// Returns the name of the unit on which node number `node` stands; empty where there is none.
+    /// Returns the name of the unit on which node number `node` is placed; empty if there is none.
     pub(crate) fn unit_name(self, node: usize) -> &'a str {
         match self.unit(node) {
             Some(unit) => unit.name.as_str(),
@@ -51,7 +51,7 @@ impl<'a> Mapped<'a> {
         }
     }
 
-    /// Returns the name of resource number `resource`; empty where there is none.
+    /// Returns the name of resource number `resource`; empty if there is none.
     pub(crate) fn resource_name(self, resource: usize) -> &'a str {
         match self.arch.resources().get(resource) {
             Some(resource) => resource.name.as_str(),

@@ -1,24 +1,25 @@
 //! A note for each of the first violations.
 
-use crate::meeting::meeting_note;
+use crate::meeting::{meeting_note, meeting_place};
 use crate::names::Mapped;
 use crate::places::MappingFile;
 use crate::placing::{interval_note, order_note, shared_note, unit_note};
 use crate::routing::route_note;
+use cg_arch::Arch;
 use cg_check::{Rule, RulePlace, Violation};
 use cg_kernel::read_kernel;
 use cg_mapping::read_mapping;
+use cg_model::Kernel;
 use cg_notes_texts::Place;
 use cg_tiles::read_arch;
 use cg_violations::violations;
 use std::alloc::{AllocError, Global};
 
-/// The most violations that are noted.
+/// The greatest number of violations with a note.
 const MOST_NOTED: usize = 8;
 
-/// Adds to `notes` what the first violations are of the mapping that is the file `name` with the bytes `mapping`, by `arch` and
-/// `kernel`, the bytes of its architecture's and its kernel's files: `NAME:LINE:COLUMN: TEXT`, or `NAME: TEXT` where several routes
-/// violate a rule together.
+/// Adds to `notes` a note for each of the first violations of the mapping in the file `name`, whose bytes are `mapping`.
+/// `arch` and `kernel` are the bytes of its architecture's and its kernel's files. A note is `NAME:LINE:COLUMN: TEXT`.
 pub fn rule_notes(
     alloc: Global,
     arch: &[u8],
@@ -27,34 +28,73 @@ pub fn rule_notes(
     mapping: &[u8],
     notes: &mut Vec<String>,
 ) -> Result<(), AllocError> {
-    let Some(file) = MappingFile::read(alloc, mapping) else {
-        return Ok(());
-    };
     let Ok(arch) = read_arch(alloc, arch) else {
         return Ok(());
     };
     let Ok(kernel) = read_kernel(alloc, kernel) else {
         return Ok(());
     };
-    let Ok(mapping) = read_mapping(alloc, &arch, &kernel, mapping) else {
+    mapping_notes(alloc, &arch, &kernel, name, mapping, notes)
+}
+
+/// Adds to `notes` a note for each of the first violations of the mapping in the file `name`, whose bytes are `bytes`, by
+/// `arch` and `kernel`.
+fn mapping_notes(
+    alloc: Global,
+    arch: &Arch,
+    kernel: &Kernel,
+    name: &str,
+    bytes: &[u8],
+    notes: &mut Vec<String>,
+) -> Result<(), AllocError> {
+    let Ok(mapping) = read_mapping(alloc, arch, kernel, bytes) else {
         return Ok(());
     };
-    let found = violations(alloc, &arch, &kernel, &mapping)?;
+    let found = violations(alloc, arch, kernel, &mapping)?;
     let mapped = Mapped {
-        arch: &arch,
-        kernel: &kernel,
+        arch,
+        kernel,
         mapping: &mapping,
+    };
+    violation_notes(alloc, mapped, found.as_slice(), name, bytes, notes)
+}
+
+/// Adds to `notes` a note for each of the first of `found`, the violations of `mapped`, which is the mapping in the file
+/// `name` with the bytes `bytes`; of the first alone if that is the interval, by which all others are judged.
+fn violation_notes(
+    alloc: Global,
+    mapped: Mapped<'_>,
+    found: &[Violation],
+    name: &str,
+    bytes: &[u8],
+    notes: &mut Vec<String>,
+) -> Result<(), AllocError> {
+    let Some(file) = MappingFile::read(alloc, bytes) else {
+        return Ok(());
     };
     for violation in found.iter().take(MOST_NOTED) {
         if let Some(text) = violation_note(alloc, &file, mapped, *violation)? {
-            let place = file.place_of(mapped, violation.place);
+            let place = place_of(&file, mapped, *violation);
             notes.push(placed_note(alloc, name, place, text.as_str())?)?;
+        }
+        if violation.rule == Rule::L1 {
+            return Ok(());
         }
     }
     Ok(())
 }
 
-/// Returns the note that says `text` of `place` in the file `name`.
+/// Returns the line and column in `file` of `violation` of `mapped`: where routes meet, of the first of them.
+fn place_of(file: &MappingFile<'_>, mapped: Mapped<'_>, violation: Violation) -> Option<Place> {
+    match violation.place {
+        RulePlace::Resource { resource, slot } => {
+            meeting_place(file, mapped, violation.rule, resource, slot)
+        }
+        place => file.place_of(mapped, place),
+    }
+}
+
+/// Returns the note with the text `text` on `place` in the file `name`.
 fn placed_note(
     alloc: Global,
     name: &str,
@@ -67,7 +107,7 @@ fn placed_note(
     }
 }
 
-/// Returns what `violation` of `mapped`, the mapping of `file`, is.
+/// Returns the text for `violation` of `mapped`, the mapping of `file`.
 fn violation_note(
     alloc: Global,
     file: &MappingFile<'_>,

@@ -1,4 +1,4 @@
-//! Where in the text of a mapping a violation stands.
+//! The lines and columns of violations in the text of a mapping.
 
 use crate::names::Mapped;
 use cg_check::RulePlace;
@@ -13,12 +13,12 @@ use std::alloc::Global;
 pub(crate) struct MappingFile<'a> {
     /// Its bytes.
     bytes: &'a [u8],
-    /// The value that they stand for.
+    /// The JSON value that they denote.
     value: Value,
 }
 
 impl<'a> MappingFile<'a> {
-    /// Returns the file of the bytes `bytes`; None where they are no JSON text.
+    /// Returns the file with the bytes `bytes`; None if they are not a JSON text.
     pub(crate) fn read(alloc: Global, bytes: &'a [u8]) -> Option<MappingFile<'a>> {
         match json_value(alloc, bytes) {
             Ok(value) => Some(MappingFile { bytes, value }),
@@ -26,8 +26,9 @@ impl<'a> MappingFile<'a> {
         }
     }
 
-    /// Returns where the interval, the place or the route stands that violates a rule at `place` of `mapped`, the mapping of the file:
-    /// of an order edge the place of its target. Returns None where it is a resource, which several routes meet on.
+    /// Returns the line and column of the interval, the place or the route that violates a rule at `place` of
+    /// `mapped`, the mapping of the file; for an order edge, of the place of its target. Returns None for a resource,
+    /// on which several routes meet.
     pub(crate) fn place_of(&self, mapped: Mapped<'_>, place: RulePlace) -> Option<Place> {
         match place {
             RulePlace::Mapping => self.place_at(&[Step::Key("ii")]),
@@ -41,7 +42,7 @@ impl<'a> MappingFile<'a> {
         }
     }
 
-    /// Returns where the place of the node `name` stands.
+    /// Returns the line and column of the place of the node `name`.
     fn node_place(&self, name: &str) -> Option<Place> {
         let number = self
             .items("places")
@@ -50,26 +51,26 @@ impl<'a> MappingFile<'a> {
         self.place_at(&[Step::Key("places"), Step::Item(number)])
     }
 
-    /// Returns where the route to argument `arg` of the node `name` stands.
+    /// Returns the line and column of the route to argument `arg` of the node `name`.
     fn route_place(&self, name: &str, arg: u32) -> Option<Place> {
         let number = self.items("routes").iter().position(|route| text_at(route, "to") == Some(name)
             && has_argument(route, arg))?;
         self.place_at(&[Step::Key("routes"), Step::Item(number)])
     }
 
-    /// Returns the items of the list at `key`, none where there is none.
+    /// Returns the items of the list at `key`; none if there is no list.
     fn items(&self, key: &str) -> &[Value] {
         items_or_none(&self.value, key).unwrap_or(&[])
     }
 
-    /// Returns where the value stands that `path` leads to.
+    /// Returns the line and column of the value to which `path` leads.
     fn place_at(&self, path: &[Step<'_>]) -> Option<Place> {
         let at = json_value_at(self.bytes, path)?;
         Some(Place::at(self.bytes, at))
     }
 }
 
-/// Checks whether `route` ends at argument `arg`.
+/// Checks whether `route` leads to argument `arg`.
 fn has_argument(route: &Value, arg: u32) -> bool {
     match route.get("arg") {
         Some(found) => word_in(found) == Some(arg),

@@ -1,14 +1,15 @@
-//! Violations of L1 to L4: by the interval, and by where and when nodes begin.
+//! Violations of L1 to L4: the interval, and the units and times of nodes.
 
 use crate::names::Mapped;
 use crate::places::MappingFile;
+use crate::timing::cycle_text;
 use cg_check::RulePlace;
 use cg_model::OrderEdge;
 use cg_notes_texts::short_list;
 use cg_word::Op;
 use std::alloc::{AllocError, Global};
 
-/// Returns that the interval of `mapped` is none of its architecture's.
+/// Returns the note that the architecture doesn't allow the interval of `mapped`.
 pub(crate) fn interval_note(
     alloc: Global,
     mapped: Mapped<'_>,
@@ -16,12 +17,12 @@ pub(crate) fn interval_note(
     let ii = mapped.mapping.ii();
     let contexts = mapped.arch.contexts();
     let note = format!(in alloc;
-        "L1: the interval is {ii}, and has to be 1 to {contexts}, the contexts of the architecture"
+        "L1: the interval is {ii}, but must be 1 to {contexts}, the contexts of the architecture"
     )?;
     Ok(Some(note))
 }
 
-/// Returns that the unit of node number `node` of `mapped` doesn't offer its operation, and which units do.
+/// Returns the note that the unit of node number `node` doesn't offer its operation, with the units that do.
 pub(crate) fn unit_note(
     alloc: Global,
     mapped: Mapped<'_>,
@@ -36,12 +37,12 @@ pub(crate) fn unit_note(
     let others = offering(alloc, mapped, work.op)?;
     let others = others.as_str();
     let note = format!(in alloc;
-        "L2: node {name} is {op}, which unit {unit} doesn't offer; {others}"
+        "L2: unit {unit} doesn't offer {op}, the operation of node {name}; {others}"
     )?;
     Ok(Some(note))
 }
 
-/// Returns which units of `mapped` offer `op`.
+/// Returns the part of a note that names the units that offer `op`.
 fn offering(alloc: Global, mapped: Mapped<'_>, op: Op) -> Result<String, AllocError> {
     let mut names: Vec<&str> = Vec::new(alloc);
     for unit in mapped.arch.units() {
@@ -57,8 +58,8 @@ fn offering(alloc: Global, mapped: Mapped<'_>, op: Op) -> Result<String, AllocEr
     format!(in alloc; "those that do: {list}")
 }
 
-/// Returns which node of `mapped`, the mapping of `file`, has the unit and the slot of node number `node` before it, and where both have
-/// their places in the file.
+/// Returns the note that an earlier node of `mapped`, the mapping of `file`, has the unit and the slot of node number
+/// `node`, with the lines and columns of both places.
 pub(crate) fn shared_note(
     alloc: Global,
     file: &MappingFile<'_>,
@@ -79,12 +80,12 @@ pub(crate) fn shared_note(
     let name = placed_name(alloc, file, mapped, node)?;
     let name = name.as_str();
     let note = format!(in alloc;
-        "L3: unit {unit} begins both {first} and {name} in slot {slot}, the time modulo the interval {ii}: another time or unit for one of them mends it"
+        "L3: unit {unit} begins both {first} and {name} in slot {slot}, the time modulo the interval {ii}: another time or unit for one of them fixes it"
     )?;
     Ok(Some(note))
 }
 
-/// Returns the name of node number `node` of `mapped`, with its time and where its place stands in `file`.
+/// Returns the name of node number `node`, with its time and the line and column of its place in `file`.
 fn placed_name(
     alloc: Global,
     file: &MappingFile<'_>,
@@ -99,7 +100,7 @@ fn placed_name(
     }
 }
 
-/// Returns the first node before number `node` that has its unit and, at the interval `ii`, its slot.
+/// Returns the first node before number `node` that has its unit and, at interval `ii`, its slot.
 fn first_sharing(mapped: Mapped<'_>, node: usize, ii: u64) -> Option<usize> {
     let place = mapped.place(node)?;
     let slot = mapped.time(node).checked_rem(ii)?;
@@ -111,7 +112,7 @@ fn first_sharing(mapped: Mapped<'_>, node: usize, ii: u64) -> Option<usize> {
     None
 }
 
-/// Returns when the ends of order edge number `edge` of `mapped` begin.
+/// Returns the note on order edge number `edge`, with the cycles in which its ends begin.
 pub(crate) fn order_note(
     alloc: Global,
     mapped: Mapped<'_>,
@@ -126,8 +127,10 @@ pub(crate) fn order_note(
     let early = mapped.time(from as usize);
     let turns = u64::from(mapped.mapping.ii()).saturating_mul(u64::from(distance));
     let late = mapped.time(to as usize).saturating_add(turns);
+    let late = cycle_text(alloc, mapped, to as usize, distance, late)?;
+    let late = late.as_str();
     let note = format!(in alloc;
-        "L4: order edge {edge}: {source} begins in cycle {early}, and {target}, at distance {distance}, in cycle {late}, which has to be later"
+        "L4: order edge {edge}: {target} begins in cycle {late}, but must begin after {source}, which begins in cycle {early}"
     )?;
     Ok(Some(note))
 }

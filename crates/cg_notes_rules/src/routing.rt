@@ -7,7 +7,7 @@ use cg_model::Route;
 use cg_notes_texts::short_list;
 use std::alloc::{AllocError, Global};
 
-/// Returns why the route of `mapped` to argument `arg` of node number `node` doesn't bring its value.
+/// Returns the note that says why the route to argument `arg` of node number `node` doesn't bring its value.
 pub(crate) fn route_note(
     alloc: Global,
     mapped: Mapped<'_>,
@@ -58,7 +58,7 @@ fn reason(
     Ok(Some(note))
 }
 
-/// Returns that `route` of `mapped`, which brings the value of `edge`, has no resources, and between which it has to lead.
+/// Returns the reason that `route`, which is for `edge`, has no resources, with those between which it must lead.
 fn empty_reason(
     alloc: Global,
     mapped: Mapped<'_>,
@@ -79,7 +79,7 @@ fn empty_reason(
     Ok(Some(note))
 }
 
-/// Returns where a route begins, `first`, if that isn't the out of the unit of the source of `edge`.
+/// Returns the reason that a route begins at `first`, if that isn't the out of the unit of the source of `edge`.
 fn start_reason(
     alloc: Global,
     mapped: Mapped<'_>,
@@ -94,11 +94,11 @@ fn start_reason(
     }
     let first = mapped.resource_name(first as usize);
     let out = mapped.resource_name(unit.out as usize);
-    let note = format!(in alloc; "begins at {first}, and has to begin at {out}")?;
+    let note = format!(in alloc; "begins at {first}, but must begin at {out}")?;
     Ok(Some(note))
 }
 
-/// Returns the first two neighbours on `path` between which there is no link.
+/// Returns the reason that no link leads from a resource of `path` to the next, for the first two such resources.
 fn link_reason(
     alloc: Global,
     mapped: Mapped<'_>,
@@ -128,7 +128,7 @@ fn drives(mapped: Mapped<'_>, from: u32, to: u32) -> bool {
     mapped.drivers(to as usize).contains(&from)
 }
 
-/// Returns which resources of `mapped` drive resource number `resource`.
+/// Returns the part of a note that names the drivers of resource number `resource`.
 fn drivers_of(alloc: Global, mapped: Mapped<'_>, resource: u32) -> Result<String, AllocError> {
     let mut names: Vec<&str> = Vec::new(alloc);
     for driver in mapped.drivers(resource as usize) {
@@ -143,7 +143,7 @@ fn drivers_of(alloc: Global, mapped: Mapped<'_>, resource: u32) -> Result<String
     format!(in alloc; "{name} is driven by {list}")
 }
 
-/// Returns where `route` of `mapped` ends, `last`, if that isn't the port of its argument.
+/// Returns the reason that `route` ends at `last`, if that isn't the port of its argument.
 fn end_reason(
     alloc: Global,
     mapped: Mapped<'_>,
@@ -160,7 +160,7 @@ fn end_reason(
     let note = match port {
         Some(port) => {
             let port = mapped.resource_name(port as usize);
-            format!(in alloc; "ends at {last}, and has to end at {port}")?
+            format!(in alloc; "ends at {last}, but must end at {port}")?
         }
         None => format!(in alloc; "ends at {last}, and {unit} has no port for this argument")?,
     };

@@ -14,10 +14,10 @@ use cg_view::{ConfigView, Contexts};
 use cg_word::Op;
 use std::alloc::{AllocError, Global};
 
-/// The most work of resources and units in all cycles that is repeated for a note.
+/// The maximum work of resources and units, over all cycles, that is repeated for a note.
 const MOST_WORK: u64 = 50_000_000;
 
-/// A run of an array, as its files give it.
+/// A run of an array, as its files describe it.
 #[derive(Clone, Copy, Drop)]
 struct Run<'a> {
     arch: &'a Arch,
@@ -27,8 +27,9 @@ struct Run<'a> {
     image: &'a Image,
 }
 
-/// Adds to `notes` what a run of `turns` turns of the architecture whose file has the bytes `arch`, under `bits` and from the image
-/// that is `image`, did outside: where `reaches_outside` is true its first access outside the memory, and inputs past their streams.
+/// Adds to `notes` the notes on a run of `turns` iterations of the architecture whose file has the bytes `arch`,
+/// configured by `bits`, from the image `image`: on its first access outside the memory if `reaches_outside` is true,
+/// and on the inputs that read past their streams.
 pub fn array_notes(
     alloc: Global,
     arch: &[u8],
@@ -69,7 +70,7 @@ fn inputs_of(run: Run<'_>) -> [bool; PORTS] {
     inputs
 }
 
-/// Marks in `inputs` the ports that inputs of `run` read in `slot`.
+/// Marks in `inputs` the ports that the inputs of `run` read in `slot`.
 fn mark_slot(run: Run<'_>, slot: u32, inputs: &mut [bool; PORTS]) {
     let first = unit_from(run.arch, CGB2, 0);
     let mut from = slot_from(run.arch, slot as usize).saturating_add(first);
@@ -82,7 +83,7 @@ fn mark_slot(run: Run<'_>, slot: u32, inputs: &mut [bool; PORTS]) {
     }
 }
 
-/// Adds to `notes` the first access outside the memory of `run` under `view`, unless it is too far off.
+/// Adds to `notes` the first access outside the memory of `run` under `view`, unless it comes too late in the run.
 fn add_first(
     alloc: Global,
     run: Run<'_>,
@@ -102,7 +103,7 @@ fn add_first(
     }
 }
 
-/// Returns how many cycles of `arch` are repeated at most.
+/// Returns the maximum number of cycles of `arch` that are repeated.
 fn most_cycles(arch: &Arch) -> u64 {
     let units = (arch.units().len() as u64).saturating_mul(8);
     let work = (arch.resources().len() as u64).saturating_add(units);
@@ -112,8 +113,8 @@ fn most_cycles(arch: &Arch) -> u64 {
     }
 }
 
-/// Runs `sim` through the first cycle with an access outside the memory, and returns its number; None where the first `most` cycles
-/// have none.
+/// Runs `sim` up to and including the first cycle with an access outside the memory, and returns the number of that
+/// cycle; None if the first `most` cycles have no such access.
 fn cycle_outside(sim: &mut Sim<'_, ConfigView<'_>>, most: u64) -> Option<u64>
     ensures { sim.new.arch ≡ sim.old.arch }
 {
@@ -129,7 +130,7 @@ fn cycle_outside(sim: &mut Sim<'_, ConfigView<'_>>, most: u64) -> Option<u64>
     None
 }
 
-/// Adds to `notes` the first access outside the memory that a unit of `run` begins in `cycle`, the last one of `sim`.
+/// Adds to `notes` the first access outside the memory that a unit of `run` begins in `cycle`, the last cycle of `sim`.
 fn add_in_cycle(
     alloc: Global,
     run: Run<'_>,
@@ -159,8 +160,8 @@ fn add_in_cycle(
     Ok(())
 }
 
-/// Returns what `unit` of `run`, with these `fields`, begins in the last cycle of `sim`, which is of round `round`; None where it
-/// begins nothing.
+/// Returns the work that `unit` of `run`, with the fields `fields`, begins in the last cycle of `sim`, which is in
+/// round `round`; None if it begins none.
 fn work_of(
     run: Run<'_>,
     sim: &Sim<'_, ConfigView<'_>>,
@@ -188,7 +189,8 @@ fn work_of(
     })
 }
 
-/// Returns argument number `number` of a unit of `run` with these `ports` and `fields` in turn `turn`, in the last cycle of `sim`.
+/// Returns argument `number` of a unit of `run` with the ports `ports` and the fields `fields` in iteration `turn`, in
+/// the last cycle of `sim`.
 fn argument(
     run: Run<'_>,
     sim: &Sim<'_, ConfigView<'_>>,
@@ -228,7 +230,7 @@ fn word_on(run: Run<'_>, sim: &Sim<'_, ConfigView<'_>>, resource: u32) -> u32
     }
 }
 
-/// Adds to `notes` that `work` of `unit` is an access outside the memory that `run` starts from.
+/// Adds to `notes` that `work` of `unit` is an access outside the memory of the image of `run`.
 fn add_access(
     alloc: Global,
     run: Run<'_>,
@@ -242,7 +244,7 @@ fn add_access(
     let turn = work.turn;
     let address = work.address();
     let note = format!(in alloc;
-        "first access outside: {op} of unit {name} in turn {turn} at address {address}, and the memory ends before address {words}"
+        "first access outside the memory: {op} of unit {name} in turn {turn} at address {address}; the memory ends before address {words}"
     )?;
     notes.push(note)?;
     Ok(())

@@ -1,4 +1,5 @@
-//! Notes on runs: the first access outside the memory, inputs that read past their streams, and accesses that no edge orders.
+//! Notes on runs: the first access outside the memory, inputs that read past their streams, and accesses that no edge
+//! orders.
 #![tactic(auto)]
 
 mod array;

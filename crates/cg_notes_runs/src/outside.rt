@@ -1,13 +1,13 @@
-//! The first access outside the memory in a number of turns.
+//! The first access outside the memory in a number of iterations.
 
 use cg_model::{Kernel, Node, Operand};
 use cg_pad::{Image, Scratchpad, Work};
 use std::alloc::{AllocError, Global};
 
-/// The turns whose values are kept: an operand is of at most four turns ago.
+/// The number of iterations whose values are kept: an operand comes from at most four iterations before.
 const ROWS: u32 = 5;
 
-/// The most steps of nodes that are repeated for a note.
+/// The maximum number of node steps that are repeated for a note.
 const MOST_STEPS: u32 = 20_000_000;
 
 /// An access outside the memory.
@@ -15,13 +15,13 @@ const MOST_STEPS: u32 = 20_000_000;
 pub(crate) struct Access {
     /// The number of its node.
     pub(crate) node: usize,
-    /// Its turn.
+    /// Its iteration.
     pub(crate) turn: u32,
-    /// The word that it would reach.
+    /// The address of the word that it would reach.
     pub(crate) address: u32,
 }
 
-/// What turns have left so far.
+/// The state after the iterations so far.
 #[derive(Drop)]
 struct Turns<'a> {
     kernel: &'a Kernel,
@@ -30,8 +30,8 @@ struct Turns<'a> {
     values: Vec<u32>,
 }
 
-/// Returns the first access of `kernel` outside the memory of `image` in `turns` turns; None where there is none, or it is too far
-/// off to be sought.
+/// Returns the first access of `kernel` outside the memory of `image` in `turns` iterations; None if there is none, or
+/// if it comes too late to be sought.
 pub(crate) fn first_outside(
     alloc: Global,
     kernel: &Kernel,
@@ -53,7 +53,7 @@ pub(crate) fn first_outside(
     Ok(None)
 }
 
-/// Returns how many turns of `size` nodes are repeated at most.
+/// Returns the maximum number of iterations of `size` nodes that are repeated.
 fn most_turns(size: usize) -> u32 {
     match u32::try_from(size) {
         Ok(size) => MOST_STEPS.checked_div(size).unwrap_or(0),
@@ -62,7 +62,7 @@ fn most_turns(size: usize) -> u32 {
 }
 
 impl Turns<'_> {
-    /// Does turn number `turn`, up to its first access outside the memory, which it returns.
+    /// Executes iteration `turn` up to its first access outside the memory, and returns that access.
     fn turn(&mut self, turn: u32) -> Option<Access> {
         let kernel = self.kernel;
         for (number, node) in kernel.nodes().iter().enumerate() {
@@ -77,7 +77,8 @@ impl Turns<'_> {
         None
     }
 
-    /// Does `node`, which is number `number`, in turn `turn`. Returns the word that it would reach, where that is outside.
+    /// Executes `node`, node `number`, in iteration `turn`. Returns the address of the word that it would reach, if
+    /// that is outside the memory.
     fn step(&mut self, turn: u32, number: usize, node: &Node) -> Option<u32> {
         let operands = node.operands.as_slice();
         let work = Work {
@@ -102,14 +103,14 @@ impl Turns<'_> {
         None
     }
 
-    /// Returns where the value of node number `number` in turn `turn` is kept.
+    /// Returns where the value of node `number` in iteration `turn` is kept.
     fn place(&self, turn: u32, number: usize) -> usize {
         let row = (turn % ROWS) as usize;
         row.saturating_mul(self.kernel.nodes().len())
             .saturating_add(number)
     }
 
-    /// Returns operand number `number` of `operands` in turn `turn`; 0 where there are fewer.
+    /// Returns operand `number` of `operands` in iteration `turn`; 0 if there are fewer operands.
     fn argument(&self, operands: &[Operand], number: usize, turn: u32) -> u32 {
         match operands.get(number) {
             Some(Operand::Const(word)) => *word,

@@ -4,8 +4,8 @@ use cg_model::PORTS;
 use cg_pad::Image;
 use std::alloc::{AllocError, Global};
 
-/// Adds to `notes` for each port that `inputs` marks from which turn on its input reads past its stream of `image`, where that is
-/// one of `turns` turns.
+/// Adds to `notes`, for each port that `inputs` marks, the iteration from which its input reads past its stream of
+/// `image`, if that is one of the `turns` iterations.
 pub(crate) fn add_short_streams(
     alloc: Global,
     image: &Image,
@@ -38,7 +38,7 @@ fn add_short(
     notes: &mut Vec<String>,
 ) -> Result<(), AllocError> {
     let note = format!(in alloc;
-        "stream {port} is at its end: its input reads 0 from turn {words} on"
+        "stream {port} has {words} words: its input reads 0 from turn {words} on"
     )?;
     notes.push(note)?;
     Ok(())

@@ -8,8 +8,8 @@ use cg_pad::{Image, read_image};
 use cg_word::Op;
 use std::alloc::{AllocError, Global};
 
-/// Adds to `notes` what `turns KERNEL TURNS` leaves out of the kernel whose file has the bytes `kernel`: its inputs and its accesses,
-/// for which there is no image.
+/// Adds to `notes` what `turns KERNEL TURNS` leaves out of the kernel whose file has the bytes `kernel`: its inputs and
+/// its accesses, for which there is no image.
 pub fn turns_notes(
     alloc: Global,
     kernel: &[u8],
@@ -28,14 +28,15 @@ pub fn turns_notes(
         (false, false) => return Ok(()),
     };
     let note = format!(in alloc;
-        "there is no image, so {what}: turns KERNEL TURNS IN OUT runs from one"
+        "there is no image, so {what}: to run from an image, use turns KERNEL TURNS IN OUT"
     )?;
     notes.push(note)?;
     Ok(())
 }
 
-/// Adds to `notes` what a run of `turns` turns of the kernel whose file has the bytes `kernel`, from the image that is `image`, did
-/// outside: where `reaches_outside` is true its first access outside the memory, and inputs past their streams.
+/// Adds to `notes` the notes on a run of `turns` iterations of the kernel whose file has the bytes `kernel`, from the
+/// image `image`: on its first access outside the memory if `reaches_outside` is true, and on the inputs that read past
+/// their streams.
 pub fn image_notes(
     alloc: Global,
     kernel: &[u8],
@@ -88,7 +89,7 @@ fn add_access(
         None => "",
     };
     let note = format!(in alloc;
-        "first access outside: {name} in turn {turn} at address {address}, and the memory ends before address {words}"
+        "first access outside the memory: {name} in turn {turn} at address {address}; the memory ends before address {words}"
     )?;
     notes.push(note)?;
     Ok(())

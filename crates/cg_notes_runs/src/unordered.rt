@@ -5,8 +5,8 @@ use cg_kernel::read_kernel;
 use cg_model::{Kernel, OrderEdge};
 use std::alloc::{AllocError, Global};
 
-/// Adds to `notes` that two accesses of the kernel whose file has the bytes `kernel` may reach one word and are ordered by no edge,
-/// where there are such.
+/// Adds to `notes` that two accesses of the kernel whose file has the bytes `kernel` may reach the same word without an
+/// edge that orders them, if there are two such accesses.
 pub fn unordered_notes(
     alloc: Global,
     kernel: &[u8],
@@ -24,7 +24,7 @@ pub fn unordered_notes(
         Err(DependFault::TooManyEdges(_)) => {
             let note = String::from_str(
                 alloc,
-                "accesses to one word may be ordered by no edge: the bits do what the turns do where the order of accesses doesn't matter",
+                "accesses to the same word may lack an edge that orders them: the bits do what the turns do only if the order of these accesses doesn't matter",
             )?;
             notes.push(note)?;
             Ok(())
@@ -32,7 +32,7 @@ pub fn unordered_notes(
     }
 }
 
-/// Adds to `notes` that `kernel` lacks `edge`.
+/// Adds to `notes` that `kernel` lacks the order edge `edge`.
 fn add_edge(
     alloc: Global,
     kernel: &Kernel,
@@ -42,13 +42,13 @@ fn add_edge(
     let from = name_of(kernel, edge.from);
     let to = name_of(kernel, edge.to);
     let note = format!(in alloc;
-        "{from} and {to} may reach one word, and no edge orders them: depend adds what is needed"
+        "{from} and {to} may reach the same word, but no edge orders them: the command depend adds the missing edges"
     )?;
     notes.push(note)?;
     Ok(())
 }
 
-/// Returns the name of node number `node` of `kernel`; empty where there is none.
+/// Returns the name of node number `node` of `kernel`; an empty name if there is none.
 fn name_of(kernel: &Kernel, node: u32) -> &str {
     match kernel.nodes().get(node as usize) {
         Some(node) => node.name.as_str(),

@@ -1,4 +1,4 @@
-//! What is found in a text, and where.
+//! Findings in texts, with their places.
 
 use std::alloc::{AllocError, Global};
 use std::fmt;
@@ -16,7 +16,7 @@ impl Place {
     /// The first byte of a text.
     pub const START: Place = Place { line: 1, column: 1 };
 
-    /// Returns the place of the byte of `bytes` that stands after `offset` others.
+    /// Returns the place of byte `offset`, counted from 0, of `bytes`.
     pub fn at(bytes: &[u8], offset: usize) -> Place {
         let before = &bytes[..offset.min(bytes.len())];
         let lines = before.iter().filter(|byte| **byte == b'\n').count();
@@ -39,17 +39,17 @@ impl fmt::Display for Place {
     }
 }
 
-/// What a person needs to hear of a text, and of which place.
+/// A note for the user on a place of a text.
 #[derive(Drop)]
 pub struct Finding {
     /// The place.
     pub place: Place,
-    /// What to hear, in a sentence.
+    /// The note, in a sentence.
     pub text: String,
 }
 
 impl Finding {
-    /// Returns the finding that says `text` of `place`.
+    /// Returns the finding with the sentence `text` at `place`.
     pub fn new(alloc: Global, place: Place, text: &str) -> Result<Finding, AllocError> {
         let text = String::from_str(alloc, text)?;
         Ok(Finding { place, text })

@@ -1,12 +1,12 @@
-//! Faults of texts that are no JSON.
+//! Faults of texts that aren't JSON.
 
 use crate::finding::{Finding, Place};
 use crate::quotes::missing_quote;
 use serde_json::Value;
 use std::alloc::{AllocError, Global};
 
-/// Returns what the parser of JSON says of `bytes`, and `None` where it takes them. The caller has seen by `json_value`
-/// that their values don't take too much memory.
+/// Returns the error of the JSON parser on `bytes`, and `None` if there is none. The caller has checked with
+/// `json_value` that their values don't take too much memory.
 pub(crate) fn json_error(alloc: Global, bytes: &[u8]) -> Result<Option<Finding>, AllocError> {
     match Value::from_slice(alloc, bytes) {
         Ok(_) => Ok(None),
@@ -15,7 +15,7 @@ pub(crate) fn json_error(alloc: Global, bytes: &[u8]) -> Result<Option<Finding>,
     }
 }
 
-/// Returns what `error` says of which place. At the end of a text the parser may count no column.
+/// Returns the finding of `error`, with its place. At the end of a text the parser may count no column.
 fn of_json_error(
     alloc: Global,
     bytes: &[u8],
@@ -44,8 +44,8 @@ fn of_json_error(
     Ok(Finding { place, text })
 }
 
-/// Returns the byte before byte `at` of `bytes` where that is a bracket which closes one of the other kind, or which stands in the place of
-/// a key: the parser says the place behind it. Returns None otherwise.
+/// Returns the byte before byte `at` of `bytes` if it is a bracket that closes one of the other kind, or a bracket in
+/// the place of a key: the parser reports the place after it. Returns None otherwise.
 fn wrong_bracket(alloc: Global, bytes: &[u8], at: usize) -> Result<Option<usize>, AllocError> {
     let Some(back) = at.checked_sub(1) else {
         return Ok(None);
@@ -69,7 +69,8 @@ fn wrong_bracket(alloc: Global, bytes: &[u8], at: usize) -> Result<Option<usize>
     Ok(None)
 }
 
-/// Returns what may be wrong at `place` of `bytes`, which are no JSON text there by `message`; empty where that can't be said.
+/// Returns a hint on what may be wrong at `place` of `bytes`, where the parser reports `message`; empty if there is
+/// none.
 fn json_hint(
     alloc: Global,
     bytes: &[u8],
@@ -93,19 +94,20 @@ fn json_hint(
     within(alloc, bytes, "isn't closed")
 }
 
-/// Returns that the last bracket of `bytes` that is open at their end, outside texts, `is` so; empty where there is none.
+/// Returns the hint `: the BRACKET of PLACE` and then `is`, for the last bracket of `bytes` that is open at their end,
+/// outside strings; empty if none is open.
 pub(crate) fn within(alloc: Global, bytes: &[u8], is: &str) -> Result<String, AllocError> {
     match open_bracket(alloc, bytes)? {
         Some(Open { byte, place }) => {
             let bracket = char::from(byte);
-            format!(in alloc; ": the {bracket} of {place} {is}")
+            format!(in alloc; ": the {bracket} at {place} {is}")
         }
         None => Ok(String::new(alloc)),
     }
 }
 
-/// Returns which mark or bracket is missing in the last bracket of `before` that is open, where `rest` follows that, behind a value or a
-/// key whose last byte is `last`. Returns None where none is.
+/// Returns the hint on the mark or bracket that is missing in the last open bracket of `before`, before `rest`, after a
+/// value or a key whose last byte is `last`. Returns None if none is missing.
 fn missing_mark(
     alloc: Global,
     before: &[u8],
@@ -121,15 +123,15 @@ fn missing_mark(
     let text = match (byte, rest) {
         (b'{', [b']', ..]) | (b'[', [b'}', ..]) if is_value => {
             let close = if byte == b'{' { '}' } else { ']' };
-            format!(in alloc; ": a {close} is missing before it, for the {bracket} of {place}")?
+            format!(in alloc; ": a {close} is missing before it, for the {bracket} at {place}")?
         }
         (b'{', [b'{' | b'[', ..]) if matches!(last, Some(b'{' | b',')) => String::from_str(
             alloc,
-            ": a key stands here, in double quotes; is a bracket before it closed too early?",
+            ": a key in double quotes is expected here; was a bracket before it closed too early?",
         )?,
         (b'[', [b':', ..]) if is_value => String::from_str(
             alloc,
-            ": a key and its value stand in braces, as {\"from\":\"s\"}",
+            ": a key and its value are written in braces, for example {\"from\":\"s\"}",
         )?,
         _ if !(is_value && begins_next) => return Ok(None),
         (b'[', _) => String::from_str(alloc, ": a comma or ] is missing before it")?,
@@ -142,7 +144,8 @@ fn missing_mark(
     Ok(Some(text))
 }
 
-/// Checks whether the text that `before` ends with is a key: an opening brace or a comma is the last mark outside texts.
+/// Checks whether the string that `before` ends with is a key: whether the last mark outside strings is an opening
+/// brace or a comma.
 fn is_behind_key(before: &[u8]) -> bool {
     let mut mark = 0u8;
     let mut is_text = false;
@@ -161,30 +164,30 @@ fn is_behind_key(before: &[u8]) -> bool {
     mark == b'{' || mark == b','
 }
 
-/// Returns what may be wrong where `rest` follows the byte `last`.
+/// Returns a hint on what may be wrong where `rest` follows the byte `last`.
 fn byte_hint(last: Option<u8>, rest: &[u8]) -> &'static str {
     match (last, rest) {
-        (_, [b'/' | b'#', ..]) => ": there are no comments",
-        (_, [b'\'', ..]) => ": texts stand in double quotes",
+        (_, [b'/' | b'#', ..]) => ": JSON has no comments",
+        (_, [b'\'', ..]) => ": strings are written in double quotes",
         (_, [0xEF, ..]) => ": it begins with a byte-order mark",
         (Some(b'0'), [b'x' | b'X', ..]) | (_, [b'0', b'x' | b'X', ..]) => ": numbers are decimal",
         (_, [b'0', b'0'..=b'9', ..]) => ": a number doesn't begin with 0",
-        (_, [b'T' | b'F' | b'N', ..]) => ": true, false and null have small letters",
+        (_, [b'T' | b'F' | b'N', ..]) => ": true, false and null are written in lower case",
         (_, [b'+', ..]) => ": a number has no plus sign",
-        (Some(b','), [b']' | b'}', ..]) => ": a comma stands before it",
+        (Some(b','), [b']' | b'}', ..]) => ": remove the comma before it",
         (Some(b']' | b'}'), [b']' | b'}', ..]) => ": no bracket of this kind is open",
         (Some(b'"' | b']' | b'}' | b'0'..=b'9'), [b'"' | b'[' | b'{' | b'0'..=b'9', ..]) =>
             ": a comma is missing before it",
-        (_, [b'=', ..]) => ": a colon stands between a key and its value",
+        (_, [b'=', ..]) => ": a key and its value are separated by a colon",
         (Some(b'{' | b','), [b'a'..=b'z' | b'A'..=b'Z' | b'_', ..]) =>
-            ": a key stands in double quotes",
+            ": keys are written in double quotes",
         (Some(b':' | b'['), [b'a'..=b'z' | b'A'..=b'Z' | b'_', ..]) =>
-            ": a text stands in double quotes",
+            ": strings are written in double quotes",
         _ => "",
     }
 }
 
-/// Returns the place of the byte at `place` of `bytes`, or their length where the line is shorter.
+/// Returns the offset of the byte at `place` of `bytes`, or the length of `bytes` if the line is shorter.
 fn offset_of(bytes: &[u8], place: Place) -> usize {
     let mut at = 0usize;
     for line in bytes
@@ -197,7 +200,7 @@ fn offset_of(bytes: &[u8], place: Place) -> usize {
         .min(bytes.len())
 }
 
-/// Returns how many bytes of `bytes` stand before the last one that is no blank and no line end.
+/// Returns the number of bytes of `bytes` before the last one that is neither a blank nor a line end.
 fn before_last(bytes: &[u8]) -> usize {
     let blanks = bytes
         .iter()
@@ -214,7 +217,7 @@ struct Open {
     place: Place,
 }
 
-/// Returns the last bracket of `bytes` that isn't closed at their end, outside texts.
+/// Returns the last bracket of `bytes` that isn't closed at their end, outside strings.
 fn open_bracket(alloc: Global, bytes: &[u8]) -> Result<Option<Open>, AllocError> {
     let mut open: Vec<usize> = Vec::new(alloc);
     let mut is_text = false;

@@ -1,4 +1,4 @@
-//! Notes on texts: what is found in one, where, and what that says of JSON, TOML and texts of words.
+//! Notes on texts: findings and their places, and the faults of JSON, TOML and texts of words.
 #![tactic(auto)]
 
 mod finding;

@@ -2,10 +2,10 @@
 
 use std::alloc::{AllocError, Global};
 
-/// The most names of a list that are shown.
+/// The maximum number of names of a list that are shown.
 const MOST_SHOWN: usize = 8;
 
-/// Returns the first of `names`, a comma between two, and two points where there are more.
+/// Returns the first of `names`, separated by commas, with two points at the end if there are more.
 pub fn short_list(alloc: Global, names: &[&str]) -> Result<String, AllocError> {
     let mut list = String::new(alloc);
     for (number, name) in names.iter().take(MOST_SHOWN).enumerate() {

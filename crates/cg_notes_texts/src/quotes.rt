@@ -2,8 +2,9 @@
 
 use std::alloc::{AllocError, Global};
 
-/// Returns that a double quote is missing in the line of `bytes` around byte `at`, where the number of its quotes is odd; None where it
-/// isn't. Where `has_comments` is true, what stands behind a `#` outside texts doesn't count.
+/// Returns the message that a double quote is missing in the line of `bytes` around byte `at`, if the number of its
+/// quotes is odd; None if it is even. If `has_comments` is true, the rest of the line after a `#` outside strings
+/// doesn't count.
 pub(crate) fn missing_quote(
     alloc: Global,
     bytes: &[u8],
@@ -15,7 +16,7 @@ pub(crate) fn missing_quote(
         return Ok(None);
     }
     let text = format!(in alloc;
-        "a double quote is missing in this line, which has {quotes}: each text has one before it and one behind it"
+        "a double quote is missing in this line, which has {quotes}: each string has one before it and one after it"
     )?;
     Ok(Some(text))
 }
@@ -36,7 +37,8 @@ fn line_around(bytes: &[u8], at: usize) -> &[u8] {
         .unwrap_or(&[])
 }
 
-/// Returns how many double quotes `line` has, but for those behind a backslash in a text, and in a comment where `has_comments` is true.
+/// Returns the number of double quotes in `line`, except those after a backslash in a string, and those in a comment if
+/// `has_comments` is true.
 fn quotes_in(line: &[u8], has_comments: bool) -> usize {
     let mut quotes = 0usize;
     let mut is_escaped = false;

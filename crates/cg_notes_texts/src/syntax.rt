@@ -1,20 +1,27 @@
-//! Faults of texts that are no JSON or no TOML.
+//! Faults of texts that aren't JSON or aren't TOML.
 
 use crate::finding::{Finding, Place};
-use crate::headers::{header_tile, table_line};
+use crate::headers::{header_tile, last_tile, table_line};
 use crate::json::{json_error, within};
 use crate::quotes::missing_quote;
-use cg_json::{JsonFault, json_value};
+use crate::words::is_word_byte;
+use cg_json::{JsonFault, json_value, text_at};
 use cg_slips::shown;
 use cg_toml::{TomlFault, toml_table};
+use serde_json::Value;
 use std::alloc::{AllocError, Global};
 
-/// The most bytes of a text that is parsed again for a note: it takes as long as judging it did, or twice as long.
+/// The maximum number of bytes of a text that is parsed again for a note: parsing takes as long as judging the text
+/// did, or twice as long.
 pub const MOST_PARSED: usize = 1_000_000;
 
-/// Returns why `bytes` are no JSON text, where `what` is the file that should be one. Returns `None` where they are one.
+/// The maximum number of bytes of a key that are shown.
+const MOST_KEY: usize = 40;
+
+/// Returns why `bytes` are not a JSON text, where `what` names the file that should be one. Returns `None` if they are
+/// one.
 ///
-/// A text whose values would take too much memory as TOML counts as none.
+/// A text whose values would take too much memory as TOML doesn't count as TOML.
 pub fn find_in_json(
     alloc: Global,
     bytes: &[u8],
@@ -27,7 +34,7 @@ pub fn find_in_json(
         return Ok(None);
     }
     if toml_table(alloc, bytes).is_ok() {
-        let text = format!(in alloc; "this is TOML; a {what} is JSON")?;
+        let text = format!(in alloc; "this is TOML, but a {what} is JSON")?;
         return Ok(Some(Finding {
             place: Place::START,
             text,
@@ -43,10 +50,10 @@ pub fn find_in_json(
     }
 }
 
-/// Returns why `bytes` are no TOML document, as the file of an architecture should be. Returns `None` where they are
+/// Returns why `bytes` are not a TOML document, which the file of an architecture should be. Returns `None` if they are
 /// one.
 ///
-/// A text whose values would take too much memory as JSON counts as none.
+/// A text whose values would take too much memory as JSON doesn't count as JSON.
 pub fn find_in_toml(alloc: Global, bytes: &[u8]) -> Result<Option<Finding>, AllocError> {
     if let Some(finding) = find_in_bytes(alloc, bytes, "architecture")? {
         return Ok(Some(finding));
@@ -54,9 +61,8 @@ pub fn find_in_toml(alloc: Global, bytes: &[u8]) -> Result<Option<Finding>, Allo
     if bytes.len() > MOST_PARSED {
         return Ok(None);
     }
-    if json_value(alloc, bytes).is_ok() {
-        let text = "this is JSON; an architecture is TOML";
-        return Ok(Some(Finding::new(alloc, Place::START, text)?));
+    if let Ok(value) = json_value(alloc, bytes) {
+        return Ok(Some(Finding::new(alloc, Place::START, json_text(&value))?));
     }
     if let Some(text) = other_text(bytes) {
         return Ok(Some(Finding::new(alloc, Place::START, text)?));
@@ -68,32 +74,39 @@ pub fn find_in_toml(alloc: Global, bytes: &[u8]) -> Result<Option<Finding>, Allo
     }
 }
 
-/// Returns what `bytes` are where they begin as a text of another format that isn't JSON.
+/// Returns what `value`, the value of a JSON text, represents in place of an architecture.
+fn json_text(value: &Value) -> &'static str {
+    match text_at(value, "format") {
+        Some("cgk1" | "cgk2") => "this is a kernel, but an architecture is expected",
+        Some("cgm1") => "this is a mapping, but an architecture is expected",
+        _ => "this is JSON, but an architecture is TOML",
+    }
+}
+
+/// Returns what `bytes` are if they begin like a text of another format that isn't JSON.
 fn other_text(bytes: &[u8]) -> Option<&'static str> {
     if bytes.starts_with(b"module ") {
-        Some("this is Verilog, which only run reads, behind --netlist")
+        Some("this is Verilog, which only run reads, after --netlist")
     } else if bytes.starts_with(b"cgaflat1") {
-        Some(
-            "this is the flat text of an architecture, as flat writes it from the file of the architecture",
-        )
+        Some("this is the flat text that the command flat writes from the file of an architecture")
     } else if bytes.starts_with(b"cgl1") {
-        Some("this is a loop body: the command loop makes a kernel of it")
+        Some("this is a loop body: the command loop translates it into a kernel")
     } else {
         None
     }
 }
 
-/// Returns why `bytes` can be no text of any language, where `what` is the file that they should be: they are bits or an image, no
-/// UTF-8, or blank. Returns `None` otherwise.
+/// Returns why `bytes` can't be a text of any language, where `what` names the file that they should be: they are bits
+/// or an image, aren't UTF-8, or are blank. Returns `None` otherwise.
 fn find_in_bytes(alloc: Global, bytes: &[u8], what: &str) -> Result<Option<Finding>, AllocError> {
     if let Some(is) = no_text(bytes) {
-        let text = format!(in alloc; "{is}, and the file of the {what} is asked")?;
+        let text = format!(in alloc; "{is}, but the file of the {what} is expected")?;
         let place = Place::START;
         return Ok(Some(Finding { place, text }));
     }
     if let Err(error) = std::str::from_utf8(bytes) {
         let place = Place::at(bytes, error.valid_up_to());
-        return Ok(Some(Finding::new(alloc, place, "this byte is no text in UTF-8")?));
+        return Ok(Some(Finding::new(alloc, place, "this byte is not valid UTF-8")?));
     }
     if bytes
         .iter()
@@ -104,7 +117,7 @@ fn find_in_bytes(alloc: Global, bytes: &[u8], what: &str) -> Result<Option<Findi
     Ok(None)
 }
 
-/// Returns what `bytes` are where they begin as bits or as an image.
+/// Returns what `bytes` are if they begin like bits or an image.
 fn no_text(bytes: &[u8]) -> Option<&'static str> {
     if bytes.starts_with(b"CGB") {
         Some("these are bits")
@@ -115,8 +128,8 @@ fn no_text(bytes: &[u8]) -> Option<&'static str> {
     }
 }
 
-/// Returns what the parser of TOML says of `bytes`, and `None` where it takes them. The caller has seen by `toml_table`
-/// that their values don't take too much memory.
+/// Returns the error of the TOML parser on `bytes`, and `None` if there is none. The caller has checked with
+/// `toml_table` that their values don't take too much memory.
 fn toml_error(alloc: Global, bytes: &[u8]) -> Result<Option<Finding>, AllocError> {
     match toml::table_from_slice(alloc, bytes) {
         Ok(_) => Ok(None),
@@ -134,6 +147,10 @@ fn toml_error(alloc: Global, bytes: &[u8]) -> Result<Option<Finding>, AllocError
                 let place = Place::at(bytes, span.start);
                 return Ok(Some(Finding { place, text }));
             }
+            if let Some(text) = header_within(alloc, bytes, span.start)? {
+                let place = Place::at(bytes, span.start);
+                return Ok(Some(Finding { place, text }));
+            }
             let hint = toml_hint(alloc, bytes, span.start, message)?;
             let hint = hint.as_str();
             let text = format!(in alloc; "{message}{hint}")?;
@@ -143,7 +160,8 @@ fn toml_error(alloc: Global, bytes: &[u8]) -> Result<Option<Finding>, AllocError
     }
 }
 
-/// Returns that the parts of a tile are a list, where a header stands at byte `at` of `bytes` and the tile is opened as one table.
+/// Returns the message that the parts of a tile are a list, if byte `at` of `bytes` begins a header and the tile is
+/// opened as one table.
 fn table_for_list(alloc: Global, bytes: &[u8], at: usize) -> Result<Option<Finding>, AllocError> {
     let Some(tile) = header_tile(bytes.get(at..).unwrap_or(&[])) else {
         return Ok(None);
@@ -154,13 +172,14 @@ fn table_for_list(alloc: Global, bytes: &[u8], at: usize) -> Result<Option<Findi
     let tile = shown(alloc, tile)?;
     let tile = tile.as_str();
     let text = format!(in alloc;
-        "the parts of a tile are a list: each begins with its header in two brackets, [[tiles.{tile}]]"
+        "the parts of a tile are a list: each begins with its header in double brackets, [[tiles.{tile}]]"
     )?;
     let place = Place::at(bytes, begins);
     Ok(Some(Finding { place, text }))
 }
 
-/// Returns that a double quote is missing in the line of `bytes` around byte `at`; None where none is, or where texts have other quotes.
+/// Returns the message that a double quote is missing in the line of `bytes` around byte `at`; None if none is missing,
+/// or if `bytes` contain other quotes.
 fn toml_quote(alloc: Global, bytes: &[u8], at: usize) -> Result<Option<String>, AllocError> {
     let has_others = match std::str::from_utf8(bytes) {
         Ok(text) => text.contains("\"\"\"") || text.contains('\''),
@@ -172,24 +191,84 @@ fn toml_quote(alloc: Global, bytes: &[u8], at: usize) -> Result<Option<String>, 
     missing_quote(alloc, bytes, at, true)
 }
 
-/// Returns what may be wrong at byte `at` of `bytes`, which are no TOML there by `message`; empty where that can't be said.
+/// Returns the message that byte `at` of `bytes` lies in a header within an open bracket; None if it doesn't.
+fn header_within(alloc: Global, bytes: &[u8], at: usize) -> Result<Option<String>, AllocError> {
+    let before = bytes.get(..at).unwrap_or(&[]);
+    let inside = before
+        .iter()
+        .rev()
+        .take_while(|byte| **byte == b'[')
+        .count();
+    let begins = at.saturating_sub(inside);
+    let above = before.get(..begins).unwrap_or(&[]);
+    if above.last() != Some(&b'\n') || header_tile(bytes.get(begins..).unwrap_or(&[])).is_none() {
+        return Ok(None);
+    }
+    let open = within(alloc, above, "isn't closed before this header")?;
+    match open.as_str().strip_prefix(": ") {
+        Some(open) => {
+            let text = format!(in alloc; "a ] is missing: {open}")?;
+            Ok(Some(text))
+        }
+        None => Ok(None),
+    }
+}
+
+/// Returns a hint on what may be wrong at byte `at` of `bytes`, where the parser reports `message`; empty if there is
+/// none.
 fn toml_hint(alloc: Global, bytes: &[u8], at: usize, message: &str) -> Result<String, AllocError> {
+    let before = bytes.get(..at).unwrap_or(&[]);
+    if has_unit(before, bytes.get(at..).unwrap_or(&[])) {
+        return String::from_str(
+            alloc,
+            ": numbers are written in digits, for example 4096 for 4k",
+        );
+    }
+    if message.starts_with("duplicate key") {
+        if let Some(tile) = last_tile(before) {
+            let tile = shown(alloc, tile)?;
+            let tile = tile.as_str();
+            let key = word_at(bytes, at);
+            return format!(in alloc;
+                ": this part has {key} already; if another part begins here, its header [[tiles.{tile}]] is missing"
+            );
+        }
+    }
     match start_hint(bytes.get(at..).unwrap_or(&[]), message) {
         "" => within(alloc, bytes.get(..at).unwrap_or(&[]), "is open here"),
         hint => String::from_str(alloc, hint),
     }
 }
 
-/// Returns what may be wrong where `rest` is no TOML by `message`; empty where that can't be said.
+/// Returns the word that begins at byte `at` of `bytes`, or the beginning of a long one.
+fn word_at(bytes: &[u8], at: usize) -> &str {
+    let rest = bytes.get(at..).unwrap_or(&[]);
+    let length = rest
+        .iter()
+        .take(MOST_KEY)
+        .take_while(|byte| is_word_byte(**byte))
+        .count();
+    std::str::from_utf8(rest.get(..length).unwrap_or(&[])).unwrap_or("")
+}
+
+/// Checks whether a number that ends with a letter, such as one for thousands, lies where `rest` follows `before`.
+fn has_unit(before: &[u8], rest: &[u8]) -> bool {
+    let digits = rest.iter().take_while(|byte| byte.is_ascii_digit()).count();
+    let is_behind = before.last().is_some_and(|byte| byte.is_ascii_digit());
+    let next = rest.get(digits..).unwrap_or(&[]);
+    (digits > 0 || is_behind) && matches!(next, [b'k' | b'K' | b'M' | b'G' | b'w', ..])
+}
+
+/// Returns a hint on what may be wrong where `rest` isn't TOML by `message`; empty if there is none.
 fn start_hint(rest: &[u8], message: &str) -> &'static str {
     if rest.starts_with(b"//") || rest.starts_with(b"/*") || rest.starts_with(b"--") {
         ": a comment begins with #"
     } else if rest.starts_with(b"True") || rest.starts_with(b"False") {
-        ": true and false have small letters"
+        ": true and false are written in lower case"
     } else if rest.starts_with(b"{") {
         ": is this JSON?"
     } else if message.starts_with("invalid value") && begins_with_letter(rest) {
-        ": a text stands in double quotes"
+        ": strings are written in double quotes"
     } else {
         ""
     }

@@ -1,4 +1,4 @@
-//! Faults of texts of words, which their reports give the line and the column of.
+//! Faults of texts of words, whose reports give a line and a column.
 
 use crate::finding::{Finding, Place};
 use cg_help::nearest_name;
@@ -6,13 +6,13 @@ use cg_model::{MOST_MEMORY, MOST_STREAM};
 use cg_slips::shown;
 use std::alloc::{AllocError, Global};
 
-/// The most bytes of a field that are looked at.
+/// The maximum number of bytes of a field that are looked at.
 const MOST_SHOWN: usize = 60;
 
-/// The words of the language.
+/// The keywords of the language.
 const WORDS: [&str; 2] = ["memory", "stream"];
 
-/// Returns what the fault `code` says of the field of `bytes`, a text of words, at `place`: `line L column C`.
+/// Returns the finding of the fault `code` at the field of `bytes`, a text of words, at `place`: `line L column C`.
 pub fn find_in_text(
     alloc: Global,
     bytes: &[u8],
@@ -23,7 +23,7 @@ pub fn find_in_text(
         return Ok(None);
     };
     if code == "T1" && bytes.starts_with(b"CGI1") {
-        let text = "this is an image already: words prints its text";
+        let text = "this is already an image: the command words prints its text";
         return Ok(Some(Finding::new(alloc, Place::START, text)?));
     }
     if let Some(text) = other_file(bytes) {
@@ -36,17 +36,20 @@ pub fn find_in_text(
         "T1" => {
             let why = unknown_field(alloc, field)?;
             let why = why.as_str();
-            format!(in alloc; "\"{name}\" is no word: {why}")?
+            format!(in alloc; "\"{name}\" is not a word: {why}")?
         }
         "T2" => format!(in alloc;
-            "\"{name}\" stands before memory or stream P: write memory before it, or stream 0"
+            "\"{name}\" comes before any memory or stream P: write memory or stream 0 before it"
         )?,
         "T3" if field == "stream" => String::from_str(
             alloc,
-            "behind stream stands the number of a port, 0 to 15",
+            "stream is followed by the number of a port, 0 to 15",
+        )?,
+        "T3" if field.bytes().all(|byte| byte.is_ascii_digit()) => format!(in alloc;
+            "\"{name}\" is not a port: ports are 0 to 15"
         )?,
         "T3" => format!(in alloc;
-            "\"{name}\" is no port: behind stream stands a number from 0 to 15, as a field of its own"
+            "\"{name}\" is not a port: stream is followed by a number from 0 to 15, as a field of its own"
         )?,
         _ => {
             let why = too_large(alloc, field)?;
@@ -57,36 +60,84 @@ pub fn find_in_text(
     Ok(Some(Finding { place, text }))
 }
 
-/// Returns what `bytes` are, which should be a text of words, where they look like another text.
+/// Returns what `bytes` are, which should be a text of words, if they look like another text.
 fn other_file(bytes: &[u8]) -> Option<&'static str> {
     if bytes.starts_with(b"{") {
-        Some("this is JSON, and a text of words is asked, as memory 1 2 3")
+        Some("this is JSON, but a text of words is expected, such as memory 1 2 3")
     } else if bytes.starts_with(b"cgl1") {
-        Some("this is a loop body, and a text of words is asked: loop makes a kernel of it")
+        Some(
+            "this is a loop body, but a text of words is expected: loop translates a loop body into a kernel",
+        )
     } else if bytes.starts_with(b"CGB") {
-        Some("these are bits, and a text of words is asked, as memory 1 2 3")
+        Some("these are bits, but a text of words is expected, such as memory 1 2 3")
     } else {
         None
     }
 }
 
-/// Returns what may be wrong with `field`, which is no word and begins no section.
+/// Returns a hint on `field`, which isn't a word and begins no section.
 fn unknown_field(alloc: Global, field: &str) -> Result<String, AllocError> {
+    if let Some(text) = other_form(alloc, field)? {
+        return Ok(text);
+    }
     if let Some(near) = nearest_name(alloc, field, &WORDS)? {
         return format!(in alloc; "did you mean {near}?");
     }
     let why = if field.contains(',') {
-        "fields are parted by blanks, not by commas"
+        "fields are separated by blanks, not by commas"
     } else if field.starts_with("//") || field.starts_with("/*") || field.starts_with("--") {
         "a comment begins with #"
     } else if field.strip_prefix('-').unwrap_or(field).contains('-') {
-        "a range of words is written A..B, as 1..5"
+        "a range of words is written A..B, for example 1..5"
     } else if field.starts_with("stream") {
-        "the number of a port stands behind stream and a blank"
+        "the number of a port is written after stream and a blank"
     } else {
-        "write N, -N, 0xH, A..B or W*N, or begin a section by memory or stream P"
+        "write N, -N, 0xH, A..B or W*N, or begin a section with memory or stream P"
     };
     String::from_str(alloc, why)
+}
+
+/// Returns how to write `field` if it has one of other forms: a stream with its number, a range with blanks, a repeated
+/// word, or hexadecimal digits alone.
+fn other_form(alloc: Global, field: &str) -> Result<Option<String>, AllocError> {
+    let text = if field.starts_with("..") || field.ends_with("..") {
+        String::from_str(alloc, "a range is one field without blanks, such as 0..9")?
+    } else if let Some(port) = port_behind(field) {
+        format!(in alloc; "write stream {port}, as two fields")?
+    } else if let Some((count, word)) = repeated(field) {
+        format!(in alloc; "write {word}*{count} for {count} words with the value {word}")?
+    } else if is_hexadecimal(field) {
+        format!(in alloc; "write 0x{field} for a number in hexadecimal digits")?
+    } else {
+        return Ok(None);
+    };
+    Ok(Some(text))
+}
+
+/// Returns the number of repetitions and the word that `field` gives, with an `x` between the two numbers.
+fn repeated(field: &str) -> Option<(&str, &str)> {
+    match field.split_once('x') {
+        Some((count, word)) if is_digits(count) && is_digits(word) => Some((count, word)),
+        _ => None,
+    }
+}
+
+/// Returns the number that follows the word `stream` in `field`.
+fn port_behind(field: &str) -> Option<&str> {
+    match field.strip_prefix("stream") {
+        Some(port) if is_digits(port) => Some(port),
+        _ => None,
+    }
+}
+
+/// Checks whether `text` is hexadecimal digits.
+fn is_hexadecimal(text: &str) -> bool {
+    !text.is_empty() && text.bytes().all(|byte| byte.is_ascii_hexdigit())
+}
+
+/// Checks whether `text` is decimal digits.
+fn is_digits(text: &str) -> bool {
+    !text.is_empty() && text.bytes().all(|byte| byte.is_ascii_digit())
 }
 
 /// Returns why `field`, which has the form of a word or of several, is too large.
@@ -94,7 +145,7 @@ fn too_large(alloc: Global, field: &str) -> Result<String, AllocError> {
     if let Some((first, last)) = field.split_once("..") {
         return match (word_of(first), word_of(last)) {
             (Some(first), Some(last)) if first > last => format!(in alloc;
-                "a range counts up, and {first} is above {last}"
+                "a range counts up, but {first} is greater than {last}"
             ),
             (Some(_), Some(_)) => too_many(alloc),
             _ => no_word(alloc),
@@ -110,19 +161,19 @@ fn too_large(alloc: Global, field: &str) -> Result<String, AllocError> {
     }
 }
 
-/// Returns that a number is none of a word.
+/// Returns the message that a number isn't a word.
 fn no_word(alloc: Global) -> Result<String, AllocError> {
-    String::from_str(alloc, "a word is from -2147483648 to 4294967295")
+    String::from_str(alloc, "a word is in the range -2147483648 to 4294967295")
 }
 
-/// Returns that a section has too many words.
+/// Returns the message that a section has too many words.
 fn too_many(alloc: Global) -> Result<String, AllocError> {
     format!(in alloc;
         "too many words: at most {MOST_MEMORY} in memory, and {MOST_STREAM} in a stream"
     )
 }
 
-/// Returns the word that `text` spells; None where it is above those of 32 bits, or spells none.
+/// Returns the word that `text` encodes; None if it doesn't fit in 32 bits, or encodes none.
 fn word_of(text: &str) -> Option<u32> {
     if let Some(digits) = text.strip_prefix("0x") {
         return hexadecimal(digits);
@@ -136,7 +187,7 @@ fn word_of(text: &str) -> Option<u32> {
     }
 }
 
-/// Returns the number that `digits` spell in hexadecimal.
+/// Returns the number that `digits` encode in hexadecimal.
 fn hexadecimal(digits: &str) -> Option<u32> {
     let mut number = 0u32;
     for digit in digits.chars() {
@@ -146,7 +197,7 @@ fn hexadecimal(digits: &str) -> Option<u32> {
     Some(number)
 }
 
-/// Returns the place that `text` says, `line L column C`.
+/// Returns the place that `text` gives, `line L column C`.
 fn place_of(text: &str) -> Option<Place> {
     let (line, column) = text.strip_prefix("line ")?.split_once(" column ")?;
     Some(Place {
@@ -155,7 +206,7 @@ fn place_of(text: &str) -> Option<Place> {
     })
 }
 
-/// Returns the field of `bytes` that begins at `place`, or its beginning where it is long; empty where it is no text.
+/// Returns the field of `bytes` that begins at `place`, or the beginning of a long one; empty if it isn't UTF-8.
 fn field_at(bytes: &[u8], place: Place) -> &str {
     let line = bytes
         .split(|byte| *byte == b'\n')

@@ -2,12 +2,12 @@
 
 use std::alloc::{AllocError, Global};
 
-/// Checks whether `byte` may stand in a word.
+/// Checks whether `byte` may occur in a word.
 pub fn is_word_byte(byte: u8) -> bool {
     byte.is_ascii_alphanumeric() || byte == b'_'
 }
 
-/// Returns the last word of `bytes`; empty where there is none.
+/// Returns the last word of `bytes`; empty if there is none.
 pub fn last_word(bytes: &[u8]) -> &[u8] {
     let behind = bytes
         .iter()

@@ -4,24 +4,24 @@ ghost use Rattle.std.specs.Prelude.{◌<◌, ◌≤◌, IfSome, length};
 /// A step from a JSON value into one of its parts.
 #[derive(Clone, Copy)]
 pub enum Step<'a> {
-    /// To the value of an object's key; of several keys of that name the last, as parsers take it.
+    /// To the value of an object's key; if several keys have that name, to the value of the last one, as parsers do.
     Key(&'a str),
     /// To an item of an array, counted from 0.
     Item(usize),
 }
 
-/// Where a byte stands: between strings or in one.
+/// Where a byte lies: between strings or in one.
 #[derive(Clone, Copy, PartialEq, Eq)]
 enum Quoting {
     Bare,
     /// In a string.
     Text,
-    /// There, after a backslash.
+    /// In a string, after a backslash.
     Escaped,
 }
 
 impl Quoting {
-    /// Returns where the byte after `byte` stands.
+    /// Returns where the byte after `byte` lies.
     fn after(self, byte: u8) -> Quoting {
         match (self, byte) {
             (Quoting::Bare, b'"') | (Quoting::Escaped, _) => Quoting::Text,
@@ -32,8 +32,8 @@ impl Quoting {
     }
 }
 
-/// Returns the byte at which the value begins that `path` leads to in `text`, a JSON text. Returns None where it leads
-/// nowhere. A key that `text` writes with a backslash is taken for none.
+/// Returns the byte at which the value begins that `path` leads to in `text`, a JSON text. Returns None if it leads
+/// nowhere. A key that `text` writes with a backslash matches no step.
 pub fn json_value_at(text: &[u8], path: &[Step<'_>]) -> Option<usize> {
     let mut at = value_from(text, 0)?;
     for step in path {
@@ -45,8 +45,8 @@ pub fn json_value_at(text: &[u8], path: &[Step<'_>]) -> Option<usize> {
     Some(at)
 }
 
-/// Returns the byte at which key `number` stands, counted from 0, of the object that `path` leads to in `text`, a JSON
-/// text: that of its quote. Returns None where there are fewer keys, or no object.
+/// Returns the byte of the opening quote of key `number`, counted from 0, of the object that `path` leads to in `text`,
+/// a JSON text. Returns None if there are fewer keys, or no object.
 pub fn json_key_at(text: &[u8], path: &[Step<'_>], number: usize) -> Option<usize> {
     let object = json_value_at(text, path)?;
     let mut member = after_mark(text, object, b'{')?;
@@ -61,7 +61,7 @@ pub fn json_key_at(text: &[u8], path: &[Step<'_>], number: usize) -> Option<usiz
     }
 }
 
-/// Returns the byte at which the last value begins whose key is `key`, in the object of `text` whose members begin at
+/// Returns the byte at which the last value with the key `key` begins, in the object of `text` whose members begin at
 /// `first`.
 fn keyed_value(text: &[u8], first: usize, key: &[u8]) -> Option<usize> {
     let mut member = first;
@@ -75,8 +75,7 @@ fn keyed_value(text: &[u8], first: usize, key: &[u8]) -> Option<usize> {
     }
 }
 
-/// Returns the byte at which the value begins of the member of an object that stands at `member` in `text`, if its key
-/// is `key`.
+/// Returns the byte at which the value begins of the object member at `member` in `text`, if its key is `key`.
 fn value_if_key(text: &[u8], member: usize, key: &[u8]) -> Option<usize> {
     let name = after_mark(text, member, b'"')?;
     let quote = closing_quote(text, name)?;
@@ -87,7 +86,7 @@ fn value_if_key(text: &[u8], member: usize, key: &[u8]) -> Option<usize> {
     value_from(text, after_mark(text, colon, b':')?)
 }
 
-/// Returns whether `name`, as a text has it between quotes, is `key` with no byte escaped.
+/// Returns whether `name`, as written between quotes in a text, is `key` without any escaped byte.
 fn is_written_plainly(name: &[u8], key: &[u8]) -> bool {
     name == key && !name.contains(&b'\\')
 }
@@ -101,8 +100,8 @@ fn numbered_item(text: &[u8], first: usize, number: usize) -> Option<usize> {
     value_from(text, item)
 }
 
-/// Returns the place after the comma that ends the part of an array or object at `part` in `text`. Returns None where a
-/// bracket or `text` ends it, since no part comes after it.
+/// Returns the place after the comma that ends the part of an array or object at `part` in `text`. Returns None if a
+/// bracket or the end of `text` ends it, since no part follows.
 fn next_part(text: &[u8], part: usize) -> Option<usize>
     ensures { IfSome result (λ next. (part < next) × (next ≤ length text.now)) }
 {
@@ -135,8 +134,8 @@ fn closing_quote(text: &[u8], first: usize) -> Option<usize> {
     None
 }
 
-/// Returns the first byte of the value that stands in `text` at `at` or after blanks from there. Returns None where
-/// none stands there, as in an empty array.
+/// Returns the place of the first byte of the value that begins in `text` at `at` or after blanks from there. Returns
+/// None if no value begins there, as in an empty array.
 fn value_from(text: &[u8], at: usize) -> Option<usize> {
     let place = after_blanks(text, at);
     match text.get(place)? {
@@ -145,7 +144,7 @@ fn value_from(text: &[u8], at: usize) -> Option<usize> {
     }
 }
 
-/// Returns the place after the byte `mark`, where that stands in `text` at `at` or after blanks from there.
+/// Returns the place after the byte `mark`, if that byte is in `text` at `at` or after blanks from there.
 fn after_mark(text: &[u8], at: usize, mark: u8) -> Option<usize> {
     let place = after_blanks(text, at);
     if *text.get(place)? == mark {
@@ -155,7 +154,7 @@ fn after_mark(text: &[u8], at: usize, mark: u8) -> Option<usize> {
     }
 }
 
-/// Returns the place of the first byte of `text` from `at` on that is no blank, or the length of `text`.
+/// Returns the place of the first byte of `text` from `at` on that isn't a blank, or the length of `text`.
 fn after_blanks(text: &[u8], at: usize) -> usize {
     for place in at..text.len() {
         if !matches!(text[place], b' ' | b'\t' | b'\n' | b'\r') {

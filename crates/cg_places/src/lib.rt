@@ -1,4 +1,5 @@
-//! Where in a text a value begins: by a path of keys and numbers in JSON, by a tile's name and the number of a part in TOML.
+//! Where in a text a value begins: by a path of keys and numbers in JSON, by the name of a tile and the number of a
+//! part in TOML.
 #![tactic(auto)]
 
 mod json;

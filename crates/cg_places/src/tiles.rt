@@ -1,8 +1,8 @@
 //! Places in architecture files.
 
-/// Returns the byte at which part `part` of the tile `tile` begins in `text`, an architecture file: that of its header
-/// `[[tiles.TILE]]`, counted from 0. Returns None where `text` has no such header. A line of a text over several lines
-/// that looks like a header counts as one.
+/// Returns the byte at which the header `[[tiles.TILE]]` of part `part`, counted from 0, of the tile `tile` begins in
+/// `text`, an architecture file. Returns None if `text` has no such header. A line within a multi-line string that
+/// looks like a header counts as one.
 pub fn tile_part_at(text: &[u8], tile: &str, part: usize) -> Option<usize> {
     let mut passed = 0usize;
     let mut is_at_front = true;
@@ -23,7 +23,7 @@ fn is_header(rest: &[u8], tile: &[u8]) -> bool {
     after_header(rest, tile).is_some()
 }
 
-/// Returns what comes after the header of a part of the tile `tile`, if `rest` begins with one.
+/// Returns the bytes after the header of a part of the tile `tile`, if `rest` begins with one.
 fn after_header<'a>(rest: &'a [u8], tile: &[u8]) -> Option<&'a [u8]> {
     let tiles = rest.strip_prefix(b"[[")?;
     let dot = after_key(after_blanks(tiles), b"tiles")?;
@@ -32,7 +32,7 @@ fn after_header<'a>(rest: &'a [u8], tile: &[u8]) -> Option<&'a [u8]> {
     after_blanks(end).strip_prefix(b"]]")
 }
 
-/// Returns what comes after the key `key`, bare or in quotes, if `rest` begins with it.
+/// Returns the bytes after the key `key`, bare or in quotes, if `rest` begins with it.
 fn after_key<'a>(rest: &'a [u8], key: &[u8]) -> Option<&'a [u8]> {
     let quote = match rest.first()? {
         b'"' | b'\'' => rest.get(..1)?,
@@ -43,7 +43,7 @@ fn after_key<'a>(rest: &'a [u8], key: &[u8]) -> Option<&'a [u8]> {
         .strip_prefix(quote)
 }
 
-/// Returns `rest` from its first byte on that is no blank.
+/// Returns `rest` from its first byte on that isn't a blank.
 fn after_blanks(rest: &[u8]) -> &[u8] {
     for (place, byte) in rest.iter().enumerate() {
         if !is_blank(*byte) {

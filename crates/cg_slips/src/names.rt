@@ -5,13 +5,13 @@ use cg_help::nearest_name;
 use cg_word::Op;
 use std::alloc::{AllocError, Global};
 
-/// The most characters of a name that are shown.
+/// The maximum number of characters of a name that are shown.
 const MOST_SHOWN: usize = 40;
 
-/// The most names that are listed where none is near.
+/// The maximum number of names that are listed if none is near.
 const MOST_LISTED: usize = 8;
 
-/// Returns `name` as a note shows it: its first characters, and control characters as in a literal.
+/// Returns `name` as a note shows it: its first characters, with control characters escaped as in a literal.
 pub fn shown(alloc: Global, name: &str) -> Result<String, AllocError> {
     let mut text = String::new(alloc);
     for character in name.chars().take(MOST_SHOWN) {
@@ -28,8 +28,8 @@ pub fn shown(alloc: Global, name: &str) -> Result<String, AllocError> {
     Ok(text)
 }
 
-/// Returns that there is no key `key`, and which of `keys` may be meant: by the words of other formats, then the nearest, or any where none
-/// is near.
+/// Returns the message that there is no key `key`, with the one of `keys` that may be meant: by the words of other
+/// formats, else the nearest one, else all `keys`.
 pub fn unknown_key(alloc: Global, key: &str, keys: &[&'static str]) -> Result<String, AllocError> {
     let near = match key_meant(alloc, key, keys)? {
         Some(meant) => Some(meant),
@@ -38,6 +38,7 @@ pub fn unknown_key(alloc: Global, key: &str, keys: &[&'static str]) -> Result<St
     let key = shown(alloc, key)?;
     let key = key.as_str();
     match near {
+        Some("args") => format!(in alloc; "unknown key \"{key}\", did you mean \"args\", a list?"),
         Some(near) => format!(in alloc; "unknown key \"{key}\", did you mean \"{near}\"?"),
         None => {
             let all = list_of(alloc, keys)?;
@@ -47,7 +48,7 @@ pub fn unknown_key(alloc: Global, key: &str, keys: &[&'static str]) -> Result<St
     }
 }
 
-/// Returns `names` one after another, with a comma between two.
+/// Returns `names`, separated by commas.
 fn list_of(alloc: Global, names: &[&str]) -> Result<String, AllocError> {
     let mut list = String::new(alloc);
     for (index, name) in names.iter().enumerate() {
@@ -59,8 +60,8 @@ fn list_of(alloc: Global, names: &[&str]) -> Result<String, AllocError> {
     Ok(list)
 }
 
-/// Returns that there is no operation `name`, and which may be meant, or how to write what it means: by the words of other languages
-/// and tools, then the nearest name, or any where none is near.
+/// Returns the message that there is no operation `name`, with the one that may be meant, or with how to write what it
+/// means: by the words of other languages and tools, else the nearest name, else all names.
 pub fn unknown_operation(alloc: Global, name: &str) -> Result<String, AllocError> {
     if let Some(form) = form_meant(alloc, name)? {
         let name = shown(alloc, name)?;
@@ -102,7 +103,7 @@ fn operation_near(
     }
 }
 
-/// Returns the first of `names`, of three letters or more, that `word` begins with, as `multiply` does with `mul`.
+/// Returns the first of `names`, of three letters or more, that `word` begins with, as `multiply` begins with `mul`.
 fn first_of(word: &str, names: &[&'static str]) -> Option<&'static str> {
     for name in names {
         if name.len() >= 3 && word.starts_with(*name) {
@@ -112,7 +113,7 @@ fn first_of(word: &str, names: &[&'static str]) -> Option<&'static str> {
     None
 }
 
-/// Returns that no `noun` is called `name`, and which of `names` may be meant: the nearest, or the first where none is near.
+/// Returns the message that no `noun` is called `name`, with the nearest of `names`, or the first ones if none is near.
 pub fn no_name(
     alloc: Global,
     noun: &str,
@@ -133,7 +134,7 @@ pub fn no_name(
     }
 }
 
-/// Returns the first of `names`, as notes show them, with a comma between two, and two points where there are more.
+/// Returns the first of `names`, as notes show them, separated by commas, with two points at the end if there are more.
 fn first_shown(alloc: Global, names: &[&str]) -> Result<String, AllocError> {
     let mut list = String::new(alloc);
     for (index, name) in names.iter().take(MOST_LISTED).enumerate() {

@@ -6,22 +6,22 @@ use cg_json::word_in;
 use serde_json::Value;
 use std::alloc::{AllocError, Global};
 
-/// What the value of a key is.
+/// The kind of the value of a key.
 #[derive(Clone, Copy, PartialEq, Eq, Drop)]
 pub enum Kind {
     /// A text.
     Text,
     /// A whole number of 32 bits.
     Number,
-    /// Such a number, of which only those up to 15 are ports.
+    /// A whole number of 32 bits that is a port: only values up to 15 are valid.
     Port,
-    /// Such a number, of which only those up to 255 are distances.
+    /// A whole number of 32 bits that is a distance: only values up to 255 are valid.
     Distance,
-    /// Such a number, of which only those up to 65,534 are times.
+    /// A whole number of 32 bits that is a time: only values up to 65,534 are valid.
     Time,
     /// A list.
     List,
-    /// A list of such numbers.
+    /// A list of whole numbers of 32 bits.
     Numbers,
     /// A list of texts.
     Texts,
@@ -40,17 +40,17 @@ impl Kind {
         }
     }
 
-    /// Returns what a value of this kind is called.
+    /// Returns the words for a value of this kind.
     fn noun(self) -> &'static str {
         match self {
-            Kind::Text => "a text",
+            Kind::Text => "a string",
             Kind::Number => "a whole number from 0 to 4294967295",
             Kind::Port => "a whole number from 0 to 15",
             Kind::Distance => "a whole number from 0 to 255",
             Kind::Time => "a whole number from 0 to 65534",
             Kind::List => "a list",
             Kind::Numbers => "a list of whole numbers from 0 to 4294967295",
-            Kind::Texts => "a list of texts",
+            Kind::Texts => "a list of strings",
         }
     }
 }
@@ -60,24 +60,24 @@ impl Kind {
 pub struct Field {
     /// The key.
     pub name: &'static str,
-    /// What it holds.
+    /// The kind of its value.
     pub kind: Kind,
-    /// Whether it must be there.
+    /// Whether the key is required.
     pub is_needed: bool,
 }
 
 /// The keys of an object.
 #[derive(Clone, Copy, Drop)]
 pub struct Shape {
-    /// The list in which such objects stand.
+    /// The key of the list that holds the objects.
     pub list: &'static str,
-    /// The code of a fault of the shape, and of an unknown key.
+    /// The codes of a fault of the shape and of an unknown key.
     pub codes: [&'static str; 2],
     /// The keys.
     pub fields: &'static [Field],
 }
 
-/// Returns the items of `value`, none where it is no list.
+/// Returns the items of `value`; none if it isn't a list.
 pub fn items_of(value: &Value) -> &[Value] {
     match value.as_array() {
         Some(items) => items.as_slice(),
@@ -85,7 +85,7 @@ pub fn items_of(value: &Value) -> &[Value] {
     }
 }
 
-/// Adds to `slips` what is wrong with the values of `value`, item `item` of the list of `shape`, whose sentences begin with
+/// Adds to `slips` the faults in the values of `value`, item `item` of the list of `shape`. Their sentences begin with
 /// `prefix`.
 pub fn note_shape(
     alloc: Global,
@@ -96,7 +96,7 @@ pub fn note_shape(
     value: &Value,
 ) -> Result<(), AllocError> {
     if !value.is_object() {
-        let text = format!(in alloc; "{prefix}it has to be an object")?;
+        let text = format!(in alloc; "{prefix}must be an object")?;
         return slips.add(shape.codes[0], shape.list, item, Spot::Item, text);
     }
     for field in shape.fields {
@@ -105,7 +105,7 @@ pub fn note_shape(
     Ok(())
 }
 
-/// Adds to `slips` what is wrong with the value of `field` in `value`.
+/// Adds to `slips` the faults of the value of `field` in `value`.
 fn note_field(
     alloc: Global,
     slips: &mut Slips,
@@ -124,14 +124,14 @@ fn note_field(
         }
         Some(found) if !field.kind.has(found) => {
             let noun = field.kind.noun();
-            let text = format!(in alloc; "{prefix}\"{name}\" has to be {noun}")?;
+            let text = format!(in alloc; "{prefix}\"{name}\" must be {noun}")?;
             slips.add(code, shape.list, item, Spot::Key(name), text)
         }
         _ => Ok(()),
     }
 }
 
-/// Adds to `slips` each key of `value`, item `item` of the list of `shape`, that the shape doesn't know.
+/// Adds to `slips` each key of `value`, item `item` of the list of `shape`, that isn't in the shape.
 pub fn note_keys(
     alloc: Global,
     slips: &mut Slips,

@@ -3,16 +3,16 @@
 use cg_places::{Step, json_key_at, json_value_at};
 use std::alloc::{AllocError, Global};
 
-/// The most slips that are kept of a file.
+/// The maximum number of slips that are kept per file.
 const MOST_SLIPS: usize = 256;
 
-/// The most slips of a file for whose names the nearest are sought.
+/// The maximum number of slips per file for whose names the nearest ones are sought.
 const MOST_SOUGHT: usize = 8;
 
-/// The most keys of an object that are looked at for the place of one.
+/// The maximum number of keys of an object that are searched for the place of one key.
 const MOST_KEYS: usize = 64;
 
-/// Where in an item of a list a slip stands.
+/// Where in an item of a list a slip lies.
 #[derive(Drop)]
 pub enum Spot {
     /// At the list itself.
@@ -21,13 +21,14 @@ pub enum Spot {
     Item,
     /// At the value of this key.
     Key(&'static str),
-    /// At this key itself, which the format doesn't know.
+    /// At this key itself, which isn't one of the format's.
     OtherKey(String),
     /// At an element, counted from 0, of the list at this key.
     Element(&'static str, usize),
-    /// At the value of a key of such an element.
+    /// At the value of the second key, in an element, counted from 0, of the list at the first key.
     ElementKey(&'static str, usize, &'static str),
-    /// At a key of such an element that the format doesn't know.
+    /// At the second key, which isn't one of the format's, in an element, counted from 0, of the list at the first
+    /// key.
     ElementOtherKey(&'static str, usize, String),
 }
 
@@ -36,19 +37,19 @@ pub enum Spot {
 pub struct Slip {
     /// The code of the fault.
     pub code: &'static str,
-    /// The key of the list in which it stands.
+    /// The key of the list in which it lies.
     pub list: &'static str,
-    /// The number of the item there, from 0.
+    /// The number of the item in the list, from 0.
     pub item: usize,
-    /// Where in the item it stands.
+    /// Where in the item it lies.
     pub spot: Spot,
     /// What is wrong, in a sentence.
     pub text: String,
 }
 
 impl Slip {
-    /// Returns the byte of `bytes`, the file, at which the slip stands: of the nearest value around it where its own place
-    /// isn't found.
+    /// Returns the byte of `bytes`, the file, at which the slip lies. If its own place isn't found, returns the place
+    /// of the nearest value around it.
     pub fn place(&self, bytes: &[u8]) -> usize {
         let item = [Step::Key(self.list), Step::Item(self.item)];
         self.spot_in(bytes)
@@ -56,7 +57,7 @@ impl Slip {
             .unwrap_or(0)
     }
 
-    /// Returns the byte of `bytes` at which its spot stands.
+    /// Returns the byte of `bytes` at which the spot of the slip lies.
     fn spot_in(&self, bytes: &[u8]) -> Option<usize> {
         let list = Step::Key(self.list);
         let item = Step::Item(self.item);
@@ -88,7 +89,7 @@ impl Slip {
     }
 }
 
-/// Returns the byte of `bytes` at which the key `name` stands in the object that `path` leads to.
+/// Returns the byte of `bytes` at which the key `name` begins in the object that `path` leads to.
 fn key_named(bytes: &[u8], path: &[Step<'_>], name: &str) -> Option<usize> {
     for number in 0..MOST_KEYS {
         let at = json_key_at(bytes, path, number)?;
@@ -127,7 +128,7 @@ impl Slips {
         }
     }
 
-    /// Adds that `text` is wrong at `spot` of item `item` of `list`, a fault of `code`, unless there are too many.
+    /// Adds the slip `text` at `spot` of item `item` of `list`, a fault of `code`, unless there are too many.
     pub fn add(
         &mut self,
         code: &'static str,
@@ -148,7 +149,7 @@ impl Slips {
         Ok(())
     }
 
-    /// Checks whether there are few slips so far, so that for an unknown name the nearest one may be sought.
+    /// Checks whether there are few slips so far, so that the nearest name may be sought for an unknown one.
     pub fn are_few(&self) -> bool {
         self.found.len() < MOST_SOUGHT
     }

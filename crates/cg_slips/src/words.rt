@@ -1,4 +1,4 @@
-//! Words of other languages and tools for operations.
+//! Words that other languages and tools use for operations and keys.
 
 use std::alloc::{AllocError, Global};
 
@@ -16,7 +16,7 @@ struct KeyWords {
     key: &'static str,
 }
 
-/// Words that other formats have for keys. A word may stand at several, for objects of several kinds.
+/// Words that other formats use for keys. A word may be listed for several keys, in objects of different kinds.
 static KEY_WORDS: [KeyWords; 24] = [
     KeyWords {
         words: &["operation", "opcode", "type", "kind", "function"],
@@ -126,14 +126,14 @@ static KEY_WORDS: [KeyWords; 24] = [
     },
 ];
 
-/// Words for what takes another form.
+/// Words for operations that are written in another form.
 #[derive(Clone, Copy, Drop)]
 struct OtherForm {
     words: &'static [&'static str],
     form: &'static str,
 }
 
-/// Words for operations that there are.
+/// Words for existing operations.
 static SYNONYMS: [Synonym; 22] = [
     Synonym {
         words: &["plus", "sum", "+", "addi", "iadd", "addition"],
@@ -236,11 +236,11 @@ static SYNONYMS: [Synonym; 22] = [
     },
 ];
 
-/// Words for what other operations do, in another form.
+/// Words for operations that the format lacks, each with the form that replaces it.
 static FORMS: [OtherForm; 14] = [
     OtherForm {
         words: &["gt", "sgt", ">", "greater"],
-        form: "a > b is \"lts\" with its arguments exchanged, b before a (\"ltu\" where words have no sign)",
+        form: "a > b is \"lts\" with its arguments swapped, b before a (\"ltu\" for unsigned words)",
     },
     OtherForm {
         words: &["ge", "gte", "sge", ">="],
@@ -252,52 +252,52 @@ static FORMS: [OtherForm; 14] = [
     },
     OtherForm {
         words: &[">>", "rshift"],
-        form: "it is \"sar\", or \"shr\" where words have no sign",
+        form: "write \"sar\", or \"shr\" for unsigned words",
     },
     OtherForm {
         words: &["neg", "negate"],
-        form: "it is \"sub\" with the number 0 as its first argument",
+        form: "write \"sub\" with the number 0 as its first argument",
     },
     OtherForm {
         words: &["not", "inv", "!", "~"],
-        form: "it is \"eq\" with the number 0, or bit by bit \"xor\" with the number 4294967295",
+        form: "write \"eq\" with the number 0, or for a bitwise not \"xor\" with the number 4294967295",
     },
     OtherForm {
         words: &["div", "divide", "/", "mod", "rem", "%", "modulo"],
-        form: "nothing divides; \"shr\" by 1 halves, and \"and\" with 7 is the rest by 8",
+        form: "there is no division; \"shr\" by 1 halves a word, and \"and\" with 7 gives the remainder of a division by 8",
     },
     OtherForm {
         words: &["abs"],
-        form: "it is \"maxs\" of a and of \"sub\" with the arguments 0 and a",
+        form: "write \"maxs\" of a and of \"sub\" with the arguments 0 and a",
     },
     OtherForm {
         words: &["mac", "fma", "madd"],
-        form: "it is \"mul\" and then \"add\"",
+        form: "write \"mul\" and then \"add\"",
     },
     OtherForm {
         words: &["inc", "++"],
-        form: "it is \"add\" with the number 1",
+        form: "write \"add\" with the number 1",
     },
     OtherForm {
         words: &["dec", "--"],
-        form: "it is \"sub\" with the number 1",
+        form: "write \"sub\" with the number 1",
     },
     OtherForm {
         words: &["cmp", "compare"],
-        form: "there are \"eq\", \"ne\", \"lts\" and \"ltu\"",
+        form: "the comparisons are \"eq\", \"ne\", \"lts\" and \"ltu\"",
     },
     OtherForm {
         words: &["minu", "umin", "maxu", "umax"],
-        form: "it is \"select\" by \"ltu\"",
+        form: "write \"select\" with \"ltu\" as its condition",
     },
     OtherForm {
         words: &["fadd", "fsub", "fmul", "fdiv", "sqrt"],
-        form: "words are whole numbers, and no operation has fractions",
+        form: "words are integers; there are no floating-point operations",
     },
 ];
 
-/// Returns the operation that `word` means in other languages and tools, where it is one word for one. Capitals count as small
-/// letters.
+/// Returns the operation that `word` means in other languages and tools, if a single operation means the same. Capitals
+/// count as small letters.
 pub fn operation_meant(alloc: Global, word: &str) -> Result<Option<&'static str>, AllocError> {
     let word = word.to_ascii_lowercase(alloc)?;
     let word = word.as_str();
@@ -309,7 +309,7 @@ pub fn operation_meant(alloc: Global, word: &str) -> Result<Option<&'static str>
     Ok(None)
 }
 
-/// Returns how to write what `word` means in other languages and tools, where no operation does just that.
+/// Returns how to write what `word` means in other languages and tools, if no single operation does it.
 pub(crate) fn form_meant(alloc: Global, word: &str) -> Result<Option<&'static str>, AllocError> {
     let word = word.to_ascii_lowercase(alloc)?;
     let word = word.as_str();
