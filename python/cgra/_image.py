@@ -19,7 +19,7 @@ def _words(values: Iterable[int]) -> List[int]:
     for value in values:
         number = int(value)
         if not -(1 << 31) <= number < 1 << 32:
-            raise ValueError(f"{number} is no word of 32 bits")
+            raise ValueError(f"{number} is not a word of 32 bits")
         words.append(number & 0xFFFFFFFF)
     return words
 
@@ -28,7 +28,7 @@ class Image:
     """The words of a memory, and sixteen streams of words.
 
     `memory` is a list or an array of whole numbers from -2^31 to 2^32 - 1; `streams` has by port, 0 to 15, such lists.
-    Negative numbers stand for their two's complement, and are words without sign afterwards.
+    Negative numbers are stored as their two's complement, and are read back as unsigned words.
     """
 
     def __init__(self, memory: Iterable[int] = (), streams: Optional[Mapping[int, Iterable[int]]] = None):
