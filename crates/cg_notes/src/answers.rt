@@ -58,28 +58,40 @@ fn note_impossible(
         return Ok(());
     };
     let note = match (what, last) {
-        (Some("units"), 0) => {
-            let op = class_of(rest);
-            let place = user_of(alloc, files, op)?;
-            let place = place.as_str();
-            format!(in alloc; "{place}no unit offers {op}: add it to the ops of a unit")?
-        }
-        (Some("units"), last) => {
-            let least = first.div_ceil(last);
-            format!(in alloc;
-                "nodes with one of these operations: {first}, units that offer one: {last}; so the interval is at least {least}: contexts and --ii may not be below"
-            )?
-        }
-        (Some("distance"), 1..) => {
-            let least = first.div_ceil(last);
-            format!(in alloc;
-                "cycles around these edges: {first}, turns around them: {last}; so the interval is at least {least}: contexts and --ii may not be below"
-            )?
-        }
+        (Some("units"), 0) => unoffered_note(alloc, class_of(rest), files)?,
+        (Some("units"), last) => overfull_note(alloc, first, last, first.div_ceil(last))?,
+        (Some("distance"), 1..) => recurrence_note(alloc, first, last, first.div_ceil(last))?,
         _ => return Ok(()),
     };
     notes.push(note)?;
     Ok(())
+}
+
+/// Returns the note that no unit offers `op`, with the first node that needs it, if one of `files` is the kernel.
+fn unoffered_note(alloc: Global, op: &str, files: &[File]) -> Result<String, AllocError> {
+    let place = user_of(alloc, files, op)?;
+    let place = place.as_str();
+    format!(in alloc; "{place}no unit offers {op}: add it to the ops of a unit")
+}
+
+/// Returns the note that `units` units offer an operation of `nodes` nodes, so that the interval is at least `least`.
+fn overfull_note(alloc: Global, nodes: u32, units: u32, least: u32) -> Result<String, AllocError> {
+    format!(in alloc;
+        "nodes with one of these operations: {nodes}, units that offer one: {units}; so the interval is at least {least}: contexts and --ii may not be below"
+    )
+}
+
+/// Returns the note that a ring of edges takes `cycles` cycles and leads `turns` turns back, so that the interval is at
+/// least `least`.
+fn recurrence_note(
+    alloc: Global,
+    cycles: u32,
+    turns: u32,
+    least: u32,
+) -> Result<String, AllocError> {
+    format!(in alloc;
+        "cycles around these edges: {cycles}, turns around them: {turns}; so the interval is at least {least}: contexts and --ii may not be below"
+    )
 }
 
 /// Returns the beginning of a note on the first node with the operation `op` in one of `files`, a kernel:

@@ -157,8 +157,11 @@ fn find_drivers(alloc: Global, bytes: &[u8], name: &str) -> Result<Option<Findin
         2 => format!(in alloc;
             "{name}: the cell in line {line} drives this net too, by its pin q"
         )?,
-        count => format!(in alloc;
+        count if count < MOST_DRIVERS => format!(in alloc;
             "{name}: {count} cells drive this net by their pins q, the first in line {line}"
+        )?,
+        count => format!(in alloc;
+            "{name}: {count} or more cells drive this net by their pins q, the first in line {line}"
         )?,
     };
     let place = *second;

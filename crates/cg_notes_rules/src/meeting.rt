@@ -15,6 +15,17 @@ struct Spot {
     ii: u64,
 }
 
+impl Spot {
+    /// Returns resource number `resource` in `slot` of `mapped`.
+    fn new(mapped: Mapped<'_>, resource: usize, slot: usize) -> Spot {
+        Spot {
+            resource,
+            slot: slot as u64,
+            ii: u64::from(mapped.mapping.ii()),
+        }
+    }
+}
+
 /// A value on a resource.
 #[derive(Clone, Copy, Drop)]
 struct Stay {
@@ -50,11 +61,7 @@ pub(crate) fn meeting_note(
     resource: usize,
     slot: usize,
 ) -> Result<Option<String>, AllocError> {
-    let spot = Spot {
-        resource,
-        slot: slot as u64,
-        ii: u64::from(mapped.mapping.ii()),
-    };
+    let spot = Spot::new(mapped, resource, slot);
     let Some(first) = first_stay(mapped, spot, rule, None) else {
         return Ok(None);
     };
@@ -77,11 +84,7 @@ pub(crate) fn meeting_place(
     resource: usize,
     slot: usize,
 ) -> Option<Place> {
-    let spot = Spot {
-        resource,
-        slot: slot as u64,
-        ii: u64::from(mapped.mapping.ii()),
-    };
+    let spot = Spot::new(mapped, resource, slot);
     let Stay { node, arg, .. } = first_stay(mapped, spot, rule, None)?;
     file.place_of(mapped, RulePlace::Arg { node, arg })
 }

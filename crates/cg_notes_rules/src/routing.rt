@@ -130,17 +130,23 @@ fn drives(mapped: Mapped<'_>, from: u32, to: u32) -> bool {
 
 /// Returns the part of a note that names the drivers of resource number `resource`.
 fn drivers_of(alloc: Global, mapped: Mapped<'_>, resource: u32) -> Result<String, AllocError> {
-    let mut names: Vec<&str> = Vec::new(alloc);
-    for driver in mapped.drivers(resource as usize) {
-        names.push(mapped.resource_name(*driver as usize))?;
-    }
     let name = mapped.resource_name(resource as usize);
-    if names.is_empty() {
+    let drivers = mapped.drivers(resource as usize);
+    if drivers.is_empty() {
         return format!(in alloc; "nothing drives {name}");
     }
-    let list = short_list(alloc, names.as_slice())?;
+    let list = list_of(alloc, mapped, drivers)?;
     let list = list.as_str();
     format!(in alloc; "{name} is driven by {list}")
+}
+
+/// Returns the names of the first of `resources`, separated by commas.
+fn list_of(alloc: Global, mapped: Mapped<'_>, resources: &[u32]) -> Result<String, AllocError> {
+    let mut names: Vec<&str> = Vec::new(alloc);
+    for resource in resources {
+        names.push(mapped.resource_name(*resource as usize))?;
+    }
+    short_list(alloc, names.as_slice())
 }
 
 /// Returns the reason that `route` ends at `last`, if that isn't the port of its argument.

@@ -114,34 +114,59 @@ fn missing_mark(
     last: Option<u8>,
     rest: &[u8],
 ) -> Result<Option<String>, AllocError> {
-    let Some(Open { byte, place }) = open_bracket(alloc, before)? else {
+    let Some(open) = open_bracket(alloc, before)? else {
         return Ok(None);
     };
-    let is_value = matches!(last, Some(b'"' | b']' | b'}' | b'0'..=b'9' | b'e' | b'l'));
-    let begins_next = matches!(rest, [b'"' | b'[' | b'{' | b'0'..=b'9', ..]);
+    let is_value = ends_value(last);
+    if is_value && closes_other(open.byte, rest) {
+        return Ok(Some(missing_bracket(alloc, open)?));
+    }
+    match mark_hint(open.byte, before, last, is_value, rest) {
+        Some(hint) => Ok(Some(String::from_str(alloc, hint)?)),
+        None => Ok(None),
+    }
+}
+
+/// Checks whether `last` is the last byte of a value.
+fn ends_value(last: Option<u8>) -> bool {
+    matches!(last, Some(b'"' | b']' | b'}' | b'0'..=b'9' | b'e' | b'l'))
+}
+
+/// Checks whether `rest` begins with a closing bracket of the kind that doesn't close the bracket `byte`.
+fn closes_other(byte: u8, rest: &[u8]) -> bool {
+    matches!((byte, rest), (b'{', [b']', ..]) | (b'[', [b'}', ..]))
+}
+
+/// Returns the hint that the bracket that closes `open` is missing.
+fn missing_bracket(alloc: Global, open: Open) -> Result<String, AllocError> {
+    let Open { byte, place } = open;
+    let close = if byte == b'{' { '}' } else { ']' };
     let bracket = char::from(byte);
-    let text = match (byte, rest) {
-        (b'{', [b']', ..]) | (b'[', [b'}', ..]) if is_value => {
-            let close = if byte == b'{' { '}' } else { ']' };
-            format!(in alloc; ": a {close} is missing before it, for the {bracket} at {place}")?
-        }
-        (b'{', [b'{' | b'[', ..]) if matches!(last, Some(b'{' | b',')) => String::from_str(
-            alloc,
+    format!(in alloc; ": a {close} is missing before it, for the {bracket} at {place}")
+}
+
+/// Returns the hint on what is missing or wrong in an open bracket `byte` at the end of `before`, between the byte `last`,
+/// with which a value ends if `is_value`, and `rest`.
+fn mark_hint(
+    byte: u8,
+    before: &[u8],
+    last: Option<u8>,
+    is_value: bool,
+    rest: &[u8],
+) -> Option<&'static str> {
+    let begins_next = matches!(rest, [b'"' | b'[' | b'{' | b'0'..=b'9', ..]);
+    match (byte, rest) {
+        (b'{', [b'{' | b'[', ..]) if matches!(last, Some(b'{' | b',')) => Some(
             ": a key in double quotes is expected here; was a bracket before it closed too early?",
-        )?,
-        (b'[', [b':', ..]) if is_value => String::from_str(
-            alloc,
+        ),
+        (b'[', [b':', ..]) if is_value => Some(
             ": a key and its value are written in braces, for example {\"from\":\"s\"}",
-        )?,
-        _ if !(is_value && begins_next) => return Ok(None),
-        (b'[', _) => String::from_str(alloc, ": a comma or ] is missing before it")?,
-        _ if last == Some(b'"') && is_behind_key(before) => String::from_str(
-            alloc,
-            ": a colon is missing before it",
-        )?,
-        _ => String::from_str(alloc, ": a comma or } is missing before it")?,
-    };
-    Ok(Some(text))
+        ),
+        _ if !(is_value && begins_next) => None,
+        (b'[', _) => Some(": a comma or ] is missing before it"),
+        _ if last == Some(b'"') && is_behind_key(before) => Some(": a colon is missing before it"),
+        _ => Some(": a comma or } is missing before it"),
+    }
 }
 
 /// Checks whether the string that `before` ends with is a key: whether the last mark outside strings is an opening

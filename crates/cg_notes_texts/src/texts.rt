@@ -29,35 +29,43 @@ pub fn find_in_text(
     if let Some(text) = other_file(bytes) {
         return Ok(Some(Finding::new(alloc, Place::START, text)?));
     }
-    let field = field_at(bytes, place);
+    let text = field_text(alloc, code, field_at(bytes, place))?;
+    Ok(Some(Finding { place, text }))
+}
+
+/// Returns the message on the fault `code` of `field`.
+fn field_text(alloc: Global, code: &str, field: &str) -> Result<String, AllocError> {
     let name = shown(alloc, field)?;
     let name = name.as_str();
-    let text = match code {
+    match code {
         "T1" => {
             let why = unknown_field(alloc, field)?;
             let why = why.as_str();
-            format!(in alloc; "\"{name}\" is not a word: {why}")?
+            format!(in alloc; "\"{name}\" is not a word: {why}")
         }
         "T2" => format!(in alloc;
             "\"{name}\" comes before any memory or stream P: write memory or stream 0 before it"
-        )?,
-        "T3" if field == "stream" => String::from_str(
-            alloc,
-            "stream is followed by the number of a port, 0 to 15",
-        )?,
-        "T3" if field.bytes().all(|byte| byte.is_ascii_digit()) => format!(in alloc;
-            "\"{name}\" is not a port: ports are 0 to 15"
-        )?,
-        "T3" => format!(in alloc;
-            "\"{name}\" is not a port: stream is followed by a number from 0 to 15, as a field of its own"
-        )?,
+        ),
+        "T3" => port_text(alloc, field, name),
         _ => {
             let why = too_large(alloc, field)?;
             let why = why.as_str();
-            format!(in alloc; "\"{name}\": {why}")?
+            format!(in alloc; "\"{name}\": {why}")
         }
+    }
+}
+
+/// Returns the message that `field`, which notes show as `name`, is in the place of a port and is none.
+fn port_text(alloc: Global, field: &str, name: &str) -> Result<String, AllocError> {
+    if field == "stream" {
+        return String::from_str(alloc, "stream is followed by the number of a port, 0 to 15");
+    }
+    let why = if is_digits(field) {
+        "ports are 0 to 15"
+    } else {
+        "stream is followed by a number from 0 to 15, as a field of its own"
     };
-    Ok(Some(Finding { place, text }))
+    format!(in alloc; "\"{name}\" is not a port: {why}")
 }
 
 /// Returns what `bytes` are, which should be a text of words, if they look like another text.
@@ -83,7 +91,12 @@ fn unknown_field(alloc: Global, field: &str) -> Result<String, AllocError> {
     if let Some(near) = nearest_name(alloc, field, &WORDS)? {
         return format!(in alloc; "did you mean {near}?");
     }
-    let why = if field.contains(',') {
+    String::from_str(alloc, field_hint(field))
+}
+
+/// Returns a hint on `field`, which is no word, begins no section, and looks like nothing that has a form of its own.
+fn field_hint(field: &str) -> &'static str {
+    if field.contains(',') {
         "fields are separated by blanks, not by commas"
     } else if field.starts_with("//") || field.starts_with("/*") || field.starts_with("--") {
         "a comment begins with #"
@@ -93,25 +106,36 @@ fn unknown_field(alloc: Global, field: &str) -> Result<String, AllocError> {
         "the number of a port is written after stream and a blank"
     } else {
         "write N, -N, 0xH, A..B or W*N, or begin a section with memory or stream P"
-    };
-    String::from_str(alloc, why)
+    }
 }
 
-/// Returns how to write `field` if it has one of other forms: a stream with its number, a range with blanks, a repeated
-/// word, or hexadecimal digits alone.
+/// Returns how to write `field` if it is a stream with its number, a part of a range with blanks, or a word of another
+/// form.
 fn other_form(alloc: Global, field: &str) -> Result<Option<String>, AllocError> {
-    let text = if field.starts_with("..") || field.ends_with("..") {
-        String::from_str(alloc, "a range is one field without blanks, such as 0..9")?
-    } else if let Some(port) = port_behind(field) {
-        format!(in alloc; "write stream {port}, as two fields")?
-    } else if let Some((count, word)) = repeated(field) {
-        format!(in alloc; "write {word}*{count} for {count} words with the value {word}")?
-    } else if is_hexadecimal(field) {
-        format!(in alloc; "write 0x{field} for a number in hexadecimal digits")?
-    } else {
-        return Ok(None);
-    };
-    Ok(Some(text))
+    if field.starts_with("..") || field.ends_with("..") {
+        let text = "a range is one field without blanks, such as 0..9";
+        return Ok(Some(String::from_str(alloc, text)?));
+    }
+    if let Some(port) = port_behind(field) {
+        let text = format!(in alloc; "write stream {port}, as two fields")?;
+        return Ok(Some(text));
+    }
+    other_word(alloc, field)
+}
+
+/// Returns how to write `field` if it is a repeated word, or hexadecimal digits alone.
+fn other_word(alloc: Global, field: &str) -> Result<Option<String>, AllocError> {
+    if let Some((count, word)) = repeated(field) {
+        let text = format!(in alloc;
+            "write {word}*{count} for {count} words with the value {word}"
+        )?;
+        return Ok(Some(text));
+    }
+    if is_hexadecimal(field) {
+        let text = format!(in alloc; "write 0x{field} for a number in hexadecimal digits")?;
+        return Ok(Some(text));
+    }
+    Ok(None)
 }
 
 /// Returns the number of repetitions and the word that `field` gives, with an `x` between the two numbers.

@@ -1,5 +1,5 @@
 -- The least intervals of the kinds, and the least of all, as they are found one interval after another.
-use Rattle.std.proofs.Common.{◌≡◌, ℕ, ◌+◌, ◌-◌, ◌<◌, ◌≤◌, List, [], ◌∷◌, ◌++◌, length, map, take, get_or, eqb, false, Contains, Option, Some, None, refl, sym, ap, ◌∙◌, subst, arith, inl, inr, ⊎_elim}
+use Rattle.std.proofs.Common.{◌≡◌, ℕ, ◌+◌, ◌-◌, ◌<◌, ◌≤◌, List, [], ◌∷◌, ◌++◌, length, map, take, get_or, Contains, Option, Some, None, refl, sym, ap, ◌∙◌, subst, arith, inl, inr, ⊎_elim}
 use Rattle.std.specs.Prelude.{◌⊎◌, unwrap_or}
 use Rattle.std.proofs.lemmas.Bool.{cases_lt}
 use Rattle.std.proofs.lemmas.List.{take_more, map-append}
@@ -18,7 +18,7 @@ use Rattle.cg_why.specs.declared.bounds.Bound.{Bound}
 use Rattle.cg_why.specs.declared.least.Verdict.{Verdict}
 use Rattle.cg_why.specs.declared.least.Verdict.TheVariants.{Excluded, Open}
 use Rattle.cg_why.specs.Why.{far_at, numbers_at, IsExcluded, Shows, kind_of, Excludes, IsImpossible, IsLeastWithout, below_of, IsBound, AreBounds, all_kinds, IsShown, IsLeast, IsSaid}
-use Rattle.cg_why.specs.Scan.{IsFound, IsOther, IsVerdict, IsBoundTo, MayBegin, IsLeastTo, IsBetween}
+use Rattle.cg_why.specs.Scan.{IsFound, IsOther, IsVerdict, IsBoundTo, MayBegin, IsLeastTo}
 use Rattle.cg_why.proofs.Reasons.{shown, no_registers}
 
 -- a property of all numbers below one, and of that one

@@ -51,10 +51,10 @@ pub record IsLeastTo (A : Arch) (K : Kernel) (f : Fars) (bounds : List Bound) (i
 
 -- ---- binary search
 
--- registers exclude each interval up to `low`, with a reason for that one, and they don't exclude `high`
-pub record IsBetween (A : Arch) (K : Kernel) (f : Fars) (low high : ℕ) (below : Option Reason) : Type 0 where
+-- reasons of the given kind exclude each interval up to `low`, one for that interval is given, and none excludes `high`
+pub record IsBetween (A : Arch) (K : Kernel) (f : Fars) (kind : Kind) (low high : ℕ) (below : Option Reason) : Type 0 where
   pub some : 1 ≤ low
   pub apart : low < high
   pub within : high ≤ A.contexts
-  pub free : Excludes A K f kinds.Registers high → ⊥
-  pub to : IsBoundTo A K f kinds.Registers (low + 1) below
+  pub free : Excludes A K f kind high → ⊥
+  pub to : IsBoundTo A K f kind (low + 1) below

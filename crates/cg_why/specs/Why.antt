@@ -1,6 +1,6 @@
 -- Why no legal mapping of a kernel has an interval, by four kinds of reasons, and the least interval that none of them
 -- excludes.
-use Rattle.std.specs.Prelude.{◌≡◌, ℕ, ◌+◌, ◌-◌, ◌<◌, ◌≤◌, ◌⊎◌, ⊤, eqb, if◌then◌else◌, List, [], ◌∷◌, Contains, map, take, Option, Some, None, slice_index, unwrap_or}
+use Rattle.std.specs.Prelude.{◌≡◌, ℕ, ◌-◌, ◌<◌, ◌≤◌, ◌⊎◌, ⊤, eqb, if◌then◌else◌, List, [], ◌∷◌, Contains, map, take, Option, Some, None, slice_index, unwrap_or}
 use Rattle.cg_word.specs.declared.op.Op.{Op}
 use Rattle.cg_model.specs.declared.kernel.Operand.TheVariants.{Edge}
 use Rattle.cg_model.specs.Kernel.{Kernel, HasOperand}

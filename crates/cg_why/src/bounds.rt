@@ -1,13 +1,12 @@
 //! The least intervals that no reason of one kind excludes.
-ghost use Rattle.std.specs.Prelude.{◌≡◌, ◌+◌, ◌≤◌, IfOk, Some};
-ghost use Rattle.cg_why.specs.declared.reason.Kind.TheVariants as kinds_of;
-ghost use Rattle.cg_why.specs.Why.{AreAllNumbers, Excludes, IsShown, IsBound, AreBounds, all_kinds};
-ghost use Rattle.cg_why.specs.Scan.{IsBoundTo};
+ghost use Rattle.std.specs.Prelude.{ℕ, ◌≡◌, ◌≤◌, IfOk, IsTrue, Some};
+ghost use Rattle.cg_why.specs.Why.{AreAllNumbers, Excludes, IsShown, IsBound, AreBounds, Shows, all_kinds, far_at, kind_of};
 
 use crate::exclusion::find_reason;
 use crate::numbers::Fars;
 use crate::reason::{Kind, Reason};
 use cg_edges::{Arch, Kernel};
+use cg_pressure::check_pressure;
 use std::alloc::{AllocError, Global};
 
 /// The least interval that no reason of one kind excludes.
@@ -21,27 +20,24 @@ pub struct Bound {
     pub below: Option<Reason>,
 }
 
-/// Finds the least interval that no reason of kind `kind` excludes, from `from` to the contexts of `arch`. Reasons
-/// exclude each interval below `from`; `below` excludes the greatest of them.
+/// Finds the least interval that no reason of kind `kind` excludes, from 2 to the contexts of `arch`, one interval after
+/// another. `reason` excludes interval 1.
 fn scan(
     alloc: Global,
     arch: &Arch,
     kernel: &Kernel,
     fars: &Fars,
     kind: Kind,
-    from: u32,
-    below: Option<Reason>,
+    reason: Reason,
 ) -> Result<Bound, AllocError>
     requires numbers { AreAllNumbers arch.now kernel.now fars.now }
-    requires some { 1 ≤ from }
-    requires within { from ≤ arch.now.contexts + 1 }
-    requires below { IsBoundTo arch.now kernel.now fars.now kind from below }
+    requires one { IsShown arch.now kernel.now fars.now kind 1 (Some reason) }
     ensures bound { IfOk result (IsBound arch.now kernel.now fars.now) }
     ensures kind { IfOk result (λ bound. bound.kind ≡ kind) }
 {
-    let mut below = below;
+    let mut below = Some(reason);
     let end = arch.contexts() + 1;
-    for ii in from..end {
+    for ii in 2..end {
         match find_reason(alloc, arch, kernel, fars.at(ii), ii, kind)? {
             Some(reason) => below = Some(reason),
             None => {
@@ -60,26 +56,25 @@ fn scan(
     })
 }
 
-/// Finds the least interval that registers don't exclude, by binary search: they exclude interval 1 by `reason`, and
-/// don't exclude `free`. Below an interval that they don't exclude, they exclude each interval below one that they
-/// exclude.
+/// Finds the least interval that no reason of kind `kind` excludes, by binary search: `reason` excludes interval 1, and
+/// none excludes `free`. Below an interval that none excludes, each interval below one that is excluded is excluded too.
 fn halve(
     alloc: Global,
     arch: &Arch,
     kernel: &Kernel,
     fars: &Fars,
+    kind: Kind,
     reason: Reason,
     free: u32,
 ) -> Result<Bound, AllocError>
     requires numbers { AreAllNumbers arch.now kernel.now fars.now }
-    requires one { IsShown arch.now kernel.now fars.now kinds_of.Registers 1 (Some reason) }
-    requires free { Excludes arch.now kernel.now fars.now kinds_of.Registers free → ⊥ }
+    requires one { IsShown arch.now kernel.now fars.now kind 1 (Some reason) }
+    requires free { Excludes arch.now kernel.now fars.now kind free → ⊥ }
     requires some { 1 ≤ free }
     requires within { free ≤ arch.now.contexts }
     ensures bound { IfOk result (IsBound arch.now kernel.now fars.now) }
-    ensures kind { IfOk result (λ bound. bound.kind ≡ kinds_of.Registers) }
+    ensures kind { IfOk result (λ bound. bound.kind ≡ kind) }
 {
-    let kind = Kind::Registers;
     let mut low = 1;
     let mut high = free;
     let mut below = Some(reason);
@@ -100,30 +95,18 @@ fn halve(
     })
 }
 
-/// Finds the least interval that registers don't exclude, from 1 to the contexts of `arch`.
-fn find_for_registers(
-    alloc: Global,
-    arch: &Arch,
-    kernel: &Kernel,
-    fars: &Fars,
-) -> Result<Bound, AllocError>
-    requires { AreAllNumbers arch.now kernel.now fars.now }
-    ensures bound { IfOk result (IsBound arch.now kernel.now fars.now) }
-    ensures kind { IfOk result (λ bound. bound.kind ≡ kinds_of.Registers) }
+/// Returns whether `last`, which excludes the greatest interval of `arch`, shows that each interval from 2 on is
+/// excluded: a circulation does if it excludes interval 2 as well, every other reason does in any case.
+fn excludes_all(arch: &Arch, kernel: &Kernel, fars: &Fars, last: &Reason) -> bool
+    requires numbers { AreAllNumbers arch.now kernel.now fars.now }
+    requires last { Shows arch.now kernel.now (far_at fars.now arch.now.contexts) arch.now.contexts last.now }
+    ensures { IsTrue result → (ii : ℕ) → 2 ≤ ii → ii ≤ arch.now.contexts →
+        Excludes arch.now kernel.now fars.now (kind_of last.now) ii }
 {
-    let kind = Kind::Registers;
-    let most = arch.contexts();
-    let Some(reason) = find_reason(alloc, arch, kernel, fars.at(1), 1, kind)? else {
-        return Ok(Bound {
-            kind,
-            least: Some(1),
-            below: None,
-        });
-    };
-    if find_reason(alloc, arch, kernel, fars.at(most), most, kind)?.is_some() {
-        return scan(alloc, arch, kernel, fars, kind, 2, Some(reason));
+    match last {
+        Reason::Registers(pressure) => check_pressure(arch, kernel, &fars.rest.far, 2, pressure),
+        _ => true,
     }
-    halve(alloc, arch, kernel, fars, reason, most)
 }
 
 /// Finds the least interval that no reason of kind `kind` excludes, from 1 to the contexts of `arch`.
@@ -138,10 +121,25 @@ fn find_bound(
     ensures bound { IfOk result (IsBound arch.now kernel.now fars.now) }
     ensures kind { IfOk result (λ bound. bound.kind ≡ kind) }
 {
-    match kind {
-        Kind::Registers => find_for_registers(alloc, arch, kernel, fars),
-        _ => scan(alloc, arch, kernel, fars, kind, 1, None),
+    let most = arch.contexts();
+    let Some(reason) = find_reason(alloc, arch, kernel, fars.at(1), 1, kind)? else {
+        return Ok(Bound {
+            kind,
+            least: Some(1),
+            below: None,
+        });
+    };
+    let Some(last) = find_reason(alloc, arch, kernel, fars.at(most), most, kind)? else {
+        return halve(alloc, arch, kernel, fars, kind, reason, most);
+    };
+    if excludes_all(arch, kernel, fars, &last) {
+        return Ok(Bound {
+            kind,
+            least: None,
+            below: Some(last),
+        });
     }
+    scan(alloc, arch, kernel, fars, kind, reason)
 }
 
 /// Returns the kinds, in order.

@@ -5,7 +5,7 @@ use Rattle.cg_why.proofs.Halves.{between_begins, raised, lowered, between_ends}
 use Rattle.cg_why.proofs.bounds.halve.Goals as goal
 
 pub loop-low-init : goal.loop-low-init
-loop-low-init c = between_begins c.args.arch.now c.args.kernel.now c.args.fars.now c.args.reason c.args.free c.requires.one c.requires.free c.requires.some c.requires.within
+loop-low-init c = between_begins c.args.arch.now c.args.kernel.now c.args.fars.now c.args.kind c.args.reason c.args.free c.requires.one c.requires.free c.requires.some c.requires.within
 
 pub find_reason-requires-clause-numbers : goal.find_reason-requires-clause-numbers
 find_reason-requires-clause-numbers c =
@@ -17,14 +17,14 @@ find_reason-requires-clause-numbers c =
 pub loop-low-preserved-in-Some : goal.loop-low-preserved-in-Some
 loop-low-preserved-in-Some c =
     let t = c.loop-low-test.true in
-    raised c.args.arch.now c.args.kernel.now c.args.fars.now c.loop-low.low c.loop-low.high c.loop-low.below c.loop-low.invariant _ (omega arith) (omega arith) c.at.result.now c.in_ok-reason.field-0 c.in-Some.reason c.at.ensures c.in-Some.is c.in_ok-reason.ensures
+    raised c.args.arch.now c.args.kernel.now c.args.fars.now c.args.kind c.loop-low.low c.loop-low.high c.loop-low.below c.loop-low.invariant _ (omega arith) (omega arith) c.requires.numbers c.at.result.now c.in_ok-reason.field-0 c.in-Some.reason c.at.ensures c.in-Some.is c.in_ok-reason.ensures
 
 pub loop-low-preserved : goal.loop-low-preserved
 loop-low-preserved c =
     let t = c.loop-low-test.true in
-    lowered c.args.arch.now c.args.kernel.now c.args.fars.now c.loop-low.low c.loop-low.high c.loop-low.below c.loop-low.invariant _ (omega arith) (omega arith) c.at.result.now c.in_ok-reason.field-0 c.at.ensures c.in-None.is c.in_ok-reason.ensures
+    lowered c.args.arch.now c.args.kernel.now c.args.fars.now c.args.kind c.loop-low.low c.loop-low.high c.loop-low.below c.loop-low.invariant _ (omega arith) (omega arith) c.requires.numbers c.at.result.now c.in_ok-reason.field-0 c.at.ensures c.in-None.is c.in_ok-reason.ensures
 
 pub returns-clause-bound : goal.returns-clause-bound
 returns-clause-bound c =
     let t = c.loop-low-test.false in
-    between_ends c.args.arch.now c.args.kernel.now c.args.fars.now c.loop-low.low c.loop-low.high c.loop-low.below c.loop-low.invariant (omega arith)
+    between_ends c.args.arch.now c.args.kernel.now c.args.fars.now c.args.kind c.loop-low.low c.loop-low.high c.loop-low.below c.loop-low.invariant (omega arith)

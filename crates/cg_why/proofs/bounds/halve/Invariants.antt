@@ -3,7 +3,7 @@ use Rattle.cg_why.specs.Scan.{IsBetween}
 use Rattle.cg_why.proofs.bounds.halve.Given as goal
 
 abbrev pub invariant-loop-low : goal.invariant-loop-low
-invariant-loop-low l = IsBetween l.arch l.kernel l.fars l.low l.high l.below
+invariant-loop-low l = IsBetween l.arch l.kernel l.fars l.kind l.low l.high l.below
 
 abbrev pub decreases-loop-low : goal.decreases-loop-low
 decreases-loop-low l = l.high - l.low

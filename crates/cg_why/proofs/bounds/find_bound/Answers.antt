@@ -1,0 +1,26 @@
+use Rattle.std.proofs.Common.{sym, subst, arith}
+use Rattle.cg_why.specs.Why.{AreNumbers}
+use Rattle.cg_why.proofs.Reasons.{numbers_for}
+use Rattle.cg_why.proofs.Halves.{free_at, shown_at, bound_of_1, bound_of_all}
+use Rattle.cg_why.proofs.bounds.find_bound.Goals as goal
+
+pub returns-in_default-clause-bound : goal.returns-in_default-clause-bound
+returns-in_default-clause-bound c =
+    bound_of_1 c.args.arch.now c.args.kernel.now c.args.fars.now c.args.kind c.at.result.now c.in_ok-reason.field-0 c.at.ensures c.in_default.is c.in_ok-reason.ensures c.contexts-most.ensures.valid.small.contexts.0
+
+pub find_reason-requires-2-clause-numbers : goal.find_reason-requires-2-clause-numbers
+find_reason-requires-2-clause-numbers c =
+    let e = c.contexts-most.ensures.contexts in
+    let s = c.contexts-most.ensures.valid.small.contexts.0 in
+    subst (AreNumbers c.args.arch.now c.args.kernel.now c.contexts-most.result) (sym c.at-2.ensures)
+    (numbers_for c.args.arch.now c.args.kernel.now c.args.fars.now c.contexts-most.result (omega arith) c.requires)
+
+pub halve-requires-clause-free : goal.halve-requires-clause-free
+halve-requires-clause-free c =
+    free_at c.args.arch.now c.args.kernel.now c.args.fars.now c.args.kind c.contexts-most.result c.at-2.result.now c.in_ok-last.field-0 c.at-2.ensures c.in_default-2.is c.in_ok-last.ensures
+
+pub returns-then-excludes_all-clause-bound : goal.returns-then-excludes_all-clause-bound
+returns-then-excludes_all-clause-bound c =
+    bound_of_all c.args.arch.now c.args.kernel.now c.args.fars.now c.args.kind c.contexts-most.result c.at-2.result.now c.in_ok-last.field-0 c.in-Some.reason c.in-Some-2.last c.contexts-most.ensures.contexts c.at-2.ensures c.in-Some-2.is c.in_ok-last.ensures
+    (shown_at c.args.arch.now c.args.kernel.now c.args.fars.now c.args.kind 1 c.at.result.now c.in_ok-reason.field-0 c.in-Some.reason c.at.ensures c.in-Some.is c.in_ok-reason.ensures)
+    (c.excludes_all.ensures c.if-excludes_all.true)
