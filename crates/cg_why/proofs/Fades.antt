@@ -22,7 +22,7 @@ use Rattle.cg_why.specs.declared.reason.Reason.TheVariants.{Recurrence, Class, N
 use Rattle.cg_why.specs.Why.{Shows, kind_of, far_at, HasNoWay, IsMissing, AreAllNumbers, Excludes}
 
 module _ (A : Arch) (K : Kernel) (f : Fars) where
-  pub rest_at : (ii : ℕ) → 2 ≤ ii → far_at f ii ≡ table f.rest.far.items
+  rest_at : (ii : ℕ) → 2 ≤ ii → far_at f ii ≡ table f.rest.far.items
   rest_at ii l = let b : eqb ii 1 ≡ false = ne_eqb ii 1 (λ e. omega arith) in rw b refl
 
   -- from 2 on one interval's numbers are the other's
@@ -52,22 +52,13 @@ module _ (A : Arch) (K : Kernel) (f : Fars) where
       ⊎_elim {C = Falls A K P ⊎ Rises A K P} (λ l. inl (omega arith)) (λ l. inr l)
       (cases_lt (stays K P (λ a. a.distance)) (pulls K P (λ a. a.distance) + ties K P (λ a. a.distance) + registers A))
 
-  -- a certificate of registers excludes each lower interval from 2 on, or each higher one
-  pressed : (P : Pressure) (m : ℕ) → 2 ≤ m → IsPressure A K (far_at f m) m P →
-      ((i : ℕ) → 2 ≤ i → i ≤ m → IsPressure A K (far_at f i) i P) ⊎ ((i : ℕ) → m ≤ i → IsPressure A K (far_at f i) i P)
-  pressed P m two p =
-      ⊎_elim
-      (λ (fall : Falls A K P). inl (λ i l k. subst (λ z. IsPressure A K z i P) (far_same i m l two) (falls A K (far_at f m) i m P fall k p)))
-      (λ (rise : Rises A K P). inr (λ i k. subst (λ z. IsPressure A K z i P) (far_same i m (omega arith) two) (rises A K (far_at f m) m i P rise k p)))
-      (falls_or_rises P)
+  -- a certificate of registers excludes each lower interval from 2 on
+  falling : (P : Pressure) (i m : ℕ) → Falls A K P → 2 ≤ i → i ≤ m → IsPressure A K (far_at f m) m P → IsPressure A K (far_at f i) i P
+  falling P i m fall l k p = subst (λ z. IsPressure A K z i P) (far_same i m l (omega arith)) (falls A K (far_at f m) i m P fall k p)
 
-  -- a certificate of registers that excludes two intervals from 2 on excludes each between them
-  pressed_between : (P : Pressure) (a b i : ℕ) → 2 ≤ a → a ≤ i → i ≤ b → IsPressure A K (far_at f a) a P → IsPressure A K (far_at f b) b P → IsPressure A K (far_at f i) i P
-  pressed_between P a b i two l k p q =
-      ⊎_elim
-      (λ (fall : Falls A K P). subst (λ z. IsPressure A K z i P) (far_same i b (omega arith) (omega arith)) (falls A K (far_at f b) i b P fall k q))
-      (λ (rise : Rises A K P). subst (λ z. IsPressure A K z i P) (far_same i a (omega arith) two) (rises A K (far_at f a) a i P rise l p))
-      (falls_or_rises P)
+  -- or each higher one
+  rising : (P : Pressure) (m i : ℕ) → Rises A K P → 2 ≤ m → m ≤ i → IsPressure A K (far_at f m) m P → IsPressure A K (far_at f i) i P
+  rising P m i rise l k p = subst (λ z. IsPressure A K z i P) (far_same i m (omega arith) l) (rises A K (far_at f m) m i P rise k p)
 
   -- below an interval that no reason of a kind excludes, each interval from 2 on up to one that is excluded is excluded
   pub lower : (kind : Kind) (i m h : ℕ) → AreAllNumbers A K f → 2 ≤ i → i ≤ m → m < h → (Excludes A K f kind h → ⊥) → Excludes A K f kind m → Excludes A K f kind i
@@ -75,7 +66,10 @@ module _ (A : Arch) (K : Kernel) (f : Fars) where
   lower kinds.Class i m h all two l less free e = fading kinds.Class i m (λ x. cc) all two l e
   lower kinds.Ways i m h all two l less free e = fading kinds.Ways i m (λ x. cc) all two l e
   lower kinds.Registers i m h all two l less free (P, p) =
-      ⊎_elim (λ down. (P, down i two l)) (λ up. absurd (free (P, up h (omega arith)))) (pressed P m (omega arith) p)
+      ⊎_elim
+      (λ (fall : Falls A K P). (P, falling P i m fall two l p))
+      (λ (rise : Rises A K P). absurd (free (P, rising P m h rise (omega arith) (omega arith) p)))
+      (falls_or_rises P)
 
   -- a reason other than registers shows that each interval from 2 on up to one that it excludes is excluded
   pub others_below : (r : Reason) (m i : ℕ) → ((P : Pressure) → r ≡ Registers P → ⊥) → AreAllNumbers A K f → 2 ≤ i → i ≤ m → Shows A K (far_at f m) m r → Excludes A K f (kind_of r) i
@@ -85,8 +79,40 @@ module _ (A : Arch) (K : Kernel) (f : Fars) where
   others_below (Ways ids) m i other all l k h = fading kinds.Ways i m (λ e. cc) all l k (inr (ids.items, h))
   others_below (Registers P) m i other all l k h = absurd (other P refl)
 
-  -- one of registers does if it excludes 2 as well
-  pub registers_below : (r : Reason) (P : Pressure) (far : List ℕ) (m i : ℕ) → r ≡ Registers P → far ≡ f.rest.far.items → IsPressure A K (table far) 2 P → 2 ≤ i → i ≤ m → Shows A K (far_at f m) m r → Excludes A K f (kind_of r) i
-  registers_below r P far m i is e two l k h =
-      let here : IsPressure A K (far_at f m) m P = (subst (Shows A K (far_at f m) m) is h).0 in
-      subst (λ z. Excludes A K f (kind_of z) i) (sym is) (P, pressed_between P 2 m i (omega arith) l k (subst (λ z. IsPressure A K (table z) 2 P) e two) here)
+  module _ (r : Reason) (P : Pressure) (far : List ℕ) (m i : ℕ) (is : r ≡ Registers P) (e : far ≡ f.rest.far.items) (two : 2 ≤ m) (h : Shows A K (far_at f m) m r) where
+    here : IsPressure A K (far_at f m) m P
+    here = (subst (Shows A K (far_at f m) m) is h).0
+
+    -- one of registers does if it excludes 2 as well
+    pub registers_below : IsPressure A K (table far) 2 P → 2 ≤ i → i ≤ m → Excludes A K f (kind_of r) i
+    registers_below there l k =
+        subst (λ z. Excludes A K f (kind_of z) i) (sym is) (
+          P,
+          ⊎_elim {C = IsPressure A K (far_at f i) i P}
+              (λ (fall : Falls A K P). falling P i m fall l k here)
+              (λ (rise : Rises A K P). rising P 2 i rise (omega arith) l (subst (λ z. IsPressure A K (table z) 2 P) e there))
+              (falls_or_rises P),
+        )
+
+    -- and excludes each higher one if it doesn't
+    pub registers_above : (IsPressure A K (table far) 2 P → ⊥) → m ≤ i → Shows A K (far_at f i) i r
+    registers_above not_there k =
+        subst (Shows A K (far_at f i) i) (sym is) (
+          ⊎_elim {C = IsPressure A K (far_at f i) i P}
+              (λ (fall : Falls A K P). absurd (not_there (subst (λ z. IsPressure A K (table z) 2 P) (sym e) (falling P 2 m fall (omega arith) two here))))
+              (λ (rise : Rises A K P). rising P m i rise two k here)
+              (falls_or_rises P),
+          (subst (Shows A K (far_at f m) m) is h).1,
+        )
+
+    -- one of registers that excludes a higher one too excludes each between them
+    pub registers_between : (b : ℕ) → IsPressure A K (table far) b P → m ≤ i → i ≤ b → Shows A K (far_at f i) i r
+    registers_between b there k l =
+        let high : IsPressure A K (far_at f b) b P = subst (λ z. IsPressure A K z b P) (sym (rest_at b (omega arith))) (subst (λ z. IsPressure A K (table z) b P) e there) in
+        subst (Shows A K (far_at f i) i) (sym is) (
+          ⊎_elim {C = IsPressure A K (far_at f i) i P}
+              (λ (fall : Falls A K P). falling P i b fall (omega arith) l high)
+              (λ (rise : Rises A K P). rising P m i rise two k here)
+              (falls_or_rises P),
+          (subst (Shows A K (far_at f m) m) is h).1,
+        )

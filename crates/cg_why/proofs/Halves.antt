@@ -8,8 +8,8 @@ use Rattle.cg_why.specs.declared.reason.Kind.{Kind}
 use Rattle.cg_why.specs.declared.reason.Reason.{Reason}
 use Rattle.cg_why.specs.declared.numbers.Numbers.{Numbers}
 use Rattle.cg_why.specs.declared.numbers.Fars.{Fars}
-use Rattle.cg_why.specs.Why.{far_at, numbers_at, kind_of, AreAllNumbers, IsExcluded, Excludes, IsShown, IsBound}
-use Rattle.cg_why.specs.Scan.{IsFound, IsBoundTo, IsBetween}
+use Rattle.cg_why.specs.Why.{far_at, numbers_at, kind_of, AreAllNumbers, Shows, IsExcluded, Excludes, IsShown, IsBound}
+use Rattle.cg_why.specs.Scan.{IsFound, IsBoundTo, IsBetween, IsClosing}
 use Rattle.cg_why.proofs.Reasons.{shown}
 use Rattle.cg_why.proofs.Fades.{lower}
 
@@ -48,15 +48,15 @@ module _ (A : Arch) (K : Kernel) (f : Fars) (kind : Kind) where
 
   -- where interval 1 is excluded, and each from 2 on
   pub bound_of_all : (most : ℕ) (n : Numbers) (found : Option Reason) (r last : Reason) → most ≡ A.contexts → n ≡ numbers_at f most → found ≡ Some last → IsFound A K (table n.far.items) most kind found → IsShown A K f kind 1 (Some r) →
-      ((ii : ℕ) → 2 ≤ ii → ii ≤ A.contexts → Excludes A K f (kind_of last) ii) → IsBound A K f (record { kind = kind; least = None; below = Some last })
+      ((ii : ℕ) → 2 ≤ ii → ii ≤ most → Excludes A K f (kind_of last) ii) → IsBound A K f (record { kind = kind; least = None; below = Some last })
   bound_of_all most n found r last m e is h one all =
-      let here : IsShown A K f kind A.contexts (Some last) = subst (λ z. IsShown A K f kind z (Some last)) m (found_at most n found (Some last) e is h) in
-      record { least = each here; below = here }
+      let here : IsShown A K f kind most (Some last) = found_at most n found (Some last) e is h in
+      record { least = each here; below = subst (λ z. IsShown A K f kind z (Some last)) m here }
     where
-      each : IsShown A K f kind A.contexts (Some last) → (ii : ℕ) → 1 ≤ ii → ii ≤ A.contexts → Excluded ii
-      each here ii l m =
-          ⊎_elim {C = Excluded ii} (λ (k : ii < 2). let e : 1 ≡ ii = omega arith in subst Excluded e (excluded_by 1 r one))
-          (λ (k : 2 ≤ ii). subst (λ z. Excludes A K f z ii) here.1 (all ii k m)) (cases_lt ii 2)
+      each : IsShown A K f kind most (Some last) → (ii : ℕ) → 1 ≤ ii → ii ≤ A.contexts → Excluded ii
+      each here ii l k =
+          ⊎_elim {C = Excluded ii} (λ (x : ii < 2). let e : 1 ≡ ii = omega arith in subst Excluded e (excluded_by 1 r one))
+          (λ (x : 2 ≤ ii). subst (λ z. Excludes A K f z ii) here.1 (all ii x (omega arith))) (cases_lt ii 2)
 
   module _ (low high : ℕ) (below : Option Reason) (h : IsBetween A K f kind low high below) (middle : ℕ) (above : low < middle) (under : middle < high) (all : AreAllNumbers A K f) where
     to_middle : Excluded middle → (i : ℕ) → 1 ≤ i → i < middle + 1 → Excluded i
@@ -87,3 +87,53 @@ module _ (A : Arch) (K : Kernel) (f : Fars) (kind : Kind) where
       let s = h.some in
       let same : low + 1 - 1 ≡ high - 1 = omega arith in
       record { least = (omega arith, h.within, h.free, λ i k m. h.to.excluded i k (omega arith)); below = subst (λ z. IsShown A K f kind z below) same h.to.shown }
+
+  -- ---- where 1 and the greatest interval are excluded
+
+  pub closing_begins : (most : ℕ) (first last : Reason) → most ≡ A.contexts → IsShown A K f kind 1 (Some first) → IsShown A K f kind A.contexts (Some last) → 2 ≤ A.contexts → IsClosing A K f kind 1 most first last
+  closing_begins most first last e one greatest two =
+      record {
+        some = omega arith;
+        apart = omega arith;
+        within = omega arith;
+        to = first_to first one;
+        from = λ i l m. let e : A.contexts ≡ i = omega arith in subst (λ z. IsShown A K f kind z (Some last)) e greatest;
+      }
+
+  module _ (low high : ℕ) (below above : Reason) (h : IsClosing A K f kind low high below above) where
+    module _ (middle : ℕ) (over : low < middle) (under : middle < high) (n : Numbers) (found : Option Reason) (e : n ≡ numbers_at f middle) (found_h : IsFound A K (table n.far.items) middle kind found) where
+      pub closing_raised : (r : Reason) → found ≡ Some r → ((i : ℕ) → 2 ≤ i → i ≤ middle → Excludes A K f (kind_of r) i) → IsClosing A K f kind middle high r above
+      closing_raised r is all =
+          let here : IsShown A K f kind middle (Some r) = found_at middle n found (Some r) e is found_h in
+          let same : middle ≡ middle + 1 - 1 = omega arith in
+          let s = h.some in
+          record {
+            some = omega arith;
+            apart = under;
+            within = h.within;
+            to = record { excluded = to_middle here; shown = subst (λ z. IsShown A K f kind z (Some r)) same here };
+            from = h.from;
+          }
+        where
+          to_middle : IsShown A K f kind middle (Some r) → (i : ℕ) → 1 ≤ i → i < middle + 1 → Excluded i
+          to_middle here i l m =
+              ⊎_elim {C = Excluded i} (λ (k : i < low + 1). h.to.excluded i l k)
+              (λ (k : low + 1 ≤ i). let s = h.some in subst (λ z. Excludes A K f z i) here.1 (all i (omega arith) (omega arith))) (cases_lt i (low + 1))
+
+      pub closing_lowered : (r : Reason) → found ≡ Some r → ((i : ℕ) → middle ≤ i → Shows A K (far_at f i) i r) → IsClosing A K f kind low middle below r
+      closing_lowered r is all =
+          let here : IsShown A K f kind middle (Some r) = found_at middle n found (Some r) e is found_h in
+          let w = h.within in
+          record { some = h.some; apart = over; within = omega arith; to = h.to; from = λ i l m. (all i l, here.1) }
+
+      pub closing_opened : found ≡ None → IsBetween A K f kind low middle (Some below)
+      closing_opened is =
+          let w = h.within in
+          record { some = h.some; apart = over; within = omega arith; free = found_at middle n found None e is found_h; to = h.to }
+
+    pub closing_ends : high ≤ low + 1 → IsBound A K f (record { kind = kind; least = None; below = Some above })
+    closing_ends l =
+        record {
+          least = λ i k m. ⊎_elim {C = Excluded i} (λ (x : i < low + 1). h.to.excluded i k x) (λ (x : low + 1 ≤ i). excluded_by i above (h.from i (omega arith) m)) (cases_lt i (low + 1));
+          below = h.from A.contexts h.within (omega arith);
+        }

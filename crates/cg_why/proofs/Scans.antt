@@ -86,6 +86,15 @@ module _ (A : Arch) (K : Kernel) (f : Fars) (bounds : List Bound) where
       let here : IsVerdict A K f ii (Open t) = subst (IsVerdict A K f ii) is h in
       record { least = (l, m, here.0, to.each); free = here.1; said = to.said }
 
+  pub least_closed : (ii : ℕ) (r : Reason) (below : Option Reason) → ii ≤ A.contexts → ((i : ℕ) → ii ≤ i → i ≤ A.contexts → Shows A K (far_at f i) i r) → IsLeastTo A K f bounds ii below →
+      IsLeast A K f bounds (record { interval = None; times = None; below = Some r })
+  least_closed ii r below l all to =
+      record {
+        least = λ i a b. ⊎_elim {C = IsImpossible A K f i} (λ (h : i < ii). to.each i a h) (λ (h : ii ≤ i). (kind_of r, shown A K (far_at f i) i r (all i h b))) (cases_lt i ii);
+        free = tt;
+        said = all A.contexts l (omega arith);
+      }
+
   pub least_none : (ii : ℕ) (below : Option Reason) → ii ≡ A.contexts + 1 → IsLeastTo A K f bounds ii below → IsLeast A K f bounds (record { interval = None; times = None; below = below })
   least_none ii below e to =
       let same : ii - 1 ≡ A.contexts = omega arith in

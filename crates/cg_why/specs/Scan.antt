@@ -58,3 +58,12 @@ pub record IsBetween (A : Arch) (K : Kernel) (f : Fars) (kind : Kind) (low high 
   pub within : high ≤ A.contexts
   pub free : Excludes A K f kind high → ⊥
   pub to : IsBoundTo A K f kind (low + 1) below
+
+-- reasons of the given kind exclude each interval up to `low`, one for that interval is given, and one that excludes each
+-- from `high` on to the greatest
+pub record IsClosing (A : Arch) (K : Kernel) (f : Fars) (kind : Kind) (low high : ℕ) (below above : Reason) : Type 0 where
+  pub some : 1 ≤ low
+  pub apart : low < high
+  pub within : high ≤ A.contexts
+  pub to : IsBoundTo A K f kind (low + 1) (Some below)
+  pub from : (i : ℕ) → high ≤ i → i ≤ A.contexts → IsShown A K f kind i (Some above)

@@ -1,12 +1,13 @@
 //! The least intervals that no reason of one kind excludes.
-ghost use Rattle.std.specs.Prelude.{ℕ, ◌≡◌, ◌≤◌, IfOk, IsTrue, Some};
-ghost use Rattle.cg_why.specs.Why.{AreAllNumbers, Excludes, IsShown, IsBound, AreBounds, Shows, all_kinds, far_at, kind_of};
+ghost use Rattle.std.specs.Prelude.{◌≡◌, ◌≤◌, IfOk, Some};
+ghost use Rattle.cg_why.specs.Why.{AreAllNumbers, IsShown, IsBound, AreBounds, all_kinds};
+ghost use Rattle.cg_why.specs.Scan.{IsBetween};
 
 use crate::exclusion::find_reason;
 use crate::numbers::Fars;
+use crate::reach::excludes_lower;
 use crate::reason::{Kind, Reason};
 use cg_edges::{Arch, Kernel};
-use cg_pressure::check_pressure;
 use std::alloc::{AllocError, Global};
 
 /// The least interval that no reason of one kind excludes.
@@ -20,64 +21,27 @@ pub struct Bound {
     pub below: Option<Reason>,
 }
 
-/// Finds the least interval that no reason of kind `kind` excludes, from 2 to the contexts of `arch`, one interval after
-/// another. `reason` excludes interval 1.
-fn scan(
-    alloc: Global,
-    arch: &Arch,
-    kernel: &Kernel,
-    fars: &Fars,
-    kind: Kind,
-    reason: Reason,
-) -> Result<Bound, AllocError>
-    requires numbers { AreAllNumbers arch.now kernel.now fars.now }
-    requires one { IsShown arch.now kernel.now fars.now kind 1 (Some reason) }
-    ensures bound { IfOk result (IsBound arch.now kernel.now fars.now) }
-    ensures kind { IfOk result (λ bound. bound.kind ≡ kind) }
-{
-    let mut below = Some(reason);
-    let end = arch.contexts() + 1;
-    for ii in 2..end {
-        match find_reason(alloc, arch, kernel, fars.at(ii), ii, kind)? {
-            Some(reason) => below = Some(reason),
-            None => {
-                return Ok(Bound {
-                    kind,
-                    least: Some(ii),
-                    below,
-                });
-            }
-        }
-    }
-    Ok(Bound {
-        kind,
-        least: None,
-        below,
-    })
-}
-
-/// Finds the least interval that no reason of kind `kind` excludes, by binary search: `reason` excludes interval 1, and
-/// none excludes `free`. Below an interval that none excludes, each interval below one that is excluded is excluded too.
+/// Finds the least interval that no reason of kind `kind` excludes, by binary search: reasons exclude each interval up to
+/// `low`, `below` that one, and none excludes `free`. Below an interval that none excludes, each interval below one that
+/// is excluded is excluded too.
 fn halve(
     alloc: Global,
     arch: &Arch,
     kernel: &Kernel,
     fars: &Fars,
     kind: Kind,
-    reason: Reason,
+    low: u32,
+    below: Reason,
     free: u32,
 ) -> Result<Bound, AllocError>
     requires numbers { AreAllNumbers arch.now kernel.now fars.now }
-    requires one { IsShown arch.now kernel.now fars.now kind 1 (Some reason) }
-    requires free { Excludes arch.now kernel.now fars.now kind free → ⊥ }
-    requires some { 1 ≤ free }
-    requires within { free ≤ arch.now.contexts }
+    requires between { IsBetween arch.now kernel.now fars.now kind low free (Some below) }
     ensures bound { IfOk result (IsBound arch.now kernel.now fars.now) }
     ensures kind { IfOk result (λ bound. bound.kind ≡ kind) }
 {
-    let mut low = 1;
+    let mut low = low;
     let mut high = free;
-    let mut below = Some(reason);
+    let mut below = Some(below);
     while low + 1 < high {
         let middle = low + (high - low) / 2;
         match find_reason(alloc, arch, kernel, fars.at(middle), middle, kind)? {
@@ -95,18 +59,46 @@ fn halve(
     })
 }
 
-/// Returns whether `last`, which excludes the greatest interval of `arch`, shows that each interval from 2 on is
-/// excluded: a circulation does if it excludes interval 2 as well, every other reason does in any case.
-fn excludes_all(arch: &Arch, kernel: &Kernel, fars: &Fars, last: &Reason) -> bool
+/// Finds the least interval that no reason of kind `kind` excludes, by binary search for one that none excludes: `first`
+/// excludes interval 1, and `last` the contexts of `arch`.
+fn narrow(
+    alloc: Global,
+    arch: &Arch,
+    kernel: &Kernel,
+    fars: &Fars,
+    kind: Kind,
+    first: Reason,
+    last: Reason,
+) -> Result<Bound, AllocError>
     requires numbers { AreAllNumbers arch.now kernel.now fars.now }
-    requires last { Shows arch.now kernel.now (far_at fars.now arch.now.contexts) arch.now.contexts last.now }
-    ensures { IsTrue result → (ii : ℕ) → 2 ≤ ii → ii ≤ arch.now.contexts →
-        Excludes arch.now kernel.now fars.now (kind_of last.now) ii }
+    requires first { IsShown arch.now kernel.now fars.now kind 1 (Some first) }
+    requires last { IsShown arch.now kernel.now fars.now kind arch.now.contexts (Some last) }
+    requires several { 2 ≤ arch.now.contexts }
+    ensures bound { IfOk result (IsBound arch.now kernel.now fars.now) }
+    ensures kind { IfOk result (λ bound. bound.kind ≡ kind) }
 {
-    match last {
-        Reason::Registers(pressure) => check_pressure(arch, kernel, &fars.rest.far, 2, pressure),
-        _ => true,
+    let mut low = 1;
+    let mut below = first;
+    let mut high = arch.contexts();
+    let mut above = last;
+    while low + 1 < high {
+        let middle = low + (high - low) / 2;
+        let Some(reason) = find_reason(alloc, arch, kernel, fars.at(middle), middle, kind)? else {
+            return halve(alloc, arch, kernel, fars, kind, low, below, middle);
+        };
+        if excludes_lower(arch, kernel, fars, middle, &reason) {
+            low = middle;
+            below = reason;
+        } else {
+            high = middle;
+            above = reason;
+        }
     }
+    Ok(Bound {
+        kind,
+        least: None,
+        below: Some(above),
+    })
 }
 
 /// Finds the least interval that no reason of kind `kind` excludes, from 1 to the contexts of `arch`.
@@ -122,7 +114,7 @@ fn find_bound(
     ensures kind { IfOk result (λ bound. bound.kind ≡ kind) }
 {
     let most = arch.contexts();
-    let Some(reason) = find_reason(alloc, arch, kernel, fars.at(1), 1, kind)? else {
+    let Some(first) = find_reason(alloc, arch, kernel, fars.at(1), 1, kind)? else {
         return Ok(Bound {
             kind,
             least: Some(1),
@@ -130,16 +122,16 @@ fn find_bound(
         });
     };
     let Some(last) = find_reason(alloc, arch, kernel, fars.at(most), most, kind)? else {
-        return halve(alloc, arch, kernel, fars, kind, reason, most);
+        return halve(alloc, arch, kernel, fars, kind, 1, first, most);
     };
-    if excludes_all(arch, kernel, fars, &last) {
+    if most == 1 || excludes_lower(arch, kernel, fars, most, &last) {
         return Ok(Bound {
             kind,
             least: None,
             below: Some(last),
         });
     }
-    scan(alloc, arch, kernel, fars, kind, reason)
+    narrow(alloc, arch, kernel, fars, kind, first, last)
 }
 
 /// Returns the kinds, in order.

@@ -8,6 +8,7 @@ ghost use Rattle.cg_why.specs.Scan.{MayBegin, IsOther, IsVerdict};
 use crate::bounds::Bound;
 use crate::exclusion::{by_class, by_recurrence, by_ways};
 use crate::numbers::{Fars, Numbers};
+use crate::reach::excludes_higher;
 use crate::reason::Reason;
 use cg_edges::{Arch, Kernel};
 use cg_pressure::Times;
@@ -138,7 +139,16 @@ pub(crate) fn find_least(
     let end = arch.contexts() + 1;
     for ii in from..end {
         match find_verdict(alloc, arch, kernel, fars, ii)? {
-            Verdict::Excluded(reason) => below = Some(reason),
+            Verdict::Excluded(reason) => {
+                if excludes_higher(arch, kernel, fars, ii, &reason) {
+                    return Ok(Least {
+                        interval: None,
+                        times: None,
+                        below: Some(reason),
+                    });
+                }
+                below = Some(reason);
+            }
             Verdict::Open(times) => {
                 return Ok(Least {
                     interval: Some(ii),

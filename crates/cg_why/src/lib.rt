@@ -7,6 +7,7 @@ mod exclusion;
 mod laws;
 mod least;
 mod numbers;
+mod reach;
 mod reason;
 mod why;
 

@@ -1,11 +1,8 @@
 use Rattle.std.proofs.Common.{◌+◌, ◌-◌, ◌/◌, sym, subst, arith}
 use Rattle.cg_why.specs.Why.{AreNumbers}
 use Rattle.cg_why.proofs.Reasons.{numbers_for}
-use Rattle.cg_why.proofs.Halves.{between_begins, raised, lowered, between_ends}
+use Rattle.cg_why.proofs.Halves.{raised, lowered, between_ends}
 use Rattle.cg_why.proofs.bounds.halve.Goals as goal
-
-pub loop-low-init : goal.loop-low-init
-loop-low-init c = between_begins c.args.arch.now c.args.kernel.now c.args.fars.now c.args.kind c.args.reason c.args.free c.requires.one c.requires.free c.requires.some c.requires.within
 
 pub find_reason-requires-clause-numbers : goal.find_reason-requires-clause-numbers
 find_reason-requires-clause-numbers c =
