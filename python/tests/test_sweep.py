@@ -2,6 +2,7 @@
 
 import contextlib
 import csv
+import functools
 import glob
 import importlib.machinery
 import importlib.util
@@ -40,6 +41,7 @@ if [ -f "$here/says.$1" ]; then cat "$here/says.$1"; else printf "$said"; fi
 """
 
 
+@functools.lru_cache(maxsize=None)
 def load(script=SWEEP):
     """Returns the script as a module."""
     loader = importlib.machinery.SourceFileLoader("sweep", script)
