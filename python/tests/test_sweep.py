@@ -475,6 +475,50 @@ class Places(Sweeps):
         self.assertIn("3 of 3 jobs", self.passes("--seeds", "3", "--collect", script=words[1], program="").stdout)
 
 
+class Page(unittest.TestCase):
+    """The numbers of docs/gallery.md, which are those of gallery/results.csv and of the files."""
+
+    def setUp(self):
+        """Reads the page and the results."""
+        self.page = read(os.path.join(ROOT, "docs", "gallery.md"))
+        with open(os.path.join(ROOT, "gallery", "results.csv"), encoding="utf-8", newline="") as file:
+            rows = list(csv.DictReader(file))
+        for row in rows:
+            row.update(key="", **{name: int(row[name]) if row[name] else None for name in ("bound", "least", "interval")})
+        self.rows = rows
+
+    def names(self, kind, ending):
+        """Returns the names of the gallery's arrays or loops."""
+        found = glob.glob(os.path.join(ROOT, "gallery", kind, "*" + ending))
+        return sorted(os.path.basename(path)[: -len(ending)] for path in found)
+
+    def test_the_matrix_is_that_of_the_results(self):
+        arrays, loops = self.names("arrays", ".toml"), self.names("loops", ".json")
+        there = {(row["array"], row["loop"]) for row in self.rows}
+        lacks = [{"key": "", "array": a, "loop": l, "bound": None} for a in arrays for l in loops if (a, l) not in there]
+        self.assertIn("\n\n" + load().matrix(self.rows + lacks, arrays, loops, None) + "\n", self.page)
+
+    def test_the_counts_are_those_of_the_results(self):
+        mapped = [row for row in self.rows if row["interval"]]
+        over = [row["interval"] - row["least"] for row in mapped]
+        counts = f"Of {len(self.rows)} pairs `search` maps {len(mapped)}: {over.count(0)} at the least possible interval, "
+        self.assertIn(counts + f"{sum(one <= 1 for one in over)} at most one above it.", self.page)
+        self.assertEqual({row["judged"] for row in mapped}, {"legal, same image"})
+        none = sum(row["least"] is None for row in self.rows)
+        left = len(self.rows) - len(mapped) - none
+        self.assertIn(f"For {none} pairs a reason excludes every interval; for {left} the search found no mapping.", self.page)
+        above = [row["least"] - row["bound"] for row in self.rows if row["least"] not in (None, row["bound"])]
+        self.assertEqual(set(above), {1})
+        self.assertIn(f"For {len(above)} pairs the least interval is one above that of `bound`.", self.page)
+        self.assertIn(f"took {sum(float(row['seconds']) for row in self.rows):.0f} seconds", self.page)
+        self.assertIn(f"each of the {len(mapped)} pairs", read(os.path.join(ROOT, "docs", "hardware.md")))
+
+    def test_the_loops_have_these_nodes(self):
+        for loop in self.names("loops", ".json"):
+            nodes = len(json.loads(read(os.path.join(ROOT, "gallery", "loops", loop + ".json")))["nodes"])
+            self.assertIn(f"| `{loop}` | {nodes} |", self.page)
+
+
 @unittest.skipIf(REAL is None, "the program isn't built")
 class Program(Sweeps):
     """The real program."""
