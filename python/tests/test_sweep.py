@@ -363,30 +363,30 @@ class Times(Sweeps):
     """Jobs that take too long, and sweeps that are interrupted."""
 
     def test_a_timeout_is_a_result_of_its_own(self):
-        write(self.path("fake", "slow.search"), "20")
+        write(self.path("fake", "slow.search"), "60")
         begun = time.monotonic()
-        done = self.passes("--timeout", "0.5")
-        self.assertLess(time.monotonic() - begun, 15)
+        done = self.passes("--timeout", "2")
+        self.assertLess(time.monotonic() - begun, 45)
         self.assertIn("0 of 1 jobs found a mapping", done.stdout)
         self.assertIn("1 timed out", done.stdout)
-        self.assertEqual((self.cell(), self.table()[0]["judged"]), ("timeout", "timeout 0.5"))
-        self.passes("--timeout", "0.25")
-        self.assertEqual(len(self.calls("search")), 1)
+        self.assertEqual((self.cell(), self.table()[0]["judged"]), ("timeout", "timeout 2"))
+        self.passes("--timeout", "1.5")
+        self.assertEqual(len(self.calls("bound")), 1)
         os.remove(self.path("fake", "slow.search"))
-        self.passes("--timeout", "30")
+        self.passes("--timeout", "100")
         self.assertEqual(self.cell(), "**2**")
-        self.passes("--timeout", "0.5")
-        self.assertEqual(len(self.calls("search")), 2)
+        self.passes("--timeout", "2")
+        self.assertEqual(len(self.calls("bound")), 2)
 
     def test_an_ended_sweep_ends_its_calls_and_resumes(self):
-        write(self.path("fake", "slow.search"), "21.5")
+        write(self.path("fake", "slow.search"), "301.5")
         words = [sys.executable, SWEEP, self.path("arrays"), self.path("loops"), "--out", self.out, "--seeds", "3", "--jobs", "2"]
         env = {**os.environ, "CGRA": self.fake}
         with subprocess.Popen(words, env=env, stdout=subprocess.DEVNULL, stderr=subprocess.DEVNULL) as process:
             self.wait_for(lambda: len(self.calls("search")) == 2)
             process.send_signal(signal.SIGTERM)
-            self.assertEqual(process.wait(timeout=15), 143)
-        self.wait_for(lambda: not self.sleeping("21.5"))
+            self.assertEqual(process.wait(timeout=60), 143)
+        self.wait_for(lambda: not self.sleeping("301.5"))
         os.remove(self.path("fake", "slow.search"))
         self.assertIn("3 of 3 jobs", self.passes("--seeds", "3").stdout)
 
@@ -397,7 +397,7 @@ class Times(Sweeps):
 
     def wait_for(self, holds):
         """Waits until something holds."""
-        end = time.monotonic() + 15
+        end = time.monotonic() + 60
         while not holds():
             self.assertLess(time.monotonic(), end)
             time.sleep(0.05)
@@ -512,6 +512,11 @@ class Page(unittest.TestCase):
         self.assertIn(f"For {len(above)} pairs the least interval is one above that of `bound`.", self.page)
         self.assertIn(f"took {sum(float(row['seconds']) for row in self.rows):.0f} seconds", self.page)
         self.assertIn(f"each of the {len(mapped)} pairs", read(os.path.join(ROOT, "docs", "hardware.md")))
+
+    def test_the_picture_is_that_of_the_results(self):
+        arrays = sorted({row["array"] for row in self.rows})
+        drawn = load().picture([row for row in self.rows if row["interval"]], arrays)
+        self.assertEqual(drawn, read(os.path.join(ROOT, "docs", "pictures", "intervals.svg")))
 
     def test_the_loops_have_these_nodes(self):
         for loop in self.names("loops", ".json"):
