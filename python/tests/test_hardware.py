@@ -73,7 +73,7 @@ class Tries(unittest.TestCase):
         path = os.pathsep.join([self.path("bin"), "/usr/bin", "/bin"]) if path is None else path
         env = {**os.environ, "CGRA": self.path("fake", "cgra"), "PATH": path}
         words = [sys.executable, self.path("hardware", "try"), *words]
-        return subprocess.run(words, capture_output=True, text=True, env=env, timeout=120, check=False)
+        return subprocess.run(words, capture_output=True, text=True, env=env, timeout=600, check=False)
 
     def test_the_mapped_pairs_are_those_of_the_results(self):
         done = self.run_try("--verilator", "0")

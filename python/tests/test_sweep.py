@@ -363,30 +363,30 @@ class Times(Sweeps):
     """Jobs that take too long, and sweeps that are interrupted."""
 
     def test_a_timeout_is_a_result_of_its_own(self):
-        write(self.path("fake", "slow.search"), "60")
+        write(self.path("fake", "slow.search"), "602.5")
         begun = time.monotonic()
         done = self.passes("--timeout", "2")
-        self.assertLess(time.monotonic() - begun, 45)
+        self.assertLess(time.monotonic() - begun, 300)
         self.assertIn("0 of 1 jobs found a mapping", done.stdout)
         self.assertIn("1 timed out", done.stdout)
         self.assertEqual((self.cell(), self.table()[0]["judged"]), ("timeout", "timeout 2"))
         self.passes("--timeout", "1.5")
         self.assertEqual(len(self.calls("bound")), 1)
         os.remove(self.path("fake", "slow.search"))
-        self.passes("--timeout", "100")
+        self.passes("--timeout", "1000")
         self.assertEqual(self.cell(), "**2**")
         self.passes("--timeout", "2")
         self.assertEqual(len(self.calls("bound")), 2)
 
     def test_an_ended_sweep_ends_its_calls_and_resumes(self):
-        write(self.path("fake", "slow.search"), "301.5")
+        write(self.path("fake", "slow.search"), "901.5")
         words = [sys.executable, SWEEP, self.path("arrays"), self.path("loops"), "--out", self.out, "--seeds", "3", "--jobs", "2"]
         env = {**os.environ, "CGRA": self.fake}
         with subprocess.Popen(words, env=env, stdout=subprocess.DEVNULL, stderr=subprocess.DEVNULL) as process:
             self.wait_for(lambda: len(self.calls("search")) == 2)
             process.send_signal(signal.SIGTERM)
-            self.assertEqual(process.wait(timeout=60), 143)
-        self.wait_for(lambda: not self.sleeping("301.5"))
+            self.assertEqual(process.wait(timeout=300), 143)
+        self.wait_for(lambda: not self.sleeping("901.5"))
         os.remove(self.path("fake", "slow.search"))
         self.assertIn("3 of 3 jobs", self.passes("--seeds", "3").stdout)
 
@@ -397,7 +397,7 @@ class Times(Sweeps):
 
     def wait_for(self, holds):
         """Waits until something holds."""
-        end = time.monotonic() + 60
+        end = time.monotonic() + 300
         while not holds():
             self.assertLess(time.monotonic(), end)
             time.sleep(0.05)
@@ -470,7 +470,7 @@ class Places(Sweeps):
         words = [sys.executable, self.repository(), self.path("arrays"), self.path("loops"), "--out", self.out, "--seeds", "3"]
         env = {**os.environ, "CGRA": ""}
         tasks = [subprocess.Popen([*words, "--task", str(n)], env=env, stderr=subprocess.DEVNULL) for n in range(3)]
-        self.assertEqual([task.wait(timeout=60) for task in tasks], [0, 0, 0])
+        self.assertEqual([task.wait(timeout=300) for task in tasks], [0, 0, 0])
         self.assertEqual(read(self.path("repository", "builds")), "build\n")
         self.assertIn("3 of 3 jobs", self.passes("--seeds", "3", "--collect", script=words[1], program="").stdout)
 
