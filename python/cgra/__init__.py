@@ -4,14 +4,14 @@ The functions call the program `cgra`, whose answers are proved, and return obje
 the name and the place of the fault, and with the notes that the program gives for a person.
 
     import cgra
-    kernel = cgra.loop("cgl1; carry s = 0; s = s + in 0; out 0 = s;")
+    kernel = cgra.loop_text("cgl1; carry s = 0; s = s + in 0; out 0 = s;")
     found = cgra.search("gallery/arrays/adres4.toml", kernel)
     print(found.interval, cgra.bound("gallery/arrays/adres4.toml", kernel).interval)
 """
 
 from ._arch import Arch, Reg, Unit, Wire
+from ._certificates import Certificate, Cycle, NoWay, OverfullClass, Registers
 from ._commands import (
-    Text,
     bench,
     bound,
     check,
@@ -19,7 +19,7 @@ from ._commands import (
     emit,
     flat,
     loop,
-    map,
+    loop_text,
     migrate,
     run,
     search,
@@ -28,22 +28,34 @@ from ._commands import (
     turns,
     verilog,
     violations,
+    walk,
     why,
 )
 from ._errors import (
+    BadText,
     CgraError,
     Illegal,
     Impossible,
+    Killed,
     Malformed,
+    NoProgram,
+    NotBuilt,
     NotFound,
+    NotText,
+    OtherStatus,
     OutOfMemory,
     ReadFault,
+    TimedOut,
+    UnknownReport,
+    UnusableBuild,
     Usage,
     WriteFault,
 )
 from ._image import Image
-from ._kernel import Kernel, Node
-from ._program import program
+from ._inputs import ArchLike, BitsLike, ImageLike, KernelLike, MappingLike, NetlistLike, Text
+from ._kernel import Earlier, Kernel, Node
+from ._mapping import Mapping, Place
+from ._program import Progress, program
 from ._results import (
     Bench,
     Bound,
@@ -54,20 +66,30 @@ from ._results import (
     Found,
     Looped,
     Migrated,
-    Reason,
     Ran,
+    Reason,
     Shown,
     Trial,
     Turned,
     Verilog,
     Why,
 )
+from ._violations import Left, Violation
+from ._words import Words
+
+# The command's own name, which isn't in `__all__`: `from cgra import *` leaves the built-in function as it is.
+map = walk
+
+__version__ = "0.9.0"
 
 __all__ = [
-    "Arch", "Wire", "Reg", "Unit", "Kernel", "Node", "Image", "Text", "program",
-    "bench", "bound", "check", "depend", "emit", "flat", "loop", "map", "migrate", "run", "search", "show", "trial", "turns",
-    "verilog", "violations", "why",
-    "CgraError", "Usage", "OutOfMemory", "Malformed", "Impossible", "ReadFault", "WriteFault", "NotFound", "Illegal",
-    "Bench", "Bound", "Checked", "Depended", "Emitted", "Flat", "Found", "Looped", "Migrated", "Ran", "Reason", "Shown",
-    "Trial", "Turned", "Verilog", "Why",
+    "Arch", "Wire", "Reg", "Unit", "Kernel", "Node", "Earlier", "Image", "Words", "Mapping", "Place", "Text",
+    "ArchLike", "KernelLike", "ImageLike", "BitsLike", "MappingLike", "NetlistLike",
+    "bench", "bound", "check", "depend", "emit", "flat", "loop", "loop_text", "migrate", "program", "run", "search", "show",
+    "trial", "turns", "verilog", "violations", "walk", "why",
+    "Bench", "Bound", "Checked", "Depended", "Emitted", "Flat", "Found", "Looped", "Migrated", "Progress", "Ran", "Reason",
+    "Shown", "Trial", "Turned", "Verilog", "Why",
+    "Certificate", "Cycle", "NoWay", "OverfullClass", "Registers", "Left", "Violation",
+    "BadText", "CgraError", "Illegal", "Impossible", "Killed", "Malformed", "NoProgram", "NotBuilt", "NotFound", "NotText",
+    "OtherStatus", "OutOfMemory", "ReadFault", "TimedOut", "UnknownReport", "UnusableBuild", "Usage", "WriteFault",
 ]

@@ -2,11 +2,18 @@
 
 from __future__ import annotations
 
+import json
 import os
+import string
 from dataclasses import dataclass, field
-from typing import Dict, List, Sequence, Union
+from typing import List, Mapping, Sequence, SupportsIndex, Union
 
+from ._numbers import whole
 from ._program import PathLike
+
+MOST_CONTEXTS = 64
+MOST_MEMORY = 1_048_576
+MOST_LATENCY = 4
 
 
 @dataclass(frozen=True)
@@ -27,12 +34,15 @@ class Reg:
 
 @dataclass(frozen=True)
 class Unit:
-    """A functional unit of a tile: its name, operations, latency in cycles, and the references of each port's drivers."""
+    """A functional unit of a tile: its name, operations, latency of 1 to 4 cycles, and the references of each port's drivers."""
 
     name: str
     ops: Sequence[str]
     latency: int = 1
     ports: Sequence[Sequence[str]] = field(default_factory=list)
+
+    def __post_init__(self) -> None:
+        object.__setattr__(self, "latency", whole(self.latency, 1, MOST_LATENCY, "a latency"))
 
 
 Part = Union[Wire, Reg, Unit]
@@ -55,18 +65,21 @@ class Arch:
         cls,
         name: str,
         grid: Sequence[str],
-        tiles: Dict[str, Sequence[Part]],
-        contexts: int = 16,
-        memory: int = 0,
+        tiles: Mapping[str, Sequence[Part]],
+        contexts: SupportsIndex = 16,
+        memory: SupportsIndex = 0,
         torus: bool = False,
         hub: Sequence[str] = (),
     ) -> "Arch":
         """Makes the architecture `name` with the rows `grid` of letters and, by letter, the parts of `tiles`.
 
-        `contexts` are the most slots of a configuration, `memory` the words of the scratchpad, `hub` flat names of registers.
-        References are `x`, `N.x`, `E.x`, `S.x`, `W.x` and `/r0c0_x`. Whether it is valid is judged by the program.
+        `contexts` are the most slots of a configuration, 1 to 64; `memory` the words of the scratchpad, at most 1,048,576;
+        `hub` flat names of registers. References are `x`, `N.x`, `E.x`, `S.x`, `W.x` and `/r0c0_x`. Whether the architecture
+        is valid is judged by the program.
         """
-        lines = ['format = "cga1"', f"name = {_text(name)}", f"contexts = {contexts}", f"memory = {memory}"]
+        slots = whole(contexts, 1, MOST_CONTEXTS, "the number of contexts")
+        words = whole(memory, 0, MOST_MEMORY, "the number of memory words")
+        lines = ['format = "cga1"', f"name = {_text(name)}", f"contexts = {slots}", f"memory = {words}"]
         lines.append(f"grid = {_texts(grid)}")
         if torus:
             lines.append("torus = true")
@@ -74,7 +87,7 @@ class Arch:
             lines.append(f"hub = {_texts(hub)}")
         for letter, parts in tiles.items():
             for part in parts:
-                lines += ["", f"[[tiles.{letter}]]", *_part(part)]
+                lines += ["", f"[[tiles.{_key(letter)}]]", *_part(part)]
         return cls("\n".join(lines) + "\n")
 
     def write(self, path: PathLike) -> None:
@@ -86,10 +99,25 @@ class Arch:
         """Returns the text as bytes."""
         return self.text.encode()
 
+    def __eq__(self, other: object) -> bool:
+        if not isinstance(other, Arch):
+            return NotImplemented
+        return self.text == other.text
+
+    def __hash__(self) -> int:
+        return hash(self.text)
+
 
 def _text(value: str) -> str:
     """Returns `value` as a TOML text."""
-    return '"' + value.replace("\\", "\\\\").replace('"', '\\"') + '"'
+    if not isinstance(value, str):
+        raise TypeError(f"a text is needed, not {type(value).__name__} {value!r}")
+    return json.dumps(value, ensure_ascii=False).replace("\x7f", "\\u007f")
+
+
+def _key(value: str) -> str:
+    """Returns `value` as a TOML key."""
+    return value if value and all(character in string.ascii_letters for character in value) else _text(value)
 
 
 def _texts(values: Sequence[str]) -> str:

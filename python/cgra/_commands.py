@@ -1,17 +1,37 @@
 """The commands of the program as functions.
 
-An architecture, a kernel, an image, a mapping or bits may be given as a path or as an object: `Arch`, `Kernel`, `Image`, the
-`mapping` or the `bits` of a result. Results that hold one can be given in its place.
+An architecture, a kernel, an image, a mapping or bits may be given as a path or as an object: `Arch`, `Kernel`, `Image`,
+`Mapping`, `bytes`, or a result that has one. `timeout` ends a call after that many seconds and raises TimedOut.
 """
 
 from __future__ import annotations
 
-from typing import Dict, List, Optional, Tuple, Union
+from contextlib import contextmanager
+from typing import Dict, Iterator, List, Optional, SupportsIndex, Tuple
 
-from ._arch import Arch
+from ._certificates import optional_certificate
+from ._errors import UnknownReport
 from ._image import Image
+from ._inputs import (
+    ArchLike,
+    BitsLike,
+    ImageLike,
+    KernelLike,
+    MappingLike,
+    NetlistLike,
+    Text,
+    arch_path,
+    bits_path,
+    image_path,
+    kernel_path,
+    mapping_path,
+    search_words,
+    seed_number,
+    turns_word,
+)
 from ._kernel import Kernel
-from ._program import Folder, PathLike, call
+from ._mapping import Mapping
+from ._program import Answer, Folder, OnProgress, PathLike, Setting, call
 from ._results import (
     Bench,
     Bound,
@@ -30,248 +50,308 @@ from ._results import (
     Verilog,
     Why,
 )
-
-ArchLike = Union[Arch, PathLike]
-KernelLike = Union[Kernel, Depended, Looped, PathLike]
-ImageLike = Union[Image, PathLike]
-BitsLike = Union[bytes, Found, Emitted, Migrated, PathLike]
-MappingLike = Union[Found, "Text", PathLike]
+from ._seeds import best_of
+from ._violations import Violation, violations_of
 
 
-class Text:
-    """A text that is given in the place of a file."""
-
-    def __init__(self, text: str):
-        self.text = text
-
-    def to_bytes(self) -> bytes:
-        """Returns the text as bytes."""
-        return self.text.encode()
-
-
-def _kernel(folder: Folder, kernel: KernelLike) -> str:
-    """Returns a path of `kernel`."""
-    return folder.given(kernel.kernel if isinstance(kernel, (Depended, Looped)) else kernel, "kernel.json")
-
-
-def _bits(folder: Folder, bits: BitsLike) -> str:
-    """Returns a path of `bits`."""
-    return folder.given(bits.bits if isinstance(bits, (Found, Emitted, Migrated)) else bits, "kernel.bits")
-
-
-def _mapping(folder: Folder, mapping: MappingLike) -> str:
-    """Returns a path of `mapping`."""
-    return folder.given(Text(mapping.mapping) if isinstance(mapping, Found) else mapping, "kernel.map")
+@contextmanager
+def _reading(answer: Answer) -> Iterator[None]:
+    """Turns what goes wrong where a report or an output is read into UnknownReport."""
+    try:
+        yield
+    except (IndexError, KeyError, ValueError, StopIteration, OSError) as error:
+        note = f"the report isn't one of this command ({type(error).__name__}: {error})"
+        raise UnknownReport(answer.status, answer.report, [*answer.notes, note], answer.words) from error
 
 
 def _numbers(report: str) -> Dict[str, int]:
-    """Returns the numbers of lines that are a word and a number."""
-    return {line.split(" ")[0]: int(line.split(" ")[1]) for line in report.splitlines() if len(line.split(" ")) == 2 and line.split(" ")[1].isdigit()}
+    """Returns the numbers of the lines that are a word and a number."""
+    pairs = [line.split(" ") for line in report.splitlines()]
+    return {pair[0]: int(pair[1]) for pair in pairs if len(pair) == 2 and pair[1].isdigit()}
 
 
-def bound(arch: ArchLike, kernel: KernelLike) -> Bound:
+def _interval(word: str) -> Optional[int]:
+    """Returns the interval that a report names, None for the word `none`."""
+    return None if word == "none" else int(word)
+
+
+def bound(arch: ArchLike, kernel: KernelLike, *, timeout: Optional[float] = None) -> Bound:
     """Returns the least interval that no recurrence and no class of units forbids for `kernel` on `arch`."""
     with Folder() as folder:
-        _, report, _ = call(["bound", folder.given(arch, "arch.toml"), _kernel(folder, kernel)])
-    lines = report.splitlines() + [""]
-    word = lines[0].split(" ")[1]
-    return Bound(None if word == "none" else int(word), lines[1])
+        answer = call(["bound", arch_path(folder, arch), kernel_path(folder, kernel)], setting=Setting(timeout))
+    with _reading(answer):
+        lines = answer.report.splitlines() + [""]
+        return Bound(_interval(_after("mii ", lines[0])), optional_certificate(lines[1]), answer.report)
 
 
-def why(arch: ArchLike, kernel: KernelLike) -> Why:
+def _after(head: str, line: str) -> str:
+    """Returns what follows `head` in `line`."""
+    if not line.startswith(head):
+        raise ValueError(f'"{line}" doesn\'t begin "{head}"')
+    return line[len(head):]
+
+
+def why(arch: ArchLike, kernel: KernelLike, *, timeout: Optional[float] = None) -> Why:
     """Returns the least interval of `kernel` on `arch` that no recurrence, class, ways or registers exclude, and the reasons."""
     with Folder() as folder:
-        _, report, _ = call(["why", folder.given(arch, "arch.toml"), _kernel(folder, kernel)])
-    least, reasons, slots = Reason("least", None, ""), {}, None
-    for line in report.splitlines():
-        if line.startswith("free "):
-            words = line.split(": ", 1)[1].split(" ")
-            slots = (int(words[0]), int(words[2]))
-            continue
-        head, _, certificate = line.partition(": ")
-        kind, word = head.split(" ")
-        reason = Reason(kind, None if word == "none" else int(word), certificate)
-        if kind == "least":
-            least = reason
-        else:
-            reasons[kind] = reason
-    return Why(least.interval, least.certificate, reasons, slots, report)
+        answer = call(["why", arch_path(folder, arch), kernel_path(folder, kernel)], setting=Setting(timeout))
+    with _reading(answer):
+        reasons: Dict[str, Reason] = {}
+        slots: Optional[Tuple[int, int]] = None
+        for line in answer.report.splitlines():
+            head, _, text = line.partition(": ")
+            kind, word = head.split(" ")
+            if kind == "free":
+                numbers = text.split(" ")
+                slots = (int(numbers[0]), int(numbers[2]))
+            else:
+                reasons[kind] = Reason(kind, _interval(word), optional_certificate(text))
+        least = reasons.pop("least")
+        return Why(least.interval, least.certificate, reasons, slots, answer.report)
 
 
 def _searched(
     command: str,
     arch: ArchLike,
     kernel: KernelLike,
-    ii: Optional[int],
-    seed: Optional[int],
-    moves: Optional[int],
+    ii: Optional[SupportsIndex],
+    moves: Optional[SupportsIndex],
+    setting: Setting,
 ) -> Found:
-    """Calls `search` or `map`."""
+    """Calls `search` or `map`, with the seed of `setting`."""
     with Folder() as folder:
-        words = [command, folder.given(arch, "arch.toml"), _kernel(folder, kernel), folder.path("out.bits")]
-        words += ["--mapping", folder.path("out.map")]
-        for name, value in (("--ii", ii), ("--seed", seed), ("--moves", moves)):
-            if value is not None:
-                words += [name, str(value)]
-        _, report, notes = call(words)
-        numbers = _numbers(report)
-        by = report.splitlines()[2].split(" ")
-        return Found(
-            numbers["ii"],
-            numbers["stages"],
-            by[1],
-            int(by[2]) if len(by) > 2 else 0,
-            folder.read("out.bits"),
-            folder.read("out.map").decode(),
-            notes,
-        )
+        words = [command, arch_path(folder, arch), kernel_path(folder, kernel), folder.path("out.bits")]
+        words += ["--mapping", folder.path("out.map"), *search_words(ii, setting.seed, moves)]
+        answer = call(words, setting=setting)
+        with _reading(answer):
+            numbers = _numbers(answer.report)
+            by = answer.report.splitlines()[2].split(" ")
+            return Found(
+                numbers["ii"],
+                numbers["stages"],
+                by[1],
+                int(by[2]) if len(by) > 2 else 0,
+                setting.seed,
+                folder.read("out.bits"),
+                Mapping.from_text(folder.read("out.map")),
+                answer.notes,
+            )
 
 
 def search(
     arch: ArchLike,
     kernel: KernelLike,
     *,
-    ii: Optional[int] = None,
-    seed: Optional[int] = None,
-    moves: Optional[int] = None,
+    ii: Optional[SupportsIndex] = None,
+    seed: SupportsIndex = 1,
+    moves: Optional[SupportsIndex] = None,
+    seeds: SupportsIndex = 1,
+    jobs: Optional[SupportsIndex] = None,
+    timeout: Optional[float] = None,
+    progress: Optional[OnProgress] = None,
 ) -> Found:
     """Searches a mapping of `kernel` on `arch` at or near the least interval, or at interval `ii`.
 
-    `seed` and `moves` are those of the program (1, 240,000). Raises NotFound where none was found, Impossible where a
+    `moves` are 240,000 where they aren't given. With `seeds` it searches by the seeds from `seed` on, `jobs` of them side by
+    side (as many as there are processors), and returns the first mapping, by seed, at the least interval that `why` leaves
+    possible (with `ii`, at `ii`); or else that of the least interval, then of the fewest stages, then of the least seed.
+    `progress` is called with each `Progress`. Raises NotFound where none was found by any seed, and Impossible where a
     recurrence or a class forbids the interval.
     """
-    return _searched("search", arch, kernel, ii, seed, moves)
+
+    def by(setting: Setting) -> Found:
+        return _searched("search", arch, kernel, ii, moves, setting)
+
+    def least() -> Optional[int]:
+        return why(arch, kernel, timeout=timeout).interval if ii is None else ii.__index__()
+
+    search_words(ii, seed, moves)
+    return best_of(by, least, Setting(timeout, progress, seed_number(seed)), seeds, jobs)
 
 
-def map(
+def walk(
     arch: ArchLike,
     kernel: KernelLike,
     *,
-    ii: Optional[int] = None,
-    seed: Optional[int] = None,
-    moves: Optional[int] = None,
+    ii: Optional[SupportsIndex] = None,
+    seed: SupportsIndex = 1,
+    moves: Optional[SupportsIndex] = None,
+    timeout: Optional[float] = None,
+    progress: Optional[OnProgress] = None,
 ) -> Found:
-    """Searches a mapping by the written walk, whose answer files, `ii`, `seed` and `moves` (1, 10,000) determine."""
-    return _searched("map", arch, kernel, ii, seed, moves)
+    """Searches a mapping by the written walk (the command `map`), with 10,000 moves at an interval where none are given."""
+    setting = Setting(timeout, progress, seed_number(seed))
+    return _searched("map", arch, kernel, ii, moves, setting)
 
 
-def check(arch: ArchLike, kernel: KernelLike, mapping: MappingLike) -> Checked:
+def check(arch: ArchLike, kernel: KernelLike, mapping: MappingLike, *, timeout: Optional[float] = None) -> Checked:
     """Judges whether `mapping` is legal for `kernel` on `arch`."""
+    answer = _judged("check", arch, kernel, mapping, timeout)
+    if answer.status == 0:
+        return Checked(True, "", "", answer.notes)
+    with _reading(answer):
+        rule, place = _after("illegal ", answer.report.splitlines()[0]).split(" ", 1)
+        return Checked(False, rule, place, answer.notes)
+
+
+def violations(
+    arch: ArchLike, kernel: KernelLike, mapping: MappingLike, *, timeout: Optional[float] = None
+) -> List[Violation]:
+    """Returns each place at which `mapping` breaks a rule, at most 1,000; none where it is legal."""
+    answer = _judged("violations", arch, kernel, mapping, timeout)
+    with _reading(answer):
+        return violations_of(answer.report.splitlines())
+
+
+def _judged(command: str, arch: ArchLike, kernel: KernelLike, mapping: MappingLike, timeout: Optional[float]) -> Answer:
+    """Calls `check` or `violations`."""
     with Folder() as folder:
-        words = [folder.given(arch, "arch.toml"), _kernel(folder, kernel), _mapping(folder, mapping)]
-        status, report, notes = call(["check", *words], (0, 8))
-    parts = report.split("\n", 1)[0].split(" ", 2) + ["", ""]
-    return Checked(True, "", "", notes) if status == 0 else Checked(False, parts[1], parts[2], notes)
+        words = [command, arch_path(folder, arch), kernel_path(folder, kernel), mapping_path(folder, mapping)]
+        return call(words, (0, 8), Setting(timeout))
 
 
-def violations(arch: ArchLike, kernel: KernelLike, mapping: MappingLike) -> List[str]:
-    """Returns a line for each place at which `mapping` breaks a rule, at most 1,000; none where it is legal."""
-    with Folder() as folder:
-        words = [folder.given(arch, "arch.toml"), _kernel(folder, kernel), _mapping(folder, mapping)]
-        status, report, _ = call(["violations", *words], (0, 8))
-    return [] if status == 0 else report.splitlines()
-
-
-def emit(arch: ArchLike, kernel: KernelLike, mapping: MappingLike) -> Emitted:
+def emit(arch: ArchLike, kernel: KernelLike, mapping: MappingLike, *, timeout: Optional[float] = None) -> Emitted:
     """Returns the bits of a legal mapping; raises Illegal where it isn't."""
     with Folder() as folder:
-        words = [folder.given(arch, "arch.toml"), _kernel(folder, kernel), _mapping(folder, mapping)]
-        _, report, _ = call(["emit", *words, folder.path("out.bits")])
-        numbers = _numbers(report)
-        return Emitted(numbers["ii"], numbers["stages"], folder.read("out.bits"))
+        words = ["emit", arch_path(folder, arch), kernel_path(folder, kernel), mapping_path(folder, mapping)]
+        answer = call([*words, folder.path("out.bits")], setting=Setting(timeout))
+        with _reading(answer):
+            numbers = _numbers(answer.report)
+            return Emitted(numbers["ii"], numbers["stages"], folder.read("out.bits"))
 
 
 def run(
     arch: ArchLike,
     bits: BitsLike,
-    turns: int,
-    image: ImageLike = Image(),
+    turns: SupportsIndex,
+    image: Optional[ImageLike] = None,
     *,
-    netlist: Optional[PathLike] = None,
+    netlist: Optional[NetlistLike] = None,
+    timeout: Optional[float] = None,
 ) -> Ran:
-    """Runs the array `arch` under `bits` for `turns` turns from `image`, or the netlist in the file `netlist` in its place."""
+    """Runs the array `arch` under `bits` for `turns` turns from `image`, an empty one where none is given.
+
+    With `netlist` that netlist of the program's cells runs in the place of the array.
+    """
     with Folder() as folder:
-        words = ["run", folder.given(arch, "arch.toml"), _bits(folder, bits), str(turns)]
-        words += [folder.given(image, "in.img"), folder.path("out.img")]
+        words = ["run", arch_path(folder, arch), bits_path(folder, bits), turns_word(turns)]
+        words += [image_path(folder, image), folder.path("out.img")]
         if netlist is not None:
             words += ["--netlist", folder.given(netlist, "array.v")]
-        _, report, notes = call(words)
-        numbers = _numbers(report)
-        return Ran(numbers["cycles"], numbers["outside"], Image.read(folder.path("out.img")), notes)
+        answer = call(words, setting=Setting(timeout))
+        with _reading(answer):
+            numbers = _numbers(answer.report)
+            return Ran(numbers["cycles"], numbers["outside"], Image.read(folder.path("out.img")), answer.notes)
 
 
-def turns(kernel: KernelLike, count: int, image: ImageLike = Image()) -> Turned:
-    """Runs `count` turns of `kernel`, one after the other, from `image`."""
+def turns(
+    kernel: KernelLike,
+    count: SupportsIndex,
+    image: Optional[ImageLike] = None,
+    *,
+    timeout: Optional[float] = None,
+) -> Turned:
+    """Runs `count` turns of `kernel`, one after the other, from `image`, an empty one where none is given."""
     with Folder() as folder:
-        words = ["turns", _kernel(folder, kernel), str(count), folder.given(image, "in.img"), folder.path("out.img")]
-        status, report, notes = call(words, (0, 8))
-        pair: Optional[Tuple[str, int, str, int]] = None
-        if status == 8:
-            _, a, i, b, j = report.splitlines()[1].split(" ")
-            pair = (a, int(i), b, int(j))
-        return Turned(_numbers(report)["outside"], status == 0, pair, Image.read(folder.path("out.img")), notes)
+        words = ["turns", kernel_path(folder, kernel), turns_word(count), image_path(folder, image)]
+        answer = call([*words, folder.path("out.img")], (0, 8), Setting(timeout))
+        with _reading(answer):
+            outside, pair = _numbers(answer.report)["outside"], None
+            if answer.status == 8:
+                _, earlier, i, later, j = answer.report.splitlines()[1].split(" ")
+                pair = (earlier, int(i), later, int(j))
+            left = Image.read(folder.path("out.img"))
+            return Turned(outside, answer.status == 0, pair, left, answer.notes)
 
 
-def depend(kernel: KernelLike) -> Depended:
+def depend(kernel: KernelLike, *, timeout: Optional[float] = None) -> Depended:
     """Returns `kernel` with the order edges that its accesses need, whatever the image."""
     with Folder() as folder:
-        _, report, _ = call(["depend", _kernel(folder, kernel), folder.path("out.json")])
-        numbers = _numbers(report)
-        return Depended(numbers["added"], numbers["order"], Kernel.read(folder.path("out.json")))
+        answer = call(["depend", kernel_path(folder, kernel), folder.path("out.json")], setting=Setting(timeout))
+        with _reading(answer):
+            numbers = _numbers(answer.report)
+            return Depended(numbers["added"], numbers["order"], Kernel.read(folder.path("out.json")))
 
 
-def loop(source: Union[str, PathLike]) -> Looped:
-    """Returns the kernel of a loop: of the file `source`, or of the text itself, which begins `cgl1`."""
+def loop(source: PathLike, *, timeout: Optional[float] = None) -> Looped:
+    """Returns the kernel of the loop in the file `source`."""
     with Folder() as folder:
-        given = Text(source) if isinstance(source, str) and source.lstrip().startswith("cgl1") else source
-        _, report, _ = call(["loop", folder.given(given, "source.loop"), folder.path("out.json")])
-        numbers = _numbers(report)
+        return _looped(folder, folder.given(source, "source.loop"), timeout)
+
+
+def loop_text(text: str, *, timeout: Optional[float] = None) -> Looped:
+    """Returns the kernel of the loop that `text` describes."""
+    with Folder() as folder:
+        return _looped(folder, folder.given(Text(text), "source.loop"), timeout)
+
+
+def _looped(folder: Folder, path: str, timeout: Optional[float]) -> Looped:
+    """Calls `loop` on the file `path`."""
+    answer = call(["loop", path, folder.path("out.json")], setting=Setting(timeout))
+    with _reading(answer):
+        numbers = _numbers(answer.report)
         return Looped(numbers["nodes"], numbers["order"], Kernel.read(folder.path("out.json")))
 
 
-def flat(arch: ArchLike) -> Flat:
+def flat(arch: ArchLike, *, timeout: Optional[float] = None) -> Flat:
     """Returns the flat text of `arch`, with its numbers and its digest."""
     with Folder() as folder:
-        _, report, _ = call(["flat", folder.given(arch, "arch.toml"), folder.path("out.flat")])
-        numbers = _numbers(report)
-        digest = next(line.split(" ")[1] for line in report.splitlines() if line.startswith("digest "))
-        return Flat(numbers["resources"], numbers["units"], numbers["links"], digest, folder.read("out.flat").decode())
+        answer = call(["flat", arch_path(folder, arch), folder.path("out.flat")], setting=Setting(timeout))
+        with _reading(answer):
+            numbers = _numbers(answer.report)
+            digest = next(line.split(" ")[1] for line in answer.report.splitlines() if line.startswith("digest "))
+            text = folder.read("out.flat").decode()
+            return Flat(numbers["resources"], numbers["units"], numbers["links"], digest, text)
 
 
-def verilog(arch: ArchLike) -> Verilog:
+def verilog(arch: ArchLike, *, timeout: Optional[float] = None) -> Verilog:
     """Returns `arch` as structural Verilog."""
     with Folder() as folder:
-        _, report, _ = call(["verilog", folder.given(arch, "arch.toml"), folder.path("out.v")])
-        numbers = _numbers(report)
-        return Verilog(numbers["nets"], numbers["cells"], folder.read("out.v").decode())
+        answer = call(["verilog", arch_path(folder, arch), folder.path("out.v")], setting=Setting(timeout))
+        with _reading(answer):
+            numbers = _numbers(answer.report)
+            return Verilog(numbers["nets"], numbers["cells"], folder.read("out.v").decode())
 
 
-def bench(arch: ArchLike, bits: BitsLike, turns: int, image: ImageLike = Image()) -> Bench:
+def bench(
+    arch: ArchLike,
+    bits: BitsLike,
+    turns: SupportsIndex,
+    image: Optional[ImageLike] = None,
+    *,
+    timeout: Optional[float] = None,
+) -> Bench:
     """Returns a test bench for simulators of Verilog: `turns` turns of `arch` under `bits` from `image`."""
     with Folder() as folder:
-        words = ["bench", folder.given(arch, "arch.toml"), _bits(folder, bits), str(turns)]
-        _, report, _ = call([*words, folder.given(image, "in.img"), folder.path("out.v")])
-        numbers = _numbers(report)
-        return Bench(numbers["cycles"], numbers["outside"], folder.read("out.v").decode())
+        words = ["bench", arch_path(folder, arch), bits_path(folder, bits), turns_word(turns)]
+        answer = call([*words, image_path(folder, image), folder.path("out.v")], setting=Setting(timeout))
+        with _reading(answer):
+            numbers = _numbers(answer.report)
+            return Bench(numbers["cycles"], numbers["outside"], folder.read("out.v").decode())
 
 
-def show(arch: ArchLike, kernel: KernelLike, mapping: MappingLike) -> Shown:
+def show(arch: ArchLike, kernel: KernelLike, mapping: MappingLike, *, timeout: Optional[float] = None) -> Shown:
     """Returns a legal mapping as a table and as a picture; raises Illegal where it isn't legal."""
     with Folder() as folder:
-        words = [folder.given(arch, "arch.toml"), _kernel(folder, kernel), _mapping(folder, mapping)]
-        _, report, _ = call(["show", *words, folder.path("out.svg")])
-        return Shown(report, folder.read("out.svg").decode())
+        words = ["show", arch_path(folder, arch), kernel_path(folder, kernel), mapping_path(folder, mapping)]
+        answer = call([*words, folder.path("out.svg")], setting=Setting(timeout))
+        with _reading(answer):
+            return Shown(answer.report, folder.read("out.svg").decode())
 
 
-def migrate(arch: ArchLike, bits: BitsLike) -> Migrated:
-    """Returns bits of the first format in today's."""
+def migrate(arch: ArchLike, bits: BitsLike, *, timeout: Optional[float] = None) -> Migrated:
+    """Returns bits of the first format in the current one."""
     with Folder() as folder:
-        _, report, _ = call(["migrate", folder.given(arch, "arch.toml"), _bits(folder, bits), folder.path("out.bits")])
-        numbers = _numbers(report)
-        return Migrated(numbers["ii"], numbers["stages"], folder.read("out.bits"))
+        words = ["migrate", arch_path(folder, arch), bits_path(folder, bits), folder.path("out.bits")]
+        answer = call(words, setting=Setting(timeout))
+        with _reading(answer):
+            numbers = _numbers(answer.report)
+            return Migrated(numbers["ii"], numbers["stages"], folder.read("out.bits"))
 
 
-def trial(seed: int) -> Trial:
+def trial(seed: SupportsIndex, *, timeout: Optional[float] = None) -> Trial:
     """Maps and runs a random kernel on a fixed architecture."""
-    _, report, _ = call(["trial", str(seed)])
-    return Trial(dict(line.split(" ", 1) for line in report.splitlines()))
+    answer = call(["trial", str(seed_number(seed))], setting=Setting(timeout))
+    with _reading(answer):
+        lines = [line.split(" ", 1) for line in answer.report.splitlines()]
+        return Trial({word: value for word, value in lines})

@@ -5,19 +5,22 @@ from __future__ import annotations
 from dataclasses import dataclass, field
 from typing import Dict, List, Optional, Tuple
 
+from ._certificates import Certificate
 from ._image import Image
 from ._kernel import Kernel
+from ._mapping import Mapping
 
 
 @dataclass(frozen=True)
 class Bound:
     """The least interval that no recurrence and no class forbids; None where an operation isn't offered.
 
-    `certificate` is the line that shows why the interval below is impossible, or every one; empty at interval 1.
+    `certificate` shows why the interval below is impossible, or every one; it is None at interval 1.
     """
 
     interval: Optional[int]
-    certificate: str
+    certificate: Optional[Certificate]
+    report: str = ""
 
 
 @dataclass(frozen=True)
@@ -26,7 +29,7 @@ class Reason:
 
     kind: str
     interval: Optional[int]
-    certificate: str
+    certificate: Optional[Certificate]
 
 
 @dataclass(frozen=True)
@@ -38,7 +41,7 @@ class Why:
     """
 
     interval: Optional[int]
-    certificate: str
+    certificate: Optional[Certificate]
     reasons: Dict[str, Reason]
     slots: Optional[Tuple[int, int]]
     report: str
@@ -46,18 +49,19 @@ class Why:
 
 @dataclass(frozen=True)
 class Found:
-    """A mapping that was found: its interval and stages, how (`search`, `walk` or `hub`) and after how many moves.
+    """A mapping that was found: its interval and stages, how (`search`, `walk` or `hub`), after how many moves, which seed.
 
-    `bits` is the file of its configuration, `mapping` its text; no unit, wire or register carries two values in a cycle, and
-    the array under these bits does what the turns of the kernel do.
+    `bits` are its configuration's, `mapping` is the mapping; no unit, wire or register carries two values in a cycle, and the
+    array under these bits does what the turns of the kernel do. Both can be given to the next call, and so can this.
     """
 
     interval: int
     stages: int
     by: str
     moves: int
+    seed: int
     bits: bytes
-    mapping: str
+    mapping: Mapping
     notes: List[str] = field(default_factory=list)
 
 
@@ -109,7 +113,7 @@ class Turned:
 
 @dataclass(frozen=True)
 class Depended:
-    """A kernel with the order edges that its accesses need: how many were added, and the kernel."""
+    """A kernel with the order edges that its accesses need: how many were added, how many there are, and the kernel."""
 
     added: int
     order: int
@@ -144,6 +148,10 @@ class Verilog:
     cells: int
     text: str
 
+    def to_bytes(self) -> bytes:
+        """Returns the text as bytes."""
+        return self.text.encode()
+
 
 @dataclass(frozen=True)
 class Bench:
@@ -156,7 +164,7 @@ class Bench:
 
 @dataclass(frozen=True)
 class Migrated:
-    """Bits of today's format out of those of the first one."""
+    """Bits of the current format, made from those of the first one."""
 
     interval: int
     stages: int
@@ -165,10 +173,13 @@ class Migrated:
 
 @dataclass(frozen=True)
 class Shown:
-    """A legal mapping as a table, and as a picture in SVG."""
+    """A legal mapping as a table, and as a picture in SVG, which notebooks show."""
 
     report: str
     picture: str
+
+    def _repr_svg_(self) -> str:
+        return self.picture
 
 
 @dataclass(frozen=True)
