@@ -3,6 +3,7 @@
 from __future__ import annotations
 
 import json
+import math
 import re
 from typing import Any, Callable, Dict, List, NoReturn, Optional, Sequence, Tuple, TypeVar, Union
 
@@ -41,12 +42,14 @@ def _members(pairs: List[Tuple[str, Any]]) -> Members:
 def _integer(digits: str) -> Union[int, _NoWord]:
     """Returns the word `digits`."""
     if digits.startswith("-") or len(digits) > LONGEST_WORD or int(digits) >= END_OF_WORDS:
-        return _NoWord()
+        return _other_number(digits)
     return int(digits)
 
 
-def _fraction(_: str) -> _NoWord:
-    """Returns what stands for a number with a point or an exponent."""
+def _other_number(text: str) -> _NoWord:
+    """Returns what stands for a number that is no word; refuses one that no floating-point number holds."""
+    if math.isinf(float(text)):
+        raise ValueError("a number is out of range")
     return _NoWord()
 
 
@@ -91,7 +94,7 @@ def json_value(text: Union[str, bytes], letter: str) -> Any:
             whole,
             object_pairs_hook=_members,
             parse_int=_integer,
-            parse_float=_fraction,
+            parse_float=_other_number,
             parse_constant=_constant,
         )
         _check_texts(value)

@@ -1,0 +1,5 @@
+"""The tests of the package."""
+
+from .support import set_program
+
+set_program()
