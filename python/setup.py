@@ -13,7 +13,9 @@ try:
 except ImportError:
     from wheel.bdist_wheel import bdist_wheel
 
-PROGRAM = os.path.join(os.path.dirname(os.path.abspath(__file__)), "..", "release", "cgra")
+ROOT = os.path.dirname(os.path.dirname(os.path.abspath(__file__)))
+PROGRAM = os.path.join(ROOT, "release", "cgra")
+LICENSE = os.path.join(ROOT, "LICENSE")
 LIBC = (2, 34)
 
 
@@ -30,16 +32,18 @@ CARRIES = carries_program()
 
 
 class BuildWithProgram(build_py):
-    """Copies the program beside the modules."""
+    """Copies the program and its license beside the modules."""
 
     def run(self):
         super().run()
         if CARRIES and not getattr(self, "editable_mode", False):
             folder = os.path.join(self.build_lib, "cgra", "_bin")
             os.makedirs(folder, exist_ok=True)
-            target = os.path.join(folder, "cgra")
-            shutil.copyfile(PROGRAM, target)
-            os.chmod(target, 0o755)
+            for source, mode in ((PROGRAM, 0o755), (LICENSE, 0o644)):
+                target = os.path.join(folder, os.path.basename(source))
+                if os.path.isfile(source):
+                    shutil.copyfile(source, target)
+                    os.chmod(target, mode)
 
 
 class TaggedWheel(bdist_wheel):
