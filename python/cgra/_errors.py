@@ -38,7 +38,7 @@ class CgraError(Exception):
         self.report = report
         self.notes: List[str] = list(notes)
         self.words: Tuple[str, ...] = tuple(words)
-        lines = [*self.notes, report.rstrip("\n") or f"status {status}"]
+        lines = [line for line in (*self.notes, report.rstrip("\n")) if line] or [f"status {status}"]
         super().__init__("\n".join(lines + ([f"called: {self.called}"] if words else [])))
 
     @property
@@ -147,7 +147,7 @@ class UnknownReport(CgraError):
 
 
 class NoProgram(CgraError, FileNotFoundError):
-    """The program can't be found, or can't be started."""
+    """The program can't be found, or can't be started. The status is 127, as in a shell."""
 
 
 ERRORS: Dict[int, Type[CgraError]] = {

@@ -154,7 +154,7 @@ def call(words: Iterable[str], allowed: Sequence[int] = (0,), setting: Setting =
 
 
 def _started(line: Sequence[str], setting: Setting) -> "subprocess.Popen[bytes]":
-    """Starts a call, in a process group of its own."""
+    """Starts a call. It stays in the group of this process, so that it ends where the whole group is ended."""
     environment = dict(os.environ, CGRA_PROGRESS="0" if setting.progress is None else "1")
     try:
         return subprocess.Popen(
@@ -163,7 +163,6 @@ def _started(line: Sequence[str], setting: Setting) -> "subprocess.Popen[bytes]"
             stdout=subprocess.PIPE,
             stderr=subprocess.PIPE,
             env=environment,
-            start_new_session=True,
         )
     except (OSError, ValueError) as error:
         raise NoProgram(127, "", [f"the program can't be started: {error}"], line) from error
@@ -205,14 +204,33 @@ def _pause(deadline: Optional[float], setting: Setting) -> Optional[float]:
 def _end(process: "subprocess.Popen[bytes]") -> None:
     """Ends a call that runs still, with all that it started, and closes its pipes."""
     if process.poll() is None:
-        try:
-            os.killpg(process.pid, signal.SIGKILL)
-        except ProcessLookupError:
-            pass
+        below = _below(process.pid)
+        process.kill()
+        for pid in below:
+            try:
+                os.kill(pid, signal.SIGKILL)
+            except ProcessLookupError:
+                pass
     process.wait()
     for pipe in (process.stdout, process.stderr):
         if pipe is not None:
             pipe.close()
+
+
+def _below(pid: int) -> List[int]:
+    """Returns the processes that the process `pid` started, and those that these started; none where there is no /proc."""
+    children: Dict[int, List[int]] = {}
+    for name in os.listdir("/proc") if os.path.isdir("/proc") else []:
+        try:
+            with open(f"/proc/{int(name)}/stat", "rb") as file:
+                parent = int(file.read().rpartition(b")")[2].split()[1])
+        except (OSError, ValueError, IndexError):
+            continue
+        children.setdefault(parent, []).append(int(name))
+    found = [pid]
+    for one in found:
+        found += children.get(one, [])
+    return found[1:]
 
 
 class Folder:

@@ -8,7 +8,7 @@ from array import array
 from collections.abc import MutableSequence
 from typing import TYPE_CHECKING, Any, Iterable, Optional, SupportsIndex, Union, overload
 
-from ._numbers import END_OF_WORDS, LEAST_WORD, MASK, word
+from ._numbers import END_OF_WORDS, LEAST_WORD, word
 
 if TYPE_CHECKING:
     Array = array[int]
@@ -122,13 +122,24 @@ def array_of(values: Iterable[SupportsIndex]) -> "Array":
     if numpy is not None and isinstance(values, numpy.ndarray):
         return _array_of_numpy(numpy, values)
     items = values if isinstance(values, (list, tuple, range)) else list(values)
-    if set(map(type, items)) <= {int}:
-        try:
-            return array(WORD, items)
-        except OverflowError:
-            if min(items) >= LEAST_WORD and max(items) < END_OF_WORDS:
-                return array(WORD, [item & MASK for item in items])
-    return array(WORD, [word(item) for item in items])
+    found = _array_of_ints(items) if set(map(type, items)) <= {int} else None
+    return array(WORD, [word(item) for item in items]) if found is None else found
+
+
+def _array_of_ints(items: Iterable[Any]) -> Optional["Array"]:
+    """Returns the ints `items` as an array of words, None where one is out of range."""
+    try:
+        return array(WORD, items)
+    except OverflowError:
+        pass  # one is negative, or too large
+    try:
+        wide = array("q", items)
+    except OverflowError:
+        return None
+    if min(wide) < LEAST_WORD or max(wide) >= END_OF_WORDS:
+        return None
+    low = 0 if sys.byteorder == "little" else 1
+    return array(WORD, memoryview(wide).cast("B").cast(WORD)[low::2].tobytes())
 
 
 def _array_of_numpy(numpy: Any, values: Any) -> "Array":

@@ -118,7 +118,8 @@ class Violations(unittest.TestCase):
         mapping = cgra.search(T1, SUM).mapping
         late = cgra.Mapping(2, mapping.places, mapping.routes)
         found = cgra.violations(T1, SUM, late)
-        self.assertIn(cgra.Violation("fault L3 unit r0c0_u slot 0 i o", "L3", "unit r0c0_u slot 0", "r0c0_u", 0, ("i", "o")), found)
+        line, place = "fault L3 unit r0c0_u slot 0 i o", "unit r0c0_u slot 0"
+        self.assertIn(cgra.Violation(line, "L3", place, "r0c0_u", 0, ("i", "o")), found)
 
 
 if __name__ == "__main__":

@@ -150,13 +150,13 @@ class Bytes(unittest.TestCase):
                 cgra.Image.from_bytes(data)
             self.assertTrue(str(raised.exception).startswith(fault))
 
-    def test_fast(self):
-        values = list(range(MILLION))
-        start = time.process_time()
-        image = cgra.Image(values)
-        same = cgra.Image.from_bytes(image.to_bytes())
-        self.assertLess(time.process_time() - start, 1.0)
-        self.assertEqual(same, image)
+    def test_many(self):
+        for values in (list(range(MILLION)), list(range(-MILLION, 0))):
+            start = time.process_time()
+            image = cgra.Image(values)
+            same = cgra.Image.from_bytes(image.to_bytes())
+            self.assertLess(time.process_time() - start, 1.0)
+            self.assertEqual((same, image.memory[-1]), (image, values[-1] % 2**32))
 
 
 @unittest.skipIf(numpy is None, "numpy isn't installed")
