@@ -1,6 +1,7 @@
 pub mod Kept
 mod Arguments
 mod Begun
+mod Marked
 mod EachUnit
 pub mod Facts
 pub mod Slots

@@ -17,6 +17,7 @@ use Rattle.cg_cycle.specs.State.{IsFresh, AreEffects}
 use Rattle.cg_cycle.specs.declared.terminals.Terminals.{Terminals}
 use Rattle.cg_cycle.specs.declared.effects.Effects.{Effects}
 use Rattle.cg_cycle.specs.declared.effects.Store.{Store}
+use Rattle.cg_cycle.proofs.Marked.{room_of}
 use Rattle.cg_cycle.proofs.Slots.{row_now, row_apart}
 use Rattle.cg_cycle.proofs.Rooms.{AreBegun, room_left, few_next, stream_few}
 
@@ -148,7 +149,7 @@ module _ (A : Arch) (C : Config) (n : ℕ) (image : Image) (e : Effects) (fits :
         ports = fresh.ports;
         sent = λ x slot lx ls out. (let none = ap length (fresh.empty (fields C x slot).port) in omega arith);
         few_words = λ port. (let none = ap length (fresh.empty port) in omega arith);
-        room = fresh.room;
+        room = room_of C (length A.units) n e.streams.items fresh.room;
         pending = fresh.pending;
         pending_room = fresh.pending_room;
         few = (let none = fresh.outside in omega arith);

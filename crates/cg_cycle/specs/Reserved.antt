@@ -15,15 +15,24 @@ stream ss port = slice_index_or ss port (record { words = []; room = 0 })
 abbrev pub all_words : List Reserved → List (List ℕ)
 all_words ss = map (λ s. s.words) ss
 
--- the ports to which the units send in the given slot are marked
-abbrev pub AreMarkedIn : Config → ℕ → ℕ → List Bool → Type 0
-AreMarkedIn C units slot used = (x : ℕ) → x < units → gives_output (fields C x slot).op ≡ true →
-    slice_index_or used (fields C x slot).port false ≡ true
+-- one of the first units sends to the port in the given slot
+abbrev pub IsSentToIn : Config → ℕ → ℕ → ℕ → Type 0
+IsSentToIn C units slot port =
+    (x : ℕ) × (x < units) × (gives_output (fields C x slot).op ≡ true) × ((fields C x slot).port ≡ port)
 
--- the ports to which the units send in one of the first slots are marked
-abbrev pub AreMarked : Config → ℕ → ℕ → List Bool → Type 0
-AreMarked C units slots used = (x slot : ℕ) → x < units → slot < slots → gives_output (fields C x slot).op ≡ true →
-    slice_index_or used (fields C x slot).port false ≡ true
+-- one of the first units sends to the port in one of the first slots
+abbrev pub IsSentTo : Config → ℕ → ℕ → ℕ → Type 0
+IsSentTo C units slots port = (slot : ℕ) × (slot < slots) × IsSentToIn C units slot port
+
+-- the ports that are marked are those to which the units send in one of the first slots
+pub record AreMarked (C : Config) (units slots : ℕ) (used : List Bool) : Type 0 where
+  pub all : (port : ℕ) → IsSentTo C units slots port → slice_index_or used port false ≡ true
+  pub only : (port : ℕ) → slice_index_or used port false ≡ true → IsSentTo C units slots port
+
+-- a stream to which the units send has room for n words, and no other has room
+pub record IsReserved (C : Config) (units n : ℕ) (ss : List Reserved) : Type 0 where
+  pub used : (port : ℕ) → IsSentTo C units C.ii port → (stream ss port).room ≡ n
+  pub unused : (port : ℕ) → (IsSentTo C units C.ii port → ⊥) → (stream ss port).room ≡ 0
 
 -- there is room for n words in each stream to which a unit sends
 abbrev pub HaveRoom : Config → ℕ → ℕ → List Reserved → Type 0

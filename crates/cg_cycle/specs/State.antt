@@ -8,19 +8,19 @@ use Rattle.cg_model.specs.Config.{Config}
 use Rattle.cg_model.specs.Canonical.{IsCanonical}
 use Rattle.cg_model.specs.Work.{Image}
 use Rattle.cg_cycle.specs.Course.{Course, AreShort, course_cycles}
-use Rattle.cg_cycle.specs.Reserved.{stream, HaveRoom, HaveSent, HaveFew}
+use Rattle.cg_cycle.specs.Reserved.{stream, IsReserved, HaveRoom, HaveSent, HaveFew}
 use Rattle.cg_cycle.specs.Moment.{IsMoment}
 use Rattle.cg_cycle.specs.declared.moment.Moment.{Moment}
 use Rattle.cg_cycle.specs.declared.effects.Effects.{Effects}
 
--- the effects of a run before its first cycle, with room for all its effects
+-- the effects of a run before its first cycle, with room for all its effects, and for no other words of streams
 pub record IsFresh (A : Arch) (C : Config) (n : ℕ) (image : Image) (e : Effects) : Type 0 where
   pub memory : e.memory ≡ image.memory
   pub pending : e.pending.items ≡ []
   pub pending_room : length A.units ≤ vec_capacity e.pending
   pub ports : length e.streams.items ≡ 16
   pub empty : (port : ℕ) → (stream e.streams.items port).words ≡ []
-  pub room : HaveRoom C (length A.units) n e.streams.items
+  pub room : IsReserved C (length A.units) n e.streams.items
   pub outside : e.outside ≡ 0
 
 -- the effects of a run after c cycles, with room for the rest

@@ -1,10 +1,10 @@
 //! The output streams of a run, with room for all that is sent.
-ghost use Rattle.std.specs.Prelude.{◌≡◌, ◌<◌, ◌≤◌, ℕ, [], true, false, IfOk, length, slice_index_or, vec_capacity};
+ghost use Rattle.std.specs.Prelude.{◌≡◌, ◌<◌, ◌≤◌, ◌⊎◌, ℕ, [], true, false, IfOk, length, slice_index_or, vec_capacity};
 ghost use Rattle.cg_model.specs.Config as configs;
 ghost use Rattle.cg_model.specs.Canonical.{IsCanonical, gives_output};
 ghost use Rattle.cg_model.specs.Limits.{most_units};
 ghost use Rattle.cg_contexts.specs.Known.{HasUnit};
-ghost use Rattle.cg_cycle.specs.Reserved.{stream, all_words, AreMarkedIn, AreMarked, HaveRoom};
+ghost use Rattle.cg_cycle.specs.Reserved.{stream, all_words, IsSentToIn, AreMarked, IsReserved};
 
 use crate::effects::Stream;
 use cg_arch::Arch;
@@ -13,7 +13,8 @@ use cg_model::Words;
 use cg_pad::PORTS;
 use std::alloc::{AllocError, Global};
 
-/// Returns sixteen streams, with room for `n` words in each to which units of `arch` output under `contexts`.
+/// Returns sixteen streams, with room for `n` words in each to which units of `arch` output under `contexts`, and none in
+/// the others.
 pub(crate) fn reserve_streams<C: Contexts>(
     alloc: Global,
     arch: &Arch,
@@ -23,7 +24,7 @@ pub(crate) fn reserve_streams<C: Contexts>(
     requires { IsCanonical arch.now (C.config contexts.now) }
     ensures long { IfOk result (λ v. length v.items ≡ 16) }
     ensures empty { IfOk result (λ v. (port : ℕ) → (stream v.items port).words ≡ []) }
-    ensures room { IfOk result (λ v. HaveRoom (C.config contexts.now) (length arch.now.units) n v.items) }
+    ensures room { IfOk result (λ v. IsReserved (C.config contexts.now) (length arch.now.units) n v.items) }
 {
     let used = used_ports(arch, contexts);
     let mut streams = Vec::with_capacity(alloc, PORTS)?;
@@ -54,7 +55,9 @@ fn mark_used<C: Contexts>(units: usize, contexts: &C, slot: u32, used: &mut [boo
     requires known { (x : ℕ) → x < units → HasUnit (C.config contexts.now) x slot }
     requires ports { (x : ℕ) → x < units → (configs.fields (C.config contexts.now) x slot).port < length used.old }
     ensures kept { (port : ℕ) → slice_index_or used.old port false ≡ true → slice_index_or used.new port false ≡ true }
-    ensures marked { AreMarkedIn (C.config contexts.now) units slot used.new }
+    ensures marked { (port : ℕ) → IsSentToIn (C.config contexts.now) units slot port → slice_index_or used.new port false ≡ true }
+    ensures only { (port : ℕ) → slice_index_or used.new port false ≡ true →
+        (slice_index_or used.old port false ≡ true) ⊎ IsSentToIn (C.config contexts.now) units slot port }
 {
     for x in 0..units {
         let head = contexts.head(x as u32, slot);

@@ -1,4 +1,4 @@
-use Rattle.std.proofs.Common.{◌≡◌, ◌≤◌, ℕ, ◌<◌, true, false, length, []}
+use Rattle.std.proofs.Common.{◌≡◌, ℕ, ◌<◌, true, false, length, []}
 use Rattle.std.specs.Prelude.{slice_index_or}
 use Rattle.cg_cycle.specs.Reserved.{stream}
 use Rattle.cg_cycle.proofs.streams.reserve_streams.Given as goal
@@ -7,5 +7,6 @@ abbrev pub invariant-loop-port : goal.invariant-loop-port
 invariant-loop-port g l = record {
   long : length l.streams.items ≡ l.port;
   empty : (port : ℕ) → (stream l.streams.items port).words ≡ [];
-  room : (port : ℕ) → port < l.port → slice_index_or l.used port false ≡ true → l.n ≤ (stream l.streams.items port).room;
+  used : (port : ℕ) → port < l.port → slice_index_or l.used port false ≡ true → (stream l.streams.items port).room ≡ l.n;
+  unused : (port : ℕ) → slice_index_or l.used port false ≡ false → (stream l.streams.items port).room ≡ 0;
 }

@@ -1,17 +1,12 @@
-use Rattle.std.proofs.Common.{◌≡◌, true, false, sym, subst, arith, rules, ⊎_elim}
-use Rattle.std.specs.Prelude.{ℕ, slice_index_or}
-use Rattle.std.proofs.lemmas.Bool.{cases_lt}
-use Rattle.cg_model.specs.Config as configs
-use Rattle.cg_model.specs.Canonical.{gives_output}
+use Rattle.std.proofs.Common.{◌≡◌, ◌+◌, length, sym, ap, subst}
+use Rattle.cg_cycle.specs.Reserved.{AreMarked}
+use Rattle.cg_cycle.proofs.Marked.{marks_next}
 use Rattle.cg_cycle.proofs.streams.used_ports.Goals as goal
 
 pub loop-slot-preserved : goal.loop-slot-preserved
-loop-slot-preserved g c = λ x slot lx ls o.
+loop-slot-preserved g c =
     let C = g.C.Contexts.config c.args.contexts.now in
-    ⊎_elim
-    (λ b. c.mark_used.ensures.kept (configs.fields C x slot).port (c.loop-slot.invariant x slot lx b o))
-    (λ b.
-    let e : slot ≡ c.loop-slot.slot = omega arith in
-    subst (λ (z : ℕ). slice_index_or c.mark_used.new.used (configs.fields C x z).port false ≡ true) (sym e)
-    (c.mark_used.ensures.marked x (search rules) (subst (λ (z : ℕ). gives_output (configs.fields C x z).op ≡ true) e o)))
-    (cases_lt slot c.loop-slot.slot)
+    let same : length c.units-units.result.now ≡ length c.args.arch.now.units = ap length c.units-units.ensures.units in
+    subst (λ n. AreMarked C n (c.loop-slot.slot + 1) c.mark_used.new.used) same
+    (marks_next C (length c.units-units.result.now) c.loop-slot.slot c.loop-slot.used c.mark_used.new.used c.mark_used.ensures.kept c.mark_used.ensures.marked c.mark_used.ensures.only
+    (subst (λ n. AreMarked C n c.loop-slot.slot c.loop-slot.used) (sym same) c.loop-slot.invariant))
