@@ -1,6 +1,8 @@
 -- For each kernel and valid architecture there is a least interval that no reason excludes, or none, with what excludes those
 -- below it: by definitions alone.
-use Rattle.std.proofs.Common.{◌≡◌, ℕ, zero, suc, ◌+◌, ◌≤◌, List, [], ◌∷◌, length, Option, Some, None, refl, arith}
+use Rattle.std.proofs.Common.{◌≡◌, ℕ, zero, suc, ◌+◌, ◌-◌, ◌<◌, ◌≤◌, max, List, [], ◌∷◌, length, get_or, Contains, Option, Some, None, refl, subst, arith}
+use Rattle.std.specs.Prelude.{unwrap_or}
+use Rattle.std.proofs.lemmas.List.Elements.{Contains-get_or}
 use Rattle.cg_model.specs.Kernel.{Kernel, IsKernel}
 use Rattle.cg_model.specs.Array.{Arch, IsArch}
 use Rattle.cg_model.proofs.Lookups.{Contains-nil}
@@ -15,9 +17,9 @@ use Rattle.cg_why.specs.declared.least.Verdict.{Verdict}
 use Rattle.cg_why.specs.declared.least.Verdict.TheVariants.{Excluded, Open}
 use Rattle.cg_why.specs.declared.why.Why.{Why}
 use Rattle.cg_why.specs.Why.{AreAllNumbers, numbers_at, IsBound, AreBounds, all_kinds, IsLeast, IsWhy}
-use Rattle.cg_why.specs.Scan.{IsFound, IsBoundTo, IsLeastTo, IsVerdict}
+use Rattle.cg_why.specs.Scan.{IsFound, IsBoundTo, MayBeginAfter, IsLeastTo, IsVerdict}
 use Rattle.cg_why.proofs.Reasons.{numbers_for}
-use Rattle.cg_why.proofs.Scans.{bound_begins, bound_next, bound_found, bound_none, bound_pushed, begins, least_begins, least_next, least_found, least_none}
+use Rattle.cg_why.proofs.Scans.{bound_begins, bound_next, bound_found, bound_none, bound_pushed, begins, begin_next, above_all, least_begins, least_next, least_found, least_none}
 use Rattle.cg_why.proofs.Tables.{held, some_fars}
 use Rattle.cg_why.proofs.Exclusions.{some_reason, some_verdict}
 
@@ -63,7 +65,10 @@ module _ (A : Arch) (K : Kernel) (arch : IsArch A) (valid : IsKernel K) (f : Far
 
   -- ---- the least of all
 
-  module _ (bounds : List Bound) where
+  no_bound : Bound
+  no_bound = record { kind = kinds.Recurrence; least = None; below = None }
+
+  module _ (bounds : List Bound) (right : (bound : Bound) → Contains bounds bound → IsBound A K f bound) where
     abbrev HasLeast : Type 0
     HasLeast = (least : Least) × IsLeast A K f bounds least
 
@@ -78,12 +83,29 @@ module _ (A : Arch) (K : Kernel) (arch : IsArch A) (valid : IsKernel K) (f : Far
         let (v, h) = some_verdict A K arch valid f all ii l (within ii m) in
         least_at ii below l m to (λ r next. least_from fuel (ii + 1) (Some r) (omega arith) (omega arith) next) v h
 
+    -- where the search begins, by the least intervals of the first k kinds
+    first_after : (k : ℕ) → k ≤ length bounds → (from : ℕ) × MayBeginAfter A K f bounds k from
+    first_after zero l = (1, begins A K f bounds)
+    first_after (suc k) l =
+        let (from, may) = first_after k (omega arith) in
+        let bound = get_or bounds k no_bound in
+        let c = max from (unwrap_or bound.least (A.contexts + 1)) in
+        let m : k < length bounds = omega arith in
+        let next : k + 1 ≡ suc k = omega arith in
+        (c, subst (λ z. MayBeginAfter A K f bounds z c) next (begin_next A K f bounds k no_bound from c m (right bound (Contains-get_or bounds k no_bound m)) refl (omega arith) may))
+
+    some_from : (k : ℕ) → length bounds ≤ k → (from : ℕ) × MayBeginAfter A K f bounds k from → HasLeast
+    some_from k l (from, may) =
+        let s = may.begin.some in
+        let w = may.begin.within in
+        least_from (A.contexts + 1 - from) from None (omega arith) (omega arith) (least_begins A K f bounds from may.begin (above_all A K f bounds k from l may))
+
     some_least : HasLeast
-    some_least = least_from A.contexts 1 None (omega arith) (omega arith) (least_begins A K f bounds 1 (begins A K f bounds (omega arith)))
+    some_least = some_from (length bounds) (omega arith) (first_after (length bounds) (omega arith))
 
 pub some_why : (A : Arch) (K : Kernel) → IsArch A → IsKernel K → (w : Why) × IsWhy A K w
 some_why A K arch valid =
     let (f, all) = some_fars A K arch valid in
     let (bounds, are, four) = some_bounds A K arch valid f all in
-    let (least, is) = some_least A K arch valid f all bounds in
+    let (least, is) = some_least A K arch valid f all bounds are.right in
     (record { fars = f; bounds = held bounds (omega arith); least = least }, record { fars = all; bounds = are; least = is })

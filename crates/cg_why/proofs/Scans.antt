@@ -1,11 +1,12 @@
 -- The least intervals of the kinds, and the least of all, as they are found one interval after another.
-use Rattle.std.proofs.Common.{◌≡◌, ℕ, ◌+◌, ◌-◌, ◌<◌, ◌≤◌, List, [], ◌∷◌, ◌++◌, length, map, take, get_or, Contains, Option, Some, None, refl, sym, ap, ◌∙◌, subst, arith, inl, inr, ⊎_elim}
+use Rattle.std.proofs.Common.{◌≡◌, ℕ, ◌+◌, ◌-◌, ◌<◌, ◌≤◌, max, List, [], ◌∷◌, ◌++◌, length, map, take, get_or, Contains, Option, Some, None, refl, sym, ap, ◌∙◌, subst, arith, inl, inr, ⊎_elim}
 use Rattle.std.specs.Prelude.{◌⊎◌, unwrap_or}
 use Rattle.std.proofs.lemmas.Bool.{cases_lt}
-use Rattle.std.proofs.lemmas.List.{take_more, map-append}
-use Rattle.std.proofs.lemmas.List.Elements.{Contains-push_cases}
+use Rattle.std.proofs.lemmas.List.{take_more, take_all, map-append}
+use Rattle.std.proofs.lemmas.List.Elements.{Contains-get_or, Contains-push_cases}
 use Rattle.cg_model.specs.Kernel.{Kernel, IsKernel}
 use Rattle.cg_model.specs.Array.{Arch}
+use Rattle.cg_model.proofs.Lookups.{Contains-nil}
 use Rattle.cg_pressure.specs.declared.times.Times.{Times}
 use Rattle.cg_pressure.specs.Sums.{table}
 use Rattle.cg_pressure.specs.Times.{AreLoose}
@@ -17,8 +18,8 @@ use Rattle.cg_why.specs.declared.numbers.Fars.{Fars}
 use Rattle.cg_why.specs.declared.bounds.Bound.{Bound}
 use Rattle.cg_why.specs.declared.least.Verdict.{Verdict}
 use Rattle.cg_why.specs.declared.least.Verdict.TheVariants.{Excluded, Open}
-use Rattle.cg_why.specs.Why.{far_at, numbers_at, IsExcluded, Shows, kind_of, Excludes, IsImpossible, IsLeastWithout, below_of, IsBound, AreBounds, all_kinds, IsShown, IsLeast, IsSaid}
-use Rattle.cg_why.specs.Scan.{IsFound, IsOther, IsVerdict, IsBoundTo, MayBegin, IsLeastTo}
+use Rattle.cg_why.specs.Why.{far_at, numbers_at, IsExcluded, Shows, kind_of, Excludes, IsImpossible, IsLeastWithout, below_of, IsBound, AreBounds, all_kinds, IsShown, IsLeast, IsGiven, IsSaid}
+use Rattle.cg_why.specs.Scan.{IsFound, IsOther, IsVerdict, IsBoundTo, MayBegin, MayBeginAfter, IsLeastTo}
 use Rattle.cg_why.proofs.Reasons.{shown, no_registers}
 
 -- a property of all numbers below one, and of that one
@@ -51,33 +52,68 @@ module _ (A : Arch) (K : Kernel) (f : Fars) (kind : Kind) where
       record { least = λ i l m. to.excluded i l (omega arith); below = subst (λ z. IsShown A K f kind z below) same to.shown }
 
 module _ (A : Arch) (K : Kernel) (f : Fars) (bounds : List Bound) where
-  pub begins : 1 ≤ A.contexts + 1 → MayBegin A K f bounds 1
-  begins l = record { some = omega arith; within = l; below = λ i l m. absurd (omega arith); said = inl (omega arith) }
+  pub begins : MayBeginAfter A K f bounds 0 1
+  begins =
+      record {
+        begin = record { some = omega arith; within = omega arith; below = λ i l m. absurd (omega arith); given = inl (omega arith) };
+        above = λ bound has. absurd (Contains-nil bound has);
+      }
 
   -- below a least interval of a kind
-  pub ends : (bound : Bound) → Contains bounds bound → 1 ≤ A.contexts + 1 → IsBound A K f bound → MayBegin A K f bounds (unwrap_or bound.least (A.contexts + 1))
+  ends : (bound : Bound) → Contains bounds bound → 1 ≤ A.contexts + 1 → IsBound A K f bound → MayBegin A K f bounds (unwrap_or bound.least (A.contexts + 1))
   ends bound inside some is = at bound.least refl is.least
     where
       at : (o : Option ℕ) → bound.least ≡ o → IsLeastWithout (Excludes A K f bound.kind) A.contexts o → MayBegin A K f bounds (unwrap_or o (A.contexts + 1))
-      at (Some l) e (a, b, c, d) = record { some = a; within = omega arith; below = λ i l m. (bound.kind, d i l m); said = inr (bound, inside, ap (below_of A.contexts) e) }
+      at (Some l) e (a, b, c, d) = record { some = a; within = omega arith; below = λ i l m. (bound.kind, d i l m); given = inr (bound, inside, ap (below_of A.contexts) e) }
       at None e d =
           let same : A.contexts ≡ A.contexts + 1 - 1 = omega arith in
-          record { some = some; within = omega arith; below = λ i l m. (bound.kind, d i l (omega arith)); said = inr (bound, inside, ap (below_of A.contexts) e ∙ same) }
+          record { some = some; within = omega arith; below = λ i l m. (bound.kind, d i l (omega arith)); given = inr (bound, inside, ap (below_of A.contexts) e ∙ same) }
 
-  pub either : (a b c : ℕ) → (c ≡ a) ⊎ (c ≡ b) → MayBegin A K f bounds a → MayBegin A K f bounds b → MayBegin A K f bounds c
-  either a b c (inl e) h k = subst (MayBegin A K f bounds) (sym e) h
-  either a b c (inr e) h k = subst (MayBegin A K f bounds) (sym e) k
+  either : (a b c : ℕ) → c ≡ max a b → MayBegin A K f bounds a → MayBegin A K f bounds b → MayBegin A K f bounds c
+  either a b c e h k =
+      ⊎_elim (λ (l : a < b). let same : b ≡ c = omega arith in subst (MayBegin A K f bounds) same k)
+      (λ (l : b ≤ a). let same : a ≡ c = omega arith in subst (MayBegin A K f bounds) same h) (cases_lt a b)
 
-  pub least_begins : (from : ℕ) → MayBegin A K f bounds from → IsLeastTo A K f bounds from None
-  least_begins from h = record { each = h.below; said = h.said }
+  below_end : (o : Option ℕ) (l : ℕ) → 1 ≤ l → unwrap_or o (A.contexts + 1) ≤ l → below_of A.contexts o < l
+  below_end (Some i) l s m = omega arith
+  below_end None l s m = omega arith
+
+  -- with the least interval of one more kind
+  pub begin_next : (k : ℕ) (d : Bound) (a c : ℕ) → k < length bounds → IsBound A K f (get_or bounds k d) → c ≡ max a (unwrap_or (get_or bounds k d).least (A.contexts + 1)) → 1 ≤ A.contexts + 1 → MayBeginAfter A K f bounds k a →
+      MayBeginAfter A K f bounds (k + 1) c
+  begin_next k d a c l is e some may =
+      let bound = get_or bounds k d in
+      let s = may.begin.some in
+      record {
+        begin = either a (unwrap_or bound.least (A.contexts + 1)) c e may.begin (ends bound (Contains-get_or bounds k d l) some is);
+        above = λ other has.
+            ⊎_elim {C = below_of A.contexts other.least < c}
+            (λ h. let m = may.above other h in omega arith)
+            (λ (same : bound ≡ other). subst (λ (z : Bound). below_of A.contexts z.least < c) same (below_end bound.least c (omega arith) (omega arith)))
+            (Contains-push_cases (take k bounds) bound other (subst (λ (z : List Bound). Contains z other) (take_more bounds k d l) has));
+      }
+
+  pub above_all : (k l : ℕ) → length bounds ≤ k → MayBeginAfter A K f bounds k l → (bound : Bound) → Contains bounds bound → below_of A.contexts bound.least < l
+  above_all k l m may bound has = may.above bound (subst (λ (z : List Bound). Contains z bound) (sym (take_all k bounds m)) has)
+
+  pub least_begins : (from : ℕ) → MayBegin A K f bounds from → ((bound : Bound) → Contains bounds bound → below_of A.contexts bound.least < from) → IsLeastTo A K f bounds from None
+  least_begins from h above = record { some = h.some; above = above; each = h.below; said = h.given }
+
+  -- no kind gives what excludes an interval above their least ones
+  not_given : (l ii : ℕ) (below : Option Reason) → IsLeastTo A K f bounds l below → l ≤ ii → IsGiven A bounds ii → ⊥
+  not_given l ii below to m (inl e) = let s = to.some in omega arith
+  not_given l ii below to m (inr (bound, has, e)) = let b = to.above bound has in omega arith
 
   pub least_next : (ii : ℕ) (verdict : Verdict) (r : Reason) (below : Option Reason) → verdict ≡ Excluded r → IsVerdict A K f ii verdict → IsLeastTo A K f bounds ii below → IsLeastTo A K f bounds (ii + 1) (Some r)
   least_next ii verdict r below is h to =
       let here : Shows A K (far_at f ii) ii r = subst (IsVerdict A K f ii) is h in
       let same : ii ≡ ii + 1 - 1 = omega arith in
+      let s = to.some in
       record {
+        some = omega arith;
+        above = λ bound has. (let b = to.above bound has in omega arith);
         each = next (IsImpossible A K f) ii to.each (kind_of r, shown A K (far_at f ii) ii r here);
-        said = subst (λ z. Shows A K (far_at f z) z r) same here;
+        said = subst (λ z. IsSaid A K f bounds z (Some r)) same (here, not_given ii ii below to (omega arith));
       }
 
   pub least_found : (ii : ℕ) (verdict : Verdict) (t : Times) (below : Option Reason) → verdict ≡ Open t → 1 ≤ ii → ii ≤ A.contexts → IsVerdict A K f ii verdict → IsLeastTo A K f bounds ii below →
@@ -92,7 +128,7 @@ module _ (A : Arch) (K : Kernel) (f : Fars) (bounds : List Bound) where
       record {
         least = λ i a b. ⊎_elim {C = IsImpossible A K f i} (λ (h : i < ii). to.each i a h) (λ (h : ii ≤ i). (kind_of r, shown A K (far_at f i) i r (all i h b))) (cases_lt i ii);
         free = tt;
-        said = all A.contexts l (omega arith);
+        said = (all A.contexts l (omega arith), not_given ii A.contexts below to l);
       }
 
   pub least_none : (ii : ℕ) (below : Option Reason) → ii ≡ A.contexts + 1 → IsLeastTo A K f bounds ii below → IsLeast A K f bounds (record { interval = None; times = None; below = below })

@@ -1,5 +1,5 @@
 -- How least intervals are found, by linear or by binary search.
-use Rattle.std.specs.Prelude.{◌≡◌, ℕ, ◌+◌, ◌-◌, ◌<◌, ◌≤◌, List, Option, Some, None}
+use Rattle.std.specs.Prelude.{◌≡◌, ℕ, ◌+◌, ◌-◌, ◌<◌, ◌≤◌, List, Contains, take, Option, Some, None}
 use Rattle.cg_model.specs.Kernel.{Kernel}
 use Rattle.cg_model.specs.Array.{Arch}
 use Rattle.cg_pressure.specs.Times.{AreLoose}
@@ -10,7 +10,7 @@ use Rattle.cg_why.specs.declared.numbers.Fars.{Fars}
 use Rattle.cg_why.specs.declared.bounds.Bound.{Bound}
 use Rattle.cg_why.specs.declared.least.Verdict.{Verdict}
 use Rattle.cg_why.specs.declared.least.Verdict.TheVariants.{Excluded, Open}
-use Rattle.cg_why.specs.Why.{far_at, IsExcluded, Shows, kind_of, Excludes, IsImpossible, IsShown, IsSaid}
+use Rattle.cg_why.specs.Why.{far_at, IsExcluded, Shows, kind_of, Excludes, IsImpossible, below_of, IsShown, IsGiven, IsSaid}
 
 -- ---- one interval
 
@@ -42,10 +42,17 @@ pub record MayBegin (A : Arch) (K : Kernel) (f : Fars) (bounds : List Bound) (l 
   pub some : 1 ≤ l
   pub within : l ≤ A.contexts + 1
   pub below : (i : ℕ) → 1 ≤ i → i < l → IsImpossible A K f i
-  pub said : IsSaid A K f bounds (l - 1) None
+  pub given : IsGiven A bounds (l - 1)
+
+-- and the least intervals of the first k kinds are no greater than l
+pub record MayBeginAfter (A : Arch) (K : Kernel) (f : Fars) (bounds : List Bound) (k l : ℕ) : Type 0 where
+  pub begin : MayBegin A K f bounds l
+  pub above : (bound : Bound) → Contains (take k bounds) bound → below_of A.contexts bound.least < l
 
 -- each interval from there on up to ii is impossible too, and a reason that excludes the interval below ii is given
 pub record IsLeastTo (A : Arch) (K : Kernel) (f : Fars) (bounds : List Bound) (ii : ℕ) (below : Option Reason) : Type 0 where
+  pub some : 1 ≤ ii
+  pub above : (bound : Bound) → Contains bounds bound → below_of A.contexts bound.least < ii
   pub each : (i : ℕ) → 1 ≤ i → i < ii → IsImpossible A K f i
   pub said : IsSaid A K f bounds (ii - 1) below
 

@@ -144,11 +144,14 @@ AreFree A K f None None = ⊤
 AreFree A K f (Some l) None = ⊥
 AreFree A K f None (Some t) = ⊥
 
--- a reason that excludes interval ii, if one is given; if none is, ii is 0, or below the least interval of a kind,
--- whose reason excludes it
+-- interval ii is 0, or below the least interval of a kind, whose reason excludes it
+abbrev pub IsGiven : Arch → List Bound → ℕ → Type 0
+IsGiven A bounds ii = (ii ≡ 0) ⊎ ((bound : Bound) × Contains bounds bound × (below_of A.contexts bound.least ≡ ii))
+
+-- a reason that excludes interval ii, if no least interval of a kind gives one; none if one does, or ii is 0
 abbrev pub IsSaid : Arch → Kernel → Fars → List Bound → ℕ → Option Reason → Type 0
-IsSaid A K f bounds ii (Some r) = Shows A K (far_at f ii) ii r
-IsSaid A K f bounds ii None = (ii ≡ 0) ⊎ ((bound : Bound) × Contains bounds bound × (below_of A.contexts bound.least ≡ ii))
+IsSaid A K f bounds ii (Some r) = Shows A K (far_at f ii) ii r × (IsGiven A bounds ii → ⊥)
+IsSaid A K f bounds ii None = IsGiven A bounds ii
 
 -- the least interval that no reason excludes, and what excludes the one below it
 pub record IsLeast (A : Arch) (K : Kernel) (f : Fars) (bounds : List Bound) (l : Least) : Type 0 where

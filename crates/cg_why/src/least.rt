@@ -1,8 +1,8 @@
 //! The least interval that no reason excludes.
-ghost use Rattle.std.specs.Prelude.{◌≡◌, ◌≤◌, ◌⊎◌, Contains, IfOk};
+ghost use Rattle.std.specs.Prelude.{◌≡◌, ◌<◌, ◌≤◌, max, Contains, IfOk};
 ghost use Rattle.cg_pressure.specs.Sums.{table};
 ghost use Rattle.cg_why.specs.declared.bounds.Bound as declared;
-ghost use Rattle.cg_why.specs.Why.{AreAllNumbers, AreNumbers, IsBound, IsLeast, IsExclusion};
+ghost use Rattle.cg_why.specs.Why.{AreAllNumbers, AreNumbers, below_of, IsBound, IsLeast, IsExclusion};
 ghost use Rattle.cg_why.specs.Scan.{MayBegin, IsOther, IsVerdict};
 
 use crate::bounds::Bound;
@@ -103,16 +103,17 @@ pub fn find_exclusion(
 
 /// Returns the later of two intervals.
 fn later(a: u32, b: u32) -> u32
-    ensures { (result ≡ a) ⊎ (result ≡ b) }
+    ensures { result ≡ max a b }
 {
     if a < b { b } else { a }
 }
 
-/// Returns an interval below which each is impossible by the least intervals `bounds` of the kinds: the greatest of
+/// Returns the interval below which each is impossible by the least intervals `bounds` of the kinds: the greatest of
 /// them, or the contexts of `arch` plus 1.
 fn first_unknown(arch: &Arch, kernel: &Kernel, fars: &Fars, bounds: &[Bound]) -> u32
     requires { (bound : declared.Bound) → Contains bounds.now bound → IsBound arch.now kernel.now fars.now bound }
-    ensures { MayBegin arch.now kernel.now fars.now bounds.now result }
+    ensures begin { MayBegin arch.now kernel.now fars.now bounds.now result }
+    ensures above { (bound : declared.Bound) → Contains bounds.now bound → below_of arch.now.contexts bound.least < result }
 {
     let mut first = 1;
     let end = arch.contexts() + 1;

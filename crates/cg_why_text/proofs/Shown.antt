@@ -35,7 +35,7 @@ module _ (A : Arch) (K : Kernel) (f : Fars) where
 
   pub short_said : (bounds : List Bound) (ii : ℕ) (o : Option Reason) → IsSaid A K f bounds ii o → HasShortBelow o
   short_said bounds ii None h = tt
-  short_said bounds ii (Some r) h = short_lists _ ii r h
+  short_said bounds ii (Some r) (h, first) = short_lists _ ii r h
 
   pub short_bounds : (k : ℕ) (bounds bounds' : List Bound) → bounds' ≡ bounds → AreBounds A K f k bounds → (bound : Bound) → Contains bounds' bound → HasShortBelow bound.below
   short_bounds k bounds bounds' e are bound has = short_bound bound (are.right bound (subst (λ z. Contains z bound) e has))

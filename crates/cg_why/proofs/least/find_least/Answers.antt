@@ -4,13 +4,13 @@ use Rattle.cg_why.proofs.Scans.{least_begins, least_next, least_found, least_clo
 use Rattle.cg_why.proofs.least.find_least.Goals as goal
 
 pub loop-ii-init : goal.loop-ii-init
-loop-ii-init c = least_begins c.args.arch.now c.args.kernel.now c.args.fars.now c.args.bounds.now c.first_unknown-from.result c.first_unknown-from.ensures
+loop-ii-init c = least_begins c.args.arch.now c.args.kernel.now c.args.fars.now c.args.bounds.now c.first_unknown-from.result c.first_unknown-from.ensures.begin c.first_unknown-from.ensures.above
 
 pub returns-in-Open : goal.returns-in-Open
 returns-in-Open c =
     let e = c.contexts-end.ensures.contexts in
     let t = c.loop-ii-test.true in
-    let s = c.first_unknown-from.ensures.some in
+    let s = c.first_unknown-from.ensures.begin.some in
     let l = c.loop-ii.auto.ii in
     least_found c.args.arch.now c.args.kernel.now c.args.fars.now c.args.bounds.now c.loop-ii.ii c.in_ok-reason.field-0 c.in-Open.times c.loop-ii.below c.in-Open.is (omega arith) (omega arith) c.in_ok-reason.ensures c.loop-ii.invariant
 
@@ -31,6 +31,6 @@ pub returns : goal.returns
 returns c =
     let e = c.contexts-end.ensures.contexts in
     let t = c.loop-ii-test.false in
-    let m = c.first_unknown-from.ensures.within in
+    let m = c.first_unknown-from.ensures.begin.within in
     let l = c.loop-ii.auto.ii-end (omega arith) in
     least_none c.args.arch.now c.args.kernel.now c.args.fars.now c.args.bounds.now c.loop-ii.ii c.loop-ii.below (omega arith) c.loop-ii.invariant
