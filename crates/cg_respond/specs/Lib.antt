@@ -1,1 +1,2 @@
 pub mod Responded
+pub mod Faults

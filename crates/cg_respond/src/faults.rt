@@ -5,10 +5,10 @@ use cg_respond_state::State;
 use std::alloc::{AllocError, Global};
 
 /// The weight of a second node in a unit's slot.
-const SHARED: u32 = 3;
+pub(crate) const SHARED: u32 = 3;
 
 /// The weight of a node without a place, of an edge without a route and of a violated order edge.
-const LOST: u32 = 5;
+pub(crate) const LOST: u32 = 5;
 
 /// Returns the faults of `state`: 0 where each node has a place and each edge a route, no two nodes begin on a unit in
 /// a slot, no place is claimed twice and no order edge is violated.

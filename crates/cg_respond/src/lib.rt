@@ -3,6 +3,8 @@
 //! and places it where it and its routes cost least. The search ends when there are no faults.
 #![tactic(auto)]
 
+mod claims;
+mod counting;
 mod effort;
 mod faults;
 mod mapping;
@@ -10,6 +12,7 @@ mod opening;
 mod pace;
 mod responding;
 mod snapshot;
+mod stops;
 mod sweeps;
 mod turning;
 

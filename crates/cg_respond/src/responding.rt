@@ -3,6 +3,7 @@ ghost use Rattle.std.specs.Prelude.{◌≤◌, IfOk};
 ghost use Rattle.cg_model.specs.Limits.{most_moves};
 ghost use Rattle.cg_respond.specs.Responded.{IsResponded, IsJudged};
 
+use crate::counting::mapping_faults;
 use crate::effort::Effort;
 use crate::mapping::mapping;
 use crate::pace::{Ending, Pace};
@@ -24,9 +25,9 @@ pub enum Responded<'a> {
     Mapped(LegalMapping<'a>, u32),
     /// With faults left, after all moves or given up.
     Spent {
-        /// The least number of faults that a state had.
+        /// The number of faults of the mapping.
         faults: u32,
-        /// The mapping of the first state with that number of faults.
+        /// The mapping of the first state with the least number of faults.
         mapping: Mapping,
     },
 }
@@ -88,10 +89,11 @@ fn ended<'a>(
 {
     match checked(alloc, task, &pace.best)? {
         CheckVerdict::Legal(legal) => Ok(Responded::Mapped(legal, pace.made.min(effort.moves))),
-        CheckVerdict::Illegal { mapping, .. } => Ok(Responded::Spent {
-            faults: pace.least.max(1),
-            mapping,
-        }),
+        CheckVerdict::Illegal { mapping, .. } => {
+            task.holds();
+            let faults = mapping_faults(alloc, task.arch(), task.kernel(), &mapping)?;
+            Ok(Responded::Spent { faults, mapping })
+        }
     }
 }
 

@@ -1,9 +1,11 @@
 -- There always is a conclusion: where an answer leaves faults, there are mappings that aren't legal.
-use Rattle.std.proofs.Common.{◌≡◌, ℕ, zero, suc, ◌+◌, ◌<◌, ◌≤◌, List, [], ◌∷◌, length, map, Option, Some, None, refl, sym, ap, ◌∙◌, subst, arith, ⊎_elim}
+use Rattle.std.proofs.Common.{◌≡◌, ℕ, zero, suc, ◌+◌, ◌<◌, ◌≤◌, List, [], ◌∷◌, length, map, All, Option, Some, None, refl, sym, ap, ◌∙◌, subst, arith, ⊎_elim}
 use Rattle.std.specs.Prelude.{replicate}
 use Rattle.std.specs.Global.{Vec}
 use Rattle.std.proofs.lemmas.Bool.{cases_lt}
-use Rattle.std.proofs.lemmas.List.{length-replicate, get_or-replicate}
+use Rattle.std.proofs.lemmas.List.{length-replicate, length-map, get_or-replicate, nil_from_length}
+use Rattle.std.proofs.lemmas.List.Elements.{All-nil, All-cons}
+use Rattle.cg_task.proofs.Answers.{held}
 use Rattle.cg_model.specs.Kernel.{Kernel, IsKernel, size}
 use Rattle.cg_model.specs.declared.kernel.Node.{Node}
 use Rattle.cg_model.specs.Array.{Arch, IsArch}
@@ -15,10 +17,12 @@ use Rattle.cg_task.proofs.Intervals.{last_positive}
 use Rattle.cg_task.specs.declared.answering.FoundBy.TheVariants.{Moves}
 use Rattle.cg_task.specs.declared.answering.Answer.{Answer}
 use Rattle.cg_task.specs.declared.answering.Answer.TheVariants.{Impossible, Mapped, Spent}
+use Rattle.cg_respond.specs.Faults.{faults_of}
 use Rattle.cg_respond.specs.Responded.{IsMissed}
+use Rattle.cg_respond.proofs.Weighed.{faults_some}
 use Rattle.cg_search.specs.declared.begin.Exclusion.{Exclusion}
 use Rattle.cg_search.specs.Begin.{IsBegin}
-use Rattle.cg_search.specs.Search.{IsFound, IsBegun, IsAnswer, AreMissed, AreMissedBy, IsExcludedBy}
+use Rattle.cg_search.specs.Search.{AreAllFaulty, IsFound, IsBegun, IsAnswer, AreMissedFrom, AreMissedBy, IsExcludedBy}
 use Rattle.cg_search.proofs.Begins.{asked_positive, some_exclusion}
 use Rattle.cg_search.proofs.Answers.{left_none, some_search}
 
@@ -49,11 +53,16 @@ module _ (A : Arch) (K : Kernel) where
         omega (arith, wrong);
   }
 
-  some_missed : 0 < size K → (first n : ℕ) → (missed : List Mapping) × AreMissed A K first n missed
-  some_missed some first zero = ([], record { each = tt; all = refl })
+  some_missed : 0 < size K → (first n : ℕ) → (missed : List Mapping) × AreMissedFrom A K first missed × (length missed ≡ n)
+  some_missed some first zero = ([], tt, refl)
   some_missed some first (suc n) =
-      let (missed, are) = some_missed some (first + 1) n in
-      (displaced first ∷ missed, record { each = (is_displaced first some, are.each); all = ap (λ k. suc k) are.all })
+      let (missed, are, all) = some_missed some (first + 1) n in
+      (displaced first ∷ missed, (is_displaced first some, are), ap (λ k. suc k) all)
+
+  -- their numbers of faults
+  all_some : (missed : List Mapping) → All (λ n. 0 < n) (map (faults_of A K) missed)
+  all_some [] = All-nil (λ n. 0 < n)
+  all_some (M ∷ missed) = All-cons (λ n. 0 < n) (faults_of A K M) (map (faults_of A K) missed) (faults_some A K M) (all_some missed)
 
 -- ---- the mapping of a kernel without nodes
 
@@ -108,7 +117,7 @@ module _ (A : Arch) (K : Kernel) (arch : IsArch A) (kernel : IsKernel K) (asked 
       let same : p.first ≡ last_tried A asked + 1 = omega (arith, after, within) in
       let none : length left.items ≡ 0 = omega (arith, same, all) in
       let (x, excludes) = some_exclusion A K arch kernel asked is (subst (IsBegin A K asked) same p.is_first) in
-      (Spent f left, [], Some x, p, record { each = tt; all = sym none }, left_none A K f (last_tried A asked) left.items x (p.tried.0 ∙ same) none excludes)
+      (Spent f left, [], Some x, p, record { each = tt; counted = nil_from_length left.items none }, left_none A K f (last_tried A asked) left.items x (p.tried.0 ∙ same) none excludes)
 
   -- some were
   some_tried : (f : ℕ) (left : Vec ℕ) (p : IsBegun A K asked moves (Spent f left)) → p.first ≤ last_tried A asked → HasConclusion
@@ -116,7 +125,22 @@ module _ (A : Arch) (K : Kernel) (arch : IsArch A) (kernel : IsKernel K) (asked 
       let all = p.tried.1.all in
       let some : 0 < length left.items = omega (arith, all, within) in
       ⊎_elim {C = HasConclusion}
-      (λ nodes. let (missed, are) = some_missed A K nodes f (length left.items) in (Spent f left, missed, None, p, are, some))
+      (λ nodes.
+      let (missed, are, long) = some_missed A K nodes f (length left.items) in
+      let faults : List ℕ = map (faults_of A K) missed in
+      let same : length faults ≡ length left.items = length-map missed (faults_of A K) ∙ long in
+      let low = asked_positive A K asked is in
+      let from = p.is_first.from in
+      let (low_last, most) = last_positive A K asked arch is in
+      let few = arch.small.contexts.1 in
+      let again : AreAllFaulty A K asked moves p.first faults = record { each = all_some A K missed; all = ap (λ n. p.first + n) same ∙ all; no_hub = p.tried.1.no_hub } in (
+        Spent f (held faults (omega arith)),
+        missed,
+        None,
+        record { free = p.free; first = p.first; is_first = p.is_first; tried = (p.tried.0, again) },
+        record { each = are; counted = refl },
+        subst (λ n. 0 < n) (sym same) some,
+      ))
       (λ none.
       let low = asked_positive A K asked is in
       let from = p.is_first.from in

@@ -7,6 +7,7 @@ use Rattle.cg_task.specs.Intervals.{IsAsked, last_tried}
 use Rattle.cg_task.specs.declared.answering.FoundBy.TheVariants as found_by
 use Rattle.cg_respond.specs.declared.responding.Responded.{Responded}
 use Rattle.cg_respond.specs.declared.responding.Responded.TheVariants as responded
+use Rattle.cg_respond.specs.Faults.{faults_of}
 use Rattle.cg_respond.specs.Responded.{IsMissed}
 use Rattle.cg_search.specs.declared.trying.Found.{Found as FoundMapping}
 use Rattle.cg_search.specs.declared.misses.Misses.{Misses}
@@ -23,20 +24,20 @@ pub record IsPosed (A : Arch) (K : Kernel) (asked : Option ℕ) (first : ℕ) : 
   pub begin : IsBegin A K asked first
   pub some : first ≤ last_tried A asked
 
--- some faults at each interval from the first one on, and at each a mapping that isn't legal
+-- some faults at each interval from the first one on, those of a mapping that isn't legal
 pub record AreMisses (A : Arch) (K : Kernel) (first : ℕ) (left : Misses) : Type 0 where
   pub some : All (λ n. 0 < n) left.faults.items
-  pub missed : AreMissed A K first (length left.faults.items) left.missed.items
+  pub missed : AreMissed A K first left.faults.items left.missed.items
 
 module _ (A : Arch) (K : Kernel) (asked : Option ℕ) (moves : ℕ) (first : ℕ) where
   -- a mapping is found at an interval that is tried, by no more moves than `moves`
   abbrev pub IsLegalFound : FoundMapping → Type 0
   IsLegalFound found = IsFound A K asked moves first found.mapping (found_by.Moves found.moves)
 
-  -- the result of a search at one interval: a legal mapping, or some faults and a mapping that isn't legal
+  -- the result of a search at one interval: a legal mapping, or a mapping that isn't legal, and its number of faults
   abbrev pub IsSearched : ℕ → Responded → Type 0
   IsSearched ii (responded.Mapped m count) = IsFound A K asked moves first m (found_by.Moves count)
-  IsSearched ii (responded.Spent faults M) = (0 < faults) × IsMissed A K ii M
+  IsSearched ii (responded.Spent faults M) = (faults ≡ faults_of A K M) × IsMissed A K ii M
 
   -- the result of searches at all intervals: a legal mapping, or faults at each interval
   abbrev pub Comes : Outcome → Type 0

@@ -1,5 +1,5 @@
 -- The answer of a search by best responses. How it finds a mapping is left open: every mapping in an answer is legal.
-use Rattle.std.specs.Prelude.{◌≡◌, ℕ, ◌+◌, ◌-◌, ◌<◌, ◌≤◌, List, [], ◌∷◌, length, All, Option, Some, None}
+use Rattle.std.specs.Prelude.{◌≡◌, ℕ, ◌+◌, ◌-◌, ◌<◌, ◌≤◌, List, [], ◌∷◌, length, map, All, Option, Some, None}
 use Rattle.cg_model.specs.Kernel.{Kernel}
 use Rattle.cg_model.specs.Array.{Arch}
 use Rattle.cg_model.specs.Mapping.{Mapping, IsLegal}
@@ -11,6 +11,7 @@ use Rattle.cg_task.specs.declared.answering.FoundBy.{FoundBy}
 use Rattle.cg_task.specs.declared.answering.FoundBy.TheVariants.{Hub, Moves}
 use Rattle.cg_task.specs.declared.answering.Answer.{Answer}
 use Rattle.cg_task.specs.declared.answering.Answer.TheVariants.{Impossible, Mapped, Spent}
+use Rattle.cg_respond.specs.Faults.{faults_of}
 use Rattle.cg_respond.specs.Responded.{IsMissed}
 use Rattle.cg_search.specs.declared.begin.Exclusion.{Exclusion}
 use Rattle.cg_search.specs.Begin.{IsBegin, ExcludesAt}
@@ -68,16 +69,16 @@ module _ (A : Arch) (K : Kernel) where
   AreMissedFrom ii [] = Unit {0}
   AreMissedFrom ii (M ∷ missed) = IsMissed A K ii M × AreMissedFrom (ii + 1) missed
 
-  -- and there are `count` of them
-  pub record AreMissed (first count : ℕ) (missed : List Mapping) : Type 0 where
+  -- and these are their numbers of faults
+  pub record AreMissed (first : ℕ) (faults : List ℕ) (missed : List Mapping) : Type 0 where
     pub each : AreMissedFrom first missed
-    pub all : length missed ≡ count
+    pub counted : faults ≡ map (faults_of A K) missed
 
   -- one at each interval at which faults are left; none where the answer is another one
   abbrev pub AreMissedBy : Answer → List Mapping → Type 0
   AreMissedBy (Impossible certificate) missed = missed ≡ []
   AreMissedBy (Mapped m found_by) missed = missed ≡ []
-  AreMissedBy (Spent first left) missed = AreMissed first (length left.items) missed
+  AreMissedBy (Spent first left) missed = AreMissed first left.items missed
 
   -- where no interval is tried, the exclusion of the last one, which is the one before the first; None where some are
   -- tried

@@ -1,5 +1,6 @@
 //! The results of searches that find no mapping.
 ghost use Rattle.std.specs.Prelude.{◌≡◌, ◌+◌, ◌<◌, OnOk, length};
+ghost use Rattle.cg_respond.specs.Faults.{faults_of};
 ghost use Rattle.cg_respond.specs.Responded.{IsMissed};
 ghost use Rattle.cg_search.specs.Course.{AreMisses};
 
@@ -35,7 +36,7 @@ pub(crate) fn add(
     mapping: Mapping,
 ) -> Result<(), AllocError>
     requires misses { AreMisses call.now.arch.now call.now.kernel.now call.now.first left.old }
-    requires some { 0 < faults }
+    requires counted { faults ≡ faults_of call.now.arch.now call.now.kernel.now mapping }
     requires missed { IsMissed call.now.arch.now call.now.kernel.now (call.now.first + length left.old.faults.items) mapping }
     ensures more { OnOk result (length left.new.faults.items ≡ length left.old.faults.items + 1) }
     ensures misses { OnOk result (AreMisses call.now.arch.now call.now.kernel.now call.now.first left.new) }
@@ -56,7 +57,7 @@ pub(crate) fn lessen(
 )
     requires misses { AreMisses call.now.arch.now call.now.kernel.now call.now.first left.old }
     requires at { at < length left.old.faults.items }
-    requires some { 0 < faults }
+    requires counted { faults ≡ faults_of call.now.arch.now call.now.kernel.now mapping }
     requires missed { IsMissed call.now.arch.now call.now.kernel.now (call.now.first + at) mapping }
     ensures same { length left.new.faults.items ≡ length left.old.faults.items }
     ensures misses { AreMisses call.now.arch.now call.now.kernel.now call.now.first left.new }

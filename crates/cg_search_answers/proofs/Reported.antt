@@ -11,7 +11,7 @@ use Rattle.cg_task.specs.declared.answering.Answer.{Answer}
 use Rattle.cg_task.specs.declared.answering.Answer.TheVariants.{Spent}
 use Rattle.cg_search.specs.declared.begin.Exclusion.{Exclusion}
 use Rattle.cg_search.specs.Search.{AreMissed, AreMissedBy, IsExcludedFrom, IsExcludedBy}
-use Rattle.cg_search.proofs.Missed.{missed_at}
+use Rattle.cg_search.proofs.Missed.{missed_at, missed_all}
 use Rattle.cg_search_answers.specs.Search.{interval_report, faults_report, IsFaultsReport, IsExcludedReport, IsLeftReport}
 
 -- the first of the intervals that are left
@@ -40,19 +40,19 @@ all_reported p ii i faults missed report whole past so_far =
     sym (append-nil report) ∙ ap (λ (z : List ℕ). report ++ faults_report p (ii + i) z (drop i missed)) (sym (drop_all i faults past)) ∙ so_far
 
 -- the mapping that was missed at an interval
-pub shaped_at : (A : Arch) (K : Kernel) (ii count i : ℕ) (missed : List Mapping) (M : Mapping) → AreMissed A K ii count missed → i < count → M ≡ get_or missed i M → IsShaped K M
-shaped_at A K ii count i missed M are few here =
-    let fewer : i < length missed = subst (λ n. i < n) (sym are.all) few in
+pub shaped_at : (A : Arch) (K : Kernel) (ii : ℕ) (faults : List ℕ) (i : ℕ) (missed : List Mapping) (M : Mapping) → AreMissed A K ii faults missed → i < length faults → M ≡ get_or missed i M → IsShaped K M
+shaped_at A K ii faults i missed M are few here =
+    let fewer : i < length missed = subst (λ n. i < n) (missed_all A K ii faults missed are) few in
     subst (IsShaped K) (sym here) (missed_at A K ii missed i M are.each fewer).shape
 
 -- the mappings that were missed on the way to an answer
-pub missed_by : (A : Arch) (K : Kernel) (a : Answer) (first : ℕ) (left : Vec ℕ) (missed : List Mapping) → AreMissedBy A K a missed → a ≡ Spent first left → AreMissed A K first (length left.items) missed
+pub missed_by : (A : Arch) (K : Kernel) (a : Answer) (first : ℕ) (left : Vec ℕ) (missed : List Mapping) → AreMissedBy A K a missed → a ≡ Spent first left → AreMissed A K first left.items missed
 missed_by A K a first left missed are is = subst (λ z. AreMissedBy A K z missed) is are
 
 -- what holds of lists holds of equal ones
-pub missed_same : (A : Arch) (K : Kernel) (first : ℕ) (faults others : List ℕ) (missed met : List Mapping) → AreMissed A K first (length faults) missed → others ≡ faults → met ≡ missed → AreMissed A K first (length others) met
+pub missed_same : (A : Arch) (K : Kernel) (first : ℕ) (faults others : List ℕ) (missed met : List Mapping) → AreMissed A K first faults missed → others ≡ faults → met ≡ missed → AreMissed A K first others met
 missed_same A K first faults others missed met are e f =
-    subst (λ (z : List ℕ). AreMissed A K first (length z) met) (sym e) (subst (λ (z : List Mapping). AreMissed A K first (length faults) z) (sym f) are)
+    subst (λ (z : List ℕ). AreMissed A K first z met) (sym e) (subst (λ (z : List Mapping). AreMissed A K first faults z) (sym f) are)
 
 -- ---- the report of what is left
 

@@ -1,5 +1,5 @@
 -- What `search` answers, and what its bytes do.
-use Rattle.std.proofs.Common.{◌≡◌, ℕ, ◌-◌, ◌<◌, false, List, [], ◌∷◌, length, Option, Some, None, arith, refl, sym, ◌∙◌, ap, subst, ◌⊎◌, inl, inr, ⊎_elim}
+use Rattle.std.proofs.Common.{◌≡◌, ℕ, ◌-◌, ◌<◌, false, List, [], ◌∷◌, Option, Some, None, arith, refl, sym, ◌∙◌, ap, subst, ◌⊎◌, inl, inr, ⊎_elim}
 use Rattle.std.specs.Global.{Vec}
 use Rattle.cg_ending.specs.declared.outcome.Status.TheVariants.{Done, Impossible, BudgetSpent}
 use Rattle.cg_ending.specs.Outcome.{Name, Bytes, File, Outcome}
@@ -27,7 +27,7 @@ use Rattle.cg_task_answers.proofs.Searched as searched
 use Rattle.cg_task_answers.proofs.Searched.{IsSearcher, HasReport}
 use Rattle.cg_search_answers.specs.Search.{word, IsLeftReport, faults_report, IsAnswerOf, IsSearch, IsSearched, IsSearchable, IsFoundWithin, IsSearchRun, AreFaults, IsSearchSpentRun, IsEither, AreAgreed}
 
-report_of : (p : Pair) (first : ℕ) (faults : List ℕ) (missed : List Mapping) (x : Option Exclusion) → AreMissed p.arch p.kernel first (length faults) missed → IsExcludedFrom p.arch p.kernel first faults x → (report : Bytes) × IsLeftReport p first faults report
+report_of : (p : Pair) (first : ℕ) (faults : List ℕ) (missed : List Mapping) (x : Option Exclusion) → AreMissed p.arch p.kernel first faults missed → IsExcludedFrom p.arch p.kernel first faults x → (report : Bytes) × IsLeftReport p first faults report
 report_of p first [] missed (Some x) are by = (excluded_line p.arch p.kernel x.fars (first - 1) x.reason, (x, by.1, refl))
 report_of p first [] missed None are by = absurd (omega (arith, by))
 report_of p first (n ∷ faults) missed (Some x) are by = absurd (let none = by.0 in omega (arith, none))

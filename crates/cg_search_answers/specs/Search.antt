@@ -1,5 +1,5 @@
 -- `search ARCH KERNEL OUT [--ii N] [--seed N] [--moves N] [--mapping FILE]`.
-use Rattle.std.specs.Prelude.{◌≡◌, ◌⊎◌, ℕ, ◌+◌, ◌-◌, false, List, [], ◌∷◌, ◌++◌, length, codes}
+use Rattle.std.specs.Prelude.{◌≡◌, ◌⊎◌, ℕ, ◌+◌, ◌-◌, false, List, [], ◌∷◌, ◌++◌, codes}
 use Rattle.cg_ending.specs.declared.outcome.Status.{Status}
 use Rattle.cg_ending.specs.declared.outcome.Status.TheVariants as status
 use Rattle.cg_ending.specs.Outcome.{Name, Bytes, File, Outcome}
@@ -42,10 +42,10 @@ faults_report p ii [] missed = []
 faults_report p ii (n ∷ faults) [] = []
 faults_report p ii (n ∷ faults) (M ∷ missed) = interval_report p ii n M ++ faults_report p (ii + 1) faults missed
 
--- the report of these faults, for some mappings that the search met
+-- the report of these faults, those of some mappings that the search met
 abbrev pub IsFaultsReport : Pair → ℕ → List ℕ → Bytes → Type 0
 IsFaultsReport p first faults report =
-    (missed : List Mapping) × AreMissed p.arch p.kernel first (length faults) missed × (report ≡ faults_report p first faults missed)
+    (missed : List Mapping) × AreMissed p.arch p.kernel first faults missed × (report ≡ faults_report p first faults missed)
 
 -- the report of a reason that excludes the interval
 abbrev pub IsExcludedReport : Pair → ℕ → Bytes → Type 0

@@ -32,7 +32,7 @@ pub(crate) fn left_over(
 ) -> Result<Outcome, AllocError>
     requires positive { 0 < first }
     requires few { first + length faults.items < 2 ^ 32 }
-    requires missed { AreMissed arch.now kernel.now first (length faults.items) missed.items }
+    requires missed { AreMissed arch.now kernel.now first faults.items missed.items }
     requires excluded { IsExcludedFrom arch.now kernel.now first faults.items excluded }
     ensures { IfOk result (λ o. spec.IsLeftOutcome (record { arch = arch.now; kernel = kernel.now })
         first faults.items (outcome_of o)) }
@@ -63,7 +63,7 @@ fn faults_report(
     missed: &[Mapping],
 ) -> Result<Vec<u8>, AllocError>
     requires few { first + length faults.now < 2 ^ 32 }
-    requires missed { AreMissed arch.now kernel.now first (length faults.now) missed.now }
+    requires missed { AreMissed arch.now kernel.now first faults.now missed.now }
     ensures { IfOk result (λ report. report.items
         ≡ spec.faults_report (record { arch = arch.now; kernel = kernel.now }) first faults.now missed.now) }
 {
