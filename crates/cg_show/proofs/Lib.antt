@@ -4,3 +4,4 @@ pub mod Report
 pub mod Panelled
 pub mod Shown
 pub mod Pictured
+pub mod Exact

@@ -4,3 +4,4 @@ pub mod Panels
 pub mod Schedule
 pub mod Foot
 pub mod Picture
+pub mod Exact

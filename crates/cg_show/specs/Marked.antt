@@ -102,9 +102,12 @@ cell_inside m r p =
     rect_text (codes "b") (record { x = 0; y = 14 + 18 * r; width = 100; height = 16 })
     ++ words_text (codes "o") 50 (26 + 18 * r) (cell_words m p)
 
+abbrev pub cell_mark : Mapped → ℕ → Position → List ℕ
+cell_mark m r p = mark_text (colour p.source) (stay_title m p) (cell_inside m r p)
+
 abbrev pub cell_by : Mapped → ℕ → Option Position → List ℕ
 cell_by m r None = []
-cell_by m r (Some p) = mark_text (colour p.source) (stay_title m p) (cell_inside m r p)
+cell_by m r (Some p) = cell_mark m r p
 
 -- the cell of resource r in slot s, and those of all resources
 abbrev pub cell_in : Mapped → ℕ → ℕ → List ℕ

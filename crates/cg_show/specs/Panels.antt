@@ -72,19 +72,24 @@ panel_left F s = 30 + (panel_width F + 24) * (s % 3)
 abbrev pub panel_top : Frame → ℕ → ℕ
 panel_top F s = 70 + (panel_height F + 40) * (s / 3)
 
--- the grid in slot s: empty tiles, lines over them, boxes and chips on top
-abbrev pub grid_panel : Mapped → ℕ → List ℕ
-grid_panel m s =
+-- the grid in slot s with given marks: empty tiles, lines over them, boxes and chips on top
+abbrev pub grid_with : Mapped → ℕ → List ℕ → List ℕ → List ℕ → List ℕ
+grid_with m s links starts stays =
     group_head (panel_left (frame_of m.arch) s) (panel_top (frame_of m.arch) s)
     ++ (words_text (codes "h") 34 6 (slot_words s)
-    ++ (codes "<use xlink:href='#tiles'/>"
-    ++ (links_text m s ++ (codes "<use xlink:href='#boxes'/>" ++ (starts_text m s ++ (stays_text m s ++ mark_end))))))
+    ++ (codes "<use xlink:href='#tiles'/>" ++ (links ++ (codes "<use xlink:href='#boxes'/>" ++ (starts ++ (stays ++ mark_end))))))
 
--- the column of slot s
-abbrev pub column_panel : Mapped → ℕ → List ℕ
-column_panel m s =
+abbrev pub grid_panel : Mapped → ℕ → List ℕ
+grid_panel m s = grid_with m s (links_text m s) (starts_text m s) (stays_text m s)
+
+-- the column of slot s with given cells
+abbrev pub column_with : ℕ → List ℕ → List ℕ
+column_with s cells =
     group_head (260 + 104 * s) 70
-    ++ (words_text (codes "h") 0 6 (slot_words s) ++ (codes "<use xlink:href='#tiles'/>" ++ (cells_text m s ++ mark_end)))
+    ++ (words_text (codes "h") 0 6 (slot_words s) ++ (codes "<use xlink:href='#tiles'/>" ++ (cells ++ mark_end)))
+
+abbrev pub column_panel : Mapped → ℕ → List ℕ
+column_panel m s = column_with s (cells_text m s)
 
 unfoldable pub panel_text : Mapped → ℕ → List ℕ
 panel_text m s = if is_tiled m.arch then grid_panel m s else column_panel m s

@@ -4,6 +4,7 @@
 
 mod foot;
 mod head;
+mod laws;
 mod marked;
 mod panels;
 mod schedule;
@@ -13,4 +14,5 @@ mod whole;
 mod words;
 
 pub use cg_marks::Marks;
+pub use laws::shows_slots;
 pub use whole::picture;
