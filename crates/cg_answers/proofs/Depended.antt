@@ -1,6 +1,6 @@
 -- What `depend` answers.
 use Rattle.std.proofs.Common.{◌≡◌, ◌≤◌, List, [], ◌∷◌, nat_lt, Bool, true, false, cond, Result, Ok, Err, refl, sym, ◌∙◌, ap, subst, inl, inr}
-use Rattle.std.proofs.lemmas.Bool.{le-ltb}
+use Rattle.std.proofs.lemmas.Bool.{le-ltb, ltb-false}
 use Rattle.cg_model.specs.Limits.{most_order_edges}
 use Rattle.cg_model.specs.Kernel.{Kernel}
 use Rattle.cg_model.specs.declared.kernel.OrderEdge.{OrderEdge}
@@ -12,10 +12,12 @@ use Rattle.cg_kernel.specs.declared.fault.KernelFault.{KernelFault}
 use Rattle.cg_kernel.specs.Answer.{answer_of}
 use Rattle.cg_kernel.proofs.Spelled.{spelled_valid}
 use Rattle.cg_kernel_text.specs.Printed.{kernel_text}
+use Rattle.cg_kernel_text.proofs.Plain.{answer-kernel_text}
 use Rattle.cg_depend.specs.Depend.{AreNeeded, with_order}
 use Rattle.cg_depend.proofs.Always.{some_list}
 use Rattle.cg_depend.proofs.Ordered.{same_left, unaliased}
 use Rattle.cg_depend.proofs.Unique.{one_list}
+use Rattle.cg_depend.proofs.Valid.{kernel_valid}
 use Rattle.cg_inputs.proofs.Sound.{IsSound, plain, IsNamed}
 use Rattle.cg_inputs.proofs.Wholes.{whole, one_write, differ}
 use Rattle.cg_inputs.specs.Refused.{RefusesKernel}
@@ -73,10 +75,11 @@ some_depend file out = some_by file out (answer_of file.bytes) refl
 -- ---- what is left
 
 module _ (file out : Name) (f : File) (o : Outcome) (before after : Moment) (held : Holds before.held file f.bytes) (done : o.status ≡ Done) (c : Completed o before after Done) where
-  depended_edges : (K : Kernel) (es : List OrderEdge) (b : Bool) → answer_of f.bytes ≡ Ok K → AreNeeded K es → o ≡ cond b (too_many f.name K es) (depended K es out) → IsDepended file out before after
-  depended_edges K es true spelled needed is = absurd (let z : Malformed ≡ Done = differ o Done (ap (λ x. x.status) is) done in cc)
-  depended_edges K es false spelled needed is =
+  depended_edges : (K : Kernel) (es : List OrderEdge) (b : Bool) → nat_lt most_order_edges (order_with K es) ≡ b → answer_of f.bytes ≡ Ok K → AreNeeded K es → o ≡ cond b (too_many f.name K es) (depended K es out) → IsDepended file out before after
+  depended_edges K es true few spelled needed is = absurd (let z : Malformed ≡ Done = differ o Done (ap (λ x. x.status) is) done in cc)
+  depended_edges K es false few spelled needed is =
       let valid = spelled_valid f.bytes K spelled in
+      let good = kernel_valid K es valid needed (ltb-false most_order_edges (order_with K es) few) in
       record {
         bytes = f.bytes;
         held = held;
@@ -86,14 +89,16 @@ module _ (file out : Name) (f : File) (o : Outcome) (before after : Moment) (hel
         needed = needed;
         depended = with_order K es;
         is = refl;
+        valid = good;
         same = λ n image. same_left K (with_order K es) n image (es, refl, needed);
         free = λ n image few. unaliased K (with_order K es) n image valid.wired (es, refl, needed) few;
+        read_back = answer-kernel_text (with_order K es) good;
         written = one_write before.held after.held out (kernel_text (with_order K es)) (subst (λ fs. Wrote before.held fs after.held) (ap (λ x. x.writes) is) c.held);
         put = subst (λ report. Appends before.taken report after.taken) (ap (λ x. x.report) is) (whole o.status o.report before after done c.put);
       }
 
   depended_by : (r : Result Kernel KernelFault) → answer_of f.bytes ≡ r → DependBy f out o r → IsDepended file out before after
-  depended_by (Ok K) e p = depended_edges K p.0 (nat_lt most_order_edges (order_with K p.0)) e p.1 p.2
+  depended_by (Ok K) e p = depended_edges K p.0 (nat_lt most_order_edges (order_with K p.0)) refl e p.1 p.2
   depended_by (Err g) e p = absurd (let z : Malformed ≡ Done = differ o Done (ap (λ x. x.status) p) done in cc)
 
   pub depended_left : IsDependOf f out o → IsDepended file out before after

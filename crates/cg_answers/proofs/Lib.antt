@@ -9,3 +9,4 @@ pub mod Left
 pub mod Defined
 pub mod Allowed
 pub mod Written
+pub mod Chain

@@ -12,6 +12,8 @@ use Rattle.cg_tiles.specs.Answer.{AreValidBytes}
 use Rattle.cg_tiles.proofs.NotBoth.{not_both}
 use Rattle.cg_tiles.proofs.Solved.{some_answer}
 use Rattle.cg_netlist.specs.Netlist.{netlist_of}
+use Rattle.cg_netlist.proofs.Whole.{is_graph}
+use Rattle.cg_inputs.proofs.Arrays.{valid_array}
 use Rattle.cg_inputs.proofs.Sound.{IsSound, plain, IsNamed}
 use Rattle.cg_inputs.proofs.Wholes.{whole, one_write, differ}
 use Rattle.cg_answers.specs.Verilog.{IsVerilog, IsNetlisted, verilog_by, verilog_text}
@@ -59,6 +61,7 @@ netlisted_by file out f (Ok A) o before after held given is done c = record {
   held = held;
   arch = A;
   given = given;
+  valid = is_graph A (valid_array f.bytes A given);
   written = one_write before.held after.held out (verilog_text (netlist_of A)) (subst (λ fs. Wrote before.held fs after.held) (ap (λ x. x.writes) is) c.held);
   put = subst (λ report. Appends before.taken report after.taken) (ap (λ x. x.report) is) (whole o.status o.report before after done c.put);
 }

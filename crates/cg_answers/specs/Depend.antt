@@ -1,7 +1,7 @@
 -- `depend KERNEL OUT`.
 use Rattle.std.specs.Prelude.{◌≡◌, ℕ, ◌≤◌, ◌+◌, nat_lt, if◌then◌else◌, List, length, Result, Ok, Err, codes, decimal, [], ◌∷◌}
 use Rattle.cg_model.specs.Limits.{most_order_edges}
-use Rattle.cg_model.specs.Kernel.{Kernel}
+use Rattle.cg_model.specs.Kernel.{Kernel, IsKernel}
 use Rattle.cg_model.specs.declared.kernel.OrderEdge.{OrderEdge}
 use Rattle.cg_model.specs.Order.{IsUnaliased}
 use Rattle.cg_model.specs.Turns.{turns_left}
@@ -66,7 +66,7 @@ pub record IsDependable (file : File) : Type 0 where
 -- Done: a kernel was read; the text of the kernel with the edges that its accesses need is held under the other name,
 -- and the numbers of the edges were reported. The new kernel has the same iterations, and no run of it of at most
 -- 1,000,000 iterations leaves accesses unordered that matter, whatever the image: so what holds of its mappings needs
--- no premise on the image
+-- no premise on the image. The text reads back as the new kernel: a command that reads it reads this kernel
 pub record IsDepended (file out : Name) (before after : Moment) : Type 0 where
   pub bytes : Bytes
   pub held : Holds before.held file bytes
@@ -76,7 +76,9 @@ pub record IsDepended (file out : Name) (before after : Moment) : Type 0 where
   pub needed : AreNeeded kernel edges
   pub depended : Kernel
   pub is : depended ≡ with_order kernel edges
+  pub valid : IsKernel depended
   pub same : (n : ℕ) (image : Image) → turns_left depended n image ≡ turns_left kernel n image
   pub free : (n : ℕ) (image : Image) → n ≤ 1000000 → IsUnaliased depended n image
+  pub read_back : answer_of (kernel_text depended) ≡ Ok depended
   pub written : Holds after.held out (kernel_text depended)
   pub put : Appends before.taken (depend_report (length edges) (length depended.order)) after.taken

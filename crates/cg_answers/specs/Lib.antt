@@ -3,3 +3,4 @@ pub mod Verilog
 pub mod Depend
 pub mod Migrate
 pub mod Commands
+pub mod Chain

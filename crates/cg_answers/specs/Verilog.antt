@@ -12,6 +12,7 @@ use Rattle.cg_ending.specs.Outcome.{Name, Bytes, File, Outcome, line_of, line_th
 use Rattle.cg_ending.specs.Ends.{Moment}
 use Rattle.cg_ending.specs.Refusals.{malformed_of}
 use Rattle.cg_verilog.specs.Printed.{module_text}
+use Rattle.cg_netlist.specs.Graph.{IsNetGraph}
 use Rattle.cg_netlist.specs.Netlist.{NetGraph, netlist_of}
 use Rattle.cg_netlist.specs.Text.{module_of}
 
@@ -43,11 +44,13 @@ pub record IsVerilog (file : File) (out : Name) (o : Outcome) : Type 0 where
   pub no_memory : given ≢ Err fault.Memory
   pub outcome : o ≡ verilog_by file out given
 
--- Done: an architecture was read, the text of its netlist is held under the other name, and its counts were reported
+-- Done: an architecture was read, the text of its netlist is held under the other name, and its counts were reported. The
+-- netlist is valid, so what is said of a netlist that is read holds of it
 pub record IsNetlisted (file out : Name) (before after : Moment) : Type 0 where
   pub bytes : Bytes
   pub held : Holds before.held file bytes
   pub arch : Arch
   pub given : AreValidBytes bytes arch
+  pub valid : IsNetGraph (netlist_of arch)
   pub written : Holds after.held out (verilog_text (netlist_of arch))
   pub put : Appends before.taken (verilog_report (netlist_of arch)) after.taken

@@ -4,8 +4,10 @@
 
 mod answering;
 mod depending;
+mod laws;
 mod migrating;
 mod netlisting;
 mod shaped;
 
 pub use answering::answer;
+pub use laws::calls_compose;

@@ -68,7 +68,7 @@ edge_back name d init hd hi =
     ap (λ o. source_from (Some name) o (all_of word_in (listed (items_of (map word_data init)))) false) (word_back d hd)
     ∙ ap (λ o. source_from (Some name) (Some d) o false) (words_back init hi)
 
-word_at : (init : List ℕ) (i w : ℕ) → slice_get init i ≡ Some w → ((k : ℕ) → slice_index init k < 2 ^ 32) → w < 2 ^ 32
+pub word_at : (init : List ℕ) (i w : ℕ) → slice_get init i ≡ Some w → ((k : ℕ) → slice_index init k < 2 ^ 32) → w < 2 ^ 32
 word_at init i w at h = let below = h i in let same = get_or_from_slice_get init i w 0 at in omega (arith, below, same)
 
 operand_back : (K : Kernel) → IsKernel K → (v p : ℕ) (n : Node) (o : Operand) → slice_get K.nodes v ≡ Some n → slice_get n.operands p ≡ Some o → arg_in (operand_data K.nodes o) ≡ Some (written_arg K.nodes o)

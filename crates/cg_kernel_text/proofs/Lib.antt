@@ -1,3 +1,4 @@
 pub mod Back
 pub mod Clear
 pub mod Depths
+pub mod Plain

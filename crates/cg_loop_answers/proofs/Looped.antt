@@ -8,6 +8,7 @@ use Rattle.cg_ending.specs.declared.outcome.Status.TheVariants.{Done, Malformed}
 use Rattle.cg_ending.specs.Outcome.{Name, File, Outcome}
 use Rattle.cg_ending.specs.Ends.{Moment, Completed, Wrote}
 use Rattle.cg_kernel_text.specs.Printed.{kernel_text}
+use Rattle.cg_kernel_text.proofs.Plain.{answer-kernel_text}
 use Rattle.cg_loop_syntax.specs.declared.fault.Excess.{Excess}
 use Rattle.cg_loop_syntax.specs.declared.fault.Excess.TheVariants.{Nodes, Order}
 use Rattle.cg_loop_syntax.specs.declared.fault.LoopFault.{LoopFault}
@@ -105,6 +106,7 @@ module _ (file out : Name) (f : File) (o : Outcome) (before after : Moment) (hel
       let loop = spelled_loop f.bytes P spelled in
       let sound = body_sound P loop in
       let few = within (loop_kernel_of P) excess in
+      let good = valid P sound (body_ruled P loop) few.0 few.1 in
       record {
         bytes = f.bytes;
         held = held;
@@ -112,9 +114,10 @@ module _ (file out : Name) (f : File) (o : Outcome) (before after : Moment) (hel
         spelled = spelled;
         kernel = loop_kernel_of P;
         is = refl;
-        valid = valid P sound (body_ruled P loop) few.0 few.1;
+        valid = good;
         same = λ n image room. leaves_the_same P n image sound room;
         free = λ n image. unaliased P n image sound;
+        read_back = answer-kernel_text (loop_kernel_of P) good;
         written = one_write before.held after.held out (kernel_text (loop_kernel_of P)) (subst (λ fs. Wrote before.held fs after.held) (ap (λ y. y.writes) is) c.held);
         put = subst (λ report. Appends before.taken report after.taken) (ap (λ y. y.report) is) (whole o.status o.report before after done c.put);
       }

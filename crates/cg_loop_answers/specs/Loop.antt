@@ -9,6 +9,7 @@ use Rattle.cg_ending.specs.declared.outcome.Status.TheVariants.{Done}
 use Rattle.cg_ending.specs.Outcome.{Name, Bytes, File, Outcome, line_of, line_then}
 use Rattle.cg_ending.specs.Ends.{Moment}
 use Rattle.cg_ending.specs.Refusals.{malformed_of, writes_one}
+use Rattle.cg_kernel.specs.Answer.{answer_of}
 use Rattle.cg_kernel_text.specs.Printed.{kernel_text}
 use Rattle.cg_loop_syntax.specs.declared.fault.Excess.{Excess}
 use Rattle.cg_loop_syntax.specs.declared.fault.LoopFault.{LoopFault}
@@ -71,7 +72,7 @@ pub record IsTranslatable (file : File) : Type 0 where
 -- Done: a loop body was read; the text of its kernel is held under the other name, and its numbers of nodes and order
 -- edges were reported. The kernel is valid, and its iterations do what the loop does on each image whose memory has the
 -- words of all arrays. No run of it leaves accesses unordered that matter, whatever the image: so what holds of its
--- mappings needs no premise on the image
+-- mappings needs no premise on the image. The text reads back as the kernel: a command that reads it reads this kernel
 pub record IsLooped (file out : Name) (before after : Moment) : Type 0 where
   pub bytes : Bytes
   pub held : Holds before.held file bytes
@@ -82,5 +83,6 @@ pub record IsLooped (file out : Name) (before after : Moment) : Type 0 where
   pub valid : IsKernel kernel
   pub same : (n : ℕ) (image : Image) → HasRoom body image → LeavesLoop body n image
   pub free : (n : ℕ) (image : Image) → IsUnaliased kernel n image
+  pub read_back : answer_of (kernel_text kernel) ≡ Ok kernel
   pub written : Holds after.held out (kernel_text kernel)
   pub put : Appends before.taken (loop_report kernel) after.taken

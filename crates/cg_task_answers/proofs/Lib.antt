@@ -1,4 +1,5 @@
 pub mod Over
 pub mod Left
 pub mod Named
+pub mod MappingText
 pub mod Searched

@@ -2,16 +2,18 @@
 use Rattle.std.proofs.Common.{◌≡◌, ℕ, zero, suc, ◌+◌, ◌*◌, ◌<◌, List, [], ◌∷◌, length, map, Contains, true, false, Option, Some, None, option_map, refl, ap, subst, ◌∙◌, arith}
 use Rattle.std.specs.Prelude.{slice_get}
 use Rattle.std.specs.Option.{option_map_or}
-use Rattle.std.proofs.lemmas.Option.{slice_get-map, slice_get_within, get_or_from_slice_get}
+use Rattle.std.proofs.lemmas.Option.{slice_get-map, slice_get_within, slice_get-get_or, get_or_from_slice_get}
 use Rattle.cg_model.specs.Array.{Arch, IsArch, unit, delay}
 use Rattle.cg_model.specs.Kernel.{Kernel, IsKernel, HasOperand, size, node, no_node}
+use Rattle.cg_model.specs.declared.kernel.Node.{Node}
 use Rattle.cg_model.specs.declared.kernel.Operand.{Operand}
 use Rattle.cg_model.specs.declared.kernel.Operand.TheVariants.{Const as Constant, Edge}
 use Rattle.cg_model.specs.declared.mapping.Place.{Place}
 use Rattle.cg_model.specs.declared.mapping.Route.{Route}
 use Rattle.cg_model.specs.Mapping.{Mapping, Goes, IsLegal, place, leaves, end_of, ends_from}
-use Rattle.cg_mapping.specs.Names.{is_edge}
+use Rattle.cg_mapping.specs.Names.{is_edge, takes_edge}
 use Rattle.cg_mapping.specs.Sound.{NamesParts}
+use Rattle.cg_mapping.proofs.Answered.{edge_few}
 use Rattle.cg_mapping.proofs.Once.{edge_from}
 use Rattle.cg_overlap.proofs.Wires.{driven_within, out_within}
 use Rattle.cg_model.proofs.Mappings.{operand_within}
@@ -57,6 +59,20 @@ module _ (A : Arch) (K : Kernel) (M : Mapping) (arch : IsArch A) (kernel : IsKer
       let is : node K j ≡ n = get_or_from_slice_get K.nodes j n no_node has in
       let (u, d, init, o) = edge_there (slice_get n.operands route.arg) edge in
       (u, d, init, ap (λ v. slice_get (node K v).operands route.arg) here ∙ ap (λ z. slice_get z.operands route.arg) is ∙ o)
+
+  -- it is one of the node's three at most
+  pub node_known : (i : ℕ) (route : Route) → slice_get M.routes i ≡ Some route → route.node < size K
+  node_known i route e =
+      let (u, d, init, has) = operand i route e in
+      operand_within K route.node route.arg (Edge u d init) has
+
+  pub few_args : (i : ℕ) (route : Route) → slice_get M.routes i ≡ Some route → route.arg < 3
+  unfolding takes_edge
+  few_args i route e =
+      let (u, d, init, has) = operand i route e in
+      let there = slice_get-get_or K.nodes route.node no_node (operand_within K route.node route.arg (Edge u d init) has) in
+      edge_few K kernel route.node route.arg
+      (ap (λ o. option_map_or (λ (n : Node). option_map_or is_edge (slice_get n.operands route.arg) false) o false) there ∙ ap (λ o. option_map_or is_edge o false) has)
 
   paths : (i k r : ℕ) (route : Route) → slice_get M.routes i ≡ Some route → slice_get route.path k ≡ Some r → r < length A.resources
   paths i k r route e f =

@@ -31,6 +31,7 @@ use Rattle.cg_inputs.proofs.Sound.{IsSound, searching, IsNamed}
 use Rattle.cg_inputs.proofs.Wholes.{whole}
 use Rattle.cg_inputs.proofs.Paired.{valid_pair}
 use Rattle.cg_mapping_answers.proofs.Bitstream.{runs, some_run}
+use Rattle.cg_task_answers.proofs.MappingText.{answer-mapping_text}
 use Rattle.cg_task_answers.proofs.Left.{held_writes, hold_pair, put_of, kept_of, quiet_of, left_impossible}
 use Rattle.cg_task_answers.proofs.Over.{asked, sound_over, named_over, given_over, some_over, left_over, made_over}
 
@@ -215,6 +216,7 @@ module _ (word : Bytes) (Report : Pair → ℕ → List ℕ → Bytes → Type 0
               bytes = e.bytes;
               runs = runs (Here M) e.bytes valid good ok spelled;
               written = held_writes outs (Here M) e.bytes before after (subst (λ fs. Wrote before.held fs after.held) (ap (λ x. x.writes) outcome) done.held);
+              read_back = λ limits. answer-mapping_text p.arch p.kernel M valid good ok limits;
               put = subst (λ report. Appends before.taken report after.taken) (ap (λ x. x.report) outcome) (whole o.status o.report before after status done.put);
             }
 

@@ -1,5 +1,5 @@
 -- What a search leaves, where it finds a mapping and where it has used up its moves.
-use Rattle.std.specs.Prelude.{◌≡◌, ℕ, List, [], ◌∷◌}
+use Rattle.std.specs.Prelude.{◌≡◌, ℕ, List, [], ◌∷◌, Ok}
 use Rattle.cg_model.specs.Mapping.{Mapping}
 use Rattle.cg_ending.specs.declared.outcome.Status.TheVariants as status
 use Rattle.cg_files.specs.Held.{Appends}
@@ -12,8 +12,10 @@ use Rattle.cg_task.specs.declared.answering.FoundBy.{FoundBy}
 use Rattle.cg_task.specs.Intervals.{last_tried}
 use Rattle.cg_model.specs.declared.request.Request.{Request}
 use Rattle.cg_inputs.specs.Sources.{Pair, HoldPair}
+use Rattle.cg_mapping.specs.Answer as mappings
+use Rattle.cg_mapping.specs.Sound.{IsWithinLimits}
 use Rattle.cg_mapping_answers.specs.Emit.{RunsMapping}
-use Rattle.cg_task_answers.specs.Searches.{HoldsMapped}
+use Rattle.cg_task_answers.specs.Searches.{HoldsMapped, mapping_text}
 use Rattle.cg_task_answers.specs.Answered.{found_report}
 
 -- the mapping with the architecture and the kernel of the files
@@ -46,6 +48,9 @@ pub record IsFoundRun (by : Bytes) (Found : Pair → Mapped → FoundBy → Type
   pub bytes : Bytes
   pub runs : RunsMapping (mapped_on pair mapping) bytes
   pub written : HoldsMapped outs (mapped_on pair mapping) bytes after
+  -- the text of the mapping, for `--mapping`, reads back as the mapping where its numbers are within the limits of
+  -- mapping files
+  pub read_back : IsWithinLimits mapping → mappings.answer_of pair.arch pair.kernel (mapping_text (mapped_on pair mapping)) ≡ Ok mapping
   pub put : Appends before.taken (found_report by (mapped_on pair mapping) found_by) after.taken
 
 -- BudgetSpent: nothing forbids the last interval, and at none of the intervals that were tried a mapping was found:
