@@ -1,5 +1,5 @@
 //! Writes the files of an outcome, and then its report.
-ghost use Rattle.std.specs.Prelude.{◌≡◌, ◌≤◌, [], ℕ, Err, OnOk, IsErrOf, map};
+ghost use Rattle.std.specs.Prelude.{◌≡◌, ◌≢◌, ◌≤◌, [], ℕ, Err, OnOk, IsErrOf, map};
 ghost use Rattle.cg_files.specs.Asked.{NotesAll, NotesPart};
 ghost use Rattle.cg_files.specs.Causes.{Rose};
 ghost use Rattle.cg_ending.specs.Outcome.{file_of, names_of, outcome_of};
@@ -27,6 +27,9 @@ pub fn finish<S: Store, O: Sink>(
     // It writes under the names of the outcome's files only, under each once, in order.
     ensures wrote { NotesPart (S.wrote store.old) (names_of (outcome_of outcome.now).writes)
         (S.wrote store.new) }
+    // But where memory runs out or a write fails, it writes under all of them.
+    ensures wrote_all { result ≢ Status.Memory → result ≢ Status.WriteFault →
+        NotesAll (S.wrote store.old) (names_of (outcome_of outcome.now).writes) (S.wrote store.new) }
     ensures asked { S.asked store.new ≡ S.asked store.old }
     ensures reads { S.read_faults store.new ≡ S.read_faults store.old }
     ensures writes { S.write_faults store.old ≤ S.write_faults store.new }

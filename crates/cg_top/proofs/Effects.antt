@@ -56,7 +56,7 @@ faulty words before after status e failed ends = record {
 }
 
 -- an outcome that is No, of a command that judges a mapping, writes nothing
-unwritten : (words : List Name) (before after : Moment) (o : Outcome) (plan : Plan) → plan_of words ≡ Some plan → judges plan.command ≡ true → o.status ≡ No
+pub unwritten : (words : List Name) (before after : Moment) (o : Outcome) (plan : Plan) → plan_of words ≡ Some plan → judges plan.command ≡ true → o.status ≡ No
     → IsPlanned before.held (Rose before.read_faults after.read_faults) (Some plan) o → o.writes ≡ []
 unwritten words before after o plan p j said (inl a) = judged plan.command a.files plan.outputs o j a.answer said
 unwritten words before after o plan p j said (inr s) = absurd (elim (stop_status before.held (Rose before.read_faults after.read_faults) plan.inputs o s) [

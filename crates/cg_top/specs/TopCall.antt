@@ -1,12 +1,12 @@
 -- How a call of the top call ends. No command is named here.
 use Rattle.std.specs.Prelude.{◌≡◌, ◌≤◌, ◌⊎◌, Bool, true, false, List, [], All, Contains, Option, Some, None}
-use Rattle.cg_files.specs.Asked.{Names, NotesPart}
+use Rattle.cg_files.specs.Asked.{Names, NotesAll, NotesPart}
 use Rattle.cg_files.specs.Causes.{Rose}
 use Rattle.cg_files.specs.Held.{Held, IsMissing, AppendsSome}
 use Rattle.cg_ending.specs.declared.outcome.Status.{Status}
 use Rattle.cg_ending.specs.declared.outcome.Status.TheVariants.{Done, Memory, Usage, Malformed, Impossible, ReadFault, WriteFault, BudgetSpent, No}
 use Rattle.cg_ending.specs.Status.{leaves_all}
-use Rattle.cg_ending.specs.Outcome.{Name, Bytes, File, Outcome}
+use Rattle.cg_ending.specs.Outcome.{Name, Bytes, File, Outcome, names_of}
 use Rattle.cg_ending.specs.Reads.{AreRead, HoldsBytes, StopsAt}
 use Rattle.cg_ending.specs.Ends.{Moment, Finished, Wrote, WrotePart, FailedAt, IsPut}
 use Rattle.cg_command.specs.Words.{Plan, plan_of}
@@ -232,8 +232,20 @@ abbrev pub Writes : Option Plan → Names → Names → Type 0
 Writes None before after = after ≡ before
 Writes (Some plan) before after = NotesPart before plan.outputs after
 
+-- an outcome was carried out, and each of its files was written, once and in order: none is left out because its bytes
+-- are held already
+pub record WritesAll (words : List Name) (before after : Moment) (status : Status) (wrote_before wrote_after : Names) : Type 0 where
+  pub came : Came words before after status
+  pub all : NotesAll wrote_before (names_of came.outcome.writes) wrote_after
+
 -- no other file was read or written, none more often than the words name it, and none at all where the words form no
 -- command
-pub record MakesCalls (plan : Option Plan) (asked_before asked_after wrote_before wrote_after : Names) : Type 0 where
-  pub asks : Asks plan asked_before asked_after
-  pub writes : Writes plan wrote_before wrote_after
+pub record MakesCalls (words : List Name) (before after : Moment) (status : Status) (asked_before asked_after wrote_before wrote_after : Names) : Type 0 where
+  pub asks : Asks (plan_of words) asked_before asked_after
+  pub writes : Writes (plan_of words) wrote_before wrote_after
+  -- at 0, 2, 3, 4, 5, 7 and 8 all files of the outcome were written
+  pub all : is_answer status ≡ true → WritesAll words before after status wrote_before wrote_after
+  -- at 2, 3, 4, 5 and 7 no write was asked for
+  pub none : leaves_all status ≡ true → wrote_after ≡ wrote_before
+  -- nor at 8 of a command that judges a mapping
+  pub judged : status ≡ No → (plan : Plan) → plan_of words ≡ Some plan → judges plan.command ≡ true → wrote_after ≡ wrote_before

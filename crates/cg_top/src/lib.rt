@@ -38,9 +38,11 @@ pub fn run_line<S: Store, O: Sink>(
         (moment (S.held store.old) (S.read_faults store.old) (S.write_faults store.old) (O.taken out.old) (O.faults out.old))
         (moment (S.held store.new) (S.read_faults store.new) (S.write_faults store.new) (O.taken out.new) (O.faults out.new))
         result }
-    // It reads and writes only the files that the words name, each once and in order.
-    ensures calls { MakesCalls (plan_of (map string_bytes words.now))
-        (S.asked store.old) (S.asked store.new) (S.wrote store.old) (S.wrote store.new) }
+    // It reads and writes only the files that the words name, each once and in order, and all of an outcome's files.
+    ensures calls { MakesCalls (map string_bytes words.now)
+        (moment (S.held store.old) (S.read_faults store.old) (S.write_faults store.old) (O.taken out.old) (O.faults out.old))
+        (moment (S.held store.new) (S.read_faults store.new) (S.write_faults store.new) (O.taken out.new) (O.faults out.new))
+        result (S.asked store.old) (S.asked store.new) (S.wrote store.old) (S.wrote store.new) }
     // Where the words form no command, the store is not called.
     ensures no_call { plan_of (map string_bytes words.now) ≡ None → store.new ≡ store.old }
 {
@@ -60,9 +62,11 @@ pub fn run_line_with<S: Store, O: Sink>(
         (moment (S.held store.old) (S.read_faults store.old) (S.write_faults store.old) (O.taken out.old) (O.faults out.old))
         (moment (S.held store.new) (S.read_faults store.new) (S.write_faults store.new) (O.taken out.new) (O.faults out.new))
         result }
-    // It reads and writes only the files that the words name, each once and in order.
-    ensures calls { MakesCalls (plan_of (map string_bytes words.now))
-        (S.asked store.old) (S.asked store.new) (S.wrote store.old) (S.wrote store.new) }
+    // It reads and writes only the files that the words name, each once and in order, and all of an outcome's files.
+    ensures calls { MakesCalls (map string_bytes words.now)
+        (moment (S.held store.old) (S.read_faults store.old) (S.write_faults store.old) (O.taken out.old) (O.faults out.old))
+        (moment (S.held store.new) (S.read_faults store.new) (S.write_faults store.new) (O.taken out.new) (O.faults out.new))
+        result (S.asked store.old) (S.asked store.new) (S.wrote store.old) (S.wrote store.new) }
     // Where the words form no command, the store is not called.
     ensures no_call { plan_of (map string_bytes words.now) ≡ None → store.new ≡ store.old }
 {
@@ -80,8 +84,10 @@ fn carry_out<S: Store, O: Sink>(
         (moment (S.held store.old) (S.read_faults store.old) (S.write_faults store.old) (O.taken out.old) (O.faults out.old))
         (moment (S.held store.new) (S.read_faults store.new) (S.write_faults store.new) (O.taken out.new) (O.faults out.new))
         result }
-    ensures calls { MakesCalls (plan_of (map string_bytes words.now))
-        (S.asked store.old) (S.asked store.new) (S.wrote store.old) (S.wrote store.new) }
+    ensures calls { MakesCalls (map string_bytes words.now)
+        (moment (S.held store.old) (S.read_faults store.old) (S.write_faults store.old) (O.taken out.old) (O.faults out.old))
+        (moment (S.held store.new) (S.read_faults store.new) (S.write_faults store.new) (O.taken out.new) (O.faults out.new))
+        result (S.asked store.old) (S.asked store.new) (S.wrote store.old) (S.wrote store.new) }
     ensures no_call { plan_of (map string_bytes words.now) ≡ None → store.new ≡ store.old }
     ensures reads { S.read_faults store.old ≤ S.read_faults store.new }
     ensures writes { S.write_faults store.old ≤ S.write_faults store.new }
