@@ -102,6 +102,9 @@ impl<'a> Reader<'a> {
         ensures misses { IfErr result (λ e. MissesAtom e room self.old self.new) }
         ensures same { self.new.bytes ≡ self.old.bytes }
     {
+        if !self.has_room() {
+            return Err(Misfit::Memory);
+        }
         let Some(next) = self.next() else {
             return Err(Misfit::Text);
         };

@@ -130,6 +130,9 @@ impl<'a> Reader<'a> {
         ensures misses { IfErr result (λ e. Misses e (Lines true ∷ []) self.old self.new) }
         ensures same { self.new.bytes ≡ self.old.bytes }
     {
+        if !self.has_room() {
+            return Err(Misfit::Memory);
+        }
         if same(token.text, b"array") {
             self.array(alloc, token)
         } else {

@@ -9,7 +9,6 @@ ghost use Rattle.cg_loop_reader.specs.Whole.{FindsText, MissesText};
 
 use crate::fault::Misfit;
 use crate::reader::Reader;
-use crate::room::has_room;
 use cg_loop_names::judge;
 use cg_loop_syntax::{Decl, LoopBody, LoopFault, Stmt};
 use cg_model::Items;
@@ -34,9 +33,6 @@ fn read(alloc: Global, bytes: &[u8]) -> Result<LoopBody, LoopFault>
     ensures found { IfOk result (λ body. spec.Spells bytes.now (body_of body)) }
     ensures fault { IfErr result (λ e. spec.IsFault e bytes.now) }
 {
-    if !has_room(bytes) {
-        return Err(LoopFault::Memory);
-    }
     let mut reader = Reader::new(alloc, bytes);
     match reader.text(alloc) {
         Ok(parts) => judged(alloc, &reader, parts, bytes),

@@ -6,6 +6,7 @@ ghost use Rattle.cg_loop_reader.specs.Doubled.{double};
 ghost use Rattle.std.proofs.Props.{props};
 
 use crate::fault::Misfit;
+use crate::room::room_in;
 use crate::words::{is_name, number_of, same};
 use cg_loop_names::Use;
 use cg_loop_syntax::Role;
@@ -28,6 +29,8 @@ pub(crate) struct Reader<'a> {
     pub bytes: &'a [u8],
     pub at: usize,
     pub uses: Vec<Use<'a>>,
+    /// The position up to which the values of the text have room in memory.
+    pub room: usize,
     ghost last: { AreLast (tokens_at double bytes.now at) (tokens_of double bytes.now) } by { Prim.hlevel props },
 }
 
@@ -50,7 +53,13 @@ impl<'a> Reader<'a> {
             bytes,
             at: past_blanks(bytes, 0),
             uses: Vec::new(alloc),
+            room: room_in(bytes),
         }
+    }
+
+    /// Checks whether the values of the tokens that are read have room in memory.
+    pub fn has_room(&self) -> bool {
+        self.at <= self.room
     }
 
     /// Returns the next token; `None` at the end of the text.
