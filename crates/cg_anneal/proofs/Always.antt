@@ -5,9 +5,9 @@ use Rattle.rand_pcg.specs.Lcg.{Lcg}
 use Rattle.cg_model.specs.Kernel.{Kernel}
 use Rattle.cg_model.specs.Array.{Arch}
 use Rattle.cg_check.specs.Legal.{Mapped as Triple}
-use Rattle.cg_walk.specs.State.{State, cost, mapping_of}
-use Rattle.cg_walk.specs.Walk.{IsEnd}
-use Rattle.cg_walk.proofs.Endings.{ended}
+use Rattle.cg_walk_spec.specs.State.{State, cost, mapping_of}
+use Rattle.cg_walk_spec.specs.Walk.{IsEnd}
+use Rattle.cg_walk_spec.proofs.Endings.{ended}
 use Rattle.cg_anneal.specs.declared.finding.Found.{Found}
 use Rattle.cg_anneal.specs.declared.finding.Found.TheVariants.{Mapped, Spent}
 use Rattle.cg_anneal.specs.Ended.{IsWalkedFrom, IsWalked}

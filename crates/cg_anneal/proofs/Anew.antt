@@ -7,17 +7,17 @@ use Rattle.cg_model.specs.Kernel.{Kernel, size, node}
 use Rattle.cg_model.specs.Array.{Arch, unit}
 use Rattle.cg_model.specs.Mapping.{Position}
 use Rattle.cg_model.specs.declared.mapping.Place.{Place}
-use Rattle.cg_claims.specs.Claims.{uses}
-use Rattle.cg_claims.specs.Table.{Table, IsMore, excess}
-use Rattle.cg_claims.proofs.Plain.{excess_le}
-use Rattle.cg_claims.proofs.Uses.{uses_append}
+use Rattle.cg_congestion.specs.Claims.{uses}
+use Rattle.cg_congestion.specs.Table.{Table, IsMore, excess}
+use Rattle.cg_congestion.proofs.Plain.{excess_le}
+use Rattle.cg_congestion.proofs.Uses.{uses_append}
 use Rattle.cg_place.specs.Placed.{Placed, MayStand, place_in}
 use Rattle.cg_place.specs.Counts.{order_violations, unit_excess}
-use Rattle.cg_walk.specs.declared.edge.EdgeOperand.{EdgeOperand}
-use Rattle.cg_walk.specs.State.{edges, positions_by, positions_of_all, state_positions, table_of_state, missing, cost}
-use Rattle.cg_walk.specs.Walk.{edge}
-use Rattle.cg_walk.proofs.Alike.{excess_same}
-use Rattle.cg_walk.proofs.Small.{room}
+use Rattle.cg_walk_spec.specs.declared.edge.EdgeOperand.{EdgeOperand}
+use Rattle.cg_walk_spec.specs.State.{edges, positions_by, positions_of_all, state_positions, table_of_state, missing, cost}
+use Rattle.cg_walk_spec.specs.Walk.{edge}
+use Rattle.cg_walk_spec.proofs.Alike.{excess_same}
+use Rattle.cg_walk_spec.proofs.Small.{room}
 use Rattle.cg_anneal.specs.Walking.{Walking, IsWalking}
 
 -- ---- the positions of the first routes

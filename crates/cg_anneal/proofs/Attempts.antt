@@ -8,15 +8,15 @@ use Rattle.rand_pcg.specs.Lcg.{Lcg}
 use Rattle.cg_model.specs.declared.mapping.Place.{Place}
 use Rattle.cg_place.specs.declared.moves.Move.{Move}
 use Rattle.cg_place.specs.Placed.{moved, back}
-use Rattle.cg_walk.specs.State.{State, edges, cost}
-use Rattle.cg_walk.specs.Walk.{edge, all_edges, touches, touching, unrouted, moved_by, IsRouted, IsTried, is_taken, rested, proposal}
-use Rattle.cg_walk.specs.Words.{word}
-use Rattle.cg_walk.proofs.Histories.{routed_history}
-use Rattle.cg_walk.specs.Pending.{Fits}
-use Rattle.cg_walk.specs.Pending.{Rising, Pending}
-use Rattle.cg_walk.proofs.Pending.{touching_rising, pending_moved}
-use Rattle.cg_walk.proofs.Undone.{routed_places, routed_length, tried_undone, restored, restored_is}
-use Rattle.cg_walk.proofs.Uses.{unrouted_places, unrouted_length, unrouted_history, touching_known, touching_none}
+use Rattle.cg_walk_spec.specs.State.{State, edges, cost}
+use Rattle.cg_walk_spec.specs.Walk.{edge, all_edges, touches, touching, unrouted, moved_by, IsRouted, IsTried, is_taken, rested, proposal}
+use Rattle.cg_walk_spec.specs.Words.{word}
+use Rattle.cg_walk_spec.proofs.Histories.{routed_history}
+use Rattle.cg_walk_spec.specs.Pending.{Fits}
+use Rattle.cg_walk_spec.specs.Pending.{Rising, Pending}
+use Rattle.cg_walk_spec.proofs.Pending.{touching_rising, pending_moved}
+use Rattle.cg_walk_spec.proofs.Undone.{routed_places, routed_length, tried_undone, restored, restored_is}
+use Rattle.cg_walk_spec.proofs.Uses.{unrouted_places, unrouted_length, unrouted_history, touching_known, touching_none}
 use Rattle.cg_anneal.specs.Walking.{Walking, IsWalking, IsAlone, MayPlace, IsRoutedBy, at_state}
 use Rattle.cg_anneal.specs.Steps.{put_back, IsAttempt, IsStep}
 use Rattle.cg_anneal.proofs.Loops.{put_restored}

@@ -11,29 +11,29 @@ use Rattle.cg_model.specs.Limits.{latest_time}
 use Rattle.cg_model.specs.declared.mapping.Place.{Place}
 use Rattle.cg_model.specs.declared.kernel.Operand.TheVariants.{Edge}
 use Rattle.cg_model.specs.Mapping.{Position, positions_on}
-use Rattle.cg_claims.specs.Claims.{uses}
+use Rattle.cg_congestion.specs.Claims.{uses}
 use Rattle.cg_mrrg.specs.Graph.{Graph}
-use Rattle.cg_claims.specs.Table.{Table, IsMore, aged, excess}
+use Rattle.cg_congestion.specs.Table.{Table, IsMore, aged, excess}
 use Rattle.cg_route.specs.Least.{Ends, IsTimedPath, IsFound}
 use Rattle.cg_place.specs.declared.moves.Move.{Move}
 use Rattle.cg_place.specs.Placed.{Placed, IsMove, moved, after, back, place_in, first_places}
 use Rattle.cg_place.specs.Counts.{order_violations, unit_excess}
-use Rattle.cg_claims.proofs.Plain.{excess_le}
+use Rattle.cg_congestion.proofs.Plain.{excess_le}
 use Rattle.cg_word.proofs.Marks.{among_it, among_from}
-use Rattle.cg_walk.specs.State.{State, edges, ends_of, positions_of_all, is_missing, missing, cost, state_positions, table_of_state}
-use Rattle.cg_walk.specs.declared.edge.EdgeOperand.{EdgeOperand}
-use Rattle.cg_walk.specs.Walk.{edge, all_edges, touches, touching, with_route, unrouted, moved_by, aged_state, unrouted_start, IsFoundFor}
-use Rattle.cg_walk.specs.Ranges.{AreInRange}
-use Rattle.cg_walk.proofs.Edges.{IsEdge, edges_are}
-use Rattle.cg_walk.proofs.Small.{ends_in_range, path_within, path_short, room, edges_few}
-use Rattle.cg_walk.specs.Good.{IsReady, IsGood}
-use Rattle.cg_walk.specs.Alike.{AreAlike}
-use Rattle.cg_walk.proofs.Alike.{alike_more, alike_less, aged_same, found_same, cost_by}
-use Rattle.cg_walk.proofs.Drawn.{MayTake}
-use Rattle.cg_walk.proofs.Keeps.{with_route_good, moved_good, aged_good, start_good}
-use Rattle.cg_walk.specs.Pending.{Pending}
-use Rattle.cg_walk.proofs.Pending.{with_same_route}
-use Rattle.cg_walk.proofs.Uses.{route_more, route_less, placed_alone, touching_known}
+use Rattle.cg_walk_spec.specs.State.{State, edges, ends_of, positions_of_all, is_missing, missing, cost, state_positions, table_of_state}
+use Rattle.cg_walk_spec.specs.declared.edge.EdgeOperand.{EdgeOperand}
+use Rattle.cg_walk_spec.specs.Walk.{edge, all_edges, touches, touching, with_route, unrouted, moved_by, aged_state, unrouted_start, IsFoundFor}
+use Rattle.cg_walk_spec.specs.Ranges.{AreInRange}
+use Rattle.cg_walk_spec.proofs.Edges.{IsEdge, edges_are}
+use Rattle.cg_walk_spec.proofs.Small.{ends_in_range, path_within, path_short, room, edges_few}
+use Rattle.cg_walk_spec.specs.Good.{IsReady, IsGood}
+use Rattle.cg_walk_spec.specs.Alike.{AreAlike}
+use Rattle.cg_walk_spec.proofs.Alike.{alike_more, alike_less, aged_same, found_same, cost_by}
+use Rattle.cg_walk_spec.proofs.Drawn.{MayTake}
+use Rattle.cg_walk_spec.proofs.Keeps.{with_route_good, moved_good, aged_good, start_good}
+use Rattle.cg_walk_spec.specs.Pending.{Pending}
+use Rattle.cg_walk_spec.proofs.Pending.{with_same_route}
+use Rattle.cg_walk_spec.proofs.Uses.{route_more, route_less, placed_alone, touching_known}
 use Rattle.cg_anneal.specs.Walking.{Walking, IsKept, IsAlone, MayPlace, at_state, ends_at, ends_are}
 use Rattle.cg_anneal.specs.declared.ends.RouteEnds.{RouteEnds}
 

@@ -3,11 +3,11 @@ use Rattle.std.proofs.Common.{◌≡◌, ℕ, zero, suc, ◌+◌, ◌<◌, List,
 use Rattle.std.specs.Prelude.{Contains, slice_get}
 use Rattle.std.proofs.lemmas.List.{take_more, drop_more, map-append, length-take-le}
 use Rattle.std.proofs.lemmas.List.Elements.{All-head}
-use Rattle.cg_walk.specs.State.{State}
-use Rattle.cg_walk.specs.Walk.{with_route, unrouted, IsFoundFor, IsRouted}
-use Rattle.cg_walk.specs.Pending.{Rising, Pending}
-use Rattle.cg_walk.proofs.Pending.{pending_next, routed_then, with_same_route}
-use Rattle.cg_walk.proofs.Undone.{unrouted_others, restored}
+use Rattle.cg_walk_spec.specs.State.{State}
+use Rattle.cg_walk_spec.specs.Walk.{with_route, unrouted, IsFoundFor, IsRouted}
+use Rattle.cg_walk_spec.specs.Pending.{Rising, Pending}
+use Rattle.cg_walk_spec.proofs.Pending.{pending_next, routed_then, with_same_route}
+use Rattle.cg_walk_spec.proofs.Undone.{unrouted_others, restored}
 use Rattle.cg_anneal.specs.Walking.{Walking, at_state, IsRoutedBy}
 use Rattle.cg_anneal.specs.Steps.{put_back}
 

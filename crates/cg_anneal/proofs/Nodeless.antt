@@ -6,10 +6,10 @@ use Rattle.std.proofs.lemmas.Bool.{cases_lt}
 use Rattle.cg_model.specs.declared.kernel.OrderEdge.{OrderEdge}
 use Rattle.cg_model.specs.Kernel.{Kernel, IsKernel, size}
 use Rattle.cg_model.specs.Array.{Arch}
-use Rattle.cg_claims.proofs.Plain.{excess_le}
+use Rattle.cg_congestion.proofs.Plain.{excess_le}
 use Rattle.cg_place.specs.Counts.{excess_at, excess_on, unit_excess, is_broken}
-use Rattle.cg_walk.specs.State.{State, edges_from, edges, is_missing, missing, positions_of_all, state_positions, cost}
-use Rattle.cg_walk.specs.Good.{IsGood}
+use Rattle.cg_walk_spec.specs.State.{State, edges_from, edges, is_missing, missing, positions_of_all, state_positions, cost}
+use Rattle.cg_walk_spec.specs.Good.{IsGood}
 use Rattle.cg_model.proofs.Ranges.{sum_zero}
 
 nil_of : {X : Type 0} (xs : List X) → length xs ≡ 0 → xs ≡ []

@@ -5,15 +5,15 @@ use Rattle.rand_pcg.specs.Lcg.{Lcg}
 use Rattle.cg_model.specs.Kernel.{Kernel, size}
 use Rattle.cg_model.specs.Array.{Arch}
 use Rattle.cg_model.specs.Mapping.{IsLegal}
-use Rattle.cg_edges.specs.Edges.{edge_of}
+use Rattle.cg_recur.specs.Edges.{edge_of}
 use Rattle.cg_recur.specs.Recurrences.{AreEarliest}
 use Rattle.cg_recur.proofs.Chains.{one_early}
 use Rattle.cg_check.specs.Legal as checks
-use Rattle.cg_walk.specs.State.{State, cost, mapping_of}
-use Rattle.cg_walk.specs.Walk.{Walked, start, more}
-use Rattle.cg_walk.proofs.Once.{end_once}
-use Rattle.cg_walk.proofs.Keeps.{walked_good}
-use Rattle.cg_walk.proofs.Rules.{legal_at_zero}
+use Rattle.cg_walk_spec.specs.State.{State, cost, mapping_of}
+use Rattle.cg_walk_spec.specs.Walk.{Walked, start, more}
+use Rattle.cg_walk_spec.proofs.Once.{end_once}
+use Rattle.cg_walk_spec.proofs.Keeps.{walked_good}
+use Rattle.cg_walk_spec.proofs.Rules.{legal_at_zero}
 use Rattle.cg_anneal.specs.declared.finding.Found.{Found}
 use Rattle.cg_anneal.specs.declared.finding.Found.TheVariants.{Mapped, Spent}
 use Rattle.cg_anneal.specs.Ended.{IsWalkedFrom, IsWalked}

@@ -8,7 +8,7 @@ use Rattle.std.proofs.lemmas.List.Elements.{filter-append}
 use Rattle.cg_model.specs.declared.kernel.Node.{Node}
 use Rattle.cg_model.specs.declared.kernel.Operand.{Operand}
 use Rattle.cg_model.specs.declared.kernel.Operand.TheVariants.{Const as Constant, Edge}
-use Rattle.cg_walk.specs.State.{edges_among, edges_from}
+use Rattle.cg_walk_spec.specs.State.{edges_among, edges_from}
 use Rattle.cg_anneal.specs.Edges.{operand_edge}
 use Rattle.cg_model.proofs.Ranges.{range_more}
 

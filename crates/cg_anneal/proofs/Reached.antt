@@ -3,9 +3,9 @@ use Rattle.std.proofs.Common.{◌≡◌, ℕ, suc, ◌+◌, ◌<◌, List, inl, 
 use Rattle.rand_pcg.specs.Lcg.{Lcg}
 use Rattle.cg_model.specs.Kernel.{Kernel}
 use Rattle.cg_model.specs.Array.{Arch}
-use Rattle.cg_walk.specs.State.{State, cost}
-use Rattle.cg_walk.specs.Words.{after_words}
-use Rattle.cg_walk.specs.Walk.{all_edges, unrouted_start, IsRouted, IsStart, IsMove, Walked, start, more, IsEnd}
+use Rattle.cg_walk_spec.specs.State.{State, cost}
+use Rattle.cg_walk_spec.specs.Words.{after_words}
+use Rattle.cg_walk_spec.specs.Walk.{all_edges, unrouted_start, IsRouted, IsStart, IsMove, Walked, start, more, IsEnd}
 use Rattle.cg_anneal.specs.declared.finding.Found.{Found}
 use Rattle.cg_anneal.specs.declared.finding.Found.TheVariants.{Mapped, Spent}
 use Rattle.cg_anneal.specs.Walking.{Walking, IsRoutedBy, at_state}

@@ -2,8 +2,8 @@
 use Rattle.std.proofs.Common.{◌≡◌, ℕ, List, arith}
 use Rattle.cg_model.specs.Kernel.{Kernel}
 use Rattle.cg_model.specs.Array.{Arch}
-use Rattle.cg_walk.specs.Good.{IsReady}
-use Rattle.cg_walk.proofs.Early.{early_soon}
+use Rattle.cg_walk_spec.specs.Good.{IsReady}
+use Rattle.cg_walk_spec.proofs.Early.{early_soon}
 use Rattle.cg_task.specs.Posed.{Posed, IsTask}
 
 pub ready : (T : Posed) → IsTask T → IsReady T.arch T.kernel T.ii T.early

@@ -1,10 +1,10 @@
 -- Routes taken out in order.
 use Rattle.std.proofs.Common.{◌≡◌, ℕ, zero, suc, ◌+◌, ◌<◌, List, [], ◌∷◌, ◌++◌, length, get_or, take, Option, Some, None, refl, sym, ap, ◌∙◌, subst, arith}
 use Rattle.std.proofs.lemmas.List.FromFn.{length-range_with_len, get_or-range_with_len}
-use Rattle.cg_walk.specs.declared.edge.EdgeOperand.{EdgeOperand}
-use Rattle.cg_walk.specs.State.{edges, routes_by}
-use Rattle.cg_walk.specs.Walk.{all_edges, with_route, unrouted}
-use Rattle.cg_walk.proofs.Pending.{all_rising}
+use Rattle.cg_walk_spec.specs.declared.edge.EdgeOperand.{EdgeOperand}
+use Rattle.cg_walk_spec.specs.State.{edges, routes_by}
+use Rattle.cg_walk_spec.specs.Walk.{all_edges, with_route, unrouted}
+use Rattle.cg_walk_spec.proofs.Pending.{all_rising}
 use Rattle.cg_anneal.specs.Walking.{Walking, at_state}
 use Rattle.cg_anneal.specs.Steps.{route_of}
 use Rattle.cg_anneal.proofs.Loops.{taken_more, route_taken}

@@ -3,7 +3,7 @@ use Rattle.std.specs.Prelude.{ℕ, eqb, Bool, ◌||◌, List, [], ◌∷◌, len
 use Rattle.std.specs.List.{range_with_len}
 use Rattle.cg_model.specs.declared.kernel.Operand.{Operand}
 use Rattle.cg_model.specs.declared.kernel.Operand.TheVariants.{Const as Constant, Edge}
-use Rattle.cg_walk.specs.declared.edge.EdgeOperand.{EdgeOperand}
+use Rattle.cg_walk_spec.specs.declared.edge.EdgeOperand.{EdgeOperand}
 
 -- operand number p of node v, where it is an edge
 abbrev pub operand_edge : ℕ → ℕ → Operand → List EdgeOperand

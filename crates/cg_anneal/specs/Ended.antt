@@ -4,8 +4,8 @@ use Rattle.rand_pcg.specs.Lcg.{Lcg}
 use Rattle.cg_model.specs.Kernel.{Kernel}
 use Rattle.cg_model.specs.Array.{Arch}
 use Rattle.cg_recur.specs.Recurrences.{AreEarliest}
-use Rattle.cg_walk.specs.State.{State, cost, mapping_of}
-use Rattle.cg_walk.specs.Walk.{IsEnd}
+use Rattle.cg_walk_spec.specs.State.{State, cost, mapping_of}
+use Rattle.cg_walk_spec.specs.Walk.{IsEnd}
 use Rattle.cg_anneal.specs.Walking.{Walking, at_state}
 use Rattle.cg_anneal.specs.declared.finding.Reached.{Reached}
 use Rattle.cg_anneal.specs.declared.finding.Reached.TheVariants.{Zero, Cost}

@@ -1,11 +1,11 @@
 -- The parts of a step of the walk.
 use Rattle.std.specs.Prelude.{◌≡◌, ℕ, if◌then◌else◌, List, [], ◌∷◌, Option, Some, None}
 use Rattle.cg_model.specs.declared.mapping.Route.{Route}
-use Rattle.cg_walk.specs.declared.edge.EdgeOperand.{EdgeOperand}
+use Rattle.cg_walk_spec.specs.declared.edge.EdgeOperand.{EdgeOperand}
 use Rattle.rand_pcg.specs.Lcg.{Lcg}
 use Rattle.cg_place.specs.declared.moves.Move.{Move}
-use Rattle.cg_walk.specs.State.{State, cost}
-use Rattle.cg_walk.specs.Walk.{with_route, IsTried, is_taken, IsMove}
+use Rattle.cg_walk_spec.specs.State.{State, cost}
+use Rattle.cg_walk_spec.specs.Walk.{with_route, IsTried, is_taken, IsMove}
 use Rattle.cg_anneal.specs.Walking.{Walking, at_state}
 
 -- these edge operands get these routes, one after another

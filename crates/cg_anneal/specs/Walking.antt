@@ -4,15 +4,15 @@ use Rattle.cg_model.specs.Kernel.{Kernel, IsKernel, size, node}
 use Rattle.cg_model.specs.Array.{Arch, IsArch, unit}
 use Rattle.cg_model.specs.Limits.{latest_time}
 use Rattle.cg_mrrg.specs.Graph.{Graph}
-use Rattle.cg_claims.specs.Table.{Table}
+use Rattle.cg_congestion.specs.Table.{Table}
 use Rattle.cg_route.specs.Least.{Ends}
 use Rattle.cg_place.specs.declared.moves.Move.{Move}
 use Rattle.cg_place.specs.Placed.{Placed}
-use Rattle.cg_walk.specs.State.{State, edges, ends_of, state_positions, table_of_state, missing}
-use Rattle.cg_walk.specs.declared.edge.EdgeOperand.{EdgeOperand}
-use Rattle.cg_walk.specs.Walk.{edge, touches, IsRouted}
-use Rattle.cg_walk.specs.Good.{IsReady, IsGood}
-use Rattle.cg_walk.specs.Alike.{AreAlike}
+use Rattle.cg_walk_spec.specs.State.{State, edges, ends_of, state_positions, table_of_state, missing}
+use Rattle.cg_walk_spec.specs.declared.edge.EdgeOperand.{EdgeOperand}
+use Rattle.cg_walk_spec.specs.Walk.{edge, touches, IsRouted}
+use Rattle.cg_walk_spec.specs.Good.{IsReady, IsGood}
+use Rattle.cg_walk_spec.specs.Alike.{AreAlike}
 use Rattle.cg_anneal.specs.declared.ends.RouteEnds.{RouteEnds}
 
 -- a state of the walk of a kernel on an architecture, at an interval, with the earliest times

@@ -1,6 +1,6 @@
 //! Whether a move is accepted.
 ghost use Rattle.std.specs.Prelude.{◌≡◌, ◌<◌, ◌≤◌};
-ghost use Rattle.cg_walk.specs.Walk as spec;
+ghost use Rattle.cg_walk_spec.specs.Walk as spec;
 
 /// How much hotter the walk is at its start than at its end.
 const HOTTEST: u64 = 64;

@@ -14,7 +14,7 @@ pub(crate) enum Counting {
 
 impl<'g, 'a> Walk<'g, 'a> {
     ghost use Rattle.std.specs.Prelude.{◌≡◌, IfOk};
-    ghost use Rattle.cg_walk.specs.State.{cost};
+    ghost use Rattle.cg_walk_spec.specs.State.{cost};
 
     /// Returns the cost of the state, counted as `counting` says. Only counting it anew allocates memory.
     pub(crate) fn cost_by(&self, alloc: Global, counting: Counting) -> Result<u64, AllocError>

@@ -1,11 +1,11 @@
 //! The edge operands of a kernel.
 ghost use Rattle.std.specs.Prelude.{◌≡◌, ◌++◌, ◌<◌, ◌^◌, ◌||◌, eqb, if◌then◌else◌, [], ◌∷◌, IfOk, OnOk, length};
-ghost use Rattle.cg_walk.specs.State as states;
+ghost use Rattle.cg_walk_spec.specs.State as states;
 ghost use Rattle.std.specs.List.{range_with_len};
 ghost use Rattle.cg_anneal.specs.Edges.{operand_edge, touching_of};
 
 use cg_model::{Kernel, Operand};
-use cg_walk::EdgeOperand;
+use cg_walk_spec::EdgeOperand;
 use std::alloc::{AllocError, Global};
 
 /// Returns the edge operands of `kernel`, in the order of node and argument.

@@ -5,7 +5,7 @@ ghost use Rattle.cg_model.specs.Limits.{latest_time};
 
 use cg_arch::Arch;
 use cg_model::Place;
-use cg_walk::EdgeOperand;
+use cg_walk_spec::EdgeOperand;
 
 /// The source of a route, and where and when it begins and ends.
 #[derive(Clone, Copy, Drop)]

@@ -1,8 +1,8 @@
 //! The search for a mapping at an interval.
 ghost use Rattle.std.specs.Prelude.{◌≡◌, ◌≤◌, IfOk, OnOk};
 ghost use Rattle.cg_model.specs.Limits.{most_moves};
-ghost use Rattle.cg_walk.specs.State.{cost};
-ghost use Rattle.cg_walk.specs.Walk.{IsStart, all_edges, unrouted_start};
+ghost use Rattle.cg_walk_spec.specs.State.{cost};
+ghost use Rattle.cg_walk_spec.specs.Walk.{IsStart, all_edges, unrouted_start};
 ghost use Rattle.cg_anneal.specs.Ended.{IsFoundAt, IsReached, IsWalkedFrom, IsWalked};
 ghost use Rattle.cg_anneal.specs.Walking.{IsRoutedBy};
 
@@ -10,8 +10,8 @@ use crate::counting::Counting;
 use crate::moves::Pace;
 use crate::progress::Costs;
 use crate::walk::Walk;
-use cg_aside::Aside;
 use cg_check::LegalMapping;
+use cg_diagnostics::Aside;
 use cg_model::Request;
 use cg_mrrg::Mrrg;
 use cg_task::Task;

@@ -4,7 +4,7 @@ ghost use Rattle.cg_anneal.specs.Steps.{route_of};
 
 use crate::walk::Walk;
 use cg_model::{Mapping, Route, Words};
-use cg_walk::EdgeOperand;
+use cg_walk_spec::EdgeOperand;
 use std::alloc::{AllocError, Global};
 
 /// Adds the route of `edge` to `routes`, if it has one.
@@ -30,7 +30,7 @@ fn add_route(
 
 impl<'g, 'a> Walk<'g, 'a> {
     ghost use Rattle.std.specs.Prelude.{◌≡◌, IfOk};
-    ghost use Rattle.cg_walk.specs.State.{edges, routes_by, mapping_of};
+    ghost use Rattle.cg_walk_spec.specs.State.{edges, routes_by, mapping_of};
 
     /// Takes all routes out of the walk, in the order of edge operands.
     fn take_routes(&mut self, alloc: Global) -> Result<Vec<Route>, AllocError>

@@ -1,7 +1,7 @@
 //! Moves that are tried, and accepted or rejected.
 ghost use Rattle.std.specs.Prelude.{◌≡◌};
 ghost use Rattle.rand_pcg.specs.Pcg.{pcg32};
-ghost use Rattle.cg_walk.specs.Words as words;
+ghost use Rattle.cg_walk_spec.specs.Words as words;
 
 use crate::chance::is_taken;
 use crate::counting::Counting;
@@ -62,8 +62,8 @@ fn draw(generator: &mut Lcg64Xsh32) -> Drawn
 impl<'g, 'a> Walk<'g, 'a> {
     ghost use Rattle.std.specs.Prelude.{◌≡◌, ◌<◌, ◌≤◌, All, OnOk};
     ghost use Rattle.cg_model.specs.Kernel.{size};
-    ghost use Rattle.cg_walk.specs.Walk.{touching, rested};
-    ghost use Rattle.cg_walk.specs.Words.{after_words};
+    ghost use Rattle.cg_walk_spec.specs.Walk.{touching, rested};
+    ghost use Rattle.cg_walk_spec.specs.Words.{after_words};
     ghost use Rattle.cg_anneal.specs.Walking as spec;
     ghost use Rattle.cg_anneal.specs.Steps.{IsAttempt, IsStep};
 

@@ -1,6 +1,6 @@
 //! The progress of a walk that is reported.
 
-use cg_aside::Aside;
+use cg_diagnostics::Aside;
 
 /// The number of moves from one report to the next.
 const REPORT_MOVES: u32 = 64;

@@ -6,10 +6,10 @@ use std::alloc::{AllocError, Global};
 
 impl<'g, 'a> Walk<'g, 'a> {
     ghost use Rattle.std.specs.Prelude.{◌≡◌, ◌<◌, List, Option, [], ◌∷◌, All, IfOk, OnOk, ℕ, length, map, Some, None, slice_get, slice_index, slice_index_or};
-    ghost use Rattle.cg_walk.specs.State.{edges};
-    ghost use Rattle.cg_walk.specs.Walk.{edge, unrouted, with_route};
-    ghost use Rattle.cg_walk.specs.Pending.{Fits};
-    ghost use Rattle.cg_walk.specs.Pending.{Pending, Rising};
+    ghost use Rattle.cg_walk_spec.specs.State.{edges};
+    ghost use Rattle.cg_walk_spec.specs.Walk.{edge, unrouted, with_route};
+    ghost use Rattle.cg_walk_spec.specs.Pending.{Fits};
+    ghost use Rattle.cg_walk_spec.specs.Pending.{Pending, Rising};
     ghost use Rattle.cg_anneal.specs.Steps.{put_back};
     ghost use Rattle.cg_anneal.specs.Walking as spec;
 

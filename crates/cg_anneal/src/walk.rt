@@ -4,14 +4,14 @@ ghost use Rattle.std.specs.Prelude.{◌≡◌, IfOk, replicate, None};
 use crate::edges::{all, edges_of_kernel, touching};
 use crate::ends::{RouteEnds, ends_between};
 use cg_arch::Arch;
-use cg_claims::Usage;
-use cg_claims::laws::PlainUsage;
+use cg_congestion::Usage;
+use cg_congestion::laws::PlainUsage;
 use cg_model::{Items, Kernel, Place, Words};
 use cg_mrrg::Mrrg;
 use cg_place::{Move, Placement};
 use cg_route::least_path;
 use cg_task::Task;
-use cg_walk::EdgeOperand;
+use cg_walk_spec::EdgeOperand;
 use std::alloc::{AllocError, Global};
 use std::marker::Model;
 
@@ -47,13 +47,13 @@ impl<'g, 'a> Walk<'g, 'a> {
     ghost use Rattle.std.specs.Prelude.{◌≡◌, ◌<◌, ◌≤◌, ◌+◌, ◌*◌, ◌^◌, All, IfOk, OnOk, length, Option, Some, None, slice_get, slice_index_or};
     ghost use Rattle.cg_place.specs.Placed.{moved, back, place_in};
     ghost use Rattle.cg_route.specs.Least.{IsTimedPath};
-    ghost use Rattle.cg_claims.specs.Table.{IsMore};
-    ghost use Rattle.cg_walk.specs.State.{edges, cost, missing, positions_by, state_positions};
+    ghost use Rattle.cg_congestion.specs.Table.{IsMore};
+    ghost use Rattle.cg_walk_spec.specs.State.{edges, cost, missing, positions_by, state_positions};
     ghost use Rattle.cg_model.specs.Kernel.{size};
     ghost use Rattle.cg_place.specs.Draws.{drawn_move};
-    ghost use Rattle.cg_walk.specs.Walk.{edge, with_route, all_edges, aged_state, unrouted_start, IsFoundFor};
-    ghost use Rattle.cg_walk.specs.Walk.{touching as touching_of_kernel};
-    ghost use Rattle.cg_walk.specs.Ranges.{AreInRange};
+    ghost use Rattle.cg_walk_spec.specs.Walk.{edge, with_route, all_edges, aged_state, unrouted_start, IsFoundFor};
+    ghost use Rattle.cg_walk_spec.specs.Walk.{touching as touching_of_kernel};
+    ghost use Rattle.cg_walk_spec.specs.Ranges.{AreInRange};
     ghost use Rattle.cg_anneal.specs.Walking as spec;
 
     /// Returns the source of edge operand `i`, and the ends of its route by the current places.

@@ -2,7 +2,7 @@
 use Rattle.std.specs.Prelude.{◌≡◌, ℕ, List}
 use Rattle.sha2.specs.Sha256.{sha256}
 use Rattle.cg_model.specs.Array.{Arch, IsArch}
-use Rattle.cg_level.specs.Topological.{IsTopological}
+use Rattle.cg_levelize.specs.Topological.{IsTopological}
 use Rattle.cg_flat.specs.Text.{text_of}
 use Rattle.cg_flat.specs.Slots.{all_select_at, all_unit_at}
 

@@ -32,7 +32,7 @@ impl Model for Arch {
 impl Arch {
     ghost use Rattle.std.specs.Prelude.{◌≡◌, ◌<◌, length};
     ghost use Rattle.cg_model.specs.Array as arrays;
-    ghost use Rattle.cg_level.specs.Topological.{IsTopological};
+    ghost use Rattle.cg_levelize.specs.Topological.{IsTopological};
     ghost use Rattle.cg_flat.specs.Slots as slots;
     ghost use Rattle.cg_arch.specs.Kept.{IsKept, digest_of};
 

@@ -1,7 +1,7 @@
 //! The data kept with a valid architecture.
 ghost use Rattle.std.specs.Prelude.{◌≡◌, IfOk};
 ghost use Rattle.cg_model.specs.Array.{IsArch};
-ghost use Rattle.cg_level.specs.Topological.{IsTopological};
+ghost use Rattle.cg_levelize.specs.Topological.{IsTopological};
 ghost use Rattle.cg_arch.specs.Kept.{digest_of};
 
 use crate::arch::Arch;

@@ -2,16 +2,16 @@
 use Rattle.std.proofs.Common.{◌≡◌, ℕ, [], ◌∷◌, refl, ap, subst, inl}
 use Rattle.cg_model.specs.Machine.{machine_left}
 use Rattle.cg_files.specs.Held.{Holds, Appends}
-use Rattle.cg_ending.specs.declared.outcome.Status.TheVariants.{Done}
-use Rattle.cg_ending.specs.Outcome.{Name, File, Outcome}
-use Rattle.cg_ending.specs.Ends.{Moment, Completed, Wrote}
+use Rattle.cg_effects.specs.declared.outcome.Status.TheVariants.{Done}
+use Rattle.cg_effects.specs.Outcome.{Name, File, Outcome}
+use Rattle.cg_effects.specs.Ends.{Moment, Completed, Wrote}
 use Rattle.cg_bits.specs.Ranges.{IsBytes}
 use Rattle.cg_inputs.proofs.Sound.{IsSound, plain, IsNamed}
 use Rattle.cg_inputs.proofs.Arrays.{valid_array}
 use Rattle.cg_inputs.proofs.Wholes.{whole, one_write}
 use Rattle.cg_run_answers.specs.Run.{IsRunnable}
 use Rattle.cg_run_answers.proofs.RunAnswers.{sound_array, named_array, accepted_array, same_array_command, some_array_command, ran_done, spelled_answer, leaves_turns}
-use Rattle.cg_bench.specs.Bench.{bench_text}
+use Rattle.cg_testbench.specs.Bench.{bench_text}
 use Rattle.cg_bench_answers.specs.Bench.{IsBench, IsBenchRun, benched}
 
 pub sound_bench : (n : ℕ) (arch file input : File) (out : Name) (o : Outcome) → IsBench n arch file input out o → IsSound plain o

@@ -5,15 +5,15 @@ use Rattle.cg_model.specs.Array.{Arch}
 use Rattle.cg_model.specs.Config.{Config}
 use Rattle.cg_model.specs.Machine.{cycles, machine_left}
 use Rattle.cg_files.specs.Held.{Holds, Appends}
-use Rattle.cg_ending.specs.declared.outcome.Status.TheVariants.{Done}
-use Rattle.cg_ending.specs.Outcome.{Name, Bytes, File, Outcome}
-use Rattle.cg_ending.specs.Ends.{Moment}
+use Rattle.cg_effects.specs.declared.outcome.Status.TheVariants.{Done}
+use Rattle.cg_effects.specs.Outcome.{Name, Bytes, File, Outcome}
+use Rattle.cg_effects.specs.Ends.{Moment}
 use Rattle.cg_tiles.specs.Answer.{AreValidBytes}
 use Rattle.cg_bits.specs.Answers as bits
 use Rattle.cg_bits.specs.Spelling.{AreBits}
 use Rattle.cg_pad.specs.Bytes as images
 use Rattle.cg_run_answers.specs.Run.{IsArrayCommand, LeavesTurns, run_report}
-use Rattle.cg_bench.specs.Bench.{bench_text}
+use Rattle.cg_testbench.specs.Bench.{bench_text}
 
 -- the test bench for n iterations of the array under the configuration from the image, with what the array leaves, is
 -- written; the report is that of a run

@@ -3,20 +3,20 @@ ghost use Rattle.std.specs.Prelude.{◌≡◌, ◌<◌, ◌≤◌, ℕ, IfOk, If
 ghost use Rattle.cg_model.specs.Canonical.{IsCanonical};
 ghost use Rattle.cg_model.specs.Limits.{most_turns};
 ghost use Rattle.cg_model.specs.Machine.{cycles, machine_left};
-ghost use Rattle.cg_ending.specs.Allowed.{Allows};
-ghost use Rattle.cg_ending.specs.Outcome.{file_of};
+ghost use Rattle.cg_effects.specs.Allowed.{Allows};
+ghost use Rattle.cg_effects.specs.Outcome.{file_of};
 ghost use Rattle.cg_pad.specs.Bytes as images;
 ghost use Rattle.cg_pad.specs.Bytes.{IsStorable};
 ghost use Rattle.cg_run_answers.specs.Run.{array_by_image, run_report};
 ghost use Rattle.cg_bench_answers.specs.Bench.{IsBench, benched};
 
 use cg_arch::Arch;
-use cg_bench::{RunEnd, bench_of};
-use cg_ending::{File, Outcome, Status, Stop};
+use cg_effects::{File, Outcome, Status, Stop};
 use cg_inputs::{arch_in, config_in, image_in};
 use cg_pad::Image;
 use cg_run_answers::too_large;
 use cg_sim::{Sim, SimFault};
+use cg_testbench::{RunEnd, bench_of};
 use cg_view::ConfigView;
 use std::alloc::{AllocError, Global};
 

@@ -6,7 +6,7 @@ use Rattle.cg_model.specs.declared.array.Unit.{Unit}
 use Rattle.cg_model.specs.Array.{Arch, resource, unit}
 use Rattle.cg_model.specs.Canonical.{offered, stage_of, greatest_of, any_below, gives_output}
 use Rattle.cg_flat.specs.Slots.{select_bits}
-use Rattle.cg_contexts.specs.Rules.{mode_ok, count_ok, word_ok}
+use Rattle.cg_config.specs.Rules.{mode_ok, count_ok, word_ok}
 use Rattle.cg_bits.specs.declared.format.Format.{Format}
 use Rattle.cg_bits.specs.declared.fault.BitsFault.{BitsFault}
 use Rattle.cg_bits.specs.declared.fault.BitsFault.TheVariants.{BadSelect, BadOp, NotOffered, NotCanonical, BadPadding, Trailing, RepeatedPort}

@@ -16,8 +16,7 @@ mod texts;
 mod writer;
 mod writing;
 
-pub use cg_config::{Config, NO_ARG};
-pub use cg_contexts::{ArgFields, Contexts, UnitFields};
+pub use cg_config::{ArgFields, Config, Contexts, NO_ARG, UnitFields};
 pub use check::check_bits;
 pub use fault::{Bits1Fault, BitsFault};
 pub use field::number_at;

@@ -10,7 +10,7 @@ use crate::all_slots::Slots;
 use crate::checking::HEADER_BITS;
 use crate::field::number_at;
 use crate::reading::op_of;
-use cg_contexts::gives_output;
+use cg_config::gives_output;
 use cg_word::Op;
 
 /// Marks an output's port as used. Returns whether it was free, or there is no output.

@@ -7,8 +7,7 @@ ghost use Rattle.cg_bits.specs.Ranges.{IsFormat};
 
 use crate::field::number_at;
 use crate::format::Format;
-use cg_config::NO_ARG;
-use cg_contexts::{ArgFields, UnitFields};
+use cg_config::{ArgFields, NO_ARG, UnitFields};
 use cg_word::Op;
 
 /// Returns the operation with the code `code`: None for 0, and for codes above the greatest one.

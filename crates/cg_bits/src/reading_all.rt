@@ -22,8 +22,7 @@ use crate::format::{CGB1, CGB2, Format};
 use crate::header::{HEADER, ii_in, slot_len, stages_in};
 use crate::reading::unit_at;
 use cg_arch::Arch;
-use cg_config::{Config, Row};
-use cg_contexts::UnitFields;
+use cg_config::{Config, Row, UnitFields};
 use std::alloc::{AllocError, Global};
 
 /// Returns the selects of `slot`.

@@ -6,7 +6,7 @@ ghost use Rattle.cg_bits.specs.Faults.{first, arg_breaches, unit_breaches};
 ghost use Rattle.cg_bits.specs.Checks.{arg_faults};
 
 use crate::format::Format;
-use cg_contexts::{
+use cg_config::{
     ArgFields, UnitFields, arity_of, count_right, immediate_right, mode_right, port_right,
     stage_right, word_right,
 };

@@ -13,8 +13,7 @@ ghost use Rattle.cg_bits.specs.Ranges.{HasRanges, IsBytes};
 
 use crate::writer::BitWriter;
 use cg_arch::Arch;
-use cg_config::Config;
-use cg_contexts::{ArgFields, Contexts, UnitFields};
+use cg_config::{ArgFields, Config, Contexts, UnitFields};
 use cg_word::Op;
 use std::alloc::{AllocError, Global};
 

@@ -8,9 +8,9 @@ use Rattle.cg_word.specs.declared.op.Op.{Op}
 use Rattle.cg_word.specs.Word.{all_ops}
 use Rattle.cg_model.specs.Kernel.{Kernel, IsKernel, size}
 use Rattle.cg_model.specs.Array.{Arch, IsArch}
-use Rattle.cg_edges.specs.declared.edge.EdgeId.{EdgeId}
-use Rattle.cg_edges.specs.Edges.{latency}
-use Rattle.cg_edges.proofs.Latencies.{latency_small}
+use Rattle.cg_recur.specs.declared.edge.EdgeId.{EdgeId}
+use Rattle.cg_recur.specs.Edges.{latency}
+use Rattle.cg_recur.proofs.Latencies.{latency_small}
 use Rattle.cg_recur.proofs.Decided.{recurrence_or_none, shown_short}
 use Rattle.cg_class.proofs.Subsets.{overfull_or_none}
 use Rattle.cg_bound.specs.declared.interval.Certificate.{Certificate}

@@ -3,7 +3,7 @@ use Rattle.std.proofs.Common.{◌≡◌, ℕ, ◌+◌, ◌-◌, ◌<◌, ◌≤�
 use Rattle.cg_word.specs.declared.op.Op.{Op}
 use Rattle.cg_model.specs.Kernel.{Kernel, IsKernel}
 use Rattle.cg_model.specs.Array.{Arch}
-use Rattle.cg_edges.specs.Edges.{latency}
+use Rattle.cg_recur.specs.Edges.{latency}
 use Rattle.cg_class.specs.Class.{IsOverfull, AreOfNodes}
 use Rattle.cg_bound.specs.declared.halves.Found.{Found}
 use Rattle.cg_bound.specs.declared.interval.Certificate.{Certificate}

@@ -12,10 +12,10 @@ use Rattle.cg_model.specs.declared.kernel.OrderEdge.{OrderEdge}
 use Rattle.cg_model.specs.declared.array.Unit.{Unit}
 use Rattle.cg_model.specs.Kernel.{Kernel, HasOperand, IsKernel, size, node, no_node}
 use Rattle.cg_model.specs.Array.{Arch}
-use Rattle.cg_edges.specs.declared.edge.Edge.{Edge}
-use Rattle.cg_edges.specs.declared.edge.EdgeId.TheVariants.{Arg, Order}
-use Rattle.cg_edges.specs.Edges.{edge_of, of_operand, of_order, latency}
-use Rattle.cg_edges.specs.Chain.{IsTight}
+use Rattle.cg_recur.specs.declared.edge.Edge.{Edge}
+use Rattle.cg_recur.specs.declared.edge.EdgeId.TheVariants.{Arg, Order}
+use Rattle.cg_recur.specs.Edges.{edge_of, of_operand, of_order, latency}
+use Rattle.cg_recur.specs.Chain.{IsTight}
 use Rattle.cg_recur.proofs.Chains.{none_from_tight, fades}
 use Rattle.cg_class.specs.Class.{IsOverfull, offers_one, units_for}
 use Rattle.cg_class.specs.Search.{op_at, ops_at, no_unit}

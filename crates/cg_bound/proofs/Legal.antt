@@ -13,11 +13,11 @@ use Rattle.cg_model.specs.declared.array.Unit.{Unit}
 use Rattle.cg_model.specs.Kernel.{Kernel, HasOperand, IsKernel, size, node, no_node}
 use Rattle.cg_model.specs.Array.{Arch, delay}
 use Rattle.cg_model.specs.Mapping.{Mapping, place, Goes, IsLegal}
-use Rattle.cg_edges.specs.declared.edge.Edge.{Edge}
-use Rattle.cg_edges.specs.declared.edge.EdgeId.{EdgeId}
-use Rattle.cg_edges.specs.declared.edge.EdgeId.TheVariants.{Arg, Order}
-use Rattle.cg_edges.specs.Edges.{edge_of, of_operand, of_order, lesser, least_latency, latency}
-use Rattle.cg_edges.specs.Chain.{IsTight}
+use Rattle.cg_recur.specs.declared.edge.Edge.{Edge}
+use Rattle.cg_recur.specs.declared.edge.EdgeId.{EdgeId}
+use Rattle.cg_recur.specs.declared.edge.EdgeId.TheVariants.{Arg, Order}
+use Rattle.cg_recur.specs.Edges.{edge_of, of_operand, of_order, lesser, least_latency, latency}
+use Rattle.cg_recur.specs.Chain.{IsTight}
 use Rattle.cg_recur.specs.Recurrences.{IsRecurrence}
 use Rattle.cg_recur.proofs.Chains.{none_from_tight}
 use Rattle.cg_class.specs.Class.{IsOverfull, offers_one}
@@ -29,7 +29,7 @@ use Rattle.cg_overlap.proofs.Shape.{routed}
 use Rattle.cg_bound.specs.Bound.{IsForbidden}
 use Rattle.cg_model.proofs.Sums.{total, total_zero}
 use Rattle.cg_model.proofs.Mappings.{operand_within}
-use Rattle.cg_edges.proofs.Latencies.{lesser_below}
+use Rattle.cg_recur.proofs.Latencies.{lesser_below}
 
 -- time does not fall along a path
 goes_up : (A : Arch) (path : List ℕ) (q t r s : ℕ) → Goes A q t path r s → t ≤ s

@@ -7,9 +7,9 @@ use Rattle.cg_word.specs.Sets.{among}
 use Rattle.cg_model.specs.Kernel.{Kernel, node, size}
 use Rattle.cg_model.specs.Array.{Arch, unit}
 use Rattle.cg_model.specs.Mapping.{Mapping, IsLegal}
-use Rattle.cg_edges.specs.declared.edge.EdgeId.{EdgeId}
-use Rattle.cg_edges.specs.Edges.{edge_of}
-use Rattle.cg_edges.specs.Chain.{IsShown}
+use Rattle.cg_recur.specs.declared.edge.EdgeId.{EdgeId}
+use Rattle.cg_recur.specs.Edges.{edge_of}
+use Rattle.cg_recur.specs.Chain.{IsShown}
 use Rattle.cg_recur.specs.Recurrences.{IsRecurrence}
 pub use Rattle.cg_recur.specs.Recurrences.{HasNoRecurrence}
 use Rattle.cg_class.specs.Class.{IsOverfull, AreOfNodes}

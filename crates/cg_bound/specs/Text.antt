@@ -4,10 +4,10 @@ use Rattle.cg_word.specs.declared.op.Op.{Op}
 use Rattle.cg_model.specs.Kernel.{Kernel, node}
 use Rattle.cg_model.specs.Array.{Arch}
 use Rattle.cg_flat.specs.Text.{op_words}
-use Rattle.cg_edges.specs.declared.edge.EdgeId.{EdgeId}
-use Rattle.cg_edges.specs.declared.edge.EdgeId.TheVariants.{Arg, Order}
-use Rattle.cg_edges.specs.Edges.{edge_of}
-use Rattle.cg_edges.specs.Chain.{latencies, distances}
+use Rattle.cg_recur.specs.declared.edge.EdgeId.{EdgeId}
+use Rattle.cg_recur.specs.declared.edge.EdgeId.TheVariants.{Arg, Order}
+use Rattle.cg_recur.specs.Edges.{edge_of}
+use Rattle.cg_recur.specs.Chain.{latencies, distances}
 use Rattle.cg_class.specs.Class.{nodes_in, units_for}
 use Rattle.cg_bound.specs.declared.interval.Certificate.{Certificate}
 use Rattle.cg_bound.specs.declared.interval.Certificate.TheVariants.{Cycle, Class}

@@ -1,12 +1,12 @@
 //! Counts of the nodes and units of a set of operations, and the sums over a chain of edges.
 ghost use Rattle.std.specs.Prelude.{◌≡◌};
-ghost use Rattle.cg_edges.specs.Chain.{latencies, distances};
-ghost use Rattle.cg_edges.specs.Edges.{edge_of};
+ghost use Rattle.cg_recur.specs.Chain.{latencies, distances};
+ghost use Rattle.cg_recur.specs.Edges.{edge_of};
 ghost use Rattle.cg_class.specs.Class.{offers_one, nodes_in, units_for};
 
 use cg_arch::Arch;
-use cg_edges::{EdgeId, find_edge};
 use cg_model::{Kernel, Node, Unit};
+use cg_recur::{EdgeId, find_edge};
 use cg_word::{Op, OpSet};
 
 /// Returns the number of `nodes` whose operation is in `set`.

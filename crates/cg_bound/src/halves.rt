@@ -8,9 +8,8 @@ ghost use Rattle.cg_bound.specs.Search as spec;
 use crate::interval::Certificate;
 use crate::overfull::overfull_at;
 use cg_arch::Arch;
-use cg_edges::latencies_are_small;
 use cg_model::Kernel;
-use cg_recur::{Recur, recurrence};
+use cg_recur::{Recur, latencies_are_small, recurrence};
 use cg_word::OpSet;
 use std::alloc::{AllocError, Global};
 

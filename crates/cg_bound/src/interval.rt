@@ -7,9 +7,8 @@ use crate::halves::least_open;
 use crate::overfull::overfull_at;
 use crate::unoffered::first_unoffered;
 use cg_arch::Arch;
-use cg_edges::EdgeId;
 use cg_model::Kernel;
-use cg_recur::{Recur, recurrence};
+use cg_recur::{EdgeId, Recur, recurrence};
 use cg_word::{Op, OpSet};
 use std::alloc::{AllocError, Global};
 

@@ -9,7 +9,7 @@ mod overfull;
 mod text;
 mod unoffered;
 
-pub use cg_edges::{Arch, EdgeId, Kernel};
+pub use cg_recur::{Arch, EdgeId, Kernel};
 pub use counts::sums;
 pub use interval::{Certificate, IntervalVerdict, LeastInterval, bound, verdict};
 pub use laws::{always_bounded, certifies, excludes, one_least};

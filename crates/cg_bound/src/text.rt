@@ -7,8 +7,8 @@ ghost use Rattle.cg_bound.specs.Text as spec;
 use crate::counts::{count_nodes, count_units, sums};
 use crate::interval::Certificate;
 use cg_arch::Arch;
-use cg_edges::EdgeId;
 use cg_model::Kernel;
+use cg_recur::EdgeId;
 use cg_word::{Op, OpSet};
 use std::alloc::{AllocError, Global};
 

@@ -1,6 +1,6 @@
 //! A store and a sink in memory, and the calls made on them.
 
-use cg_aside::Aside;
+use cg_diagnostics::Aside;
 use cg_files::{MemSink, MemStore};
 use cg_top::run_line_with;
 use std::alloc::{AllocError, Global};

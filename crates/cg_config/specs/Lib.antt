@@ -1,2 +1,5 @@
 pub mod Changes
 pub mod Parts
+pub mod Known
+pub mod Rules
+pub mod Told

@@ -6,8 +6,9 @@ ghost use Rattle.cg_model.specs.Canonical.{IsCanonical, gives_output, greatest_o
 ghost use Rattle.cg_config.specs.Parts.{EachSlot, HasRow, HasRows, HasInterval, HasSelects, HasFields, HasPorts, KeepsRules, Notes, gives_to, given_before};
 
 use crate::config::{Config, stage_of};
+use crate::rules::{are_fields, gives_output};
+use crate::{Contexts, UnitFields};
 use cg_arch::Arch;
-use cg_contexts::{Contexts, UnitFields, are_fields, gives_output};
 
 /// Returns whether `config` is a canonical configuration of `arch`, as `set_select`, `set_unit` and runs of the array
 /// require.

@@ -3,9 +3,12 @@ ghost use Rattle.std.specs.Prelude.{◌≡◌, ℕ, ◌<◌, true, false, length
 ghost use Rattle.cg_model.specs.Config.{off};
 ghost use Rattle.cg_model.specs.Canonical.{stage_of, clash};
 
+use crate::head::UnitHead;
 use crate::rows::Row;
+use crate::rules::gives_output;
+use crate::told::told_by;
+use crate::{ArgFields, Contexts, UnitFields};
 use cg_arch::Arch;
-use cg_contexts::{ArgFields, Contexts, UnitFields, UnitHead, gives_output, told_by};
 use std::alloc::{AllocError, Global};
 use std::marker::Model;
 

@@ -2,7 +2,7 @@
 use Rattle.std.proofs.Common.{◌≡◌, ◌≢◌, ◌⊎◌, inl, inr, Option, Some, None, refl, ap, sym, ◌∙◌, ⊎_elim}
 use Rattle.std.specs.Option.{option_map, option_or}
 use Rattle.cg_model.specs.Array.{Arch}
-use Rattle.cg_level.proofs.Solved.{order_or_loop}
+use Rattle.cg_levelize.proofs.Solved.{order_or_loop}
 use Rattle.cg_netlist.specs.Netlist.{NetGraph}
 use Rattle.cg_netlist.specs.Graph.{IsNetGraph}
 use Rattle.cg_gates.specs.declared.fault.GateFault.{GateFault}

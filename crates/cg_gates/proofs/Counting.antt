@@ -7,7 +7,7 @@ use Rattle.std.proofs.lemmas.List.Sums.{count_by-le-length, sum_by-append}
 use Rattle.std.proofs.lemmas.Slice.Eq.{bytes_eq-Decides}
 use Rattle.indexmap.specs.IndexMap.{IndexMap}
 use Rattle.cg_netlist.specs.declared.parts.Cell.{Cell}
-use Rattle.cg_names.specs.Numbers.{found_in}
+use Rattle.cg_reading.specs.Numbers.{found_in}
 use Rattle.cg_gates.specs.Shape.{Shape, shape_of}
 use Rattle.cg_gates.specs.Numbers.{counted, by_net, AreCounts}
 

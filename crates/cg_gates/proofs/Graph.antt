@@ -7,9 +7,9 @@ use Rattle.cg_model.specs.declared.array.Kind.TheVariants.{Wire}
 use Rattle.cg_model.specs.declared.array.Resource.{Resource}
 use Rattle.cg_model.specs.Array.{delay_by}
 use Rattle.cg_model.proofs.Lookups.{Contains-nil}
-use Rattle.cg_level.specs.Topological.{resource_at, AreKnown, Passes, IsTopological, IsCombinationalLoop}
-use Rattle.cg_level.proofs.Levels.{place_of, order_levels, order_no_loop}
-use Rattle.cg_level.proofs.Solved.{order_or_loop}
+use Rattle.cg_levelize.specs.Topological.{resource_at, AreKnown, Passes, IsTopological, IsCombinationalLoop}
+use Rattle.cg_levelize.proofs.Levels.{place_of, order_levels, order_no_loop}
+use Rattle.cg_levelize.proofs.Solved.{order_or_loop}
 use Rattle.cg_netlist.specs.declared.forms.Form.{Form}
 use Rattle.cg_netlist.specs.declared.forms.Form.TheVariants.{Context as ContextForm, Preselect as PreselectForm, Mux as MuxForm, Register as RegisterForm, Zero as ZeroForm, FunctionalUnit as UnitForm}
 use Rattle.cg_netlist.specs.Netlist.{NetGraph}

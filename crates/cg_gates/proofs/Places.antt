@@ -11,7 +11,7 @@ use Rattle.std.proofs.lemmas.Option.{slice_get_past, slice_get-get_or}
 use Rattle.indexmap.specs.IndexMap.{IndexMap}
 use Rattle.cg_model.specs.First.{first_from}
 use Rattle.cg_model.proofs.Positions.{position_from-more, position_from-within}
-use Rattle.cg_names.specs.Numbers.{found_in}
+use Rattle.cg_reading.specs.Numbers.{found_in}
 use Rattle.cg_gates.specs.Numbers.{AreFirst}
 
 -- ---- two ways to say a first place

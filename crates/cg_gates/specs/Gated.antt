@@ -1,7 +1,7 @@
 -- A netlist that has a meaning over an architecture, as contracts see it.
 use Rattle.std.specs.Prelude.{List}
 use Rattle.cg_model.specs.Array.{Arch, IsArch}
-use Rattle.cg_cycle.specs.declared.terminals.Terminals.{Terminals}
+use Rattle.cg_datapath.specs.declared.terminals.Terminals.{Terminals}
 use Rattle.cg_netlist.specs.Netlist.{NetGraph}
 use Rattle.cg_netlist.specs.Graph.{IsNetGraph}
 use Rattle.cg_gates.specs.declared.tables.SelectCell.{SelectCell}

@@ -1,7 +1,7 @@
 -- The tables of an accepted netlist, by the numbers of its nets.
 use Rattle.std.specs.Prelude.{◌≡◌, ℕ, suc, ◌+◌, ◌<◌, ◌≤◌, Bool, true, List, [], length, Contains, Option, Some, None, slice_index, slice_index_or, slice_get}
 use Rattle.cg_model.specs.Array.{Arch, unit}
-use Rattle.cg_cycle.specs.declared.terminals.Terminals.{Terminals}
+use Rattle.cg_datapath.specs.declared.terminals.Terminals.{Terminals}
 use Rattle.cg_netlist.specs.declared.forms.Form.{Form}
 use Rattle.cg_netlist.specs.Netlist.{NetGraph}
 use Rattle.cg_gates.specs.declared.tables.SelectCell.{SelectCell}

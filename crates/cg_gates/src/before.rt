@@ -6,8 +6,8 @@ ghost use Rattle.cg_gates.specs.Accepts as spec;
 use crate::counts::miscounted;
 use crate::fault::GateFault;
 use crate::joined::misjoined;
-use cg_names::Numbers;
 use cg_netlist::NetGraph;
+use cg_reading::Numbers;
 use std::alloc::{AllocError, Global};
 
 /// Finds the lower of E1 and E2 that applies to `netlist`, at its first place. `numbers` maps the names of its nets to

@@ -8,8 +8,8 @@ ghost use Rattle.cg_gates.specs.Numbers.{AreCounts, counted, is_uncounted};
 
 use crate::pins::driven_net;
 use cg_model::Name;
-use cg_names::{Numbers, number_in};
 use cg_netlist::{Cell, Net, NetGraph};
+use cg_reading::{Numbers, number_in};
 use std::alloc::{AllocError, Global};
 
 /// Finds the first net of `netlist` that isn't driven by exactly one cell.

@@ -1,15 +1,15 @@
 //! The first cells that drive nets, and the first cells of units by name.
 ghost use Rattle.std.specs.Prelude.{◌≡◌, ℕ, List, Some, None, IfOk, OnOk, map, if◌then◌else◌};
 ghost use Rattle.std.specs.Option.{option_or};
-ghost use Rattle.cg_names.specs.Numbers.{found_in};
+ghost use Rattle.cg_reading.specs.Numbers.{found_in};
 ghost use Rattle.cg_gates.specs.Shape.{is_unit, shape_of};
 ghost use Rattle.cg_gates.specs.Gates.{is_instance, unit_instance};
 ghost use Rattle.cg_gates.specs.Numbers.{AreFirst, by_net};
 
 use crate::pins::{driven_net, form_said};
 use cg_model::Unit;
-use cg_names::{Numbers, add_first, number_in};
 use cg_netlist::{Cell, Form};
+use cg_reading::{Numbers, add_first, number_in};
 use std::alloc::{AllocError, Global};
 
 /// Returns the number of the first of `cells` that drives each net.

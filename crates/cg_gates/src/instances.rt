@@ -12,8 +12,8 @@ use crate::pins::form_said;
 use cg_arch::Arch;
 use cg_flat::select_bits;
 use cg_model::{Resource, Unit};
-use cg_names::{Numbers, is_before, number_in};
 use cg_netlist::{Cell, Form, bits_of};
+use cg_reading::{Numbers, is_before, number_in};
 use std::alloc::{AllocError, Global};
 
 /// Finds the first of `cells` that has the same name as an earlier one.

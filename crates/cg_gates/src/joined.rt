@@ -7,8 +7,8 @@ ghost use Rattle.cg_gates.specs.Accepts as spec;
 
 use crate::numbers::named;
 use crate::pins::form_said;
-use cg_names::Numbers;
 use cg_netlist::{Cell, Form, Net, Pin};
+use cg_reading::Numbers;
 
 /// Finds the first of `cells` with a pin on a net that isn't allowed for it. `numbers` maps the names of `nets` to
 /// their numbers.

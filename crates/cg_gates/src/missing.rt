@@ -8,8 +8,8 @@ ghost use Rattle.cg_gates.specs.Numbers.{has_no_number};
 use crate::firsts::{cell_of_unit, unit_cells};
 use cg_arch::Arch;
 use cg_model::{Name, Unit};
-use cg_names::Numbers;
 use cg_netlist::NetGraph;
+use cg_reading::Numbers;
 use std::alloc::{AllocError, Global};
 
 /// Finds the first unit of `arch` that has no cell in `netlist`.

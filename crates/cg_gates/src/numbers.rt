@@ -5,8 +5,8 @@ ghost use Rattle.std.specs.Option.{option_copied};
 ghost use Rattle.cg_gates.specs.Numbers.{AreFirst, by_name};
 
 use cg_model::{Resource, Unit};
-use cg_names::{Numbers, add_first, number_in};
 use cg_netlist::{Cell, Net};
+use cg_reading::{Numbers, add_first, number_in};
 use std::alloc::{AllocError, Global};
 
 /// An item that has a name.

@@ -7,10 +7,10 @@ use Rattle.cg_model.specs.Array.{Arch, IsArch}
 use Rattle.cg_model.specs.Config.{Config}
 use Rattle.cg_model.specs.Machine.{machine_left}
 use Rattle.cg_files.specs.Held.{Held, Holds, Appends}
-use Rattle.cg_ending.specs.declared.outcome.Status.TheVariants.{Done, Malformed}
-use Rattle.cg_ending.specs.Outcome.{Name, File, Outcome}
-use Rattle.cg_ending.specs.Ends.{Moment, Completed, Wrote}
-use Rattle.cg_ending.specs.Reads.{AreRead, IsRead}
+use Rattle.cg_effects.specs.declared.outcome.Status.TheVariants.{Done, Malformed}
+use Rattle.cg_effects.specs.Outcome.{Name, File, Outcome}
+use Rattle.cg_effects.specs.Ends.{Moment, Completed, Wrote}
+use Rattle.cg_effects.specs.Reads.{AreRead, IsRead}
 use Rattle.cg_grid.specs.declared.fault.TilesFault.{TilesFault}
 use Rattle.cg_grid.specs.declared.fault.TilesFault.TheVariants as fault
 use Rattle.cg_tiles.specs.Answer as tiles

@@ -10,9 +10,9 @@ use Rattle.cg_model.specs.Configured.{configuration_of}
 use Rattle.cg_model.specs.Config.{Config}
 use Rattle.cg_model.specs.Machine.{cycles, machine_left}
 use Rattle.cg_files.specs.Held.{Holds, Appends}
-use Rattle.cg_ending.specs.Outcome.{Name, Bytes, File, Outcome}
-use Rattle.cg_ending.specs.Ends.{Moment}
-use Rattle.cg_ending.specs.Refusals.{malformed_of}
+use Rattle.cg_effects.specs.Outcome.{Name, Bytes, File, Outcome}
+use Rattle.cg_effects.specs.Ends.{Moment}
+use Rattle.cg_effects.specs.Refusals.{malformed_of}
 use Rattle.cg_grid.specs.declared.fault.TilesFault.{TilesFault}
 use Rattle.cg_grid.specs.declared.fault.TilesFault.TheVariants as fault
 use Rattle.cg_grid.specs.Texts.{tiles_fault_text}

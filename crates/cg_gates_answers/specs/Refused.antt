@@ -1,6 +1,6 @@
 -- Files of netlists that are refused, each for a fault in it.
 use Rattle.cg_model.specs.Array.{Arch}
-use Rattle.cg_ending.specs.Outcome.{Name, File, Outcome}
+use Rattle.cg_effects.specs.Outcome.{Name, File, Outcome}
 use Rattle.cg_inputs.specs.Refused.{Tells}
 use Rattle.cg_netlist.specs.Netlist.{NetGraph}
 use Rattle.cg_netlist_reader.specs.declared.fault.VerilogFault.TheVariants as verilog_fault

@@ -1,15 +1,15 @@
 //! Reads the file of a netlist. A file without a valid netlist ends the call with the outcome that refuses it.
 ghost use Rattle.std.specs.Prelude.{◌≡◌, IfOk, IfErr, OnOk, Ok};
-ghost use Rattle.cg_ending.specs.Allowed.{EndsBy};
-ghost use Rattle.cg_ending.specs.Outcome.{file_of};
+ghost use Rattle.cg_effects.specs.Allowed.{EndsBy};
+ghost use Rattle.cg_effects.specs.Outcome.{file_of};
 ghost use Rattle.cg_netlist_reader.specs.Reading as netlists;
 ghost use Rattle.cg_gates.specs.Accepts.{IsAccepted};
 ghost use Rattle.cg_gates_answers.specs.Refused.{RefusesNetlist, RefusesGates};
 
 use cg_arch::Arch;
-use cg_ending::{File, Stop, refusal};
+use cg_effects::{File, Stop, refusal};
 use cg_gates::{GateFault, gate_fault_text};
-use cg_gates_build::Gates;
+use cg_gates_run::Gates;
 use cg_netlist::NetGraph;
 use cg_netlist_reader::{VerilogFault, read_verilog, verilog_fault_text};
 use std::alloc::Global;

@@ -10,8 +10,8 @@ use Rattle.cg_model.specs.Config.{Config}
 use Rattle.cg_model.specs.Canonical.{IsCanonical}
 use Rattle.cg_model.specs.Work.{Image, Work}
 use Rattle.cg_model.specs.Machine.{cycles, result_of, memory_by, sent_by_units, missed_by_units}
-use Rattle.cg_cycle.specs.declared.terminals.Terminals.{Terminals}
-use Rattle.cg_cycle.specs.Course.{Course, result_ago, works, AreShort, IsStart, Advances}
+use Rattle.cg_datapath.specs.declared.terminals.Terminals.{Terminals}
+use Rattle.cg_datapath.specs.Course.{Course, result_ago, works, AreShort, IsStart, Advances}
 use Rattle.cg_netlist.specs.Netlist.{NetGraph}
 use Rattle.cg_netlist.specs.Graph.{IsNetGraph}
 use Rattle.cg_gates.specs.Gates.{GateCycle, gates_ago, nets_in, gate_works, gates_at, net_word, gates_left}

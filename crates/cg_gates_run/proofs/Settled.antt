@@ -5,8 +5,8 @@ use Rattle.std.proofs.lemmas.Bool.{true≢false, cases_lt, lt-ltb, le-ltb}
 use Rattle.std.proofs.lemmas.Option.{slice_get-get_or, slice_get_past}
 use Rattle.cg_model.specs.Array.{Arch, unit}
 use Rattle.cg_model.specs.Config.{Config, select}
-use Rattle.cg_cycle.specs.Terminals.{terminals}
-use Rattle.cg_cycle.specs.Course.{Course, result_ago, Keeps, AreOutsRight, GiveOuts, ArePortsKnown}
+use Rattle.cg_datapath.specs.Terminals.{terminals}
+use Rattle.cg_datapath.specs.Course.{Course, result_ago, Keeps, AreOutsRight, GiveOuts, ArePortsKnown}
 use Rattle.cg_netlist.specs.declared.forms.Form.{Form}
 use Rattle.cg_netlist.specs.declared.forms.Form.TheVariants.{Context as ContextForm, Preselect as PreselectForm, Mux as MuxForm, Register as RegisterForm, Zero as ZeroForm, FunctionalUnit as UnitForm}
 use Rattle.cg_netlist.specs.Netlist.{NetGraph}

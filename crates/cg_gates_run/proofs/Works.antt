@@ -12,9 +12,9 @@ use Rattle.cg_model.specs.Array.{Arch, unit}
 use Rattle.cg_model.specs.Config.{Config, fields}
 use Rattle.cg_model.specs.Work.{Image}
 use Rattle.cg_model.specs.Machine.{begun}
-use Rattle.cg_cycle.specs.Terminals.{terminals, on_ports, works_on}
-use Rattle.cg_cycle.specs.Course.{Course, works}
-use Rattle.cg_cycle.proofs.Facts.{off_past}
+use Rattle.cg_datapath.specs.Terminals.{terminals, on_ports, works_on}
+use Rattle.cg_datapath.specs.Course.{Course, works}
+use Rattle.cg_datapath.proofs.Facts.{off_past}
 use Rattle.cg_netlist.specs.declared.forms.Form.TheVariants.{FunctionalUnit as UnitForm}
 use Rattle.cg_netlist.specs.Forms.{IsForm}
 use Rattle.cg_netlist.specs.Netlist.{NetGraph}

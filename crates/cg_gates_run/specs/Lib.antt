@@ -1,3 +1,4 @@
 pub mod Run
 pub mod Settle
 pub mod State
+pub mod Kept

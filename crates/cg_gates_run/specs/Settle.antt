@@ -1,10 +1,10 @@
 -- The words of one cycle by the numbers of nets, found one after the other.
 use Rattle.std.specs.Prelude.{◌≡◌, ℕ, zero, suc, ◌+◌, ◌<◌, ◌≤◌, nat_lt, if◌then◌else◌, List, length, slice_index, Contains}
-use Rattle.cg_contexts.specs.Known.{HasSelect}
+use Rattle.cg_config.specs.Known.{HasSelect}
 use Rattle.cg_model.specs.Array.{Arch, IsArch}
 use Rattle.cg_model.specs.Config.{Config, select}
 use Rattle.cg_model.specs.Canonical.{IsCanonical}
-use Rattle.cg_cycle.specs.Course.{Course, Keeps, result_ago}
+use Rattle.cg_datapath.specs.Course.{Course, Keeps, result_ago}
 use Rattle.cg_netlist.specs.declared.forms.Form.TheVariants.{Zero as ZeroForm}
 use Rattle.cg_netlist.specs.Netlist.{NetGraph}
 use Rattle.cg_netlist.specs.Graph.{IsNetGraph}

@@ -4,9 +4,9 @@ use Rattle.cg_model.specs.Array.{Arch}
 use Rattle.cg_model.specs.Config.{Config}
 use Rattle.cg_model.specs.Work.{Image}
 use Rattle.cg_netlist.specs.Netlist.{NetGraph}
-use Rattle.cg_cycle.specs.Course.{Course}
-use Rattle.cg_cycle.specs.declared.terminals.Terminals.{Terminals}
-use Rattle.cg_cycle.specs.Terminals.{terminals}
+use Rattle.cg_datapath.specs.Course.{Course}
+use Rattle.cg_datapath.specs.declared.terminals.Terminals.{Terminals}
+use Rattle.cg_datapath.specs.Terminals.{terminals}
 use Rattle.cg_gates.specs.Gates.{gates_at}
 use Rattle.cg_gates_run.specs.Settle.{AreByNet, IsFitted, Precedes}
 

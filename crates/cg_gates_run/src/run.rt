@@ -2,10 +2,10 @@
 ghost use Rattle.std.specs.Prelude.{◌≡◌, ◌<◌, ◌+◌, IfOk, length};
 ghost use Rattle.cg_gates_run.specs.State.{HaveThree};
 
+use crate::gates::Gates;
 use crate::settle::settle;
-use cg_contexts::Contexts;
-use cg_cycle::{Course, SimFault, Terminals, check_run};
-use cg_gates_build::Gates;
+use cg_config::Contexts;
+use cg_datapath::{Course, SimFault, Terminals, check_run};
 use cg_pad::Image;
 use std::alloc::{AllocError, Global};
 use std::marker::Model;

@@ -1,13 +1,13 @@
 //! The words of a cycle by net, form by form: first those of contexts and units, then registers, then muxes.
 ghost use Rattle.std.specs.Prelude.{◌≡◌, ◌<◌, ◌≤◌, ◌+◌, ℕ, List, length, slice_index};
-ghost use Rattle.cg_cycle.specs.Course.{Keeps};
+ghost use Rattle.cg_datapath.specs.Course.{Keeps};
 ghost use Rattle.cg_gates.specs.Gates.{GateCycle, nets_in};
 ghost use Rattle.cg_gates_run.specs.Settle.{AreSelectable, GiveSelects, AreSelectsRight, AreReadable, GiveRegisters, AreRight, GiveMuxes, chosen_by, AreByNet, IsFitted, Precedes, IsSettled};
 
-use cg_contexts::Contexts;
-use cg_cycle::Course;
+use crate::gates::Gates;
+use cg_config::Contexts;
+use cg_datapath::Course;
 use cg_gates::{Choice, Choices, SelectCell};
-use cg_gates_build::Gates;
 
 /// Sets the net of each of `cells` in `words` to the select of its resource at `slot` of `contexts`.
 pub(crate) fn give_selects<C: Contexts>(

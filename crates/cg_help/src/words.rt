@@ -4,7 +4,7 @@ use crate::commands::COMMANDS;
 use crate::nearest::nearest_name;
 use crate::reader::{Stop, read_words};
 use crate::usages::{USAGES, Usage, usage_of};
-use cg_aside::Aside;
+use cg_diagnostics::Aside;
 use std::alloc::{AllocError, Global};
 
 /// Notes the first fault of `words`, which fit no command, and the words that would fit.

@@ -3,13 +3,13 @@ use Rattle.std.proofs.Common.{◌≡◌, [], Result, Ok, Err, refl, sym, ◌∙�
 use Rattle.std.specs.Prelude.{slice_index_or}
 use Rattle.cg_model.specs.Work.{Image}
 use Rattle.cg_files.specs.Held.{Holds, Appends}
-use Rattle.cg_ending.specs.declared.outcome.Status.TheVariants.{Done, Malformed}
-use Rattle.cg_ending.specs.Outcome.{Name, File, Outcome}
-use Rattle.cg_ending.specs.Reads.{HoldsBytes}
-use Rattle.cg_ending.specs.Ends.{Moment, Completed}
+use Rattle.cg_effects.specs.declared.outcome.Status.TheVariants.{Done, Malformed}
+use Rattle.cg_effects.specs.Outcome.{Name, File, Outcome}
+use Rattle.cg_effects.specs.Reads.{HoldsBytes}
+use Rattle.cg_effects.specs.Ends.{Moment, Completed}
 use Rattle.cg_pad.specs.declared.fault.ImageFault.{ImageFault}
 use Rattle.cg_pad.specs.Bytes.{answer_of}
-use Rattle.cg_image_print.proofs.Streamed.{reads_back}
+use Rattle.cg_image_text.proofs.Streamed.{reads_back}
 use Rattle.cg_inputs.proofs.Sound.{IsSound, plain}
 use Rattle.cg_inputs.proofs.Wholes.{whole, differ}
 use Rattle.cg_image_answers.specs.Words.{words_by, words_of, IsImageFile, IsWorded}

@@ -1,13 +1,13 @@
 -- `image TEXT OUT`.
 use Rattle.std.specs.Prelude.{◌≡◌, ℕ, List, [], ◌∷◌, ◌++◌, length, slice_index_or, Result, Ok, Err, codes, decimal}
-use Rattle.cg_below.specs.Below.{lists_below}
+use Rattle.cg_list_laws.specs.Below.{lists_below}
 use Rattle.cg_model.specs.Limits.{port_count}
 use Rattle.cg_model.specs.Work.{Image}
 use Rattle.cg_files.specs.Held.{Holds, Appends}
-use Rattle.cg_ending.specs.declared.outcome.Status.TheVariants.{Done}
-use Rattle.cg_ending.specs.Outcome.{Name, Bytes, File, Outcome, line_of}
-use Rattle.cg_ending.specs.Ends.{Moment}
-use Rattle.cg_ending.specs.Refusals.{malformed_of, writes_one}
+use Rattle.cg_effects.specs.declared.outcome.Status.TheVariants.{Done}
+use Rattle.cg_effects.specs.Outcome.{Name, Bytes, File, Outcome, line_of}
+use Rattle.cg_effects.specs.Ends.{Moment}
+use Rattle.cg_effects.specs.Refusals.{malformed_of, writes_one}
 use Rattle.cg_pad.specs.Bytes as images
 use Rattle.cg_image_text.specs.declared.fault.TextFault.{TextFault}
 use Rattle.cg_image_text.specs.Sections as texts

@@ -2,15 +2,15 @@
 use Rattle.std.specs.Prelude.{◌≡◌, Result, Ok, Err}
 use Rattle.cg_model.specs.Work.{Image}
 use Rattle.cg_files.specs.Held.{Holds, Appends}
-use Rattle.cg_ending.specs.declared.outcome.Status.TheVariants.{Done}
-use Rattle.cg_ending.specs.Outcome.{Name, Bytes, File, Outcome}
-use Rattle.cg_ending.specs.Ends.{Moment}
-use Rattle.cg_ending.specs.Refusals.{malformed_of, reports}
+use Rattle.cg_effects.specs.declared.outcome.Status.TheVariants.{Done}
+use Rattle.cg_effects.specs.Outcome.{Name, Bytes, File, Outcome}
+use Rattle.cg_effects.specs.Ends.{Moment}
+use Rattle.cg_effects.specs.Refusals.{malformed_of, reports}
 use Rattle.cg_pad.specs.declared.fault.ImageFault.{ImageFault}
 use Rattle.cg_pad.specs.Bytes as images
 use Rattle.cg_pad.specs.Texts.{image_fault_text}
 use Rattle.cg_image_text.specs.Sections as texts
-use Rattle.cg_image_print.specs.Printed.{text_of}
+use Rattle.cg_image_text.specs.Printed.{text_of}
 
 -- given the result of parsing the bytes: an image, whose text is the report, or a fault
 abbrev pub words_by : File → Result Image ImageFault → Outcome

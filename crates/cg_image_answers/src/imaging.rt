@@ -1,13 +1,13 @@
 //! `image TEXT OUT`.
 ghost use Rattle.std.specs.Prelude.{◌≡◌, ◌<◌, ◌++◌, IfOk, OnOk};
-ghost use Rattle.cg_below.specs.Below.{lists_below};
+ghost use Rattle.cg_list_laws.specs.Below.{lists_below};
 ghost use Rattle.cg_model.specs.Limits.{port_count};
 ghost use Rattle.cg_pad.specs.Bytes.{IsStorable};
-ghost use Rattle.cg_ending.specs.Allowed.{Allows};
-ghost use Rattle.cg_ending.specs.Outcome.{file_of};
+ghost use Rattle.cg_effects.specs.Allowed.{Allows};
+ghost use Rattle.cg_effects.specs.Outcome.{file_of};
 ghost use Rattle.cg_image_answers.specs.Image.{image_of, image_report, image_written, stream_line};
 
-use cg_ending::{File, Outcome, Status, Stop, refusal};
+use cg_effects::{File, Outcome, Status, Stop, refusal};
 use cg_image_text::{TextFault, read_text, text_fault_text};
 use cg_pad::{Image, PORTS, write_image};
 use std::alloc::{AllocError, Global};

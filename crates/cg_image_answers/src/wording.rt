@@ -1,11 +1,11 @@
 //! `words IMAGE`.
 ghost use Rattle.std.specs.Prelude.{◌≡◌};
-ghost use Rattle.cg_ending.specs.Allowed.{Allows};
-ghost use Rattle.cg_ending.specs.Outcome.{file_of};
+ghost use Rattle.cg_effects.specs.Allowed.{Allows};
+ghost use Rattle.cg_effects.specs.Outcome.{file_of};
 ghost use Rattle.cg_image_answers.specs.Words.{words_of};
 
-use cg_ending::{File, Outcome, Status, Stop, refusal};
-use cg_image_print::print_text;
+use cg_effects::{File, Outcome, Status, Stop, refusal};
+use cg_image_text::print_text;
 use cg_pad::{ImageFault, image_fault_text, read_image};
 use std::alloc::Global;
 

@@ -2,3 +2,9 @@ pub mod Cutting
 pub mod Numerals
 pub mod Running
 pub mod Storable
+pub mod Digits
+pub mod Cuts
+pub mod Joining
+pub mod Leading
+pub mod Sectioned
+pub mod Streamed

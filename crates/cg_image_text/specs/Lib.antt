@@ -5,3 +5,4 @@ pub mod Runs
 pub mod Sections
 pub mod Steps
 pub mod Texts
+pub mod Printed

@@ -1,10 +1,12 @@
-//! Reads images of memory and streams from a text written by hand: sections of words.
+//! Images of memory and streams as texts of words in sections: read from a text written by hand, and printed as a text
+//! that reads back.
 #![tactic(auto)]
 
 mod fault;
 mod field;
 mod number;
 mod place;
+mod print;
 mod reading;
 mod run;
 mod sections;
@@ -12,6 +14,7 @@ mod texts;
 
 pub use fault::{Misread, TextFault};
 pub use place::Place;
+pub use print::print_text;
 pub use reading::read_text;
 pub use run::Run;
 pub use sections::Section;

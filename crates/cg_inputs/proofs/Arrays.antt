@@ -2,7 +2,7 @@
 use Rattle.std.proofs.Common.{◌≡◌, List, ℕ, length, Ok, sym, ◌∙◌, ap, subst, ⊎_elim}
 use Rattle.sha2.proofs.Facts256.{length-sha256}
 use Rattle.cg_model.specs.Array.{Arch, IsArch}
-use Rattle.cg_level.proofs.Solved.{order_or_loop}
+use Rattle.cg_levelize.proofs.Solved.{order_or_loop}
 use Rattle.cg_parts.specs.declared.parts.Parts.{Parts}
 use Rattle.cg_flat.specs.Text.{text_of}
 use Rattle.cg_validate.specs.Flat.{arch_of}

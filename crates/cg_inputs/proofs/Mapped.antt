@@ -3,7 +3,7 @@ use Rattle.std.proofs.Common.{◌≡◌, Result, Ok, Err, refl, sym, ◌∙◌, 
 use Rattle.cg_model.specs.Array.{IsArch}
 use Rattle.cg_model.specs.Kernel.{IsKernel}
 use Rattle.cg_model.specs.Mapping.{Mapping, IsShaped}
-use Rattle.cg_ending.specs.Outcome.{Name, Bytes, File, Outcome}
+use Rattle.cg_effects.specs.Outcome.{Name, Bytes, File, Outcome}
 use Rattle.cg_kernel.proofs.Spelled.{spelled_valid}
 use Rattle.cg_mapping.specs.declared.fault.MappingFault.{MappingFault}
 use Rattle.cg_mapping.specs.Answer as mappings

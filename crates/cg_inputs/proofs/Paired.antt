@@ -2,7 +2,7 @@
 use Rattle.std.proofs.Common.{◌≡◌, ◌≢◌, Result, Ok, Err, refl, sym, ◌∙◌, ap, subst}
 use Rattle.cg_model.specs.Array.{Arch, IsArch}
 use Rattle.cg_model.specs.Kernel.{Kernel, IsKernel}
-use Rattle.cg_ending.specs.Outcome.{Name, Bytes, File, Outcome}
+use Rattle.cg_effects.specs.Outcome.{Name, Bytes, File, Outcome}
 use Rattle.cg_grid.specs.declared.fault.TilesFault.{TilesFault}
 use Rattle.cg_grid.specs.declared.fault.TilesFault.TheVariants as fault
 use Rattle.cg_tiles.specs.Answer as tiles

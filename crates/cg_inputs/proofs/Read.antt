@@ -3,7 +3,7 @@ use Rattle.std.proofs.Common.{◌≡◌, Ok, Err, refl, sym, ◌∙◌, ap}
 use Rattle.cg_model.specs.Array.{Arch}
 use Rattle.cg_model.specs.Kernel.{Kernel}
 use Rattle.cg_model.specs.Mapping.{Mapping}
-use Rattle.cg_ending.specs.Outcome.{File, Outcome}
+use Rattle.cg_effects.specs.Outcome.{File, Outcome}
 use Rattle.cg_tiles.specs.Answer.{AreValidBytes}
 use Rattle.cg_kernel.specs.Answer as kernels
 use Rattle.cg_mapping.specs.Answer as mappings

@@ -1,8 +1,8 @@
 -- Refusals of files.
 use Rattle.std.proofs.Common.{◌≡◌, [], Bool, true, Result, Ok, Err, refl, ap, ◌∙◌}
-use Rattle.cg_ending.specs.declared.outcome.Status.{Status}
-use Rattle.cg_ending.specs.declared.outcome.Status.TheVariants.{Malformed}
-use Rattle.cg_ending.specs.Outcome.{Outcome}
+use Rattle.cg_effects.specs.declared.outcome.Status.{Status}
+use Rattle.cg_effects.specs.declared.outcome.Status.TheVariants.{Malformed}
+use Rattle.cg_effects.specs.Outcome.{Outcome}
 use Rattle.cg_inputs.proofs.Sound.{IsSound}
 
 -- a refusal of a file

@@ -1,10 +1,10 @@
 -- What is known of a file that is refused.
 use Rattle.std.proofs.Common.{◌≡◌, ◌≢◌, Result, Err, ◌∙◌, ap}
-use Rattle.cg_ending.specs.declared.read.Stop.{Stop}
-use Rattle.cg_ending.specs.Outcome.{Name, Bytes}
-use Rattle.cg_ending.specs.Allowed.{EndsBy}
-use Rattle.cg_ending.specs.Refusals.{malformed_of}
-use Rattle.cg_ending.proofs.Allowed.{ends_weaker}
+use Rattle.cg_effects.specs.declared.read.Stop.{Stop}
+use Rattle.cg_effects.specs.Outcome.{Name, Bytes}
+use Rattle.cg_effects.specs.Allowed.{EndsBy}
+use Rattle.cg_effects.specs.Refusals.{malformed_of}
+use Rattle.cg_effects.proofs.Allowed.{ends_weaker}
 use Rattle.cg_inputs.specs.Refused.{Tells}
 
 -- a refusal by the text of a fault tells it

@@ -1,9 +1,9 @@
 -- What holds of every outcome of a command.
 use Rattle.std.proofs.Common.{◌≡◌, ◌⊎◌, Bool, true, false, List, [], sym, ap, ◌∙◌}
-use Rattle.cg_ending.specs.declared.outcome.Status.{Status}
-use Rattle.cg_ending.specs.declared.outcome.Status.TheVariants.{Done, Memory, Usage, Malformed, Impossible, ReadFault, WriteFault, BudgetSpent, No}
-use Rattle.cg_ending.specs.Outcome.{Name, Outcome, names_of}
-use Rattle.cg_ending.specs.Status.{leaves_all}
+use Rattle.cg_effects.specs.declared.outcome.Status.{Status}
+use Rattle.cg_effects.specs.declared.outcome.Status.TheVariants.{Done, Memory, Usage, Malformed, Impossible, ReadFault, WriteFault, BudgetSpent, No}
+use Rattle.cg_effects.specs.Outcome.{Name, Outcome, names_of}
+use Rattle.cg_effects.specs.Status.{leaves_all}
 
 -- a command's own statuses: beside those of each command that of one that may say no, and those of a search
 abbrev pub owns : Bool → Bool → Status → Bool

@@ -2,8 +2,8 @@
 use Rattle.std.specs.Prelude.{◌≡◌, ◌≢◌, Result, Err}
 use Rattle.cg_model.specs.Array.{Arch}
 use Rattle.cg_model.specs.Kernel.{Kernel}
-use Rattle.cg_ending.specs.Outcome.{Name, Bytes, File, Outcome}
-use Rattle.cg_ending.specs.Refusals.{malformed_of}
+use Rattle.cg_effects.specs.Outcome.{Name, Bytes, File, Outcome}
+use Rattle.cg_effects.specs.Refusals.{malformed_of}
 use Rattle.cg_grid.specs.declared.fault.TilesFault.TheVariants as tiles_fault
 use Rattle.cg_grid.specs.Texts.{tiles_fault_text}
 use Rattle.cg_tiles.specs.Answer as tiles

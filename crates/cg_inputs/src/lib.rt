@@ -6,7 +6,7 @@ mod readers;
 
 pub use cg_arch::Arch;
 pub use cg_check::LegalMapping;
-pub use cg_ending::{File, Outcome, Stop};
+pub use cg_effects::{File, Outcome, Stop};
 pub use cg_model::{Kernel, Mapping};
 pub use cg_pad::Image;
 pub use cg_view::ConfigView;

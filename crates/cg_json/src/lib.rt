@@ -1,13 +1,16 @@
-//! JSON texts: the values that bytes represent, and access to these values for readers of formats.
+//! JSON texts: the values that bytes represent, and access to these values for readers of formats; and that
+//! the text of a value without floats reads back as the value.
 #![tactic(auto)]
 
 ghost use Rattle.std.specs.Prelude.{◌≡◌, Some, None, IfOk, IsErrOf};
 ghost use Rattle.serde_json.specs.View.{view};
 ghost use Rattle.cg_json.specs.Bytes.{value_of};
 
+mod laws;
 mod members;
 mod size;
 
+pub use laws::plain_reads_back;
 pub use members::{
     WordReader, has_other_keys, items_at, items_or_none, optional_word_at, text_at, word_in,
     word_or,

@@ -2,7 +2,7 @@
 use Rattle.std.specs.Prelude.{ℕ, List, Some, String}
 use Rattle.std.specs.declared.alloc.Global.{Global}
 use Rattle.indexmap.specs.IndexMap.{IndexMap}
-use Rattle.cg_names.specs.Numbers.{IsNumbering}
+use Rattle.cg_reading.specs.Numbers.{IsNumbering}
 use Rattle.cg_kernel.specs.Written.{WrittenNode}
 
 -- the map has the number of the first node of each name

@@ -8,7 +8,7 @@ use Rattle.cg_word.specs.Word.{arity, code, has_value, has_port, is_output, op_n
 use Rattle.cg_model.specs.Names.{is_name}
 use Rattle.cg_model.specs.First.{first_from, is_before}
 use Rattle.cg_model.specs.Limits.{most_nodes, most_order_edges}
-use Rattle.cg_names.specs.Numbers as numbers
+use Rattle.cg_reading.specs.Numbers as numbers
 use Rattle.cg_kernel.specs.Written.{KernelPlace, Format, WrittenArg, WrittenNode, WrittenEdge, WrittenKernel}
 use Rattle.cg_kernel.specs.declared.fault.KernelFault.{KernelFault}
 use Rattle.cg_kernel.specs.declared.fault.KernelFault.TheVariants as fault

@@ -9,7 +9,7 @@ ghost use Rattle.cg_kernel.specs.Answer as spec;
 use crate::rules::op_of;
 use crate::written::{WrittenArg, WrittenEdge, WrittenKernel, WrittenNode};
 use cg_model::{Items, Kernel, Name, Node, Operand, OrderEdge, Words};
-use cg_names::{Numbers, number_in};
+use cg_reading::{Numbers, number_in};
 use cg_word::Op;
 use std::alloc::{AllocError, Global};
 

@@ -8,7 +8,7 @@ use crate::fault::{KernelFault, KernelPlace};
 use crate::rule::Rule;
 use crate::rules::{applies_to_edge, applies_to_file, applies_to_node};
 use crate::written::WrittenKernel;
-use cg_names::Numbers;
+use cg_reading::Numbers;
 
 /// Returns the lowest of K3 to K16 that applies, at its first place.
 pub fn first_fault(numbers: &Numbers, written: &WrittenKernel) -> Option<KernelFault>

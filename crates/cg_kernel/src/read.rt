@@ -14,8 +14,7 @@ use crate::reading;
 use crate::written::WrittenKernel;
 use cg_json::{JsonFault, json_value};
 use cg_model::Kernel;
-use cg_names::numbers_of;
-use cg_reading::Misfit;
+use cg_reading::{Misfit, numbers_of};
 use serde_json::Value;
 use std::alloc::Global;
 

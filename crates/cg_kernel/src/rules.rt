@@ -11,7 +11,7 @@ use cg_model::{
     LAST_PORT, LONGEST_NODE_NAME, MOST_DISTANCE, MOST_NODES, MOST_ORDER_DISTANCE, MOST_ORDER_EDGES,
     is_name,
 };
-use cg_names::{Numbers, is_before, number_in};
+use cg_reading::{Numbers, is_before, number_in};
 use cg_word::Op;
 
 /// Returns the operation of `node`, if the format of `written` has one of that name.

@@ -1,7 +1,7 @@
 //! The description of a kernel in its file, before names and operations are looked up.
 
 use cg_model::{Items, Name, Words};
-use cg_names::Named;
+use cg_reading::Named;
 
 /// The format that a file names: only the second one has the guarded operations.
 #[derive(Clone, Copy, Debug, PartialEq, Eq)]

@@ -6,24 +6,22 @@ use Rattle.std.specs.Str.{IsAscii}
 use Rattle.std.proofs.lemmas.Bool.{and_parts, cases_lt, cases_Bool}
 use Rattle.std.proofs.lemmas.List.{get_or_past}
 use Rattle.std.proofs.lemmas.Str.{IsUtf8-from_ascii}
-use Rattle.std.proofs.lemmas.Option.{slice_get_within}
 use Rattle.json.proofs.Printed.Utf8.{are_ascii, IsUtf8-are_ascii}
-use Rattle.serde_json.specs.Data.{Data, Members, no_members, member, array}
-use Rattle.serde_json.specs.View.{items_of}
+use Rattle.serde_json.specs.Data.{Data, no_members, member}
 use Rattle.cg_word.specs.declared.op.Op.{Op}
 use Rattle.cg_word.specs.Word as word
 use Rattle.cg_word.proofs.Codes.{op_named_again}
 use Rattle.cg_model.specs.Names.{between, begins_name, within_name, IsName}
-use Rattle.cg_model.specs.Kernel.{Kernel, size, node, HasOperand, IsKernel}
+use Rattle.cg_model.specs.Kernel.{Kernel, size, IsKernel}
 use Rattle.cg_model.specs.declared.kernel.Node.{Node}
 use Rattle.cg_model.specs.declared.kernel.Operand.{Operand}
 use Rattle.cg_model.specs.declared.kernel.Operand.TheVariants.{Const, Edge}
 use Rattle.cg_model.specs.declared.kernel.OrderEdge.{OrderEdge}
 use Rattle.cg_kernel.specs.Answer.{answer_of}
-use Rattle.cg_json_text.specs.Plain.{IsPlain, ArePlain, ArePlainAfter}
-use Rattle.cg_json_text.proofs.Items.{ArePlain-map}
-use Rattle.cg_json_text.proofs.Back.{reads_back}
-use Rattle.cg_kernel_text.specs.Printed.{word_data, name_at, operand_data, port_members, node_data, edge_data, data_of, kernel_text}
+use Rattle.cg_json.specs.Plain.{IsPlain, ArePlain, ArePlainAfter}
+use Rattle.cg_json.proofs.Items.{ArePlain-map}
+use Rattle.cg_json.proofs.Back.{reads_back}
+use Rattle.cg_kernel_text.specs.Printed.{word_data, name_at, operand_data, node_data, edge_data, data_of, kernel_text}
 use Rattle.cg_kernel_text.proofs.Back.{node_is, has, below, word_at}
 use Rattle.cg_kernel_text.proofs.Clear.{answer-back}
 use Rattle.cg_kernel_text.proofs.Depths.{data_of-depth}

@@ -7,11 +7,11 @@ use Rattle.cg_loop_syntax.specs.declared.fault.LoopFault.{LoopFault}
 use Rattle.cg_loop_syntax.specs.declared.fault.LoopFault.TheVariants as fault
 use Rattle.cg_loop_syntax.specs.Loop.{Body}
 use Rattle.cg_loop_syntax.specs.Uses.{Use, fault_of, first_where, is_unknown, is_repeated, is_misassigned, is_misplaced, is_bad_port}
-use Rattle.cg_loop_text.specs.Grammar.{Text, IsFile}
-use Rattle.cg_loop_text.specs.Meaning.{text_body, text_uses}
-use Rattle.cg_loop_text.specs.Rules.{rule, start}
-use Rattle.cg_loop_text.proofs.OneText.{one_text}
-use Rattle.cg_loop_text.proofs.Whole.{solid, whole_file, rest_ends, whole_fault, no_file, one_fault}
+use Rattle.cg_loop_text_spec.specs.Grammar.{Text, IsFile}
+use Rattle.cg_loop_text_spec.specs.Meaning.{text_body, text_uses}
+use Rattle.cg_loop_text_spec.specs.Rules.{rule, start}
+use Rattle.cg_loop_text_spec.proofs.OneText.{one_text}
+use Rattle.cg_loop_text_spec.proofs.Whole.{solid, whole_file, rest_ends, whole_fault, no_file, one_fault}
 use Rattle.cg_loop_reader.specs.Doubled.{double}
 use Rattle.cg_loop_reader.specs.Left.{last_token}
 use Rattle.cg_loop_reader.specs.Answer.{IsTree, Spells, FaultIn, IsUseFault, IsFault}

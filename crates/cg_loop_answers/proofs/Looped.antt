@@ -4,9 +4,9 @@ use Rattle.std.proofs.lemmas.Bool.{le-ltb, ltb-false}
 use Rattle.cg_model.specs.Limits.{most_nodes, most_order_edges}
 use Rattle.cg_model.specs.Kernel.{Kernel, size}
 use Rattle.cg_files.specs.Held.{Holds, Appends}
-use Rattle.cg_ending.specs.declared.outcome.Status.TheVariants.{Done, Malformed}
-use Rattle.cg_ending.specs.Outcome.{Name, File, Outcome}
-use Rattle.cg_ending.specs.Ends.{Moment, Completed, Wrote}
+use Rattle.cg_effects.specs.declared.outcome.Status.TheVariants.{Done, Malformed}
+use Rattle.cg_effects.specs.Outcome.{Name, File, Outcome}
+use Rattle.cg_effects.specs.Ends.{Moment, Completed, Wrote}
 use Rattle.cg_kernel_text.specs.Printed.{kernel_text}
 use Rattle.cg_kernel_text.proofs.Plain.{answer-kernel_text}
 use Rattle.cg_loop_syntax.specs.declared.fault.Excess.{Excess}

@@ -10,11 +10,11 @@ use Rattle.cg_loop_syntax.specs.Loop as plain
 use Rattle.cg_loop_syntax.specs.Grouped.{applied}
 use Rattle.cg_loop_syntax.specs.Uses.{fault_of}
 use Rattle.cg_loop_syntax.specs.Well.{is_word_op, most_open}
-use Rattle.cg_loop_text.specs.Words.{number_of, is_number, added_by, compared_by, op_of}
-use Rattle.cg_loop_text.specs.Grammar.{Expr, Plain, Compared, Sum, Sums, Terms, NoTerms, Term, Prod, Prods, Factors, NoFactors, Factor, Atom, Number, Turn, Input, Scalar, Item, Bracket, Apply, Args, One, More, Guard, NoGuard, If, Stmt, Let, Assign, Store, Out, Decl, Array, Carry, Text, IsExpr, IsSum, IsTerms, IsProd, IsFactors, IsAtom, IsArgs, IsGuard, IsStmt, IsDecl, IsText}
-use Rattle.cg_loop_text.specs.Meaning.{expr_value, sum_value, terms_value, prod_value, factors_value, atom_value, args_values, guard_value, stmt_value, decl_value, text_body, text_uses}
-use Rattle.cg_loop_text.proofs.Texts.{op_name}
-use Rattle.cg_loop_text.proofs.Uses.{uses_of, fault_places}
+use Rattle.cg_loop_text_spec.specs.Words.{number_of, is_number, added_by, compared_by, op_of}
+use Rattle.cg_loop_text_spec.specs.Grammar.{Expr, Plain, Compared, Sum, Sums, Terms, NoTerms, Term, Prod, Prods, Factors, NoFactors, Factor, Atom, Number, Turn, Input, Scalar, Item, Bracket, Apply, Args, One, More, Guard, NoGuard, If, Stmt, Let, Assign, Store, Out, Decl, Array, Carry, Text, IsExpr, IsSum, IsTerms, IsProd, IsFactors, IsAtom, IsArgs, IsGuard, IsStmt, IsDecl, IsText}
+use Rattle.cg_loop_text_spec.specs.Meaning.{expr_value, sum_value, terms_value, prod_value, factors_value, atom_value, args_values, guard_value, stmt_value, decl_value, text_body, text_uses}
+use Rattle.cg_loop_text_spec.proofs.Texts.{op_name}
+use Rattle.cg_loop_text_spec.proofs.Uses.{uses_of, fault_places}
 use Rattle.cg_loop_laws.specs.Laws.{is_sound, is_sound_guard, is_sound_stmt, is_sound_decl, IsLoop}
 use Rattle.cg_loop_laws.proofs.Rows.{two_sound, applied_sound}
 use Rattle.cg_loop_reader.specs.Answer.{Spells}

@@ -5,10 +5,10 @@ use Rattle.cg_model.specs.Kernel.{Kernel, IsKernel, size}
 use Rattle.cg_model.specs.Order.{IsUnaliased}
 use Rattle.cg_model.specs.Work.{Image}
 use Rattle.cg_files.specs.Held.{Holds, Appends}
-use Rattle.cg_ending.specs.declared.outcome.Status.TheVariants.{Done}
-use Rattle.cg_ending.specs.Outcome.{Name, Bytes, File, Outcome, line_of, line_then}
-use Rattle.cg_ending.specs.Ends.{Moment}
-use Rattle.cg_ending.specs.Refusals.{malformed_of, writes_one}
+use Rattle.cg_effects.specs.declared.outcome.Status.TheVariants.{Done}
+use Rattle.cg_effects.specs.Outcome.{Name, Bytes, File, Outcome, line_of, line_then}
+use Rattle.cg_effects.specs.Ends.{Moment}
+use Rattle.cg_effects.specs.Refusals.{malformed_of, writes_one}
 use Rattle.cg_kernel.specs.Answer.{answer_of}
 use Rattle.cg_kernel_text.specs.Printed.{kernel_text}
 use Rattle.cg_loop_syntax.specs.declared.fault.Excess.{Excess}

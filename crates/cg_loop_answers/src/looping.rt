@@ -1,13 +1,13 @@
 //! `loop SOURCE OUT`.
 ghost use Rattle.std.specs.Prelude.{◌≡◌, IfOk};
-ghost use Rattle.cg_ending.specs.Allowed.{Allows};
-ghost use Rattle.cg_ending.specs.Outcome.{file_of};
+ghost use Rattle.cg_effects.specs.Allowed.{Allows};
+ghost use Rattle.cg_effects.specs.Outcome.{file_of};
 ghost use Rattle.cg_loop_syntax.specs.Body.{body_of};
 ghost use Rattle.cg_loop_laws.specs.Translate.{loop_kernel_of};
 ghost use Rattle.cg_loop_answers.specs.Loop.{IsLoopOf, kernel_outcome, kernel_written, loop_report};
 
 use crate::reading::body_in;
-use cg_ending::{File, Outcome, Status, Stop, refusal};
+use cg_effects::{File, Outcome, Status, Stop, refusal};
 use cg_kernel_text::print_kernel;
 use cg_loop::{LoopBody, LoopFault, loop_fault_text, loop_kernel};
 use cg_model::Kernel;

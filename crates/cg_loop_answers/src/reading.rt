@@ -1,12 +1,12 @@
 //! Reads the loop body in a file. A file without a valid loop body ends the call with the outcome that refuses it.
 ghost use Rattle.std.specs.Prelude.{IfOk, IfErr};
-ghost use Rattle.cg_ending.specs.Allowed.{EndsBy};
-ghost use Rattle.cg_ending.specs.Outcome.{file_of};
+ghost use Rattle.cg_effects.specs.Allowed.{EndsBy};
+ghost use Rattle.cg_effects.specs.Outcome.{file_of};
 ghost use Rattle.cg_loop_syntax.specs.Body.{body_of};
 ghost use Rattle.cg_loop_reader.specs.Answer.{Spells};
 ghost use Rattle.cg_loop_answers.specs.Loop.{RefusesLoop};
 
-use cg_ending::{File, Stop, refusal};
+use cg_effects::{File, Stop, refusal};
 use cg_loop::{LoopBody, LoopFault, loop_fault_text, read_loop};
 use std::alloc::Global;
 

@@ -17,14 +17,14 @@ use Rattle.cg_loop_syntax.specs.Body.{body_of}
 use Rattle.cg_loop_syntax.specs.Grouped.{grouped}
 use Rattle.cg_loop_syntax.specs.Uses.{Use, fault_of, first_where, is_unknown, is_repeated, is_misassigned, is_misplaced, is_bad_port, is_ruled}
 use Rattle.cg_loop_syntax.specs.Well.{IsWell, is_well_stmt, is_well_decl}
-use Rattle.cg_loop_text.specs.Grammar as grammar
-use Rattle.cg_loop_text.specs.Grammar.{IsText, IsFile, text_tokens}
-use Rattle.cg_loop_text.specs.Meaning.{text_body, text_uses}
-use Rattle.cg_loop_text.specs.Rules.{rule, start}
-use Rattle.cg_loop_text.proofs.OneText.{one_text}
-use Rattle.cg_loop_text.proofs.Uses.{uses_of, fault_places}
-use Rattle.cg_loop_text.proofs.Whole.{whole_fault, solid, no_file, one_fault}
-use Rattle.cg_loop_names.specs.Judged.{IsFaultOf}
+use Rattle.cg_loop_text_spec.specs.Grammar as grammar
+use Rattle.cg_loop_text_spec.specs.Grammar.{IsText, IsFile, text_tokens}
+use Rattle.cg_loop_text_spec.specs.Meaning.{text_body, text_uses}
+use Rattle.cg_loop_text_spec.specs.Rules.{rule, start}
+use Rattle.cg_loop_text_spec.proofs.OneText.{one_text}
+use Rattle.cg_loop_text_spec.proofs.Uses.{uses_of, fault_places}
+use Rattle.cg_loop_text_spec.proofs.Whole.{whole_fault, solid, no_file, one_fault}
+use Rattle.cg_loop_reader.specs.Judged.{IsFaultOf}
 use Rattle.cg_loop_reader.specs.declared.read.Parts.{Parts}
 use Rattle.cg_loop_reader.specs.declared.reader.Reader.{Reader}
 use Rattle.cg_loop_reader.specs.Doubled.{double}

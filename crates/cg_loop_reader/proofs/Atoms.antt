@@ -17,13 +17,13 @@ use Rattle.cg_loop_syntax.specs.Loop as loops
 use Rattle.cg_loop_syntax.specs.Grouped.{expr_of, atom_of, applied}
 use Rattle.cg_loop_syntax.specs.Uses.{Use}
 use Rattle.cg_loop_syntax.specs.Well.{is_loop_name, is_word_op, is_well_expr, is_well_atom}
-use Rattle.cg_loop_text.specs.Words.{is_number, number_of, op_called, op_of}
-use Rattle.cg_loop_text.specs.Grammar as grammar
-use Rattle.cg_loop_text.specs.Grammar.{expr_tokens, args_tokens}
-use Rattle.cg_loop_text.specs.Meaning.{of_name, of_port, expr_uses, args_uses, expr_value, args_values}
-use Rattle.cg_loop_text.specs.Read as read
-use Rattle.cg_loop_text.proofs.Steps as steps
-use Rattle.cg_loop_text.proofs.Sums as sums
+use Rattle.cg_loop_text_spec.specs.Words.{is_number, number_of, op_called, op_of}
+use Rattle.cg_loop_text_spec.specs.Grammar as grammar
+use Rattle.cg_loop_text_spec.specs.Grammar.{expr_tokens, args_tokens}
+use Rattle.cg_loop_text_spec.specs.Meaning.{of_name, of_port, expr_uses, args_uses, expr_value, args_values}
+use Rattle.cg_loop_text_spec.specs.Read as read
+use Rattle.cg_loop_text_spec.proofs.Steps as steps
+use Rattle.cg_loop_text_spec.proofs.Sums as sums
 use Rattle.cg_loop_reader.specs.declared.reader.Reader.{Reader}
 use Rattle.cg_loop_reader.specs.declared.reader.Numeral.{Numeral}
 use Rattle.cg_loop_reader.specs.Left.{left, noted, Keeps, Takes, TakesNumber, Notes}
@@ -115,7 +115,7 @@ named_found room t a old l new h e k x = record {
 }
   where
     grammar_uses : grammar.Atom → List Use
-    grammar_uses = Rattle.cg_loop_text.specs.Meaning.atom_uses
+    grammar_uses = Rattle.cg_loop_text_spec.specs.Meaning.atom_uses
 
 -- an expression in brackets
 pub bracket_found : (room less : ℕ) (t : Token) (a : Atom) (e : Expr) (old l p new : Reader) → t.text.now ≡ codes "(" → room ≡ suc less → atom_of a ≡ expr_of e → is_well_atom room a ≡ (nat_lt 0 room && is_well_expr (room - 1) e)
@@ -175,7 +175,7 @@ pub apply_found : (room less n : ℕ) (op : Op) (t : Token) (a : Atom) (items : 
     → atom_of a ≡ applied op (map expr_of items) → is_well_atom room a ≡ ((nat_lt 0 room && (is_word_op op && eqb (length items) (arity op))) && list_all (is_well_expr (room - 1)) items)
     → left old ≡ seen t ∷ left l → Keeps old l → Takes (codes "(") l m → FindsOperands less n [] items m new → FindsAtom room a old new
 apply_found room less n op t a items old l m new h ar z av aw s k b y =
-    let named = Rattle.cg_loop_text.proofs.Texts.op_name t.text.now op h in
+    let named = Rattle.cg_loop_text_spec.proofs.Texts.op_name t.text.now op h in
     let same : items ≡ y.found = y.appended in
     let many : length items ≡ arity op = sym (length_map expr_of items) ∙ ap length (ap (map expr_of) same ∙ y.values) ∙ found_many less n y.tree y.is ∙ sym ar in
     record {

@@ -3,7 +3,7 @@ use Rattle.std.proofs.Common.{◌≡◌, ℕ, Bool, true, false, List, cond, ref
 use Rattle.std.specs.Prelude.{codes, bytes_eq}
 use Rattle.std.proofs.lemmas.Slice.Eq.{bytes_eq-Decides}
 use Rattle.cg_loop_syntax.specs.Well.{is_loop_name}
-use Rattle.cg_loop_text.specs.Words.{is_number, number_of}
+use Rattle.cg_loop_text_spec.specs.Words.{is_number, number_of}
 use Rattle.cg_loop_reader.specs.declared.words.Beginning.{Beginning}
 use Rattle.cg_loop_reader.specs.declared.words.Beginning.TheVariants as begins
 use Rattle.cg_loop_reader.specs.Kinds.{beginning_of}

@@ -6,7 +6,7 @@ use Rattle.std.proofs.lemmas.Bool.{cond_both}
 use Rattle.cg_word.specs.declared.op.Op.{Op}
 use Rattle.cg_word.specs.Word.{all_ops, name_of}
 use Rattle.cg_loop_syntax.specs.Well.{is_op_name, is_word_op}
-use Rattle.cg_loop_text.specs.Words.{op_called}
+use Rattle.cg_loop_text_spec.specs.Words.{op_called}
 
 some_found : (test : Op → Bool) (ops : List Op) → is_some (find test ops) ≡ list_any test ops
 some_found test [] = refl

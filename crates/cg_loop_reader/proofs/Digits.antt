@@ -7,7 +7,7 @@ use Rattle.std.proofs.lemmas.List.{take_more}
 use Rattle.std.proofs.Math.Nat.{pow-succ'}
 use Rattle.std.proofs.lemmas.Bool.{and_parts}
 use borrow.Author.Tests.{leb-true}
-use Rattle.cg_loop_text.specs.Words.{number_from, number_of}
+use Rattle.cg_loop_text_spec.specs.Words.{number_from, number_of}
 
 number_push : (n : ℕ) (ds : List ℕ) (d : ℕ) → number_from n (ds ++ d ∷ []) ≡ 10 * number_from n ds + (d - 48)
 number_push n [] d = refl

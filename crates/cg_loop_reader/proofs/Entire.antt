@@ -4,12 +4,12 @@ use Rattle.std.specs.Prelude.{codes}
 use Rattle.std.specs.List.{flat_map}
 use Rattle.cg_loop_syntax.specs.declared.body.Decl.{Decl}
 use Rattle.cg_tokens.specs.Tokens.{tokens_at}
-use Rattle.cg_loop_text.specs.Grammar.{decl_tokens, stmt_tokens}
-use Rattle.cg_loop_text.specs.Meaning.{decls_uses, stmt_uses}
-use Rattle.cg_loop_text.specs.Rules.{Exactly, Lines}
-use Rattle.cg_loop_text.specs.Read as read
-use Rattle.cg_loop_text.proofs.Lines as lines
-use Rattle.cg_loop_text.proofs.Rows as rows
+use Rattle.cg_loop_text_spec.specs.Grammar.{decl_tokens, stmt_tokens}
+use Rattle.cg_loop_text_spec.specs.Meaning.{decls_uses, stmt_uses}
+use Rattle.cg_loop_text_spec.specs.Rules.{Exactly, Lines}
+use Rattle.cg_loop_text_spec.specs.Read as read
+use Rattle.cg_loop_text_spec.proofs.Lines as lines
+use Rattle.cg_loop_text_spec.proofs.Rows as rows
 use Rattle.cg_loop_reader.specs.declared.read.Parts.{Parts}
 use Rattle.cg_loop_reader.specs.declared.reader.Reader.{Reader}
 use Rattle.cg_loop_reader.specs.declared.fault.Misfit.{Misfit}

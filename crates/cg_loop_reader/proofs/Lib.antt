@@ -11,3 +11,9 @@ mod Parts
 mod Stated
 mod Strayed
 mod Taken
+mod Assigned
+mod Declared
+mod Meeting
+mod Named
+mod Renamed
+mod Steps

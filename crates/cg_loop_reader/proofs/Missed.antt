@@ -12,11 +12,11 @@ use Rattle.cg_loop_syntax.specs.declared.syntax.Term.{Term}
 use Rattle.cg_loop_syntax.specs.declared.syntax.Sum.{Sum}
 use Rattle.cg_loop_syntax.specs.Uses as uses
 use Rattle.cg_loop_syntax.specs.Well.{is_loop_name}
-use Rattle.cg_loop_text.specs.Words.{op_called, added_by, compared_by}
-use Rattle.cg_loop_text.specs.Read as read
-use Rattle.cg_loop_text.specs.Rules.{Exactly, Digits}
-use Rattle.cg_loop_text.proofs.Steps as steps
-use Rattle.cg_loop_text.proofs.Sums as sums
+use Rattle.cg_loop_text_spec.specs.Words.{op_called, added_by, compared_by}
+use Rattle.cg_loop_text_spec.specs.Read as read
+use Rattle.cg_loop_text_spec.specs.Rules.{Exactly, Digits}
+use Rattle.cg_loop_text_spec.proofs.Steps as steps
+use Rattle.cg_loop_text_spec.proofs.Sums as sums
 use Rattle.cg_loop_reader.specs.declared.reader.Reader.{Reader}
 use Rattle.cg_loop_reader.specs.declared.fault.Misfit.{Misfit}
 use Rattle.cg_loop_reader.specs.declared.fault.Misfit.TheVariants.{Memory, Text}

@@ -15,12 +15,12 @@ use Rattle.cg_loop_syntax.specs.Loop as loops
 use Rattle.cg_loop_syntax.specs.Grouped.{expr_of, sum_of, atom_of, product, whole_prod, terms}
 use Rattle.cg_loop_syntax.specs.Well.{is_adding, is_comparing, is_well_expr, is_well_sum, is_well_atom, has_atom, is_well_product, is_well_term}
 use Rattle.cg_loop_syntax.proofs.Rows.{terms_push, factors_push}
-use Rattle.cg_loop_text.specs.Words.{added_by, compared_by, op_of}
-use Rattle.cg_loop_text.specs.Grammar as grammar
-use Rattle.cg_loop_text.specs.Grammar.{Factors, Terms, NoFactors, Factor, NoTerms, Term as TermTree, Prods, Sums, Plain, Compared, IsAtom, IsProd, IsFactors, IsTerms, factors_tokens, terms_tokens, atom_tokens, prod_tokens, sum_tokens}
-use Rattle.cg_loop_text.specs.Meaning.{sum_value, factors_value, terms_value, atom_value, prod_value, factors_uses, terms_uses, atom_uses, prod_uses, sum_uses}
-use Rattle.cg_loop_text.specs.Read as read
-use Rattle.cg_loop_text.proofs.Sums as sums
+use Rattle.cg_loop_text_spec.specs.Words.{added_by, compared_by, op_of}
+use Rattle.cg_loop_text_spec.specs.Grammar as grammar
+use Rattle.cg_loop_text_spec.specs.Grammar.{Factors, Terms, NoFactors, Factor, NoTerms, Term as TermTree, Prods, Sums, Plain, Compared, IsAtom, IsProd, IsFactors, IsTerms, factors_tokens, terms_tokens, atom_tokens, prod_tokens, sum_tokens}
+use Rattle.cg_loop_text_spec.specs.Meaning.{sum_value, factors_value, terms_value, atom_value, prod_value, factors_uses, terms_uses, atom_uses, prod_uses, sum_uses}
+use Rattle.cg_loop_text_spec.specs.Read as read
+use Rattle.cg_loop_text_spec.proofs.Sums as sums
 use Rattle.cg_loop_reader.specs.declared.reader.Reader.{Reader}
 use Rattle.cg_loop_reader.specs.Left.{left, noted, Takes, TakesSign}
 use Rattle.cg_loop_reader.specs.Found.{FindsAtom, FindsProduct, FindsTerms, FindsSum, FindsExpr}

@@ -16,16 +16,16 @@ use Rattle.cg_loop_syntax.specs.declared.body.Stmt.TheVariants as stmts
 use Rattle.cg_loop_syntax.specs.Loop as loops
 use Rattle.cg_loop_syntax.specs.Grouped.{stmt_of}
 use Rattle.cg_loop_syntax.specs.Well.{is_loop_name, is_well_expr, is_well_guard, is_well_stmt, is_well_decl, most_open}
-use Rattle.cg_loop_text.specs.Words.{is_number, number_of}
-use Rattle.cg_loop_text.specs.Grammar as grammar
-use Rattle.cg_loop_text.specs.Grammar.{Is, IsStmt, IsDecl, expr_tokens, guard_tokens, stmt_tokens, decl_tokens}
-use Rattle.cg_loop_text.specs.Meaning.{of_name, of_port, expr_uses, guard_uses, stmt_uses, decl_use, decls_uses, stmt_value, decl_value}
-use Rattle.cg_loop_text.specs.Rules.{Exactly, Operand, Semicolon, Square, Guarded as GuardedCloser, Name, Digits, Target}
-use Rattle.cg_loop_text.specs.Read as read
-use Rattle.cg_loop_text.proofs.Lines as lines
-use Rattle.cg_loop_text.proofs.Rows as rows
-use Rattle.cg_loop_text.proofs.Runs as runs
-use Rattle.cg_loop_text.proofs.Steps as steps
+use Rattle.cg_loop_text_spec.specs.Words.{is_number, number_of}
+use Rattle.cg_loop_text_spec.specs.Grammar as grammar
+use Rattle.cg_loop_text_spec.specs.Grammar.{Is, IsStmt, IsDecl, expr_tokens, guard_tokens, stmt_tokens, decl_tokens}
+use Rattle.cg_loop_text_spec.specs.Meaning.{of_name, of_port, expr_uses, guard_uses, stmt_uses, decl_use, decls_uses, stmt_value, decl_value}
+use Rattle.cg_loop_text_spec.specs.Rules.{Exactly, Operand, Semicolon, Square, Guarded as GuardedCloser, Name, Digits, Target}
+use Rattle.cg_loop_text_spec.specs.Read as read
+use Rattle.cg_loop_text_spec.proofs.Lines as lines
+use Rattle.cg_loop_text_spec.proofs.Rows as rows
+use Rattle.cg_loop_text_spec.proofs.Runs as runs
+use Rattle.cg_loop_text_spec.proofs.Steps as steps
 use Rattle.cg_loop_reader.specs.declared.lines.Guarded.{Guarded}
 use Rattle.cg_loop_reader.specs.declared.reader.Reader.{Reader}
 use Rattle.cg_loop_reader.specs.declared.reader.Numeral.{Numeral}
@@ -198,7 +198,7 @@ emit_found t port v old m r1 r2 new h s k n w x =
       spelled = s ∙ ap (λ u. seen t ∷ u) (n.spelled ∙ ap (λ u. n.token ∷ u) rest);
       noted = noted_after (noted old) (noted r2) (noted new) (of_port (roles.Output (number_of n.token.text)) n.token ∷ []) (expr_uses x.tree ++ guard_uses x.guard)
           (w.noted ∙ ap₂ (λ u y. u ++ y ∷ []) (n.kept.noted ∙ k.noted) (sym (ap₂ (λ (p q : ℕ). record { role = roles.Output p; name = []; place = q }) n.value n.place))) x.noted;
-      value = ap₂ (λ (p : ℕ) y. loops.Emit p y (Rattle.cg_loop_syntax.specs.Grouped.guard_of v.guard)) (sym n.value) x.value ∙ ap (loops.Emit (number_of n.token.text) (Rattle.cg_loop_text.specs.Meaning.expr_value x.tree)) x.guard_value;
+      value = ap₂ (λ (p : ℕ) y. loops.Emit p y (Rattle.cg_loop_syntax.specs.Grouped.guard_of v.guard)) (sym n.value) x.value ∙ ap (loops.Emit (number_of n.token.text) (Rattle.cg_loop_text_spec.specs.Meaning.expr_value x.tree)) x.guard_value;
       well = and_from (is_well_expr most_open v.value) (is_well_guard v.guard) x.well x.guard_well;
       ran = lines.out_line false (left old) (left m) (left new) (record { token = seen t; is = h; whole = s })
           (runs.reads_then Digits (Exactly (codes "=") ∷ Operand GuardedCloser false most_open ∷ []) (left m) (left r1) (left new) (number_read port m r1 n) (subst (λ y. read.Reads (Exactly (codes "=") ∷ Operand GuardedCloser false most_open ∷ []) y (left new)) w.left x.ran));
@@ -235,7 +235,7 @@ store_found name own ix v old m n p q new h w b x c y o =
       spelled = ap (λ u. seen name ∷ u) (front ∙ ap (λ u. b.token ∷ u) (after (left n) (left p) (left new) (expr_tokens x.tree) (c.token ∷ y.sign ∷ (expr_tokens y.tree ++ (guard_tokens y.guard ++ (y.end ∷ [])))) x.spelled back));
       noted = noted_after (noted old) (noted n) (noted new) (of_name roles.Item (seen name) ∷ []) (expr_uses x.tree ++ (expr_uses y.tree ++ guard_uses y.guard)) (b.kept.noted ∙ w.noted)
           (noted_after (noted n) (noted q) (noted new) (expr_uses x.tree) (expr_uses y.tree ++ guard_uses y.guard) (c.kept.noted ∙ x.noted) y.noted);
-      value = ap₂ (λ (a : List ℕ) i. loops.Put a i (Rattle.cg_loop_syntax.specs.Grouped.expr_of v.value) (Rattle.cg_loop_syntax.specs.Grouped.guard_of v.guard)) o x.value ∙ ap₂ (λ a g. loops.Put name.text.now (Rattle.cg_loop_text.specs.Meaning.expr_value x.tree) a g) y.value y.guard_value;
+      value = ap₂ (λ (a : List ℕ) i. loops.Put a i (Rattle.cg_loop_syntax.specs.Grouped.expr_of v.value) (Rattle.cg_loop_syntax.specs.Grouped.guard_of v.guard)) o x.value ∙ ap₂ (λ a g. loops.Put name.text.now (Rattle.cg_loop_text_spec.specs.Meaning.expr_value x.tree) a g) y.value y.guard_value;
       well = and_from (is_loop_name own && is_well_expr 31 ix) (is_well_expr most_open v.value && is_well_guard v.guard) (and_from (is_loop_name own) (is_well_expr 31 ix) (ap is_loop_name o ∙ h) x.well) (and_from (is_well_expr most_open v.value) (is_well_guard v.guard) y.well y.guard_well);
       ran = lines.stores_read (left old) (left n) (left new) (record { token = b.token; is = b.is; whole = front })
           (runs.reads_then (Operand Square false 31) (Exactly (codes "=") ∷ Operand GuardedCloser false most_open ∷ []) (left n) (left q) (left new) (lines.place_read 31 (left n) (left p) (left q) x.ran (taken c)) y.ran);

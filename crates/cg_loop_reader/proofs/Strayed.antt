@@ -9,13 +9,13 @@ use Rattle.cg_loop_syntax.specs.declared.body.Decl.{Decl}
 use Rattle.cg_loop_syntax.specs.declared.body.Stmt.{Stmt}
 use Rattle.cg_loop_syntax.specs.Uses as uses
 use Rattle.cg_loop_syntax.specs.Well.{is_loop_name, most_open}
-use Rattle.cg_loop_text.specs.Rules.{Exactly, Operand, Semicolon, Square, Guarded as GuardedCloser, Target, Lines, Symbol, array_rule, carry_rule, same, store_rule}
-use Rattle.cg_loop_text.specs.Read as read
+use Rattle.cg_loop_text_spec.specs.Rules.{Exactly, Operand, Semicolon, Square, Guarded as GuardedCloser, Target, Lines, Symbol, array_rule, carry_rule, same, store_rule}
+use Rattle.cg_loop_text_spec.specs.Read as read
 use Rattle.std.proofs.lemmas.Bool.{cases_Bool}
-use Rattle.cg_loop_text.proofs.Texts.{some_is}
-use Rattle.cg_loop_text.proofs.Lines as lines
-use Rattle.cg_loop_text.proofs.Runs as runs
-use Rattle.cg_loop_text.proofs.Whole.{solid_from}
+use Rattle.cg_loop_text_spec.proofs.Texts.{some_is}
+use Rattle.cg_loop_text_spec.proofs.Lines as lines
+use Rattle.cg_loop_text_spec.proofs.Runs as runs
+use Rattle.cg_loop_text_spec.proofs.Whole.{solid_from}
 use Rattle.cg_loop_reader.specs.declared.reader.Reader.{Reader}
 use Rattle.cg_loop_reader.specs.declared.fault.Misfit.{Misfit}
 use Rattle.cg_loop_reader.specs.declared.fault.Misfit.TheVariants.{Memory, Text}

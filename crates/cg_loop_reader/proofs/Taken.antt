@@ -1,7 +1,7 @@
 -- Tokens that are taken, one after another.
 use Rattle.std.proofs.Common.{◌≡◌, ℕ, suc, ◌+◌, ◌<◌, length, arith, length-append, List, [], ◌∷◌, ◌++◌, sym, ap, ◌∙◌, append_assoc, append-nil}
 use Rattle.cg_tokens.specs.Tokens.{Placed}
-use Rattle.cg_loop_text.specs.Read as read
+use Rattle.cg_loop_text_spec.specs.Read as read
 use Rattle.cg_loop_reader.specs.declared.reader.Reader.{Reader}
 use Rattle.cg_loop_reader.specs.Left.{left, Takes}
 

@@ -8,9 +8,9 @@ use Rattle.cg_loop_syntax.specs.declared.body.LoopBody.{LoopBody}
 use Rattle.cg_loop_syntax.specs.Loop.{Body}
 use Rattle.cg_loop_syntax.specs.Uses.{Use, fault_of}
 use Rattle.cg_loop_syntax.specs.Body.{body_of}
-use Rattle.cg_loop_text.specs.Grammar as grammar
-use Rattle.cg_loop_text.specs.Grammar.{IsText, IsFile, text_tokens}
-use Rattle.cg_loop_text.specs.Meaning.{text_body, text_uses}
+use Rattle.cg_loop_text_spec.specs.Grammar as grammar
+use Rattle.cg_loop_text_spec.specs.Grammar.{IsText, IsFile, text_tokens}
+use Rattle.cg_loop_text_spec.specs.Meaning.{text_body, text_uses}
 use Rattle.cg_loop_reader.specs.declared.read.Parts.{Parts}
 use Rattle.cg_loop_reader.specs.Doubled.{double}
 use Rattle.cg_loop_reader.specs.Whole.{ArePartsOf}

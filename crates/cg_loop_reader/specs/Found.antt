@@ -8,10 +8,10 @@ use Rattle.cg_loop_syntax.specs.declared.syntax.Term.{Term}
 use Rattle.cg_loop_syntax.specs.declared.syntax.Expr.{Expr}
 use Rattle.cg_loop_syntax.specs.Grouped.{expr_of, sum_of, atom_of, product, whole_prod, terms}
 use Rattle.cg_loop_syntax.specs.Well.{is_well_expr, is_well_sum, is_well_atom, is_well_product, is_well_term}
-use Rattle.cg_loop_text.specs.Grammar as grammar
-use Rattle.cg_loop_text.specs.Grammar.{expr_tokens, sum_tokens, prod_tokens, atom_tokens, args_tokens, IsExpr, IsSum, IsProd, IsAtom, IsArgs}
-use Rattle.cg_loop_text.specs.Meaning.{expr_value, sum_value, prod_value, atom_value, args_values, expr_uses, sum_uses, prod_uses, atom_uses, args_uses}
-use Rattle.cg_loop_text.specs.Read as read
+use Rattle.cg_loop_text_spec.specs.Grammar as grammar
+use Rattle.cg_loop_text_spec.specs.Grammar.{expr_tokens, sum_tokens, prod_tokens, atom_tokens, args_tokens, IsExpr, IsSum, IsProd, IsAtom, IsArgs}
+use Rattle.cg_loop_text_spec.specs.Meaning.{expr_value, sum_value, prod_value, atom_value, args_values, expr_uses, sum_uses, prod_uses, atom_uses, args_uses}
+use Rattle.cg_loop_text_spec.specs.Read as read
 use Rattle.cg_tokens.specs.declared.token.Token.{Token}
 use Rattle.cg_tokens.specs.Tokens.{Placed, seen}
 use Rattle.cg_loop_reader.specs.declared.reader.Reader.{Reader}

@@ -1,7 +1,7 @@
 -- Numbers, and the kinds of token with which an operand begins.
 use Rattle.std.specs.Prelude.{ℕ, List, if◌then◌else◌, codes, bytes_eq, Option, Some, None}
 use Rattle.cg_loop_syntax.specs.Well.{is_loop_name}
-use Rattle.cg_loop_text.specs.Words.{is_number, number_of}
+use Rattle.cg_loop_text_spec.specs.Words.{is_number, number_of}
 use Rattle.cg_loop_reader.specs.declared.words.Beginning.{Beginning}
 use Rattle.cg_loop_reader.specs.declared.words.Beginning.TheVariants as begins
 

@@ -4,11 +4,11 @@ use Rattle.cg_word.specs.declared.op.Op.{Op}
 use Rattle.cg_tokens.specs.declared.token.Token.{Token}
 use Rattle.cg_tokens.specs.Tokens.{Placed, tokens_at, seen, end_of}
 use Rattle.cg_loop_syntax.specs.Uses as uses
-use Rattle.cg_loop_text.specs.Words.{is_number, number_of}
+use Rattle.cg_loop_text_spec.specs.Words.{is_number, number_of}
 use Rattle.cg_loop_syntax.specs.Well.{is_loop_name}
-use Rattle.cg_loop_text.specs.Rules.{Symbol}
-use Rattle.cg_loop_text.specs.Read.{Stops}
-use Rattle.cg_loop_names.specs.Used.{use_of}
+use Rattle.cg_loop_text_spec.specs.Rules.{Symbol}
+use Rattle.cg_loop_text_spec.specs.Read.{Stops}
+use Rattle.cg_loop_reader.specs.Used.{use_of}
 use Rattle.cg_loop_reader.specs.declared.reader.Reader.{Reader}
 use Rattle.cg_loop_reader.specs.declared.reader.Numeral.{Numeral}
 use Rattle.cg_loop_reader.specs.declared.fault.Misfit.{Misfit}

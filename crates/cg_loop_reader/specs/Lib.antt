@@ -6,3 +6,10 @@ pub mod Lines
 pub mod Whole
 pub mod Answer
 pub mod FaultText
+pub mod Used
+pub mod Judged
+pub mod Below
+pub mod Numbered
+pub mod Assigned
+pub mod Written
+pub mod Taken

@@ -8,11 +8,11 @@ use Rattle.cg_loop_syntax.specs.declared.body.Decl.{Decl}
 use Rattle.cg_loop_syntax.specs.declared.body.Stmt.{Stmt}
 use Rattle.cg_loop_syntax.specs.Grouped.{expr_of, guard_of, stmt_of}
 use Rattle.cg_loop_syntax.specs.Well.{is_well_expr, is_well_guard, is_well_stmt, is_well_decl, most_open}
-use Rattle.cg_loop_text.specs.Grammar as grammar
-use Rattle.cg_loop_text.specs.Grammar.{Is, IsExpr, IsGuard, IsStmt, IsDecl, expr_tokens, guard_tokens, stmt_tokens, decl_tokens}
-use Rattle.cg_loop_text.specs.Meaning.{expr_value, guard_value, stmt_value, decl_value, expr_uses, guard_uses, stmt_uses, decl_use, decls_uses}
-use Rattle.cg_loop_text.specs.Rules.{Exactly, Operand, Semicolon, Guarded as GuardedCloser, Target}
-use Rattle.cg_loop_text.specs.Read as read
+use Rattle.cg_loop_text_spec.specs.Grammar as grammar
+use Rattle.cg_loop_text_spec.specs.Grammar.{Is, IsExpr, IsGuard, IsStmt, IsDecl, expr_tokens, guard_tokens, stmt_tokens, decl_tokens}
+use Rattle.cg_loop_text_spec.specs.Meaning.{expr_value, guard_value, stmt_value, decl_value, expr_uses, guard_uses, stmt_uses, decl_use, decls_uses}
+use Rattle.cg_loop_text_spec.specs.Rules.{Exactly, Operand, Semicolon, Guarded as GuardedCloser, Target}
+use Rattle.cg_loop_text_spec.specs.Read as read
 use Rattle.cg_loop_reader.specs.declared.lines.Guarded.{Guarded}
 use Rattle.cg_loop_reader.specs.declared.reader.Reader.{Reader}
 use Rattle.cg_loop_reader.specs.declared.fault.Misfit.{Misfit}

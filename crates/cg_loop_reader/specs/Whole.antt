@@ -5,10 +5,10 @@ use Rattle.cg_tokens.specs.Table.{run}
 use Rattle.cg_tokens.specs.Tokens.{tokens_at}
 use Rattle.cg_loop_syntax.specs.Grouped.{stmt_of}
 use Rattle.cg_loop_syntax.specs.Well.{is_well_stmt, is_well_decl}
-use Rattle.cg_loop_text.specs.Grammar as grammar
-use Rattle.cg_loop_text.specs.Grammar.{IsText, text_tokens}
-use Rattle.cg_loop_text.specs.Meaning.{stmt_value, decl_value, text_uses}
-use Rattle.cg_loop_text.specs.Rules.{rule, start}
+use Rattle.cg_loop_text_spec.specs.Grammar as grammar
+use Rattle.cg_loop_text_spec.specs.Grammar.{IsText, text_tokens}
+use Rattle.cg_loop_text_spec.specs.Meaning.{stmt_value, decl_value, text_uses}
+use Rattle.cg_loop_text_spec.specs.Rules.{rule, start}
 use Rattle.cg_loop_reader.specs.declared.read.Parts.{Parts}
 use Rattle.cg_loop_reader.specs.declared.reader.Reader.{Reader}
 use Rattle.cg_loop_reader.specs.declared.fault.Misfit.{Misfit}

@@ -14,8 +14,8 @@ impl<'a> Reader<'a> {
     ghost use Rattle.std.specs.Prelude.{◌≡◌, ◌≤◌, ◌<◌, ◌+◌, None, Some, true, false, codes, length, bytes_eq, IfSome, IfNone, IfOk, IfErr, OnOk};
     ghost use Rattle.cg_word.specs.Word.{arity};
     ghost use Rattle.cg_loop_syntax.specs.Well.{is_loop_name};
-    ghost use Rattle.cg_loop_text.specs.Words as words;
-    ghost use Rattle.cg_loop_text.specs.Read.{begins_with, begins_adding, begins_comparing};
+    ghost use Rattle.cg_loop_text_spec.specs.Words as words;
+    ghost use Rattle.cg_loop_text_spec.specs.Read.{begins_with, begins_adding, begins_comparing};
     ghost use Rattle.cg_loop_reader.specs.Kinds as kinds;
     ghost use Rattle.cg_loop_reader.specs.declared.words.Beginning.TheVariants as begins;
     ghost use Rattle.cg_loop_reader.specs.Left.{left, noted, IsNext, TakesSign};

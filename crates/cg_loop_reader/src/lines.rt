@@ -21,8 +21,8 @@ pub(crate) struct Guarded {
 impl<'a> Reader<'a> {
     ghost use Rattle.std.specs.Prelude.{◌≡◌, ◌∷◌, [], true, false, codes, IfSome, IfNone, IfOk, IfErr, OnOk};
     ghost use Rattle.cg_loop_syntax.specs.Well.{is_loop_name, most_open};
-    ghost use Rattle.cg_loop_text.specs.Rules.{Exactly, Operand, Semicolon, Square, Guarded as GuardedCloser, Target, Lines};
-    ghost use Rattle.cg_loop_text.specs.Read.{begins_with};
+    ghost use Rattle.cg_loop_text_spec.specs.Rules.{Exactly, Operand, Semicolon, Square, Guarded as GuardedCloser, Target, Lines};
+    ghost use Rattle.cg_loop_text_spec.specs.Read.{begins_with};
     ghost use Rattle.cg_tokens.specs.Tokens.{tokens_at};
     ghost use Rattle.cg_loop_reader.specs.Doubled.{double};
     ghost use Rattle.cg_loop_reader.specs.Left.{left, IsNext, Misses};

@@ -8,8 +8,8 @@ ghost use Rattle.cg_loop_reader.specs.Left.{noted};
 ghost use Rattle.cg_loop_reader.specs.Whole.{FindsText, MissesText};
 
 use crate::fault::Misfit;
+use crate::judging::judge;
 use crate::reader::Reader;
-use cg_loop_names::judge;
 use cg_loop_syntax::{Decl, LoopBody, LoopFault, Stmt};
 use cg_model::Items;
 use std::alloc::Global;

@@ -7,8 +7,8 @@ ghost use Rattle.std.proofs.Props.{props};
 
 use crate::fault::Misfit;
 use crate::room::room_in;
+use crate::uses::Use;
 use crate::words::{is_name, number_of, same};
-use cg_loop_names::Use;
 use cg_loop_syntax::Role;
 use cg_tokens::{Token, next_token, past_blanks};
 use std::alloc::Global;
@@ -37,8 +37,8 @@ pub(crate) struct Reader<'a> {
 impl<'a> Reader<'a> {
     ghost use Rattle.std.specs.Prelude.{◌≡◌, ◌∷◌, ◌++◌, ◌≤◌, ◌<◌, [], map, true, false, length, IsTrue, IsFalse, MatchOption, IfSome, OnOk, IfOk, IfErr};
     ghost use Rattle.cg_tokens.specs.Tokens.{seen, place_of, tokens_at, tokens_of};
-    ghost use Rattle.cg_loop_text.specs.Rules.{Exactly, Name as NameSymbol, Digits};
-    ghost use Rattle.cg_loop_text.specs.Read.{begins_with};
+    ghost use Rattle.cg_loop_text_spec.specs.Rules.{Exactly, Name as NameSymbol, Digits};
+    ghost use Rattle.cg_loop_text_spec.specs.Read.{begins_with};
     ghost use Rattle.cg_loop_reader.specs.declared.fault.Misfit.TheVariants.{Memory};
     ghost use Rattle.cg_loop_reader.specs.Doubled.{double};
     ghost use Rattle.cg_loop_reader.specs.Left.{left, noted, last_token, IsNext, Takes, TakesName, TakesNumber, Notes, Misses, Keeps};

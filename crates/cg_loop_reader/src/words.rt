@@ -5,7 +5,7 @@ ghost use Rattle.std.specs.Char.{is_ascii_digit};
 ghost use Rattle.cg_word.specs.Word.{arity};
 ghost use Rattle.cg_model.specs.Names as names;
 ghost use Rattle.cg_loop_syntax.specs.Well as rules;
-ghost use Rattle.cg_loop_text.specs.Words as spec;
+ghost use Rattle.cg_loop_text_spec.specs.Words as spec;
 ghost use Rattle.cg_loop_reader.specs.Kinds as kinds;
 
 use cg_loop_syntax::{Name, Op};

@@ -6,7 +6,7 @@ use Rattle.cg_model.specs.Array.{Arch, IsArch}
 use Rattle.cg_model.specs.Mapping.{IsLegal}
 use Rattle.cg_check.specs.Legal.{Mapped as MappedValue}
 use Rattle.cg_bound.specs.Bound.{IsOpen}
-use Rattle.cg_edges.proofs.Latencies.{latency_small}
+use Rattle.cg_recur.proofs.Latencies.{latency_small}
 use Rattle.cg_recur.proofs.Earliest.{earliest}
 use Rattle.cg_task.specs.Posed.{IsTask}
 use Rattle.cg_anneal.specs.declared.finding.Found.{Found}

@@ -8,8 +8,8 @@ ghost use Rattle.cg_map.specs.Tried.{IsAnswer, IsTried};
 
 use crate::trying::{Attempt, try_task};
 use cg_arch::Arch;
-use cg_aside::Aside;
 use cg_bound::{IntervalVerdict, verdict};
+use cg_diagnostics::Aside;
 use cg_model::{Kernel, Request};
 use cg_task::{Answer, Task, first_tried, last_tried};
 use std::alloc::{AllocError, Global};

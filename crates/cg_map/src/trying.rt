@@ -4,8 +4,8 @@ ghost use Rattle.cg_model.specs.Limits.{most_moves};
 ghost use Rattle.cg_map.specs.Tried.{IsAttempt};
 
 use cg_anneal::{Found, search};
-use cg_aside::Aside;
 use cg_check::LegalMapping;
+use cg_diagnostics::Aside;
 use cg_hub::{hub_enough, hub_mapping};
 use cg_model::Request;
 use cg_task::{FoundBy, Task};

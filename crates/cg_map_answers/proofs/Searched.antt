@@ -2,9 +2,9 @@
 use Rattle.std.proofs.Common.{◌≡◌, List, [], codes, refl, sym, ◌∙◌, ap, subst, ⊎_elim}
 use Rattle.cg_model.specs.Array.{IsArch}
 use Rattle.cg_model.specs.Kernel.{IsKernel}
-use Rattle.cg_ending.specs.declared.outcome.Status.TheVariants.{Done, Impossible, BudgetSpent}
-use Rattle.cg_ending.specs.Outcome.{Name, File, Outcome}
-use Rattle.cg_ending.specs.Ends.{Moment, Completed}
+use Rattle.cg_effects.specs.declared.outcome.Status.TheVariants.{Done, Impossible, BudgetSpent}
+use Rattle.cg_effects.specs.Outcome.{Name, File, Outcome}
+use Rattle.cg_effects.specs.Ends.{Moment, Completed}
 use Rattle.cg_files.specs.Held.{Holds}
 use Rattle.cg_check.specs.Legal.{Mapped}
 use Rattle.cg_task.specs.declared.answering.FoundBy.{FoundBy}

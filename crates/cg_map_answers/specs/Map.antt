@@ -1,7 +1,7 @@
 -- `map ARCH KERNEL OUT [--ii N] [--seed N] [--moves N] [--mapping FILE]`.
 use Rattle.std.specs.Prelude.{◌≡◌, ◌⊎◌, ℕ, false, List, codes}
-use Rattle.cg_ending.specs.Outcome.{Name, Bytes, File, Outcome}
-use Rattle.cg_ending.specs.Ends.{Moment}
+use Rattle.cg_effects.specs.Outcome.{Name, Bytes, File, Outcome}
+use Rattle.cg_effects.specs.Ends.{Moment}
 use Rattle.cg_check.specs.Legal.{Mapped}
 use Rattle.cg_hub.specs.Hub.{HubEnough}
 use Rattle.cg_task.specs.declared.answering.FoundBy.{FoundBy}

@@ -1,14 +1,14 @@
 //! `map ARCH KERNEL OUT [--ii N] [--seed N] [--moves N] [--mapping FILE]`.
 ghost use Rattle.std.specs.Prelude.{IfOk, map, string_bytes};
-ghost use Rattle.cg_ending.specs.Allowed.{Allows};
-ghost use Rattle.cg_ending.specs.Outcome.{file_of, outcome_of};
+ghost use Rattle.cg_effects.specs.Allowed.{Allows};
+ghost use Rattle.cg_effects.specs.Outcome.{file_of, outcome_of};
 ghost use Rattle.cg_model.specs.Request.{IsInRange};
 ghost use Rattle.cg_map_answers.specs.Map.{IsMap, IsWalk};
 ghost use Rattle.cg_task_answers.specs.Searches.{IsWithin, is_above};
 
 use cg_arch::Arch;
-use cg_aside::Aside;
-use cg_ending::{File, Outcome, Stop};
+use cg_diagnostics::Aside;
+use cg_effects::{File, Outcome, Stop};
 use cg_inputs::{arch_in, kernel_in};
 use cg_map::map_answer;
 use cg_model::{Kernel, Request};

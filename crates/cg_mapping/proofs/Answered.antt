@@ -19,7 +19,7 @@ use Rattle.cg_model.proofs.Options.{cond_none, or_none, map_none, some_cond}
 use Rattle.cg_model.proofs.Positions.{position_from-within}
 use Rattle.cg_model.specs.declared.kernel.Node.{Node}
 use Rattle.cg_reading.specs.Items as items
-use Rattle.cg_names.specs.Numbers.{has_name}
+use Rattle.cg_reading.specs.Numbers.{has_name}
 use Rattle.cg_mapping.specs.Written.{MappingPlace, WrittenMapping, written_of}
 use Rattle.cg_mapping.specs.Rules.{NodePlace, NamedMapping, is_late, is_long, too_large, unknown_key}
 use Rattle.cg_model.proofs.Mappings.{operands_few}

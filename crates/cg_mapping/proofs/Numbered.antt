@@ -3,7 +3,7 @@ use Rattle.std.proofs.Common.{◌≡◌, ℕ, ◌<◌, List, length, Option, Som
 use Rattle.std.specs.declared.alloc.Global.{Global}
 use Rattle.indexmap.specs.IndexMap.{IndexMap}
 use Rattle.cg_model.proofs.Positions.{position_from-within}
-use Rattle.cg_names.specs.Numbers.{IsNumbering, found_in, has_name}
+use Rattle.cg_reading.specs.Numbers.{IsNumbering, found_in, has_name}
 
 -- a number that was found is that of an item
 pub numbered_within : {S T : Type 0} (numbers : IndexMap (String Global) ℕ S) (own : T → Option (List ℕ)) (items : List T) (name : List ℕ) (k : ℕ) → IsNumbering numbers own items → found_in numbers name ≡ Some k → k < length items

@@ -11,7 +11,7 @@ use Rattle.cg_model.specs.declared.kernel.Operand.TheVariants.{Const as Constant
 use Rattle.cg_model.specs.Mapping.{End, ends_of, ends_from}
 use Rattle.cg_model.proofs.Counts.{count_by-one, one_counted}
 use Rattle.cg_model.proofs.Positions.{position_from-reached, position_from-found}
-use Rattle.cg_names.specs.Numbers.{number_of, has_name}
+use Rattle.cg_reading.specs.Numbers.{number_of, has_name}
 use Rattle.cg_mapping.specs.Names.{is_edge}
 use Rattle.cg_mapping.specs.Complete.{MappingFault, only_such, and_rest, each_or_fault}
 use Rattle.cg_mapping.proofs.EdgeOperands.{ends_of_bound}

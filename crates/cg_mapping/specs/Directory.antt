@@ -4,7 +4,7 @@ use Rattle.std.specs.declared.alloc.Global.{Global}
 use Rattle.indexmap.specs.IndexMap.{IndexMap}
 use Rattle.cg_model.specs.Array.{Arch}
 use Rattle.cg_model.specs.Kernel.{Kernel}
-use Rattle.cg_names.specs.Numbers.{IsNumbering}
+use Rattle.cg_reading.specs.Numbers.{IsNumbering}
 
 -- the maps have the numbers of the first node, unit and resource of each name
 pub record IsDirectory {R S T : Type 0} (A : Arch) (K : Kernel) (nodes : IndexMap (String Global) ℕ R) (units : IndexMap (String Global) ℕ S) (resources : IndexMap (String Global) ℕ T) : Type 0 where

@@ -6,7 +6,7 @@ use Rattle.cg_model.specs.Kernel.{Kernel}
 use Rattle.cg_model.specs.declared.kernel.Operand.{Operand}
 use Rattle.cg_model.specs.declared.kernel.Operand.TheVariants.{Const as Constant, Edge}
 use Rattle.cg_model.specs.declared.mapping.Route.{Route}
-use Rattle.cg_names.specs.Numbers.{number_of}
+use Rattle.cg_reading.specs.Numbers.{number_of}
 use Rattle.cg_reading.specs.Items.{all_of, all_or_first}
 use Rattle.cg_mapping.specs.Written.{MappingPlace, WrittenPlace, WrittenRoute, WrittenMapping}
 use Rattle.cg_mapping.specs.declared.fault.MappingPlace.TheVariants as at

@@ -2,7 +2,7 @@
 
 use cg_arch::Arch;
 use cg_model::{Kernel, Node, Operand, Resource, Unit};
-use cg_names::{Numbers, add_first, number_in};
+use cg_reading::{Numbers, add_first, number_in};
 use std::alloc::{AllocError, Global};
 use std::marker::Model;
 
@@ -43,7 +43,7 @@ impl Called for Resource {
 }
 
 ghost use Rattle.std.specs.Prelude.{Some, IfOk};
-ghost use Rattle.cg_names.specs.Numbers.{IsNumbering};
+ghost use Rattle.cg_reading.specs.Numbers.{IsNumbering};
 
 /// Returns the number of the first item of each name.
 fn numbers_of<T: Called>(alloc: Global, items: &[T]) -> Result<Numbers, AllocError>

@@ -7,10 +7,10 @@ use Rattle.cg_model.specs.Mapping.{Mapping, IsShaped, IsLegal}
 use Rattle.cg_overlap.proofs.Single.{carries_one}
 use Rattle.cg_overlap.proofs.Canonical.{canonical}
 use Rattle.cg_overlap.proofs.Overlap.{follows, leaves_the_same, begins_only, unaliased_without}
-use Rattle.cg_ending.specs.declared.outcome.Status.TheVariants.{Done, Malformed, No}
-use Rattle.cg_ending.specs.Outcome.{Name, File, Outcome, names_of}
-use Rattle.cg_ending.specs.Ends.{Moment, Completed, Wrote}
-use Rattle.cg_ending.specs.Refusals.{reports}
+use Rattle.cg_effects.specs.declared.outcome.Status.TheVariants.{Done, Malformed, No}
+use Rattle.cg_effects.specs.Outcome.{Name, File, Outcome, names_of}
+use Rattle.cg_effects.specs.Ends.{Moment, Completed, Wrote}
+use Rattle.cg_effects.specs.Refusals.{reports}
 use Rattle.cg_files.specs.Held.{Holds, Appends}
 use Rattle.cg_bits.specs.Spelling.{AreBits}
 use Rattle.cg_bits.proofs.Packed.{some_bits}

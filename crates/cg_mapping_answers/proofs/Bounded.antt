@@ -2,10 +2,10 @@
 use Rattle.std.proofs.Common.{◌≡◌, ℕ, ◌≤◌, [], ◌∷◌, Option, Some, None, Result, Ok, Err, refl, sym, ◌∙◌, ap, subst, inr}
 use Rattle.cg_model.specs.Array.{Arch}
 use Rattle.cg_model.specs.Kernel.{Kernel}
-use Rattle.cg_ending.specs.declared.outcome.Status.TheVariants.{Done, Malformed}
-use Rattle.cg_ending.specs.Outcome.{Name, File, Outcome}
-use Rattle.cg_ending.specs.Ends.{Moment, Completed}
-use Rattle.cg_ending.specs.Refusals.{reports}
+use Rattle.cg_effects.specs.declared.outcome.Status.TheVariants.{Done, Malformed}
+use Rattle.cg_effects.specs.Outcome.{Name, File, Outcome}
+use Rattle.cg_effects.specs.Ends.{Moment, Completed}
+use Rattle.cg_effects.specs.Refusals.{reports}
 use Rattle.cg_files.specs.Held.{Holds, Appends}
 use Rattle.cg_bound.specs.declared.interval.Certificate.{Certificate}
 use Rattle.cg_bound.specs.declared.interval.Certificate.TheVariants.{Cycle, Class}

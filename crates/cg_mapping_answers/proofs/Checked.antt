@@ -1,10 +1,10 @@
 -- What `check` answers.
 use Rattle.std.proofs.Common.{◌≡◌, [], Option, Some, None, Result, Ok, Err, refl, sym, ◌∙◌, ap, subst}
 use Rattle.cg_model.specs.Mapping.{IsLegal}
-use Rattle.cg_ending.specs.declared.outcome.Status.TheVariants.{Done, Malformed, No}
-use Rattle.cg_ending.specs.Outcome.{Name, File, Outcome}
-use Rattle.cg_ending.specs.Ends.{Moment, Completed, Wrote, IsPut}
-use Rattle.cg_ending.specs.Refusals.{reports}
+use Rattle.cg_effects.specs.declared.outcome.Status.TheVariants.{Done, Malformed, No}
+use Rattle.cg_effects.specs.Outcome.{Name, File, Outcome}
+use Rattle.cg_effects.specs.Ends.{Moment, Completed, Wrote, IsPut}
+use Rattle.cg_effects.specs.Refusals.{reports}
 use Rattle.cg_files.specs.Held.{Holds, Appends}
 use Rattle.cg_check.specs.Legal.{Mapped}
 use Rattle.cg_check.specs.declared.rule.Violation.{Violation}

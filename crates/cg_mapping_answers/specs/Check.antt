@@ -3,11 +3,11 @@ use Rattle.std.specs.Prelude.{◌≡◌, [], ◌∷◌, Option, Some, None, Resu
 use Rattle.cg_model.specs.Array.{Arch}
 use Rattle.cg_model.specs.Kernel.{Kernel}
 use Rattle.cg_model.specs.Mapping.{IsLegal}
-use Rattle.cg_ending.specs.declared.outcome.Status.TheVariants.{Done, No}
+use Rattle.cg_effects.specs.declared.outcome.Status.TheVariants.{Done, No}
 use Rattle.cg_files.specs.Held.{Appends}
-use Rattle.cg_ending.specs.Outcome.{Name, Bytes, File, Outcome, line_of}
-use Rattle.cg_ending.specs.Ends.{Moment, IsPut, Wrote}
-use Rattle.cg_ending.specs.Refusals.{reports}
+use Rattle.cg_effects.specs.Outcome.{Name, Bytes, File, Outcome, line_of}
+use Rattle.cg_effects.specs.Ends.{Moment, IsPut, Wrote}
+use Rattle.cg_effects.specs.Refusals.{reports}
 use Rattle.cg_check.specs.Legal.{Mapped}
 use Rattle.cg_check.specs.declared.rule.Violation.{Violation}
 use Rattle.cg_check.specs.Rules.{violation}

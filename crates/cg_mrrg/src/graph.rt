@@ -43,7 +43,7 @@ impl<'a> Model for Mrrg<'a> {
 impl<'a> Mrrg<'a> {
     ghost use Rattle.std.specs.Prelude.{◌≡◌, ◌<◌, ◌≤◌, IfOk, length};
     ghost use Rattle.cg_model.specs.Array.{delay};
-    ghost use Rattle.cg_level.specs.Topological.{IsTopological};
+    ghost use Rattle.cg_levelize.specs.Topological.{IsTopological};
     ghost use Rattle.cg_mrrg.specs.Graph as spec;
 
     /// Returns the graph of `arch` at an interval of 1 to 64 cycles.

@@ -1,7 +1,7 @@
 //! Whether each net is declared once, and each pin's net is declared.
 ghost use Rattle.std.specs.Prelude.{◌≡◌, ◌++◌, ◌∷◌, [], None, Some, is_some, if◌then◌else◌, IfOk, IfErr, OnOk};
 ghost use Rattle.std.specs.List.{flat_map};
-ghost use Rattle.cg_names.specs.Numbers.{found_in};
+ghost use Rattle.cg_reading.specs.Numbers.{found_in};
 ghost use Rattle.cg_netlist.specs.Graph.{names};
 ghost use Rattle.cg_netlist_reader.specs.Reading as spec;
 ghost use Rattle.cg_netlist_reader.specs.Looked.{IsSet, IsAdded, unknown_by};
@@ -9,8 +9,8 @@ ghost use Rattle.cg_netlist_reader.specs.Wrong.{IsOfNet};
 
 use crate::fault::VerilogFault;
 use cg_model::Name;
-use cg_names::{Numbers, add_first, number_in};
 use cg_netlist::{Cell, Net, Pin};
+use cg_reading::{Numbers, add_first, number_in};
 use std::alloc::{AllocError, Global};
 
 /// Finds the first net that is declared again, or else the first pin whose net is not declared.

@@ -1,9 +1,9 @@
 //! Notes on negative answers.
 
-use cg_ending::File;
+use cg_effects::File;
 use cg_json::{items_at, json_value, text_at};
 use cg_notes_texts::{MOST_PARSED, Place};
-use cg_places::{Step, json_value_at};
+use cg_spans::{Step, json_value_at};
 use serde_json::Value;
 use std::alloc::{AllocError, Global};
 

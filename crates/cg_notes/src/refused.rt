@@ -4,7 +4,7 @@ use crate::answers::note_answer;
 use crate::sentences::{sentence_of, sentence_without_place};
 use crate::slips::{Noted, slips_in};
 use crate::values::find_value;
-use cg_ending::File;
+use cg_effects::File;
 use cg_notes_elements::{find_hub, find_limit, find_loop, other_drivers};
 use cg_notes_loops::find_token;
 use cg_notes_netlists::find_in_netlist;

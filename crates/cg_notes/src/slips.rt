@@ -1,11 +1,11 @@
 //! All that is wrong in a refused kernel, mapping or architecture.
 
-use cg_ending::File;
+use cg_effects::File;
+use cg_lints::Slip;
 use cg_notes_arch::{TomlSlip, arch_slips};
 use cg_notes_kernel::kernel_slips;
 use cg_notes_mapping::mapping_slips;
 use cg_notes_texts::{Finding, MOST_PARSED, Place};
-use cg_slips::Slip;
 use std::alloc::{AllocError, Global};
 
 /// The maximum number of slips of a file whose places are sought.

@@ -3,7 +3,7 @@
 use cg_notes_elements::{find_element, find_key, find_letter, find_tile_part};
 use cg_notes_heads::{find_in_file, find_row};
 use cg_notes_texts::{Finding, Place};
-use cg_places::{Step, json_value_at};
+use cg_spans::{Step, json_value_at};
 use std::alloc::{AllocError, Global};
 
 /// Returns the finding of the fault `code` at `place` of `bytes`, a kernel, a mapping or an architecture; `None` if

@@ -2,7 +2,7 @@
 
 use crate::parts::{note_missing, place_of};
 use crate::slips::{Here, TomlSlips};
-use cg_slips::unknown_operation;
+use cg_lints::unknown_operation;
 use cg_word::Op;
 use std::alloc::{AllocError, Global};
 use toml::Value;

@@ -4,8 +4,8 @@ use crate::lines::key_line_in;
 use crate::ops::{note_latency, note_ops};
 use crate::references::{note_from, note_ports};
 use crate::slips::{Here, TomlSlips};
+use cg_lints::unknown_key;
 use cg_model::{LONGEST_NAME, is_name};
-use cg_slips::unknown_key;
 use std::alloc::{AllocError, Global};
 use toml::Value;
 

@@ -2,7 +2,7 @@
 
 use crate::parts::{note_missing, place_of};
 use crate::slips::{Here, TomlSlips};
-use cg_slips::shown;
+use cg_lints::shown;
 use std::alloc::{AllocError, Global};
 use toml::Value;
 

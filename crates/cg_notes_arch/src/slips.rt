@@ -2,7 +2,7 @@
 
 use crate::lines::key_line;
 use crate::parts::note_part;
-use cg_places::tile_part_at;
+use cg_spans::tile_part_at;
 use cg_toml::toml_table;
 use std::alloc::{AllocError, Global};
 use toml::Value;

@@ -1,7 +1,7 @@
 //! Notes on what a command did, or on its answer no.
 
 use cg_command::Command;
-use cg_ending::File;
+use cg_effects::File;
 use cg_notes::report_notes;
 use cg_notes_rules::rule_notes;
 use cg_notes_runs::{array_notes, image_notes, turns_notes, unordered_notes};

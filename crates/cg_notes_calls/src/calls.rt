@@ -2,9 +2,9 @@
 
 use crate::answered::{add_done, add_no};
 use crate::refused::add_refused;
-use cg_aside::Aside;
 use cg_command::Command;
-use cg_ending::{File, Outcome, Status};
+use cg_diagnostics::Aside;
+use cg_effects::{File, Outcome, Status};
 use cg_notes::report_notes;
 use std::alloc::{AllocError, Global};
 

@@ -1,7 +1,7 @@
 //! Notes on files that weren't read or written.
 
-use cg_aside::Aside;
-use cg_ending::{Outcome, Status};
+use cg_diagnostics::Aside;
+use cg_effects::{Outcome, Status};
 use std::alloc::{AllocError, Global};
 
 /// Writes to `aside` which file couldn't be read by `outcome`, or is too long; or which files it writes, if `status`

@@ -1,6 +1,6 @@
 //! Notes on refused files.
 
-use cg_ending::File;
+use cg_effects::File;
 use cg_notes::{Refusal, report_notes};
 use cg_notes_bits::{bits_note, image_note};
 use cg_notes_texts::MOST_PARSED;

@@ -5,7 +5,7 @@ use crate::references::wrong_driver;
 use cg_grid::Cell;
 use cg_notes_arch::{key_line, key_line_in};
 use cg_notes_texts::{Finding, MOST_PARSED, Place};
-use cg_places::tile_part_at;
+use cg_spans::tile_part_at;
 use cg_toml::toml_table;
 use std::alloc::{AllocError, Global};
 use toml::Value;

@@ -4,7 +4,7 @@ use crate::wholes::missing;
 use cg_json::{json_value, word_in};
 use cg_notes_arch::key_line;
 use cg_notes_texts::{Finding, MOST_PARSED, Place, table_line};
-use cg_places::{Step, json_value_at, tile_part_at};
+use cg_spans::{Step, json_value_at, tile_part_at};
 use cg_toml::toml_table;
 use std::alloc::{AllocError, Global};
 

@@ -1,8 +1,8 @@
 //! Rows of grids.
 
+use cg_lints::shown;
 use cg_notes_arch::key_line;
 use cg_notes_texts::{Finding, MOST_PARSED, Place};
-use cg_slips::shown;
 use cg_toml::toml_table;
 use std::alloc::{AllocError, Global};
 use toml::Value;

@@ -1,10 +1,10 @@
 //! Faults of whole files: their top-level keys.
 
 use crate::heads::{Head, Kind, wrong_kind_in_json, wrong_kind_in_toml};
+use cg_lints::unknown_key;
 use cg_notes_arch::unknown_key_line;
 use cg_notes_texts::{Finding, Place};
-use cg_places::{Step, json_key_at, json_value_at};
-use cg_slips::unknown_key;
+use cg_spans::{Step, json_key_at, json_value_at};
 use std::alloc::{AllocError, Global};
 
 /// The maximum number of keys of a file that are looked at.

@@ -2,9 +2,9 @@
 
 use crate::nodes::{Here, no_node};
 use cg_kernel::{WrittenArg, WrittenKernel, WrittenNode, op_of};
+use cg_lints::{Slips, Spot, shown};
 use cg_model::{MOST_DISTANCE, MOST_NODES};
-use cg_names::{Numbers, number_in};
-use cg_slips::{Slips, Spot, shown};
+use cg_reading::{Numbers, number_in};
 use cg_word::Op;
 use std::alloc::{AllocError, Global};
 

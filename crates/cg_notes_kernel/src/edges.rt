@@ -2,9 +2,9 @@
 
 use crate::nodes::no_node;
 use cg_kernel::{WrittenEdge, WrittenKernel};
+use cg_lints::{Slips, Spot, shown};
 use cg_model::MOST_ORDER_DISTANCE;
-use cg_names::{Numbers, number_in};
-use cg_slips::{Slips, Spot, shown};
+use cg_reading::{Numbers, number_in};
 use std::alloc::{AllocError, Global};
 
 /// Adds to `slips` the faults of the order edges of `written`.

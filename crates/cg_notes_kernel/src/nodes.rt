@@ -3,9 +3,9 @@
 use crate::args::note_args;
 use crate::shapes::node_prefix;
 use cg_kernel::{WrittenArg, WrittenKernel, WrittenNode, op_of};
+use cg_lints::{Slips, Spot, no_name, shown, unknown_operation};
 use cg_model::{LAST_PORT, LONGEST_NODE_NAME, is_name};
-use cg_names::{Numbers, number_in};
-use cg_slips::{Slips, Spot, no_name, shown, unknown_operation};
+use cg_reading::{Numbers, number_in};
 use cg_word::Op;
 use std::alloc::{AllocError, Global};
 

@@ -1,7 +1,7 @@
 //! The shapes of nodes, arguments and order edges.
 
 use cg_json::word_in;
-use cg_slips::{
+use cg_lints::{
     Field, Kind, Shape, Slips, Spot, items_of, note_keys, note_shape, shown, unknown_key,
 };
 use serde_json::Value;

@@ -5,8 +5,8 @@ use crate::nodes::note_nodes;
 use crate::shapes::note_shapes;
 use cg_json::json_value;
 use cg_kernel::{WrittenKernel, written_of};
-use cg_names::{Numbers, numbers_of};
-use cg_slips::Slips;
+use cg_lints::Slips;
+use cg_reading::{Numbers, numbers_of};
 use std::alloc::{AllocError, Global};
 
 /// Returns the faults in `bytes`, a kernel file that is a JSON text, except those of its top-level keys: for each kind

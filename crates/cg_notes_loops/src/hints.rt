@@ -3,8 +3,8 @@
 use crate::foreign::{call_hint, is_type};
 use crate::token::{Quoted, Token, last_byte};
 use cg_help::nearest_name;
+use cg_lints::operation_meant;
 use cg_notes_texts::{is_word_byte, last_word};
-use cg_slips::operation_meant;
 use cg_word::Op;
 use std::alloc::{AllocError, Global};
 

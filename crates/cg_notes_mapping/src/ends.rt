@@ -4,8 +4,8 @@ use crate::known::Known;
 use crate::paths::note_path;
 use crate::shapes::{items_at, text_of};
 use cg_json::word_in;
+use cg_lints::{Slips, Spot, no_name, shown};
 use cg_model::Operand;
-use cg_slips::{Slips, Spot, no_name, shown};
 use serde_json::Value;
 use std::alloc::{AllocError, Global};
 

@@ -2,8 +2,8 @@
 
 use crate::shapes::{items_at, text_of};
 use cg_json::word_in;
+use cg_lints::{Slips, Spot};
 use cg_model::{Kernel, Operand};
-use cg_slips::{Slips, Spot};
 use serde_json::Value;
 use std::alloc::{AllocError, Global};
 

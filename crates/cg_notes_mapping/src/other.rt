@@ -2,7 +2,7 @@
 
 use crate::known::Known;
 use crate::shapes::{items_at, text_of};
-use cg_slips::{Slips, Spot, shown};
+use cg_lints::{Slips, Spot, shown};
 use serde_json::Value;
 use std::alloc::{AllocError, Global};
 

@@ -4,8 +4,8 @@ use crate::ends::unknown_name;
 use crate::known::Known;
 use crate::shapes::{items_at, text_of};
 use cg_json::word_in;
+use cg_lints::{Slips, Spot, shown};
 use cg_model::Operand;
-use cg_slips::{Slips, Spot, shown};
 use serde_json::Value;
 use std::alloc::{AllocError, Global};
 

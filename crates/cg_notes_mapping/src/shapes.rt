@@ -1,8 +1,8 @@
 //! The shapes of places and routes, and numbers that are too large.
 
 use cg_json::word_in;
+use cg_lints::{Field, Kind, Shape, Slips, Spot, items_of, note_keys, note_shape};
 use cg_model::LATEST_TIME;
-use cg_slips::{Field, Kind, Shape, Slips, Spot, items_of, note_keys, note_shape};
 use serde_json::Value;
 use std::alloc::{AllocError, Global};
 

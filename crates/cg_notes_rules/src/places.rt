@@ -4,7 +4,7 @@ use crate::names::Mapped;
 use cg_check::RulePlace;
 use cg_json::{items_or_none, json_value, text_at, word_in};
 use cg_notes_texts::Place;
-use cg_places::{Step, json_value_at};
+use cg_spans::{Step, json_value_at};
 use serde_json::Value;
 use std::alloc::Global;
 

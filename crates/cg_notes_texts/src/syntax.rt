@@ -6,7 +6,7 @@ use crate::json::{json_error, within};
 use crate::quotes::missing_quote;
 use crate::words::is_word_byte;
 use cg_json::{JsonFault, json_value, text_at};
-use cg_slips::shown;
+use cg_lints::shown;
 use cg_toml::{TomlFault, toml_table};
 use serde_json::Value;
 use std::alloc::{AllocError, Global};

@@ -2,8 +2,8 @@
 
 use crate::finding::{Finding, Place};
 use cg_help::nearest_name;
+use cg_lints::shown;
 use cg_model::{MOST_MEMORY, MOST_STREAM};
-use cg_slips::shown;
 use std::alloc::{AllocError, Global};
 
 /// The maximum number of bytes of a field that are looked at.

@@ -4,7 +4,7 @@ use Rattle.std.specs.List.{list_any, position_from}
 use Rattle.std.specs.Str.{bytes_eq}
 use Rattle.std.specs.declared.alloc.Global.{Global}
 use Rattle.indexmap.specs.IndexMap.{IndexMap}
-use Rattle.cg_names.specs.Numbers as names
+use Rattle.cg_reading.specs.Numbers as names
 use Rattle.cg_parts.specs.Parts.{Element, Entry, claims_of}
 
 -- the resource has that name

@@ -12,7 +12,7 @@ use crate::entry::Entry;
 use crate::fault::{ArchFault, NamePlace, TooLargePlace};
 use crate::parts::{Element, Parts};
 use cg_model::{LONGEST_NAME, MOST_LINKS, MOST_MEMORY, MOST_RESOURCES, MOST_UNITS, is_name};
-use cg_names::Numbers;
+use cg_reading::Numbers;
 use std::alloc::{AllocError, Global};
 
 /// Returns the lowest of A1 to A5 that applies, at its first place. The resources are those of the parts, with their

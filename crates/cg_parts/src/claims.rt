@@ -5,14 +5,14 @@ ghost use Rattle.std.specs.Option.{option_or};
 ghost use Rattle.std.specs.Str.{bytes_eq};
 ghost use Rattle.cg_model.specs.First.{first_from, is_before};
 ghost use Rattle.cg_parts.specs.Parts as spec;
-ghost use Rattle.cg_names.specs.Numbers.{found_in};
+ghost use Rattle.cg_reading.specs.Numbers.{found_in};
 ghost use Rattle.cg_parts.specs.Numbers.{IsClaiming};
 ghost use Rattle.cg_parts.specs.Rules.{repeats_by, repeated_name};
 
 use crate::names::{out_name, port_name_of};
 use crate::parts::{Element, Names};
 use cg_model::Name;
-use cg_names::{Numbers, add_first, is_before, number_in};
+use cg_reading::{Numbers, add_first, is_before, number_in};
 use indexmap::IndexMap;
 use std::alloc::{AllocError, Global};
 

@@ -9,7 +9,7 @@ use crate::entry::Entry;
 use crate::fault::DriverPlace;
 use crate::parts::{Element, Names};
 use cg_model::{Kind, Name};
-use cg_names::{Numbers, number_in};
+use cg_reading::{Numbers, number_in};
 use std::alloc::{AllocError, Global};
 
 /// Why a driver is at fault.

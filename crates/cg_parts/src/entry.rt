@@ -2,7 +2,7 @@
 
 use crate::parts::Names;
 use cg_model::{Kind, Name};
-use cg_names::Named;
+use cg_reading::Named;
 
 /// A resource that an element defines, with its drivers still by name.
 #[derive(Drop)]

@@ -14,7 +14,7 @@ mod texts;
 mod units;
 
 pub use before_loops::fault_before_loops;
-pub use cg_names::{Numbers, number_in, numbers_of};
+pub use cg_reading::{Numbers, number_in, numbers_of};
 pub use drivers::DriverRule;
 pub use entries::entries_of_all;
 pub use entry::Entry;

@@ -1,3 +1,4 @@
 pub mod Items
 pub mod Keys
 pub mod Reads
+pub mod Numbers

@@ -1,7 +1,7 @@
 -- Facts on chains.
 use Rattle.std.proofs.Common.{◌≡◌, ℕ, ◌+◌, ◌*◌, ◌≤◌, List, [], ◌∷◌, ◌++◌, Option, sym, ap, subst, arith}
-use Rattle.cg_edges.specs.declared.edge.Edge.{Edge}
-use Rattle.cg_edges.specs.Chain.{Goes, latencies, distances, latency_of, distance_of, IsCycle, IsEarly, IsTight}
+use Rattle.cg_recur.specs.declared.edge.Edge.{Edge}
+use Rattle.cg_recur.specs.Chain.{Goes, latencies, distances, latency_of, distance_of, IsCycle, IsEarly, IsTight}
 
 module _ {X : Type 0} (edge : X → Option Edge) where
   pub latencies-append : (xs ys : List X) → latencies edge (xs ++ ys) ≡ latencies edge xs + latencies edge ys

@@ -2,7 +2,7 @@
 use Rattle.std.proofs.Common.{◌≡◌, ℕ, zero, suc, ◌+◌, ◌-◌, ◌<◌, ◌≤◌, List, [], ◌∷◌, ◌++◌, length, refl, sym, ap, ◌∙◌, subst, arith, inl, inr, ⊎_elim}
 use Rattle.std.specs.Prelude.{◌⊎◌, slice_index}
 use Rattle.std.proofs.lemmas.Bool.{cases_eq, cases_lt}
-use Rattle.cg_edges.specs.declared.edge.Edge.{Edge}
+use Rattle.cg_recur.specs.declared.edge.Edge.{Edge}
 use Rattle.cg_recur.specs.declared.moments.Step.{Step}
 use Rattle.cg_recur.specs.Log.{step, IsLog, IsDeep}
 use Rattle.cg_recur.specs.Path.{moment, IsPath, IsRepeat, IsCut, edges_between}

@@ -2,9 +2,9 @@
 use Rattle.std.proofs.Common.{◌≡◌, ℕ, zero, suc, ◌+◌, ◌-◌, ◌*◌, ◌<◌, ◌≤◌, List, [], ◌∷◌, ◌++◌, length, Some, refl, sym, ap, ◌∙◌, subst, arith, inl, inr, ⊎_elim, length-append, append_assoc}
 use Rattle.std.specs.Prelude.{◌⊎◌, slice_get, slice_index}
 use Rattle.std.proofs.lemmas.Bool.{cases_lt}
-use Rattle.cg_edges.specs.declared.edge.Edge.{Edge}
+use Rattle.cg_recur.specs.declared.edge.Edge.{Edge}
 use Rattle.cg_recur.specs.declared.moments.Step.{Step}
-use Rattle.cg_edges.specs.Chain.{Goes, latencies, distances, latency_of, distance_of, source_of, IsCycle, IsShown}
+use Rattle.cg_recur.specs.Chain.{Goes, latencies, distances, latency_of, distance_of, source_of, IsCycle, IsShown}
 use Rattle.cg_recur.specs.Log.{step, IsLog}
 use Rattle.cg_recur.specs.Path.{moment, IsPath, IsRepeat, IsCut, edges_between}
 use Rattle.cg_recur.specs.Numbered.{IsShownCycle}

@@ -7,13 +7,13 @@ use Rattle.std.proofs.lemmas.Option.{slice_get-get_or, slice_get_within}
 use Rattle.cg_word.specs.declared.op.Op.{Op}
 use Rattle.cg_model.specs.Kernel.{Kernel, IsKernel, size, node}
 use Rattle.cg_model.specs.Array.{Arch}
-use Rattle.cg_edges.specs.Chain.{source_of, IsShown, IsTight}
-use Rattle.cg_edges.specs.declared.edge.Edge.{Edge}
-use Rattle.cg_edges.specs.declared.edge.EdgeId.{EdgeId}
-use Rattle.cg_edges.specs.declared.edge.EdgeId.TheVariants.{Arg, Order}
-use Rattle.cg_edges.specs.Edges.{edge_of, latency, AreEdges}
-use Rattle.cg_edges.specs.Listed.{AreSoFar, IsAdded}
-use Rattle.cg_edges.proofs.Listed.{arg_added, order_added, none_so_far, next_node, all_edges}
+use Rattle.cg_recur.specs.Chain.{source_of, IsShown, IsTight}
+use Rattle.cg_recur.specs.declared.edge.Edge.{Edge}
+use Rattle.cg_recur.specs.declared.edge.EdgeId.{EdgeId}
+use Rattle.cg_recur.specs.declared.edge.EdgeId.TheVariants.{Arg, Order}
+use Rattle.cg_recur.specs.Edges.{edge_of, latency, AreEdges}
+use Rattle.cg_recur.specs.Listed.{AreSoFar, IsAdded}
+use Rattle.cg_recur.proofs.Listed.{arg_added, order_added, none_so_far, next_node, all_edges}
 use Rattle.cg_recur.specs.Log.{IsWithin}
 use Rattle.cg_recur.specs.Recurrences.{IsRecurrence, name_at}
 use Rattle.cg_recur.proofs.Chains.{none_from_tight}

@@ -6,9 +6,9 @@ use Rattle.std.proofs.lemmas.List.{get_or-map}
 use Rattle.cg_word.specs.declared.op.Op.{Op}
 use Rattle.cg_model.specs.Kernel.{Kernel, IsKernel, size}
 use Rattle.cg_model.specs.Array.{Arch}
-use Rattle.cg_edges.specs.Chain.{IsEarly}
-use Rattle.cg_edges.specs.declared.edge.EdgeId.{EdgeId}
-use Rattle.cg_edges.specs.Edges.{edge_of, latency}
+use Rattle.cg_recur.specs.Chain.{IsEarly}
+use Rattle.cg_recur.specs.declared.edge.EdgeId.{EdgeId}
+use Rattle.cg_recur.specs.Edges.{edge_of, latency}
 use Rattle.cg_recur.specs.declared.moments.Step.{Step}
 use Rattle.cg_recur.specs.Log.{step, AreTimes}
 use Rattle.cg_recur.specs.Recurrences.{IsRecurrence, name_at}

@@ -1,9 +1,9 @@
 -- Where no edge asks for more, the times are the earliest ones.
 use Rattle.std.proofs.Common.{◌≡◌, ℕ, zero, suc, ◌+◌, ◌*◌, ◌<◌, List, [], ◌∷◌, ◌++◌, length, Some, refl, sym, ap, ◌∙◌, subst, arith, inl, inr, ⊎_elim}
 use Rattle.std.specs.Prelude.{slice_get, slice_index}
-use Rattle.cg_edges.specs.declared.edge.Edge.{Edge}
+use Rattle.cg_recur.specs.declared.edge.Edge.{Edge}
 use Rattle.cg_recur.specs.declared.moments.Step.{Step}
-use Rattle.cg_edges.specs.Chain.{Goes, latencies, distances, latency_of, distance_of, IsCycle, IsEarly, IsTight}
+use Rattle.cg_recur.specs.Chain.{Goes, latencies, distances, latency_of, distance_of, IsCycle, IsEarly, IsTight}
 use Rattle.std.proofs.lemmas.Bool.{cases_lt}
 use Rattle.std.proofs.lemmas.Option.{slice_get_within}
 use Rattle.cg_recur.specs.Log.{IsWithin, step, Follows, IsLog, IsShallow, time_of, IsSlack, IsSettled, IsBegun, IsCounting, IsNext, IsStill, AreSlack, AreTimes}

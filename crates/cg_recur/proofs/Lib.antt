@@ -10,3 +10,5 @@ pub mod Closing
 pub mod Made
 pub mod Decided
 pub mod Earliest
+pub mod Latencies
+pub mod Listed

@@ -1,8 +1,8 @@
 -- What the rounds leave, for what reads it.
 use Rattle.std.proofs.Common.{◌≡◌, ℕ, ◌<◌, Bool, true, false, List, length, sym, subst}
 use Rattle.std.specs.Prelude.{slice_get, slice_index}
-use Rattle.cg_edges.specs.declared.edge.Edge.{Edge}
-use Rattle.cg_edges.specs.Chain.{IsCycle, IsEarly}
+use Rattle.cg_recur.specs.declared.edge.Edge.{Edge}
+use Rattle.cg_recur.specs.Chain.{IsCycle, IsEarly}
 use Rattle.cg_recur.specs.declared.moments.Step.{Step}
 use Rattle.cg_recur.specs.Log.{IsWithin, IsLog, IsShallow, IsDeep, IsMade, AreTimes}
 use Rattle.cg_recur.proofs.Ends.{answers}

@@ -11,11 +11,11 @@ use Rattle.cg_model.specs.declared.kernel.Operand.TheVariants.{Const as Constant
 use Rattle.cg_model.specs.declared.kernel.OrderEdge.{OrderEdge}
 use Rattle.cg_model.specs.Kernel.{Kernel, IsKernel, size, node, no_node}
 use Rattle.cg_model.specs.Array.{Arch}
-use Rattle.cg_edges.specs.declared.edge.Edge.{Edge}
-use Rattle.cg_edges.specs.declared.edge.EdgeId.{EdgeId}
-use Rattle.cg_edges.specs.declared.edge.EdgeId.TheVariants.{Arg, Order}
-use Rattle.cg_edges.specs.Chain.{IsCycle, IsShown, IsEarly}
-use Rattle.cg_edges.specs.Edges.{edge_of, of_operand, of_order, latency, AreEdges}
+use Rattle.cg_recur.specs.declared.edge.Edge.{Edge}
+use Rattle.cg_recur.specs.declared.edge.EdgeId.{EdgeId}
+use Rattle.cg_recur.specs.declared.edge.EdgeId.TheVariants.{Arg, Order}
+use Rattle.cg_recur.specs.Chain.{IsCycle, IsShown, IsEarly}
+use Rattle.cg_recur.specs.Edges.{edge_of, of_operand, of_order, latency, AreEdges}
 use Rattle.cg_recur.specs.Log.{IsWithin}
 use Rattle.cg_recur.specs.Numbered.{IsShownCycle}
 use Rattle.cg_recur.specs.Recurrences.{IsRecurrence, HasNoRecurrence, name_at}

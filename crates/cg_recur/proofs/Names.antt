@@ -1,8 +1,8 @@
 -- The same edges under other names.
 use Rattle.std.proofs.Common.{◌≡◌, ℕ, zero, suc, ◌*◌, List, [], ◌∷◌, length, Option, Some, refl, sym, ap, ◌∙◌, subst, arith}
 use Rattle.std.specs.Prelude.{map, slice_get}
-use Rattle.cg_edges.specs.declared.edge.Edge.{Edge}
-use Rattle.cg_edges.specs.Chain.{Goes, latencies, distances, latency_of, distance_of, source_of, IsCycle, IsShown, IsEarly}
+use Rattle.cg_recur.specs.declared.edge.Edge.{Edge}
+use Rattle.cg_recur.specs.Chain.{Goes, latencies, distances, latency_of, distance_of, source_of, IsCycle, IsShown, IsEarly}
 
 module _ {X Y : Type 0} (edge : X → Option Edge) (edge' : Y → Option Edge) (f : X → Y) (same : (x : X) (e : Edge) → edge x ≡ Some e → edge' (f x) ≡ Some e) where
   pub Goes-map : (u v : ℕ) (xs : List X) → Goes edge u xs v → Goes edge' u (map f xs) v

@@ -4,7 +4,7 @@ use Rattle.std.specs.Prelude.{slice_index, map}
 use Rattle.std.proofs.lemmas.Bool.{cases_lt}
 use Rattle.std.proofs.lemmas.List.{get_or_append_left, get_or_push, length_push, get_or-map}
 use Rattle.std.proofs.Math.ListN.{length-map}
-use Rattle.cg_edges.specs.declared.edge.Edge.{Edge}
+use Rattle.cg_recur.specs.declared.edge.Edge.{Edge}
 use Rattle.cg_recur.specs.declared.moments.Step.{Step}
 use Rattle.cg_recur.specs.Log.{step, Follows, IsLog}
 use Rattle.cg_recur.specs.Path.{moment, IsPath}

@@ -3,7 +3,7 @@ use Rattle.std.proofs.Common.{◌≡◌, ◌≢◌, ℕ, ◌+◌, ◌-◌, ◌*�
 use Rattle.std.specs.Prelude.{◌⊎◌, slice_get, slice_index}
 use Rattle.std.proofs.lemmas.Bool.{cases_eq, cases_lt}
 use Rattle.std.proofs.lemmas.List.{get_or_append_left, get_or_push, get_or_read, length_push}
-use Rattle.cg_edges.specs.declared.edge.Edge.{Edge}
+use Rattle.cg_recur.specs.declared.edge.Edge.{Edge}
 use Rattle.cg_recur.specs.declared.moments.Step.{Step}
 use Rattle.cg_recur.specs.Log.{IsWithin, no_step, step, IsStep, IsLog, IsShallow, time_of, depth_of, IsSlack, IsSettled, IsNext}
 

@@ -1,7 +1,7 @@
 -- The log of the moments at which a node's time rose.
 use Rattle.std.specs.Prelude.{◌≡◌, ℕ, ◌+◌, ◌*◌, ◌^◌, ◌<◌, ◌≤◌, ◌⊎◌, List, length, Some, slice_get, slice_index, slice_index_or, Bool, true, false}
-use Rattle.cg_edges.specs.declared.edge.Edge.{Edge}
-use Rattle.cg_edges.specs.Chain.{IsTight}
+use Rattle.cg_recur.specs.declared.edge.Edge.{Edge}
+use Rattle.cg_recur.specs.Chain.{IsTight}
 use Rattle.cg_recur.specs.declared.moments.Step.{Step}
 use Rattle.cg_recur.specs.declared.moments.Outcome.{Outcome}
 use Rattle.cg_recur.specs.declared.moments.Outcome.TheVariants.{Same, Raised, Deep}

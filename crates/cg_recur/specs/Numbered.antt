@@ -1,9 +1,9 @@
 -- Chains of edges by their numbers in a list.
 use Rattle.std.specs.Prelude.{◌≡◌, ℕ, ◌<◌, List, length, slice_get, slice_index}
-use Rattle.cg_edges.specs.declared.edge.Edge.{Edge}
+use Rattle.cg_recur.specs.declared.edge.Edge.{Edge}
 use Rattle.cg_recur.specs.declared.rounds.Numbered.{Numbered}
 use Rattle.cg_recur.specs.declared.rounds.Numbered.TheVariants.{Cycle, Times}
-use Rattle.cg_edges.specs.Chain.{IsCycle, IsShown, IsEarly}
+use Rattle.cg_recur.specs.Chain.{IsCycle, IsShown, IsEarly}
 
 -- a closed chain that is too long for the interval, in its shown form
 abbrev pub IsShownCycle : List Edge → ℕ → List ℕ → Type 0

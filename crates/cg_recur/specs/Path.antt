@@ -1,6 +1,6 @@
 -- The path back from a moment.
 use Rattle.std.specs.Prelude.{◌≡◌, ℕ, zero, suc, ◌+◌, ◌<◌, ◌≤◌, List, [], ◌∷◌, length, slice_index}
-use Rattle.cg_edges.specs.declared.edge.Edge.{Edge}
+use Rattle.cg_recur.specs.declared.edge.Edge.{Edge}
 use Rattle.cg_recur.specs.declared.moments.Step.{Step}
 use Rattle.cg_recur.specs.Log.{step, Follows}
 

@@ -1,11 +1,11 @@
 //! The check of the closed chain of a certificate.
 ghost use Rattle.std.specs.Prelude.{◌≡◌, ◌↔◌, IsTrue};
-ghost use Rattle.cg_edges.specs.Chain.{source_of};
+ghost use Rattle.cg_recur.specs.Chain.{source_of};
 ghost use Rattle.cg_recur.specs.Recurrences.{IsRecurrence};
-ghost use Rattle.cg_edges.specs.Edges.{edge_of};
+ghost use Rattle.cg_recur.specs.Edges.{edge_of};
 
+use crate::{EdgeId, find_edge};
 use cg_arch::Arch;
-use cg_edges::{EdgeId, find_edge};
 use cg_model::Kernel;
 
 /// Returns whether `cycle` names the edges of a closed chain whose latencies exceed the interval `ii` times its

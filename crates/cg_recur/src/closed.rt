@@ -4,8 +4,8 @@ ghost use Rattle.cg_recur.specs.Log.{IsLog, IsDeep};
 ghost use Rattle.cg_recur.specs.Numbered.{IsShownCycle};
 ghost use Rattle.cg_recur.specs.Path.{IsPath, IsTrace, IsRepeat, IsCut, edges_between};
 
+use crate::Edge;
 use crate::moments::Step;
-use cg_edges::Edge;
 use std::alloc::{AllocError, Global};
 
 /// Returns a closed chain that is too long for the interval `ii`, by the numbers of its edges, from its least node on.

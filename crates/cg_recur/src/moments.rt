@@ -2,7 +2,7 @@
 ghost use Rattle.std.specs.Prelude.{◌^◌, ◌<◌, length, IfOk};
 ghost use Rattle.cg_recur.specs.Log.{IsWithin, IsLog, IsShallow, IsRelaxed, IsBegun, IsCounting, AreTimes};
 
-use cg_edges::Edge;
+use crate::Edge;
 use std::alloc::{AllocError, Global};
 
 /// A moment at which a node's time rose: the edge that raised it, the earlier moment before that edge, the new time,

@@ -4,8 +4,8 @@ ghost use Rattle.cg_recur.specs.Recurrences.{IsAnswer, HasNoRecurrence, AreEarli
 
 use crate::moments::times;
 use crate::rounds::{Numbered, longest_chains, make_rounds};
+use crate::{EdgeId, edges_of, latencies_are_small};
 use cg_arch::Arch;
-use cg_edges::{EdgeId, edges_of, latencies_are_small};
 use cg_model::Kernel;
 use std::alloc::{AllocError, Global};
 

@@ -3,9 +3,9 @@ ghost use Rattle.std.specs.Prelude.{◌^◌, ◌<◌, IfOk};
 ghost use Rattle.cg_recur.specs.Log.{IsWithin, IsMade};
 ghost use Rattle.cg_recur.specs.Numbered.{IsNumbered};
 
+use crate::Edge;
 use crate::closed::cycle;
 use crate::moments::{Outcome, Step, begin, numbers, relax, times};
-use cg_edges::Edge;
 use std::alloc::{AllocError, Global};
 
 /// The result of the rounds.

@@ -10,8 +10,8 @@ use Rattle.cg_model.specs.Mapping.{Position}
 use Rattle.cg_mrrg.specs.declared.links.MNode.{MNode}
 use Rattle.cg_mrrg.specs.Graph.{registers_after}
 use Rattle.cg_mrrg.proofs.After.{is_after, after_is}
-use Rattle.cg_claims.specs.Claims.{same}
-use Rattle.cg_claims.specs.Table.{toll}
+use Rattle.cg_congestion.specs.Claims.{same}
+use Rattle.cg_congestion.specs.Table.{toll}
 use Rattle.cg_route.specs.Layers.{Step, Way, Sought, Layer, size, at, Drives, IsOpen, AreOpen, drivers, delay_into, link, cost, better, way_of, way_into, ways_of, way_price, IsCheap, AreCheap, IsChoice, IsBest, IsBelow, held, no_way}
 use Rattle.cg_route.proofs.Ranks.{driven}
 use Rattle.cg_route.proofs.Best.{best_same, best_skip, best_more, best_price, held_some}

@@ -4,7 +4,7 @@ use Rattle.std.proofs.Common.{◌≡◌, ℕ, zero, suc, ◌+◌, ◌-◌, ◌<�
 use Rattle.std.specs.Prelude.{◌⊎◌}
 use Rattle.std.proofs.lemmas.Bool.{cases_lt, cases_eq}
 use Rattle.cg_model.specs.Mapping.{Goes}
-use Rattle.cg_claims.specs.Table.{Table}
+use Rattle.cg_congestion.specs.Table.{Table}
 use Rattle.cg_route.specs.Prices.{price, price_after}
 use Rattle.cg_route.specs.Least.{Ends, IsTimedPath, IsNotAfter, IsAtMost, IsLeastPath}
 use Rattle.cg_route.specs.Layers.{Step, Sought, Layer, at, layer_at, later_at, onward, Drives, IsOpen, delay_into, cost, AreLayers, IsChoice, IsBest, Follows}

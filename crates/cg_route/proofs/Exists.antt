@@ -6,7 +6,7 @@ use Rattle.std.proofs.lemmas.Bool.{cases_eq, cases_lt, cases_order}
 use Rattle.std.proofs.lemmas.List.Elements.{All-head, All-tail}
 use Rattle.cg_model.specs.Array.{Arch, resource, delay}
 use Rattle.cg_model.specs.Mapping.{Goes}
-use Rattle.cg_claims.specs.Table.{Table}
+use Rattle.cg_congestion.specs.Table.{Table}
 use Rattle.cg_route.specs.Prices.{price}
 use Rattle.cg_route.specs.Least.{Ends, IsTimedPath, IsNotAfter, IsAtMost, AreNear, IsFound, longest}
 

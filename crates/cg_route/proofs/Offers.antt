@@ -12,9 +12,9 @@ use Rattle.cg_mrrg.specs.declared.links.MNode.{MNode}
 use Rattle.cg_mrrg.specs.declared.links.Link.{Link}
 use Rattle.cg_mrrg.specs.Graph.{Graph, links_into, link_from}
 use Rattle.cg_mrrg.proofs.Drivers.{any_other, any_here, none_before}
-use Rattle.cg_claims.specs.Claims.{same, node_of}
+use Rattle.cg_congestion.specs.Claims.{same, node_of}
 use Rattle.cg_model.specs.Mapping.{same_from}
-use Rattle.cg_claims.specs.Table.{Table, toll, link_price}
+use Rattle.cg_congestion.specs.Table.{Table, toll, link_price}
 use Rattle.cg_route.specs.Layers.{Step, Sought, Layer, IsSearch, size, at, drivers, link, better, AreOffered, IsBelow}
 
 -- a claim there is the value's there

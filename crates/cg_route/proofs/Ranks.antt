@@ -8,7 +8,7 @@ use Rattle.std.proofs.lemmas.List.{get_or-take, get_or_default, get_or_past, len
 use Rattle.std.proofs.lemmas.List.FromFn.{get_or-map-range_with_len, length-map-range_with_len}
 use Rattle.cg_model.specs.declared.array.Resource.{Resource}
 use Rattle.cg_model.specs.declared.array.Kind.TheVariants.{Wire}
-use Rattle.cg_level.specs.Topological.{Passes}
+use Rattle.cg_levelize.specs.Topological.{Passes}
 use Rattle.cg_route.specs.Layers.{Sought, IsSearch, size, rank, place_of, Drives, IsOpen, drivers, delay_into}
 use Rattle.cg_model.proofs.Ranges.{pigeons}
 

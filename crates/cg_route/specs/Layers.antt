@@ -2,10 +2,10 @@
 use Rattle.std.specs.Prelude.{◌≡◌, ℕ, zero, suc, ◌+◌, ◌-◌, ◌*◌, ◌%◌, ◌^◌, ◌<◌, ◌≤◌, ◌⊎◌, ◌&&◌, ◌||◌, true, false, eqb, nat_lt, if◌then◌else◌, Bool, List, [], ◌∷◌, length, map, Contains, Option, Some, None, slice_index_or, slice_set}
 use Rattle.std.specs.List.{list_any, range_with_len}
 use Rattle.cg_model.specs.Array.{Arch, IsArch, resource, delay}
-use Rattle.cg_level.specs.Topological.{IsTopological}
+use Rattle.cg_levelize.specs.Topological.{IsTopological}
 use Rattle.cg_model.specs.Mapping.{Position}
-use Rattle.cg_claims.specs.Claims.{same}
-use Rattle.cg_claims.specs.Table.{Table, toll, link_price}
+use Rattle.cg_congestion.specs.Claims.{same}
+use Rattle.cg_congestion.specs.Table.{Table, toll, link_price}
 pub use Rattle.cg_route.specs.declared.step.Step.{Step}
 pub use Rattle.cg_route.specs.declared.step.Way.{Way}
 

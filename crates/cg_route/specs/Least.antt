@@ -3,7 +3,7 @@
 use Rattle.std.specs.Prelude.{◌≡◌, ℕ, ◌+◌, ◌-◌, ◌*◌, ◌<◌, ◌≤◌, ◌⊎◌, List, [], ◌∷◌, Option, Some, None}
 use Rattle.cg_model.specs.Array.{Arch}
 use Rattle.cg_model.specs.Mapping.{Goes}
-use Rattle.cg_claims.specs.Table.{Table}
+use Rattle.cg_congestion.specs.Table.{Table}
 use Rattle.cg_route.specs.Prices.{price}
 
 -- the resources and times at which a path begins and ends

@@ -1,7 +1,7 @@
 -- The price of a path.
 use Rattle.std.specs.Prelude.{ℕ, ◌+◌, List, [], ◌∷◌, Some}
 use Rattle.cg_model.specs.Array.{delay}
-use Rattle.cg_claims.specs.Table.{Table, link_price}
+use Rattle.cg_congestion.specs.Table.{Table, link_price}
 
 -- the price of continuing from q, where the value of u is at time t, along a path
 abbrev pub price_after : Table → ℕ → ℕ → ℕ → List ℕ → ℕ

@@ -3,7 +3,7 @@ ghost use Rattle.std.specs.Prelude.{◌≡◌, ℕ, ◌<◌, List, length, IfOk,
 ghost use Rattle.cg_route.specs.Least as spec;
 
 use crate::search::{PathEnds, Search};
-use cg_claims::{Mrrg, Usage};
+use cg_congestion::{Mrrg, Usage};
 use std::alloc::{AllocError, Global};
 
 /// The intervals in the length of the longest paths that are searched for.

@@ -5,5 +5,5 @@ mod least;
 mod search;
 mod step;
 
-pub use cg_claims::{MNode, Mrrg, Usage};
+pub use cg_congestion::{MNode, Mrrg, Usage};
 pub use least::least_path;

@@ -3,7 +3,7 @@ ghost use Rattle.std.specs.Prelude.{◌||◌, nat_lt, eqb, ◌≡◌, ◌≢◌,
 ghost use Rattle.cg_route.specs.Layers as spec;
 
 use crate::step::{NO_WAY, Step, Way, better, held};
-use cg_claims::{MNode, Mrrg, Usage};
+use cg_congestion::{MNode, Mrrg, Usage};
 use cg_model::Items;
 use std::alloc::{AllocError, Global};
 use std::marker::Model;
@@ -47,7 +47,7 @@ impl<'s, 'a> Search<'s, 'a> {
     ghost use Rattle.std.specs.List.{list_any};
     ghost use Rattle.cg_model.specs.Mapping.{Position};
     ghost use Rattle.cg_mrrg.specs.Graph.{registers_after};
-    ghost use Rattle.cg_claims.specs.Table as tables;
+    ghost use Rattle.cg_congestion.specs.Table as tables;
     ghost use Rattle.cg_route.specs.Layers as spec;
 
     /// Returns a search in `graph`, by the prices of a use table.

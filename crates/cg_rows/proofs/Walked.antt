@@ -11,10 +11,10 @@ use Rattle.cg_model.specs.declared.kernel.Operand.TheVariants.{Edge}
 use Rattle.cg_model.specs.Array.{Arch}
 use Rattle.cg_model.specs.Kernel.{Kernel}
 use Rattle.cg_model.specs.Mapping.{Position}
-use Rattle.cg_claims.specs.Claims.{claims_at}
-use Rattle.cg_claims.specs.Table.{Table, aged}
-use Rattle.cg_walk.specs.State.{edges}
-use Rattle.cg_walk.specs.Walk.{touching}
+use Rattle.cg_congestion.specs.Claims.{claims_at}
+use Rattle.cg_congestion.specs.Table.{Table, aged}
+use Rattle.cg_walk_spec.specs.State.{edges}
+use Rattle.cg_walk_spec.specs.Walk.{touching}
 
 -- ---- the running sum: edge operand 0 is the sum's own, 1 that of the turn in the sum, 2 that of the sum in the output
 

@@ -1,12 +1,12 @@
 //! A comparison of a configuration in tables with a view of encoded bytes, select by select and field by field.
 ghost use Rattle.std.specs.Prelude.{◌≡◌, ◌<◌, ◌↔◌, ℕ, IsTrue};
 ghost use Rattle.cg_model.specs.Canonical.{IsCanonical};
-ghost use Rattle.cg_contexts.specs.Known.{HasSelect, HasUnit};
+ghost use Rattle.cg_config.specs.Known.{HasSelect, HasUnit};
 ghost use Rattle.cg_rows.specs.Alike.{SameSelects, SameFields, SameSlots, IsSameSlot, IsSame};
 
 use cg_arch::Arch;
 use cg_bits::{Config, Contexts};
-use cg_contexts::{ArgFields, Op, UnitFields};
+use cg_config::{ArgFields, Op, UnitFields};
 use cg_view::ConfigView;
 
 /// Checks whether `tables` and `view` have the same interval and stages, and agree in each slot.

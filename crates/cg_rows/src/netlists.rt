@@ -4,7 +4,7 @@ ghost use Rattle.cg_model.specs.Canonical.{IsCanonical};
 
 use cg_arch::Arch;
 use cg_bits::read_bits;
-use cg_contexts::Contexts;
+use cg_config::Contexts;
 use cg_gates_run::{GateRun, Gates};
 use cg_netlist::netlist;
 use cg_pad::Image;

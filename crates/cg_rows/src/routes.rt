@@ -2,8 +2,8 @@
 ghost use Rattle.std.specs.Prelude.{◌≡◌, ◌≤◌, OnOk, length};
 
 use cg_arch::Arch;
-use cg_claims::laws::PlainUsage;
-use cg_claims::{ClaimUse, MNode, Mrrg, Usage};
+use cg_congestion::laws::PlainUsage;
+use cg_congestion::{ClaimUse, MNode, Mrrg, Usage};
 use cg_route::least_path;
 use std::alloc::{AllocError, Global};
 

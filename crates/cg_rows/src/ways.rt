@@ -1,8 +1,8 @@
 //! The registers on the ways of edges through three units.
 
 use cg_arch::Arch;
+use cg_bound_routes::find_ways;
 use cg_model::Kernel;
-use cg_ways::find_ways;
 use std::alloc::{AllocError, Global};
 
 /// Checks whether the registers on the shortest ways are those of the drivers. Unit a counts, and units b and c select:

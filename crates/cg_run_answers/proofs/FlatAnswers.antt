@@ -3,18 +3,18 @@ use Rattle.std.proofs.Common.{◌≡◌, ◌≢◌, [], ◌∷◌, Result, Ok, E
 use Rattle.cg_model.specs.Array.{Arch}
 use Rattle.cg_flat.specs.Text.{text_of}
 use Rattle.cg_files.specs.Held.{Holds, Appends}
-use Rattle.cg_ending.specs.declared.outcome.Status.TheVariants.{Done, Malformed}
-use Rattle.cg_ending.specs.Outcome.{Name, File, Outcome, names_of}
-use Rattle.cg_ending.specs.Ends.{Moment, Completed, Wrote}
+use Rattle.cg_effects.specs.declared.outcome.Status.TheVariants.{Done, Malformed}
+use Rattle.cg_effects.specs.Outcome.{Name, File, Outcome, names_of}
+use Rattle.cg_effects.specs.Ends.{Moment, Completed, Wrote}
 use Rattle.cg_grid.specs.declared.fault.TilesFault.{TilesFault}
 use Rattle.cg_grid.specs.declared.fault.TilesFault.TheVariants as fault
 use Rattle.cg_tiles.specs.Answer as tiles
 use Rattle.cg_tiles.specs.Answer.{AreValidBytes}
 use Rattle.cg_tiles.proofs.NotBoth.{not_both}
 use Rattle.cg_tiles.proofs.Solved.{some_answer}
-use Rattle.cg_ending.specs.declared.read.Stop.{Stop}
-use Rattle.cg_ending.specs.Allowed.{EndsBy}
-use Rattle.cg_ending.proofs.Allowed.{ends_weaker}
+use Rattle.cg_effects.specs.declared.read.Stop.{Stop}
+use Rattle.cg_effects.specs.Allowed.{EndsBy}
+use Rattle.cg_effects.proofs.Allowed.{ends_weaker}
 use Rattle.cg_inputs.specs.Refused.{RefusesArch}
 use Rattle.cg_inputs.proofs.Sound.{IsSound, plain, IsNamed}
 use Rattle.cg_inputs.proofs.Wholes.{whole, one_write, differ}

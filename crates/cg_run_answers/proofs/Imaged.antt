@@ -3,8 +3,8 @@ use Rattle.std.proofs.Common.{◌≡◌, ℕ, List, [], ◌∷◌, Option, ap, �
 use Rattle.cg_model.specs.Kernel.{Kernel}
 use Rattle.cg_model.specs.Work.{Image, Left}
 use Rattle.cg_model.specs.Turns.{turns_left}
-use Rattle.cg_ending.specs.declared.outcome.Status.{Status}
-use Rattle.cg_ending.specs.Outcome.{Name, Bytes, File, Outcome}
+use Rattle.cg_effects.specs.declared.outcome.Status.{Status}
+use Rattle.cg_effects.specs.Outcome.{Name, Bytes, File, Outcome}
 use Rattle.cg_pad.specs.Bytes as images
 use Rattle.cg_turns.specs.declared.pair.UnorderedPair.{UnorderedPair}
 use Rattle.cg_turns.specs.Pairs.{IsPairOf}

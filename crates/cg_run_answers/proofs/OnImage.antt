@@ -5,11 +5,11 @@ use Rattle.cg_model.specs.Work.{Image}
 use Rattle.cg_model.specs.Turns.{turns_left}
 use Rattle.cg_model.specs.Order.{IsUnaliased}
 use Rattle.cg_files.specs.Held.{Holds, Appends}
-use Rattle.cg_ending.specs.declared.outcome.Status.{Status}
-use Rattle.cg_ending.specs.declared.outcome.Status.TheVariants.{Done, Malformed, No}
-use Rattle.cg_ending.specs.Outcome.{Name, File, Outcome, names_of}
-use Rattle.cg_ending.specs.Ends.{Moment, Completed, Wrote, IsPut}
-use Rattle.cg_ending.specs.Refusals.{malformed_of}
+use Rattle.cg_effects.specs.declared.outcome.Status.{Status}
+use Rattle.cg_effects.specs.declared.outcome.Status.TheVariants.{Done, Malformed, No}
+use Rattle.cg_effects.specs.Outcome.{Name, File, Outcome, names_of}
+use Rattle.cg_effects.specs.Ends.{Moment, Completed, Wrote, IsPut}
+use Rattle.cg_effects.specs.Refusals.{malformed_of}
 use Rattle.cg_kernel.specs.declared.fault.KernelFault.{KernelFault}
 use Rattle.cg_kernel.specs.Answer.{answer_of}
 use Rattle.cg_kernel.specs.Texts.{kernel_fault_text}

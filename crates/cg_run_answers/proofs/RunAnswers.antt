@@ -8,10 +8,10 @@ use Rattle.cg_model.specs.Configured.{configuration_of}
 use Rattle.cg_model.specs.Machine.{machine_left}
 use Rattle.cg_overlap.proofs.Overlap.{leaves_the_same, unaliased_without}
 use Rattle.cg_files.specs.Held.{Holds, Appends}
-use Rattle.cg_ending.specs.declared.outcome.Status.TheVariants.{Done, Malformed}
-use Rattle.cg_ending.specs.Outcome.{Name, File, Outcome}
-use Rattle.cg_ending.specs.Ends.{Moment, Completed, Wrote}
-use Rattle.cg_ending.specs.Refusals.{malformed_of}
+use Rattle.cg_effects.specs.declared.outcome.Status.TheVariants.{Done, Malformed}
+use Rattle.cg_effects.specs.Outcome.{Name, File, Outcome}
+use Rattle.cg_effects.specs.Ends.{Moment, Completed, Wrote}
+use Rattle.cg_effects.specs.Refusals.{malformed_of}
 use Rattle.cg_grid.specs.declared.fault.TilesFault.{TilesFault}
 use Rattle.cg_grid.specs.declared.fault.TilesFault.TheVariants as fault
 use Rattle.cg_tiles.specs.Answer as tiles
@@ -28,8 +28,8 @@ use Rattle.cg_pad.specs.Bytes as images
 use Rattle.cg_pad.specs.Texts.{image_fault_text}
 use Rattle.cg_bits.specs.Texts.{bits_fault_text}
 use Rattle.cg_grid.specs.Texts.{tiles_fault_text}
-use Rattle.cg_cycle.specs.declared.fault.SimFault.TheVariants.{ImageTooLarge}
-use Rattle.cg_cycle.specs.Texts.{sim_fault_text}
+use Rattle.cg_datapath.specs.declared.fault.SimFault.TheVariants.{ImageTooLarge}
+use Rattle.cg_datapath.specs.Texts.{sim_fault_text}
 use Rattle.cg_inputs.proofs.Sound.{IsSound, plain, IsNamed}
 use Rattle.cg_inputs.proofs.Arrays.{same_array, sized, valid_array}
 use Rattle.cg_inputs.proofs.Wholes.{whole, one_write, differ}

@@ -3,9 +3,9 @@ use Rattle.std.proofs.Common.{◌≡◌, ℕ, List, ap, ◌∙◌}
 use Rattle.cg_model.specs.Kernel.{Kernel}
 use Rattle.cg_model.specs.Work.{Image, Left}
 use Rattle.cg_model.specs.Turns.{turns_left}
-use Rattle.cg_ending.specs.declared.outcome.Status.TheVariants.{Done}
-use Rattle.cg_ending.specs.Outcome.{Bytes}
-use Rattle.cg_ending.specs.Refusals.{reports}
+use Rattle.cg_effects.specs.declared.outcome.Status.TheVariants.{Done}
+use Rattle.cg_effects.specs.Outcome.{Bytes}
+use Rattle.cg_effects.specs.Refusals.{reports}
 use Rattle.cg_run_answers.specs.Turns.{blank, streams_report, turned}
 
 pub turned_by : (K : Kernel) (n : ℕ) (image : Image) (left : Left) (streams : List (List ℕ)) (report : Bytes) → image ≡ blank → left ≡ turns_left K n image → streams ≡ left.image.streams

@@ -2,9 +2,9 @@
 use Rattle.std.proofs.Common.{◌≡◌, ℕ, [], Result, Ok, Err, refl, ◌∙◌, ap, subst}
 use Rattle.cg_model.specs.Kernel.{Kernel}
 use Rattle.cg_files.specs.Held.{Holds, Appends}
-use Rattle.cg_ending.specs.declared.outcome.Status.TheVariants.{Done, Malformed}
-use Rattle.cg_ending.specs.Outcome.{Name, File, Outcome}
-use Rattle.cg_ending.specs.Ends.{Moment, Completed}
+use Rattle.cg_effects.specs.declared.outcome.Status.TheVariants.{Done, Malformed}
+use Rattle.cg_effects.specs.Outcome.{Name, File, Outcome}
+use Rattle.cg_effects.specs.Ends.{Moment, Completed}
 use Rattle.cg_kernel.specs.declared.fault.KernelFault.{KernelFault}
 use Rattle.cg_kernel.specs.Answer.{answer_of}
 use Rattle.cg_inputs.proofs.Sound.{IsSound, plain}

@@ -9,11 +9,11 @@ use Rattle.cg_model.specs.Mapping.{Mapping, IsLegal}
 use Rattle.cg_model.specs.Configured.{configuration_of}
 use Rattle.cg_model.specs.Config.{Config}
 use Rattle.cg_model.specs.Machine.{cycles, machine_left}
-use Rattle.cg_ending.specs.declared.outcome.Status.TheVariants.{Done}
+use Rattle.cg_effects.specs.declared.outcome.Status.TheVariants.{Done}
 use Rattle.cg_files.specs.Held.{Holds, Appends}
-use Rattle.cg_ending.specs.Outcome.{Name, Bytes, File, Outcome, line_of, line_then}
-use Rattle.cg_ending.specs.Ends.{Moment}
-use Rattle.cg_ending.specs.Refusals.{malformed_of}
+use Rattle.cg_effects.specs.Outcome.{Name, Bytes, File, Outcome, line_of, line_then}
+use Rattle.cg_effects.specs.Ends.{Moment}
+use Rattle.cg_effects.specs.Refusals.{malformed_of}
 use Rattle.cg_grid.specs.declared.fault.TilesFault.{TilesFault}
 use Rattle.cg_grid.specs.declared.fault.TilesFault.TheVariants as fault
 use Rattle.cg_tiles.specs.Answer as tiles
@@ -26,8 +26,8 @@ use Rattle.cg_bits.specs.Texts.{bits_fault_text}
 use Rattle.cg_pad.specs.declared.fault.ImageFault.{ImageFault}
 use Rattle.cg_pad.specs.Bytes as images
 use Rattle.cg_pad.specs.Texts.{image_fault_text}
-use Rattle.cg_cycle.specs.declared.fault.SimFault.TheVariants.{ImageTooLarge}
-use Rattle.cg_cycle.specs.Texts.{sim_fault_text}
+use Rattle.cg_datapath.specs.declared.fault.SimFault.TheVariants.{ImageTooLarge}
+use Rattle.cg_datapath.specs.Texts.{sim_fault_text}
 
 -- the number of cycles of the run, and the number of accesses outside the memory
 abbrev pub run_report : ℕ → ℕ → Bytes

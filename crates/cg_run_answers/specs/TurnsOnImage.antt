@@ -4,18 +4,18 @@ use Rattle.cg_model.specs.Kernel.{Kernel, node}
 use Rattle.cg_model.specs.Work.{Image}
 use Rattle.cg_model.specs.Turns.{turns_left}
 use Rattle.cg_model.specs.Order.{IsUnaliased}
-use Rattle.cg_ending.specs.declared.outcome.Status.{Status}
-use Rattle.cg_ending.specs.declared.outcome.Status.TheVariants.{Done, No}
+use Rattle.cg_effects.specs.declared.outcome.Status.{Status}
+use Rattle.cg_effects.specs.declared.outcome.Status.TheVariants.{Done, No}
 use Rattle.cg_files.specs.Held.{Holds, Appends}
-use Rattle.cg_ending.specs.Outcome.{Name, Bytes, File, Outcome, line_of, line_then}
-use Rattle.cg_ending.specs.Ends.{Moment, IsPut}
+use Rattle.cg_effects.specs.Outcome.{Name, Bytes, File, Outcome, line_of, line_then}
+use Rattle.cg_effects.specs.Ends.{Moment, IsPut}
 use Rattle.cg_kernel.specs.declared.fault.KernelFault.{KernelFault}
 use Rattle.cg_kernel.specs.Answer as kernels
 use Rattle.cg_pad.specs.declared.fault.ImageFault.{ImageFault}
 use Rattle.cg_pad.specs.Bytes as images
 use Rattle.cg_turns.specs.declared.pair.UnorderedPair.{UnorderedPair}
 use Rattle.cg_turns.specs.Pairs.{IsPairOf}
-use Rattle.cg_ending.specs.Refusals.{malformed_of}
+use Rattle.cg_effects.specs.Refusals.{malformed_of}
 use Rattle.cg_kernel.specs.Texts.{kernel_fault_text}
 use Rattle.cg_pad.specs.Texts.{image_fault_text}
 

@@ -2,15 +2,15 @@
 ghost use Rattle.std.specs.Prelude.{◌≡◌, ◌≤◌, ℕ, IfOk};
 ghost use Rattle.cg_model.specs.Limits.{most_turns};
 ghost use Rattle.cg_model.specs.Canonical.{IsCanonical};
-ghost use Rattle.cg_ending.specs.Allowed.{Allows, EndsBy};
-ghost use Rattle.cg_ending.specs.Outcome.{file_of};
-ghost use Rattle.cg_ending.specs.Refusals.{malformed_of};
+ghost use Rattle.cg_effects.specs.Allowed.{Allows, EndsBy};
+ghost use Rattle.cg_effects.specs.Outcome.{file_of};
+ghost use Rattle.cg_effects.specs.Refusals.{malformed_of};
 ghost use Rattle.cg_pad.specs.Bytes as images;
-ghost use Rattle.cg_cycle.specs.Texts.{sim_fault_text};
+ghost use Rattle.cg_datapath.specs.Texts.{sim_fault_text};
 ghost use Rattle.cg_run_answers.specs.Run.{IsRun, array_by_image, left_outcome, ran, run_report};
 
 use cg_arch::Arch;
-use cg_ending::{File, Outcome, Status, Stop, refusal};
+use cg_effects::{File, Outcome, Status, Stop, refusal};
 use cg_inputs::{arch_in, config_in, image_in};
 use cg_pad::{Image, write_image};
 use cg_sim::{Sim, SimFault, sim_fault_text};

@@ -57,7 +57,7 @@ module _ (A : Arch) (K : Kernel) (arch : IsArch A) (kernel : IsKernel K) (asked 
     no_hub_excluded : (first ii : ℕ) → IsBegin A K asked first → first_asked asked ≤ ii → ii < first → HubEnough A K ii → ⊥
     no_hub_excluded first ii begin from below enough =
         let some = asked_positive A K asked is in
-        none_legal A K begin.fars ii kernel (omega (arith, some, from)) begin.numbers (begin.excluded ii from below) (hub_map A K ii) (hub_interval A K ii) (hub_legal A K ii arch kernel enough)
+        none_legal A K begin.tables ii kernel (omega (arith, some, from)) begin.numbers (begin.excluded ii from below) (hub_map A K ii) (hub_interval A K ii) (hub_legal A K ii arch kernel enough)
 
     -- where the hub suffices at the last interval a mapping is answered
     pub by_hub : HubEnough A K (last_tried A asked) → (a : Answer) → IsAnswer A K asked moves a → IsMapping a

@@ -9,15 +9,15 @@ use Rattle.cg_recur.specs.Recurrences.{HasNoRecurrence}
 use Rattle.cg_bound.proofs.Intervals.{free_above}
 use Rattle.cg_distance.proofs.Searches.{Decided, IsFirst as IsFirstOf, first_below}
 use Rattle.cg_task.specs.Intervals.{IsAsked, last_tried}
-use Rattle.cg_why.specs.declared.reason.Kind.{Kind}
-use Rattle.cg_why.specs.declared.reason.Kind.TheVariants as kinds
-use Rattle.cg_why.specs.declared.reason.Reason.{Reason}
-use Rattle.cg_why.specs.declared.numbers.Fars.{Fars}
-use Rattle.cg_why.specs.Why.{AreFars, AreAllNumbers, far_at, IsExcluded, Shows, kind_of, IsLeastWithout, IsImpossible, IsExclusion, numbers_at}
-use Rattle.cg_why.specs.Scan.{IsFound}
-use Rattle.cg_why.proofs.Reasons.{shown, none_excludes, numbers_for}
-use Rattle.cg_why.proofs.Tables.{some_fars}
-use Rattle.cg_why.proofs.Exclusions.{some_reason}
+use Rattle.cg_bound_all.specs.declared.reason.Kind.{Kind}
+use Rattle.cg_bound_all.specs.declared.reason.Kind.TheVariants as kinds
+use Rattle.cg_bound_all.specs.declared.reason.Reason.{Reason}
+use Rattle.cg_bound_all.specs.declared.numbers.HopTables.{HopTables}
+use Rattle.cg_bound_all.specs.Why.{AreHops, AreAllNumbers, hops_at, IsExcluded, Shows, kind_of, IsLeastWithout, IsImpossible, IsExclusion, numbers_at}
+use Rattle.cg_bound_all.specs.Scan.{IsFound}
+use Rattle.cg_bound_all.proofs.Reasons.{shown, none_excludes, numbers_for}
+use Rattle.cg_bound_all.proofs.Tables.{some_hops}
+use Rattle.cg_bound_all.proofs.Exclusions.{some_reason}
 use Rattle.cg_search.specs.declared.begin.Exclusion.{Exclusion}
 use Rattle.cg_search.specs.declared.begin.Begin.TheVariants.{At, Nowhere}
 use Rattle.cg_search.specs.Begin.{first_asked, IsBegin, ExcludesAt, Begins}
@@ -53,24 +53,24 @@ module _ (A : Arch) (K : Kernel) where
 
   -- ---- what a reason says
 
-  pub impossible_by : (f : Fars) (ii : ℕ) (r : Reason) → Shows A K (far_at f ii) ii r → IsImpossible A K f ii
-  impossible_by f ii r h = (kind_of r, shown A K (far_at f ii) ii r h)
+  pub impossible_by : (f : HopTables) (ii : ℕ) (r : Reason) → Shows A K (hops_at f ii) ii r → IsImpossible A K f ii
+  impossible_by f ii r h = (kind_of r, shown A K (hops_at f ii) ii r h)
 
   -- no mapping of an interval that a reason excludes is legal
-  pub none_legal : (f : Fars) (ii : ℕ) → IsKernel K → 1 ≤ ii → AreAllNumbers A K f → IsImpossible A K f ii → (M : Mapping) → M.ii ≡ ii → IsLegal A K M → ⊥
+  pub none_legal : (f : HopTables) (ii : ℕ) → IsKernel K → 1 ≤ ii → AreAllNumbers A K f → IsImpossible A K f ii → (M : Mapping) → M.ii ≡ ii → IsLegal A K M → ⊥
   none_legal f ii good some all (kind, h) M at legal =
-      let far = far_at f ii in
-      none_excludes A K M far good legal (subst (λ z. AreFars A K z far) (sym at) (numbers_for A K f ii some all).fars) kind (subst (λ z. IsExcluded A K far z kind) (sym at) h)
+      let hops = hops_at f ii in
+      none_excludes A K M hops good legal (subst (λ z. AreHops A K z hops) (sym at) (numbers_for A K f ii some all).tables) kind (subst (λ z. IsExcluded A K hops z kind) (sym at) h)
 
   -- ---- what is found
 
-  pub begins_at : (f : Fars) (ii : ℕ) → AreAllNumbers A K f → (IsImpossible A K f ii → ⊥) → Begins A K (Some ii) (At ii)
-  begins_at f ii all free = (record { fars = f; numbers = all; from = omega arith; within = omega arith; excluded = λ i from below. absurd (omega (arith, from, below)); free = λ l h. free h }, omega arith)
+  pub begins_at : (f : HopTables) (ii : ℕ) → AreAllNumbers A K f → (IsImpossible A K f ii → ⊥) → Begins A K (Some ii) (At ii)
+  begins_at f ii all free = (record { tables = f; numbers = all; from = omega arith; within = omega arith; excluded = λ i from below. absurd (omega (arith, from, below)); free = λ l h. free h }, omega arith)
 
-  pub nowhere_at : (f : Fars) (ii : ℕ) (r : Reason) → AreAllNumbers A K f → Shows A K (far_at f ii) ii r → Begins A K (Some ii) (Nowhere (record { fars = f; reason = r }))
+  pub nowhere_at : (f : HopTables) (ii : ℕ) (r : Reason) → AreAllNumbers A K f → Shows A K (hops_at f ii) ii r → Begins A K (Some ii) (Nowhere (record { tables = f; reason = r }))
   nowhere_at f ii r all h = (
     record {
-      fars = f;
+      tables = f;
       numbers = all;
       from = omega arith;
       within = omega arith;
@@ -80,14 +80,14 @@ module _ (A : Arch) (K : Kernel) where
     record { numbers = all; shown = h },
   )
 
-  pub begins_least : (f : Fars) (l : ℕ) → AreAllNumbers A K f → IsLeastWithout (IsImpossible A K f) A.contexts (Some l) → Begins A K None (At l)
-  begins_least f l all (some, most, free, below) = (record { fars = f; numbers = all; from = some; within = omega (arith, most); excluded = below; free = λ m h. free h }, most)
+  pub begins_least : (f : HopTables) (l : ℕ) → AreAllNumbers A K f → IsLeastWithout (IsImpossible A K f) A.contexts (Some l) → Begins A K None (At l)
+  begins_least f l all (some, most, free, below) = (record { tables = f; numbers = all; from = some; within = omega (arith, most); excluded = below; free = λ m h. free h }, most)
 
-  pub nowhere_least : (f : Fars) (r : Reason) → AreAllNumbers A K f → ((ii : ℕ) → 1 ≤ ii → ii ≤ A.contexts → IsImpossible A K f ii) → Shows A K (far_at f A.contexts) A.contexts r
-      → Begins A K None (Nowhere (record { fars = f; reason = r }))
+  pub nowhere_least : (f : HopTables) (r : Reason) → AreAllNumbers A K f → ((ii : ℕ) → 1 ≤ ii → ii ≤ A.contexts → IsImpossible A K f ii) → Shows A K (hops_at f A.contexts) A.contexts r
+      → Begins A K None (Nowhere (record { tables = f; reason = r }))
   nowhere_least f r all each h = (
     record {
-      fars = f;
+      tables = f;
       numbers = all;
       from = omega arith;
       within = omega arith;
@@ -99,9 +99,9 @@ module _ (A : Arch) (K : Kernel) where
 
 -- ---- a reason excludes an interval, or none does
 
-module _ (A : Arch) (K : Kernel) (arch : IsArch A) (kernel : IsKernel K) (f : Fars) (all : AreAllNumbers A K f) (ii : ℕ) (some : 1 ≤ ii) (few : ii ≤ 64) where
+module _ (A : Arch) (K : Kernel) (arch : IsArch A) (kernel : IsKernel K) (f : HopTables) (all : AreAllNumbers A K f) (ii : ℕ) (some : 1 ≤ ii) (few : ii ≤ 64) where
   abbrev Finds : Kind → Option Reason → Type 0
-  Finds kind o = IsFound A K (far_at f ii) ii kind o
+  Finds kind o = IsFound A K (hops_at f ii) ii kind o
 
   abbrev HasExclusion : Type 0
   HasExclusion = (o : Option Reason) × IsExclusion A K f ii o
@@ -137,7 +137,7 @@ module _ (A : Arch) (K : Kernel) (arch : IsArch A) (kernel : IsKernel K) (f : Fa
 -- ---- there is an interval to begin at
 
 module _ (A : Arch) (K : Kernel) (arch : IsArch A) (kernel : IsKernel K) (asked : Option ℕ) (is : IsAsked A asked) where
-  module _ (f : Fars) (all : AreAllNumbers A K f) where
+  module _ (f : HopTables) (all : AreAllNumbers A K f) where
     abbrev IsTold : ℕ → Type 0
     IsTold ii = IsImpossible A K f ii ⊎ (IsImpossible A K f ii → ⊥)
 
@@ -174,7 +174,7 @@ module _ (A : Arch) (K : Kernel) (arch : IsArch A) (kernel : IsKernel K) (asked 
         let inside : first < last_tried A asked + 1 = is_first.within in (
           first,
           record {
-            fars = f;
+            tables = f;
             numbers = all;
             from = is_first.holds.0;
             within = omega (arith, inside);
@@ -185,7 +185,7 @@ module _ (A : Arch) (K : Kernel) (arch : IsArch A) (kernel : IsKernel K) (asked 
         (λ none. (
           last_tried A asked + 1,
           record {
-            fars = f;
+            tables = f;
             numbers = all;
             from = let from = asked_within A K asked arch in omega (arith, from);
             within = omega arith;
@@ -196,11 +196,11 @@ module _ (A : Arch) (K : Kernel) (arch : IsArch A) (kernel : IsKernel K) (asked 
         (first_below MayBegin (last_tried A asked + 1) begin_decided)
 
   pub some_begin : (first : ℕ) × IsBegin A K asked first
-  some_begin = let (f, all) = some_fars A K arch kernel in begin_by f all
+  some_begin = let (f, all) = some_hops A K arch kernel in begin_by f all
 
   -- where each interval is excluded there is a reason for the last one
-  reason_of : (f : Fars) → AreAllNumbers A K f → IsImpossible A K f (last_tried A asked) → (o : Option Reason) → IsExclusion A K f (last_tried A asked) o → (x : Exclusion) × ExcludesAt A K (last_tried A asked) x
-  reason_of f all impossible (Some r) h = (record { fars = f; reason = r }, record { numbers = all; shown = h })
+  reason_of : (f : HopTables) → AreAllNumbers A K f → IsImpossible A K f (last_tried A asked) → (o : Option Reason) → IsExclusion A K f (last_tried A asked) o → (x : Exclusion) × ExcludesAt A K (last_tried A asked) x
+  reason_of f all impossible (Some r) h = (record { tables = f; reason = r }, record { numbers = all; shown = h })
   reason_of f all impossible None h = absurd (h impossible)
 
   pub some_exclusion : IsBegin A K asked (last_tried A asked + 1) → (x : Exclusion) × ExcludesAt A K (last_tried A asked) x
@@ -208,5 +208,5 @@ module _ (A : Arch) (K : Kernel) (arch : IsArch A) (kernel : IsKernel K) (asked 
       let some = asked_positive A K asked is in
       let inside = asked_within A K asked arch in
       let few = last_small A K asked arch is in
-      let (o, h) = some_exclusion_at A K arch kernel begin.fars begin.numbers (last_tried A asked) (omega (arith, some, inside)) few in
-      reason_of begin.fars begin.numbers (begin.excluded (last_tried A asked) inside (omega arith)) o h
+      let (o, h) = some_exclusion_at A K arch kernel begin.tables begin.numbers (last_tried A asked) (omega (arith, some, inside)) few in
+      reason_of begin.tables begin.numbers (begin.excluded (last_tried A asked) inside (omega arith)) o h

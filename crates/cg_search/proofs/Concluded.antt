@@ -17,9 +17,9 @@ use Rattle.cg_task.proofs.Intervals.{last_positive}
 use Rattle.cg_task.specs.declared.answering.FoundBy.TheVariants.{Moves}
 use Rattle.cg_task.specs.declared.answering.Answer.{Answer}
 use Rattle.cg_task.specs.declared.answering.Answer.TheVariants.{Impossible, Mapped, Spent}
-use Rattle.cg_respond.specs.Faults.{faults_of}
-use Rattle.cg_respond.specs.Responded.{IsMissed}
-use Rattle.cg_respond.proofs.Weighed.{faults_some}
+use Rattle.cg_search_respond.specs.Faults.{faults_of}
+use Rattle.cg_search_respond.specs.Responded.{IsMissed}
+use Rattle.cg_search_respond.proofs.Weighed.{faults_some}
 use Rattle.cg_search.specs.declared.begin.Exclusion.{Exclusion}
 use Rattle.cg_search.specs.Begin.{IsBegin}
 use Rattle.cg_search.specs.Search.{AreAllFaulty, IsFound, IsBegun, IsAnswer, AreMissedFrom, AreMissedBy, IsExcludedBy}

@@ -6,9 +6,9 @@ use Rattle.std.proofs.Math.ListN.{set}
 use Rattle.cg_model.specs.Kernel.{Kernel}
 use Rattle.cg_model.specs.Array.{Arch}
 use Rattle.cg_model.specs.Mapping.{Mapping}
-use Rattle.cg_respond.specs.Faults.{faults_of}
-use Rattle.cg_respond.specs.Responded.{IsMissed}
-use Rattle.cg_respond.proofs.Weighed.{faults_some}
+use Rattle.cg_search_respond.specs.Faults.{faults_of}
+use Rattle.cg_search_respond.specs.Responded.{IsMissed}
+use Rattle.cg_search_respond.proofs.Weighed.{faults_some}
 use Rattle.cg_search.specs.Search.{AreMissedFrom, AreMissed}
 use Rattle.cg_search.specs.Course.{AreMisses}
 use Rattle.cg_search.specs.declared.misses.Misses.{Misses}

@@ -5,10 +5,10 @@ use Rattle.cg_model.specs.Array.{Arch}
 use Rattle.cg_bound.specs.Bound.{IsOpen}
 use Rattle.cg_task.specs.Intervals.{IsAsked, last_tried}
 use Rattle.cg_task.specs.declared.answering.FoundBy.TheVariants as found_by
-use Rattle.cg_respond.specs.declared.responding.Responded.{Responded}
-use Rattle.cg_respond.specs.declared.responding.Responded.TheVariants as responded
-use Rattle.cg_respond.specs.Faults.{faults_of}
-use Rattle.cg_respond.specs.Responded.{IsMissed}
+use Rattle.cg_search_respond.specs.declared.responding.Responded.{Responded}
+use Rattle.cg_search_respond.specs.declared.responding.Responded.TheVariants as responded
+use Rattle.cg_search_respond.specs.Faults.{faults_of}
+use Rattle.cg_search_respond.specs.Responded.{IsMissed}
 use Rattle.cg_search.specs.declared.trying.Found.{Found as FoundMapping}
 use Rattle.cg_search.specs.declared.misses.Misses.{Misses}
 use Rattle.cg_search.specs.declared.trying.Outcome.{Outcome}

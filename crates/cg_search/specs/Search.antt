@@ -11,8 +11,8 @@ use Rattle.cg_task.specs.declared.answering.FoundBy.{FoundBy}
 use Rattle.cg_task.specs.declared.answering.FoundBy.TheVariants.{Hub, Moves}
 use Rattle.cg_task.specs.declared.answering.Answer.{Answer}
 use Rattle.cg_task.specs.declared.answering.Answer.TheVariants.{Impossible, Mapped, Spent}
-use Rattle.cg_respond.specs.Faults.{faults_of}
-use Rattle.cg_respond.specs.Responded.{IsMissed}
+use Rattle.cg_search_respond.specs.Faults.{faults_of}
+use Rattle.cg_search_respond.specs.Responded.{IsMissed}
 use Rattle.cg_search.specs.declared.begin.Exclusion.{Exclusion}
 use Rattle.cg_search.specs.Begin.{IsBegin, ExcludesAt}
 

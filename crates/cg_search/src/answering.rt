@@ -11,15 +11,15 @@ ghost use Rattle.cg_search.specs.Search.{IsAnswer, IsTried, AreMissedBy, IsExclu
 ghost use Rattle.cg_task.specs.declared.answering.Answer.TheVariants as answer;
 
 use crate::begin::{Begin, Exclusion, find_begin};
-use crate::course::outcome;
 use crate::misses::Misses;
+use crate::schedule::run_schedule;
 use crate::trying::{Call, Outcome};
 use cg_arch::Arch;
-use cg_aside::Aside;
 use cg_bound::{Certificate, IntervalVerdict, verdict};
+use cg_diagnostics::Aside;
 use cg_hub::{hub_enough, hub_mapping};
 use cg_model::{Kernel, Mapping, Request};
-use cg_respond::Wiring;
+use cg_search_respond::Wiring;
 use cg_task::{Answer, FoundBy, last_tried};
 use std::alloc::{AllocError, Global};
 
@@ -53,7 +53,7 @@ pub fn search_answer<'a>(
 {
     match verdict(alloc, arch, kernel, last_tried(arch, request.ii))? {
         IntervalVerdict::Impossible(certificate) => Ok(impossible(alloc, certificate)),
-        IntervalVerdict::Allowed => begun(alloc, arch, kernel, request, aside),
+        IntervalVerdict::Allowed => search_allowed(alloc, arch, kernel, request, aside),
     }
 }
 
@@ -71,7 +71,7 @@ fn impossible<'a>(alloc: Global, certificate: Certificate) -> Conclusion<'a>
 }
 
 /// Searches at the intervals from the least one that no reason excludes to the last one. `aside` takes the progress.
-fn begun<'a>(
+fn search_allowed<'a>(
     alloc: Global,
     arch: &'a Arch,
     kernel: &'a Kernel,
@@ -86,7 +86,7 @@ fn begun<'a>(
     ensures excluded { IfOk result (λ c. IsExcludedBy arch.now kernel.now c.answer c.excluded) }
 {
     match find_begin(alloc, arch, kernel, request.ii)? {
-        Begin::At(first) => searched(alloc, arch, kernel, first, request, aside),
+        Begin::At(first) => search_from(alloc, arch, kernel, first, request, aside),
         Begin::Nowhere(exclusion) => Ok(all_excluded(alloc, arch, kernel, request, exclusion)),
     }
 }
@@ -119,7 +119,7 @@ fn all_excluded<'a>(
 }
 
 /// Searches at the intervals from `first` to the last one. `aside` takes the progress.
-fn searched<'a>(
+fn search_from<'a>(
     alloc: Global,
     arch: &'a Arch,
     kernel: &'a Kernel,
@@ -141,7 +141,7 @@ fn searched<'a>(
         request,
         first,
     };
-    match outcome(alloc, &call, aside)? {
+    match run_schedule(alloc, &call, aside)? {
         Outcome::Found(found) => Ok(Conclusion {
             answer: Answer::Mapped(found.mapping, FoundBy::Moves(found.moves)),
             missed: Vec::new(alloc),

@@ -1,19 +1,19 @@
 //! Where a search begins.
 ghost use Rattle.std.specs.Prelude.{ℕ, ◌≤◌, IfOk, Some, None};
 ghost use Rattle.cg_task.specs.Intervals.{IsAsked};
-ghost use Rattle.cg_why.specs.Why.{AreAllNumbers, IsImpossible};
+ghost use Rattle.cg_bound_all.specs.Why.{AreAllNumbers, IsImpossible};
 ghost use Rattle.cg_search.specs.Begin.{Begins};
 
 use cg_arch::Arch;
+use cg_bound_all::{HopTables, Reason, explain, find_exclusion, find_hops};
 use cg_model::Kernel;
-use cg_why::{Fars, Reason, explain, find_exclusion, find_fars};
 use std::alloc::{AllocError, Global};
 
 /// The exclusion of an interval.
 #[derive(Drop)]
 pub struct Exclusion {
     /// The registers on the ways of the data edges, on which the reason relies.
-    pub fars: Fars,
+    pub tables: HopTables,
     /// The reason.
     pub reason: Reason,
 }
@@ -50,9 +50,9 @@ fn begin_at(alloc: Global, arch: &Arch, kernel: &Kernel, ii: u32) -> Result<Begi
     requires interval { ii ≤ arch.now.contexts }
     ensures { IfOk result (Begins arch.now kernel.now (Some ii)) }
 {
-    let fars = find_fars(alloc, arch, kernel)?;
-    match find_exclusion(alloc, arch, kernel, &fars, ii)? {
-        Some(reason) => Ok(Begin::Nowhere(Exclusion { fars, reason })),
+    let tables = find_hops(alloc, arch, kernel)?;
+    match find_exclusion(alloc, arch, kernel, &tables, ii)? {
+        Some(reason) => Ok(Begin::Nowhere(Exclusion { tables, reason })),
         None => Ok(Begin::At(ii)),
     }
 }
@@ -64,19 +64,24 @@ fn begin_at_least(alloc: Global, arch: &Arch, kernel: &Kernel) -> Result<Begin, 
     let why = explain(alloc, arch, kernel)?;
     match why.least.interval {
         Some(least) => Ok(Begin::At(least)),
-        None => nowhere(alloc, arch, kernel, why.fars),
+        None => nowhere(alloc, arch, kernel, why.tables),
     }
 }
 
-/// Begins nowhere: each interval is excluded by the numbers `fars`.
-fn nowhere(alloc: Global, arch: &Arch, kernel: &Kernel, fars: Fars) -> Result<Begin, AllocError>
-    requires numbers { AreAllNumbers arch.now kernel.now fars }
-    requires each { (ii : ℕ) → 1 ≤ ii → ii ≤ arch.now.contexts → IsImpossible arch.now kernel.now fars ii }
+/// Begins nowhere: each interval is excluded by the numbers `tables`.
+fn nowhere(
+    alloc: Global,
+    arch: &Arch,
+    kernel: &Kernel,
+    tables: HopTables,
+) -> Result<Begin, AllocError>
+    requires numbers { AreAllNumbers arch.now kernel.now tables }
+    requires each { (ii : ℕ) → 1 ≤ ii → ii ≤ arch.now.contexts → IsImpossible arch.now kernel.now tables ii }
     ensures { IfOk result (Begins arch.now kernel.now None) }
 {
     let last = arch.contexts();
-    match find_exclusion(alloc, arch, kernel, &fars, last)? {
-        Some(reason) => Ok(Begin::Nowhere(Exclusion { fars, reason })),
+    match find_exclusion(alloc, arch, kernel, &tables, last)? {
+        Some(reason) => Ok(Begin::Nowhere(Exclusion { tables, reason })),
         None => unreachable!(),
     }
 }

@@ -4,12 +4,12 @@
 
 mod answering;
 mod begin;
-mod course;
-mod lowering;
+mod descent;
 mod misses;
 mod plan;
 mod probing;
 mod retrying;
+mod schedule;
 mod trying;
 
 pub use answering::{Conclusion, search_answer};

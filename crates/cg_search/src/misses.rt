@@ -1,7 +1,7 @@
 //! The results of searches that find no mapping.
 ghost use Rattle.std.specs.Prelude.{◌≡◌, ◌+◌, ◌<◌, OnOk, length};
-ghost use Rattle.cg_respond.specs.Faults.{faults_of};
-ghost use Rattle.cg_respond.specs.Responded.{IsMissed};
+ghost use Rattle.cg_search_respond.specs.Faults.{faults_of};
+ghost use Rattle.cg_search_respond.specs.Responded.{IsMissed};
 ghost use Rattle.cg_search.specs.Course.{AreMisses};
 
 use crate::trying::Call;

@@ -3,7 +3,7 @@ ghost use Rattle.std.specs.Prelude.{◌≤◌};
 
 use cg_arch::Arch;
 use cg_model::{Kernel, Request};
-use cg_respond::Effort;
+use cg_search_respond::Effort;
 
 /// The number by which the moves of the request are divided for a probe.
 const PROBE_SHARE: u32 = 120;

@@ -5,15 +5,15 @@ ghost use Rattle.cg_search.specs.Course.{IsPosed, Comes};
 
 use crate::misses::{add, nothing};
 use crate::plan::probe;
-use crate::trying::{Call, Found, Outcome, searched_at};
-use cg_aside::Aside;
-use cg_respond::Responded;
+use crate::trying::{Call, Found, Outcome, search_at};
+use cg_diagnostics::Aside;
+use cg_search_respond::Responded;
 use cg_task::last_tried;
 use std::alloc::{AllocError, Global};
 
 /// Probes at the intervals of `call` from the first one upwards, until a mapping is found or the last interval is done.
 /// `aside` takes the progress.
-pub(crate) fn probed<'a>(
+pub(crate) fn probe<'a>(
     alloc: Global,
     call: &Call<'a, '_>,
     aside: &mut dyn Aside,
@@ -25,7 +25,7 @@ pub(crate) fn probed<'a>(
     call.arch.contexts();
     let mut left = nothing(alloc, call);
     for ii in call.first..last_tried(call.arch, call.request.ii) + 1 {
-        match searched_at(alloc, call, ii, probe(call.request, ii), aside)? {
+        match search_at(alloc, call, ii, probe(call.request, ii), aside)? {
             Responded::Mapped(mapping, moves) => {
                 return Ok(Outcome::Found(Found { mapping, moves }));
             }

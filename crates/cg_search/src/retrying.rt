@@ -5,9 +5,9 @@ ghost use Rattle.cg_task.specs.Intervals.{last_tried};
 ghost use Rattle.cg_search.specs.Course.{IsPosed, AreMisses, Comes};
 
 use crate::misses::{Misses, lessen};
-use crate::trying::{Call, Found, Outcome, searched_long};
-use cg_aside::Aside;
-use cg_respond::Responded;
+use crate::trying::{Call, Found, Outcome, search_long};
+use cg_diagnostics::Aside;
+use cg_search_respond::Responded;
 use std::alloc::{AllocError, Global};
 
 /// The greatest number of intervals at which long searches are made where no probe found a mapping.
@@ -24,7 +24,7 @@ pub(crate) struct Retried<'a> {
 
 /// Makes long searches at the intervals of `call` at which the fewest faults are left, one after the other, until one
 /// finds a mapping. `left` is the result of the probes at each interval, and `aside` takes the progress.
-pub(crate) fn tried_again<'a>(
+pub(crate) fn retry<'a>(
     alloc: Global,
     call: &Call<'a, '_>,
     left: Misses,
@@ -44,7 +44,7 @@ pub(crate) fn tried_again<'a>(
             break;
         };
         let ii = call.first + at as u32;
-        match searched_long(alloc, call, ii, aside)? {
+        match search_long(alloc, call, ii, aside)? {
             Responded::Mapped(mapping, moves) => {
                 let outcome = Outcome::Found(Found { mapping, moves });
                 return Ok(Retried { outcome, failed });

@@ -7,9 +7,9 @@ ghost use Rattle.cg_search.specs.Course.{IsPosed, IsSearched};
 use crate::misses::Misses;
 use crate::plan::long;
 use cg_arch::Arch;
-use cg_aside::Aside;
+use cg_diagnostics::Aside;
 use cg_model::{Kernel, Request};
-use cg_respond::{Effort, Responded, Wiring, respond};
+use cg_search_respond::{Effort, Responded, Wiring, respond};
 use cg_task::{LegalMapping, Task};
 use std::alloc::{AllocError, Global};
 
@@ -47,7 +47,7 @@ pub(crate) enum Outcome<'a> {
 }
 
 /// Makes a long search at the interval `ii` of `call`. `aside` takes the progress.
-pub(crate) fn searched_long<'a>(
+pub(crate) fn search_long<'a>(
     alloc: Global,
     call: &Call<'a, '_>,
     ii: u32,
@@ -59,7 +59,7 @@ pub(crate) fn searched_long<'a>(
     requires to { ii ≤ last_tried call.now.arch.now call.now.request.ii }
     ensures { IfOk result (IsSearched call.now.arch.now call.now.kernel.now call.now.request.ii call.now.request.moves call.now.first ii) }
 {
-    searched_at(
+    search_at(
         alloc,
         call,
         ii,
@@ -69,7 +69,7 @@ pub(crate) fn searched_long<'a>(
 }
 
 /// Searches at the interval `ii` of `call`, with `effort`. `aside` takes the progress.
-pub(crate) fn searched_at<'a>(
+pub(crate) fn search_at<'a>(
     alloc: Global,
     call: &Call<'a, '_>,
     ii: u32,

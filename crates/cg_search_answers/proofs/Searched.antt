@@ -1,15 +1,15 @@
 -- What `search` answers, and what its bytes do.
 use Rattle.std.proofs.Common.{◌≡◌, ℕ, ◌-◌, ◌<◌, false, List, [], ◌∷◌, Option, Some, None, arith, refl, sym, ◌∙◌, ap, subst, ◌⊎◌, inl, inr, ⊎_elim}
 use Rattle.std.specs.Global.{Vec}
-use Rattle.cg_ending.specs.declared.outcome.Status.TheVariants.{Done, Impossible, BudgetSpent}
-use Rattle.cg_ending.specs.Outcome.{Name, Bytes, File, Outcome}
-use Rattle.cg_ending.specs.Ends.{Moment, Completed}
+use Rattle.cg_effects.specs.declared.outcome.Status.TheVariants.{Done, Impossible, BudgetSpent}
+use Rattle.cg_effects.specs.Outcome.{Name, Bytes, File, Outcome}
+use Rattle.cg_effects.specs.Ends.{Moment, Completed}
 use Rattle.cg_files.specs.Held.{Holds}
 use Rattle.cg_task.specs.declared.answering.Answer.{Answer}
 use Rattle.cg_task.specs.declared.answering.Answer.TheVariants as answer
 use Rattle.cg_task.proofs.Answers.{IsCertified}
 use Rattle.cg_model.specs.Mapping.{Mapping}
-use Rattle.cg_why_text.specs.Text.{excluded_line}
+use Rattle.cg_bound_text.specs.Text.{excluded_line}
 use Rattle.cg_search.specs.declared.begin.Exclusion.{Exclusion}
 use Rattle.cg_search.specs.Search.{AreMissed, AreMissedBy, IsExcludedFrom, IsExcludedBy}
 use Rattle.cg_search.proofs.Begins.{asked_positive}
@@ -28,7 +28,7 @@ use Rattle.cg_task_answers.proofs.Searched.{IsSearcher, HasReport}
 use Rattle.cg_search_answers.specs.Search.{word, IsLeftReport, faults_report, IsAnswerOf, IsSearch, IsSearched, IsSearchable, IsFoundWithin, IsSearchRun, AreFaults, IsSearchSpentRun, IsEither, AreAgreed}
 
 report_of : (p : Pair) (first : ℕ) (faults : List ℕ) (missed : List Mapping) (x : Option Exclusion) → AreMissed p.arch p.kernel first faults missed → IsExcludedFrom p.arch p.kernel first faults x → (report : Bytes) × IsLeftReport p first faults report
-report_of p first [] missed (Some x) are by = (excluded_line p.arch p.kernel x.fars (first - 1) x.reason, (x, by.1, refl))
+report_of p first [] missed (Some x) are by = (excluded_line p.arch p.kernel x.tables (first - 1) x.reason, (x, by.1, refl))
 report_of p first [] missed None are by = absurd (omega (arith, by))
 report_of p first (n ∷ faults) missed (Some x) are by = absurd (let none = by.0 in omega (arith, none))
 report_of p first (n ∷ faults) missed None are by = (faults_report p first (n ∷ faults) missed, (missed, are, refl))

@@ -1,10 +1,10 @@
 -- `search ARCH KERNEL OUT [--ii N] [--seed N] [--moves N] [--mapping FILE]`.
 use Rattle.std.specs.Prelude.{◌≡◌, ◌⊎◌, ℕ, ◌+◌, ◌-◌, false, List, [], ◌∷◌, ◌++◌, codes}
-use Rattle.cg_ending.specs.declared.outcome.Status.{Status}
-use Rattle.cg_ending.specs.declared.outcome.Status.TheVariants as status
-use Rattle.cg_ending.specs.Outcome.{Name, Bytes, File, Outcome}
-use Rattle.cg_ending.specs.Ends.{Moment}
-use Rattle.cg_ending.specs.Refusals.{reports}
+use Rattle.cg_effects.specs.declared.outcome.Status.{Status}
+use Rattle.cg_effects.specs.declared.outcome.Status.TheVariants as status
+use Rattle.cg_effects.specs.Outcome.{Name, Bytes, File, Outcome}
+use Rattle.cg_effects.specs.Ends.{Moment}
+use Rattle.cg_effects.specs.Refusals.{reports}
 use Rattle.cg_model.specs.Mapping.{Mapping}
 use Rattle.cg_check.specs.Legal.{Mapped}
 use Rattle.cg_violations.specs.Faults.{fault_lines}
@@ -12,7 +12,7 @@ use Rattle.cg_hub.specs.Hub.{HubEnough}
 use Rattle.cg_task.specs.declared.answering.FoundBy.{FoundBy}
 use Rattle.cg_task.specs.declared.answering.Answer.{Answer}
 use Rattle.cg_task.specs.Intervals.{last_tried}
-use Rattle.cg_why_text.specs.Text.{excluded_line}
+use Rattle.cg_bound_text.specs.Text.{excluded_line}
 use Rattle.cg_search.specs.declared.begin.Exclusion.{Exclusion}
 use Rattle.cg_search.specs.Begin.{IsBegin, ExcludesAt}
 use Rattle.cg_search.specs.Search.{IsFound, AreAllFaulty, AreMissed, IsAnswer}
@@ -50,7 +50,7 @@ IsFaultsReport p first faults report =
 -- the report of a reason that excludes the interval
 abbrev pub IsExcludedReport : Pair → ℕ → Bytes → Type 0
 IsExcludedReport p ii report =
-    (x : Exclusion) × ExcludesAt p.arch p.kernel ii x × (report ≡ excluded_line p.arch p.kernel x.fars ii x.reason)
+    (x : Exclusion) × ExcludesAt p.arch p.kernel ii x × (report ≡ excluded_line p.arch p.kernel x.tables ii x.reason)
 
 -- the report of these faults; where there are none, since no interval was tried, the report of what excludes the last
 -- interval, the one before the first

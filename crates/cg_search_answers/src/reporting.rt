@@ -1,18 +1,18 @@
 //! The report of a search that found no mapping: the number of faults that are left at each interval, and the faults of
 //! the mapping in which this number was reached; or what excludes the last interval.
 ghost use Rattle.std.specs.Prelude.{◌≡◌, ◌+◌, ◌<◌, ◌^◌, ◌++◌, length, IfOk, OnOk};
-ghost use Rattle.cg_ending.specs.Outcome.{outcome_of};
+ghost use Rattle.cg_effects.specs.Outcome.{outcome_of};
 ghost use Rattle.cg_model.specs.Mapping.{IsShaped};
 ghost use Rattle.cg_search.specs.Search.{AreMissed, IsExcludedFrom};
 ghost use Rattle.cg_search_answers.specs.Search as spec;
 
 use cg_arch::Arch;
-use cg_ending::Outcome;
+use cg_bound_text::excluded_line;
+use cg_effects::Outcome;
 use cg_model::{Kernel, Mapping};
 use cg_search::Exclusion;
 use cg_task_answers::{add_left, spent};
 use cg_violations::{fault_lines, violations};
-use cg_why_text::excluded_line;
 use std::alloc::{AllocError, Global};
 
 /// The maximum number of lines that report the faults of a mapping.
@@ -39,8 +39,8 @@ pub(crate) fn left_over(
 {
     match excluded {
         Some(exclusion) => {
-            let Exclusion { fars, reason } = exclusion;
-            let line = excluded_line(alloc, arch, kernel, &fars, first - 1, &reason)?;
+            let Exclusion { tables, reason } = exclusion;
+            let line = excluded_line(alloc, arch, kernel, &tables, first - 1, &reason)?;
             Ok(spent(alloc, line))
         }
         None => {

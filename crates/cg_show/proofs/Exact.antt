@@ -5,12 +5,12 @@ use Rattle.std.proofs.lemmas.Bool.{cases_lt}
 use Rattle.std.proofs.lemmas.List.{append-nil, flat_map_more, get_or_append_left, get_or_push}
 use Rattle.cg_model.specs.Mapping.{Position}
 use Rattle.cg_check.specs.Legal.{Mapped}
-use Rattle.cg_below.specs.Below.{lists_below}
-use Rattle.cg_below.proofs.Grown.{length_of_items}
-use Rattle.cg_marks.specs.Marks.{start_at, stay_at}
-use Rattle.cg_drawing.specs.Tiles.{is_tiled}
-use Rattle.cg_drawing.specs.Layout.{frame_of, seat, box}
-use Rattle.cg_drawing.specs.Svg.{group_head}
+use Rattle.cg_list_laws.specs.Below.{lists_below}
+use Rattle.cg_list_laws.proofs.Grown.{length_of_items}
+use Rattle.cg_occupancy.specs.Marks.{start_at, stay_at}
+use Rattle.cg_layout.specs.Tiles.{is_tiled}
+use Rattle.cg_layout.specs.Layout.{frame_of, seat, box}
+use Rattle.cg_layout.specs.Svg.{group_head}
 use Rattle.cg_show.specs.Marked.{start_mark, start_by, start_in, starts_text, stay_mark, stay_by, stay_in, stays_text, link_from, link_by, link_in, links_text, cell_mark, cell_by, cell_in, cells_text}
 use Rattle.cg_show.specs.Panels.{panel_text}
 use Rattle.cg_show.specs.Foot.{foot_text}

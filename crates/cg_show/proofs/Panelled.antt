@@ -6,11 +6,11 @@ use Rattle.cg_model.specs.declared.array.Kind.{Kind}
 use Rattle.cg_model.specs.Array.{Arch, resource}
 use Rattle.cg_model.specs.Mapping.{Position}
 use Rattle.cg_check.specs.Legal.{Mapped}
-use Rattle.cg_drawing.specs.Tiles.{tile_of}
-use Rattle.cg_drawing.specs.declared.spot.Spot.{Spot}
-use Rattle.cg_drawing.specs.Layout.{frame_of, seat, corner, tile_height}
-use Rattle.cg_drawing.specs.Svg.{rect_text, words_text, path_text, mark_head, mark_text, mark_end}
-use Rattle.cg_drawing.specs.Ways.{way}
+use Rattle.cg_layout.specs.Tiles.{tile_of}
+use Rattle.cg_layout.specs.declared.spot.Spot.{Spot}
+use Rattle.cg_layout.specs.Layout.{frame_of, seat, corner, tile_height}
+use Rattle.cg_layout.specs.Svg.{rect_text, words_text, path_text, mark_head, mark_text, mark_end}
+use Rattle.cg_layout.specs.Ways.{way}
 use Rattle.cg_show.specs.Words.{colour, cut, node_name, op_text, start_title, stay_title, link_title, round_of}
 use Rattle.cg_show.specs.Marked.{start_mark, stay_mark, line_class, ring_by}
 use Rattle.cg_show.specs.Panels.{begins_tile, tile_text, frame_text}

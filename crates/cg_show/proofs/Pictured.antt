@@ -3,9 +3,9 @@ use Rattle.std.proofs.Common.{◌≡◌, ℕ, ◌+◌, ◌*◌, Bool, true, fals
 use Rattle.std.specs.Prelude.{codes}
 use Rattle.cg_model.specs.Array.{Arch}
 use Rattle.cg_check.specs.Legal.{Mapped}
-use Rattle.cg_below.specs.Below.{lists_below}
-use Rattle.cg_drawing.specs.Tiles.{is_tiled}
-use Rattle.cg_drawing.specs.Svg.{group_head}
+use Rattle.cg_list_laws.specs.Below.{lists_below}
+use Rattle.cg_layout.specs.Tiles.{is_tiled}
+use Rattle.cg_layout.specs.Svg.{group_head}
 use Rattle.cg_show.specs.Panels.{grid_panel, column_panel, panel_text}
 use Rattle.cg_show.specs.Foot.{foot_text, report_top}
 use Rattle.cg_show.specs.Picture.{grid_text, table_text, shared_text, head_with, panels_in, panels_bottom, picture_width, picture_height, picture_with, picture_text}

@@ -2,11 +2,11 @@
 use Rattle.std.proofs.Common.{◌≡◌, ℕ, ◌+◌, ◌*◌, Bool, true, false, cond, List, [], ◌++◌, Option, Some, None, refl, sym, ap, ◌∙◌, add-zero}
 use Rattle.std.specs.Prelude.{nat_lt, codes}
 use Rattle.cg_check.specs.Legal.{Mapped}
-use Rattle.cg_below.specs.Below.{sum_below}
-use Rattle.cg_marks.specs.Counts.{starts_of}
-use Rattle.cg_marks.specs.Marks.{start_at}
-use Rattle.cg_below.proofs.Below.{sum_below-more, sum_below-none}
-use Rattle.cg_drawing.specs.Svg.{rect_text, words_text, mark_head, mark_text, mark_end}
+use Rattle.cg_list_laws.specs.Below.{sum_below}
+use Rattle.cg_occupancy.specs.Counts.{starts_of}
+use Rattle.cg_occupancy.specs.Marks.{start_at}
+use Rattle.cg_list_laws.proofs.Below.{sum_below-more, sum_below-none}
+use Rattle.cg_layout.specs.Svg.{rect_text, words_text, mark_head, mark_text, mark_end}
 use Rattle.cg_show.specs.Words.{colour, cut, node_name, start_title, time_of}
 use Rattle.cg_show.specs.Schedule.{row_top, row_number, row_by, unit_row, bar_text, bar_by, bar_in, tail_text, latency_of}
 use Rattle.cg_show.proofs.Steps.{joined}

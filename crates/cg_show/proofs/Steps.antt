@@ -4,10 +4,10 @@ use Rattle.std.specs.Prelude.{codes}
 use Rattle.std.specs.Ordering.{ord_max, nat_cmp}
 use Rattle.std.proofs.lemmas.Grind.{common_steps}
 use Rattle.std.proofs.Math.Nat.{mul-le-mul}
-use Rattle.cg_below.specs.Below.{greatest_below}
-use Rattle.cg_below.proofs.Below.{greatest_below-more}
-use Rattle.cg_drawing.specs.Svg.{words_head, words_text}
-pub use Rattle.cg_below.proofs.Grown.{grown_alone, begun, grown, unbegun, ended, unchanged, joined}
+use Rattle.cg_list_laws.specs.Below.{greatest_below}
+use Rattle.cg_list_laws.proofs.Below.{greatest_below-more}
+use Rattle.cg_layout.specs.Svg.{words_head, words_text}
+pub use Rattle.cg_list_laws.proofs.Grown.{grown_alone, begun, grown, unbegun, ended, unchanged, joined}
 
 pub greatest_more : (f : ℕ → ℕ) (n most next : ℕ) → most ≡ greatest_below f n → next ≡ max most (f n) → next ≡ greatest_below f (n + 1)
 greatest_more f n most next so_far here = here ∙ ap (λ z. max z (f n)) so_far ∙ sym (greatest_below-more f n)

@@ -1,9 +1,9 @@
 -- The marks of each panel, by the node that each unit begins and the value that each resource carries in its slot.
 use Rattle.std.specs.Prelude.{◌≡◌, ℕ, ◌<◌, true, false, List, [], ◌++◌, length, Option, Some, None, flat_map, slice_index_or}
 use Rattle.cg_check.specs.Legal.{Mapped}
-use Rattle.cg_marks.specs.Marks.{start_at, stay_at}
-use Rattle.cg_drawing.specs.Tiles.{is_tiled}
-use Rattle.cg_drawing.specs.Layout.{frame_of, seat, box}
+use Rattle.cg_occupancy.specs.Marks.{start_at, stay_at}
+use Rattle.cg_layout.specs.Tiles.{is_tiled}
+use Rattle.cg_layout.specs.Layout.{frame_of, seat, box}
 use Rattle.cg_show.specs.Marked.{start_mark, stay_mark, link_from, cell_mark}
 use Rattle.cg_show.specs.Panels.{grid_with, column_with, panel_text}
 use Rattle.cg_show.specs.Foot.{foot_text}

@@ -1,7 +1,7 @@
 -- The part of a picture below the panels: one iteration in time, and the lines of the report.
 use Rattle.std.specs.Prelude.{ℕ, ◌+◌, List, [], ◌∷◌, ◌++◌, codes, decimal}
 use Rattle.cg_check.specs.Legal.{Mapped}
-use Rattle.cg_marks.specs.Counts.{busy_units}
+use Rattle.cg_occupancy.specs.Counts.{busy_units}
 use Rattle.cg_show.specs.Schedule.{schedule_text, row_top}
 
 -- a line of the report

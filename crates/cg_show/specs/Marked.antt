@@ -5,12 +5,12 @@ use Rattle.cg_model.specs.declared.array.Kind.TheVariants.{Wire, Register, Port,
 use Rattle.cg_model.specs.Array.{resource}
 use Rattle.cg_model.specs.Mapping.{Position}
 use Rattle.cg_check.specs.Legal.{Mapped}
-use Rattle.cg_below.specs.Below.{lists_below}
-use Rattle.cg_marks.specs.Marks.{start_at, stay_at}
-use Rattle.cg_drawing.specs.declared.spot.Spot.{Spot}
-use Rattle.cg_drawing.specs.Layout.{frame_of, seat, box}
-use Rattle.cg_drawing.specs.Svg.{rect_text, words_text, ring_text, path_text, mark_text}
-use Rattle.cg_drawing.specs.Ways.{way}
+use Rattle.cg_list_laws.specs.Below.{lists_below}
+use Rattle.cg_occupancy.specs.Marks.{start_at, stay_at}
+use Rattle.cg_layout.specs.declared.spot.Spot.{Spot}
+use Rattle.cg_layout.specs.Layout.{frame_of, seat, box}
+use Rattle.cg_layout.specs.Svg.{rect_text, words_text, ring_text, path_text, mark_text}
+use Rattle.cg_layout.specs.Ways.{way}
 use Rattle.cg_show.specs.Words.{colour, cut, node_name, op_text, start_title, stay_title, link_title, round_of}
 
 -- ---- nodes

@@ -2,12 +2,12 @@
 use Rattle.std.specs.Prelude.{ℕ, zero, suc, ◌+◌, ◌*◌, ◌-◌, ◌/◌, ◌%◌, Bool, ◌&&◌, not, eqb, nat_lt, nat_le, List, [], ◌++◌, length, if◌then◌else◌, codes, decimal}
 use Rattle.cg_model.specs.Array.{Arch}
 use Rattle.cg_check.specs.Legal.{Mapped}
-use Rattle.cg_below.specs.Below.{lists_below}
-use Rattle.cg_drawing.specs.Tiles.{row_of, column_of, tile_of, is_tiled}
-use Rattle.cg_drawing.specs.declared.spot.Spot.{Spot}
-use Rattle.cg_drawing.specs.declared.spot.Frame.{Frame}
-use Rattle.cg_drawing.specs.Layout.{frame_of, corner, seat, box, tile_height, panel_width, panel_height}
-use Rattle.cg_drawing.specs.Svg.{rect_text, words_text, group_head, mark_end}
+use Rattle.cg_list_laws.specs.Below.{lists_below}
+use Rattle.cg_layout.specs.Tiles.{row_of, column_of, tile_of, is_tiled}
+use Rattle.cg_layout.specs.declared.spot.Spot.{Spot}
+use Rattle.cg_layout.specs.declared.spot.Frame.{Frame}
+use Rattle.cg_layout.specs.Layout.{frame_of, corner, seat, box, tile_height, panel_width, panel_height}
+use Rattle.cg_layout.specs.Svg.{rect_text, words_text, group_head, mark_end}
 use Rattle.cg_show.specs.Words.{resource_name}
 use Rattle.cg_show.specs.Marked.{starts_text, stays_text, links_text, cells_text}
 

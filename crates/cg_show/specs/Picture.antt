@@ -2,10 +2,10 @@
 use Rattle.std.specs.Prelude.{ℕ, ◌+◌, ◌-◌, ◌*◌, ◌/◌, max, min, nat_lt, List, [], ◌++◌, length, if◌then◌else◌, codes, decimal}
 use Rattle.cg_model.specs.Array.{Arch}
 use Rattle.cg_check.specs.Legal.{Mapped, config_of}
-use Rattle.cg_below.specs.Below.{lists_below}
-use Rattle.cg_drawing.specs.Tiles.{is_tiled}
-use Rattle.cg_drawing.specs.Layout.{frame_of, panel_width, panel_height}
-use Rattle.cg_drawing.specs.Svg.{words_text, group_head}
+use Rattle.cg_list_laws.specs.Below.{lists_below}
+use Rattle.cg_layout.specs.Tiles.{is_tiled}
+use Rattle.cg_layout.specs.Layout.{frame_of, panel_width, panel_height}
+use Rattle.cg_layout.specs.Svg.{words_text, group_head}
 use Rattle.cg_show.specs.declared.style.TheConstants.{STYLE}
 use Rattle.cg_show.specs.Panels.{tiles_text, boxes_text, column_text, rows_text, panel_text, shown}
 use Rattle.cg_show.specs.Schedule.{cycles}

@@ -5,10 +5,10 @@ use Rattle.cg_model.specs.Kernel.{size}
 use Rattle.cg_model.specs.Array.{unit}
 use Rattle.cg_model.specs.Mapping.{place}
 use Rattle.cg_check.specs.Legal.{Mapped, config_of}
-use Rattle.cg_below.specs.Below.{lists_below, count_below, greatest_below}
-use Rattle.cg_marks.specs.Marks.{start_at}
-use Rattle.cg_marks.specs.Counts.{starts_of, busy_units}
-use Rattle.cg_drawing.specs.Svg.{rect_text, words_text, mark_text}
+use Rattle.cg_list_laws.specs.Below.{lists_below, count_below, greatest_below}
+use Rattle.cg_occupancy.specs.Marks.{start_at}
+use Rattle.cg_occupancy.specs.Counts.{starts_of, busy_units}
+use Rattle.cg_layout.specs.Svg.{rect_text, words_text, mark_text}
 use Rattle.cg_show.specs.Words.{colour, cut, node_name, unit_name, start_title, time_of}
 
 -- the latency of the unit of node v, and the cycle after its last one

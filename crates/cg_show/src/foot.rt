@@ -3,7 +3,7 @@ ghost use Rattle.std.specs.Prelude.{◌≡◌, ◌++◌, ◌<◌, ◌^◌, IfOk,
 ghost use Rattle.cg_show.specs.Foot as spec;
 
 use crate::schedule::push_schedule;
-use cg_marks::Marks;
+use cg_occupancy::Marks;
 use std::alloc::{AllocError, Global};
 
 /// Returns where the report begins, from the top of the foot.

@@ -1,15 +1,15 @@
 //! The part of a picture before the panels.
 ghost use Rattle.std.specs.Prelude.{◌≡◌, ◌++◌, ◌+◌, ◌*◌, ◌<◌, ◌≤◌, ◌^◌, OnOk, true, false};
 ghost use Rattle.std.specs.Option.{ForSome, ForNone};
-ghost use Rattle.cg_drawing.specs.Tiles.{is_tiled};
+ghost use Rattle.cg_layout.specs.Tiles.{is_tiled};
 ghost use Rattle.cg_show.specs.Picture as spec;
 
 use crate::schedule::cycles;
 use crate::shared::{push_boxes, push_column, push_rows, push_tiles};
 use crate::style::STYLE;
-use cg_drawing::{Layout, push_words};
 use cg_emit::stages;
-use cg_marks::Marks;
+use cg_layout::{Layout, push_words};
+use cg_occupancy::Marks;
 use std::alloc::{AllocError, Global};
 
 /// Returns the width of the panels.

@@ -13,6 +13,6 @@ mod style;
 mod whole;
 mod words;
 
-pub use cg_marks::Marks;
+pub use cg_occupancy::Marks;
 pub use laws::shows_slots;
 pub use whole::picture;

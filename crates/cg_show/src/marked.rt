@@ -1,17 +1,17 @@
 //! The marks of a picture.
 ghost use Rattle.std.specs.Prelude.{◌≡◌, ◌++◌, ◌<◌, ◌≤◌, OnOk, length, Some, option_map};
 ghost use Rattle.cg_model.specs.Array.{resource as resource_at};
-ghost use Rattle.cg_below.specs.Below.{lists_below};
-ghost use Rattle.cg_marks.specs.Marks.{position_of, start_at, stay_at};
+ghost use Rattle.cg_list_laws.specs.Below.{lists_below};
+ghost use Rattle.cg_occupancy.specs.Marks.{position_of, start_at, stay_at};
 ghost use Rattle.cg_show.specs.Marked as spec;
 
 use crate::words::{
     colour, kind_of, link_title, node_name, op_text, push_name, push_name_with, round_of,
     start_title, stay_title,
 };
-use cg_drawing::{Area, Layout, Spot, push_mark, push_path, push_rect, push_ring, push_words};
-use cg_marks::{Marks, Stay};
+use cg_layout::{Area, Layout, Spot, push_mark, push_path, push_rect, push_ring, push_words};
 use cg_model::Kind;
+use cg_occupancy::{Marks, Stay};
 use std::alloc::{AllocError, Global};
 
 /// A legal mapping with the places of its array in a panel.

@@ -1,15 +1,15 @@
 //! Panels, one for each slot.
 ghost use Rattle.std.specs.Prelude.{◌≡◌, ◌++◌, ◌<◌, ◌≤◌, IfOk, OnOk, length, true, false, codes};
 ghost use Rattle.std.specs.Option.{ForSome, ForNone};
-ghost use Rattle.cg_below.specs.Below.{lists_below};
-ghost use Rattle.cg_drawing.specs.Layout as layouts;
-ghost use Rattle.cg_drawing.specs.Svg.{words_text};
-ghost use Rattle.cg_drawing.specs.Tiles.{is_tiled};
+ghost use Rattle.cg_list_laws.specs.Below.{lists_below};
+ghost use Rattle.cg_layout.specs.Layout as layouts;
+ghost use Rattle.cg_layout.specs.Svg.{words_text};
+ghost use Rattle.cg_layout.specs.Tiles.{is_tiled};
 ghost use Rattle.cg_show.specs.Panels as spec;
 
 use crate::marked::{Scene, push_cells, push_links, push_starts, push_stays};
-use cg_drawing::{Layout, push_group, push_words};
-use cg_marks::Marks;
+use cg_layout::{Layout, push_group, push_words};
+use cg_occupancy::Marks;
 use std::alloc::{AllocError, Global};
 
 /// Returns where the panel of `slot` begins, from the left.

@@ -1,13 +1,13 @@
 //! One iteration in time.
 ghost use Rattle.std.specs.Prelude.{◌≡◌, ◌++◌, ◌<◌, ◌≤◌, ◌^◌, suc, OnOk, length};
 ghost use Rattle.cg_check.specs.Legal.{config_of};
-ghost use Rattle.cg_below.specs.Below.{lists_below};
+ghost use Rattle.cg_list_laws.specs.Below.{lists_below};
 ghost use Rattle.cg_show.specs.Schedule as spec;
 
 use crate::words::{colour, latency_of, node_name, push_name, start_title, time_of, unit_name};
-use cg_drawing::{Area, push_mark, push_rect, push_words};
 use cg_emit::stages;
-use cg_marks::Marks;
+use cg_layout::{Area, push_mark, push_rect, push_words};
+use cg_occupancy::Marks;
 use std::alloc::{AllocError, Global};
 
 /// Returns the number of cycles of an iteration: one more than the last cycle in which a unit works on a node.

@@ -1,15 +1,15 @@
 //! The elements that all panels share: empty tiles, chips and boxes, or the empty cells of a column and the names of
 //! its rows.
 ghost use Rattle.std.specs.Prelude.{◌≡◌, ◌++◌, ◌<◌, OnOk, length};
-ghost use Rattle.cg_below.specs.Below.{lists_below};
-ghost use Rattle.cg_drawing.specs.Layout.{frame_of, seat, box};
-ghost use Rattle.cg_drawing.specs.Tiles.{tile_of};
+ghost use Rattle.cg_list_laws.specs.Below.{lists_below};
+ghost use Rattle.cg_layout.specs.Layout.{frame_of, seat, box};
+ghost use Rattle.cg_layout.specs.Tiles.{tile_of};
 ghost use Rattle.cg_show.specs.Panels as spec;
 
 use crate::words::resource_name;
 use cg_arch::Arch;
-use cg_drawing::{Area, Layout, Spot, push_rect, push_words};
-use cg_marks::Marks;
+use cg_layout::{Area, Layout, Spot, push_rect, push_words};
+use cg_occupancy::Marks;
 use std::alloc::{AllocError, Global};
 
 /// Checks whether `resource` is the first of its tile: the one before it is in another.

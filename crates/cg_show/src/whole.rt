@@ -5,8 +5,8 @@ ghost use Rattle.cg_show.specs.Picture as spec;
 use crate::foot::{foot, report_top};
 use crate::head::{Size, panels_bottom, picture_width, push_head};
 use crate::panels::panels;
-use cg_drawing::{Layout, push_group};
-use cg_marks::Marks;
+use cg_layout::{Layout, push_group};
+use cg_occupancy::Marks;
 use std::alloc::{AllocError, Global};
 
 /// The number of bytes for panels and the part below them.

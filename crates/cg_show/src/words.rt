@@ -3,12 +3,12 @@ ghost use Rattle.std.specs.Prelude.{◌≡◌, ◌++◌, ◌<◌, IfOk, OnOk, st
 ghost use Rattle.cg_model.specs.Array.{resource as resource_at, unit as unit_at};
 ghost use Rattle.cg_model.specs.Kernel.{node as node_at};
 ghost use Rattle.cg_model.specs.Mapping.{place as place_at};
-ghost use Rattle.cg_marks.specs.Marks.{position_of};
-ghost use Rattle.cg_drawing.specs.Svg as svg;
+ghost use Rattle.cg_occupancy.specs.Marks.{position_of};
+ghost use Rattle.cg_layout.specs.Svg as svg;
 ghost use Rattle.cg_show.specs.Words as spec;
 
-use cg_marks::{Marks, Stay};
 use cg_model::{Kind, Place};
+use cg_occupancy::{Marks, Stay};
 use std::alloc::{AllocError, Global};
 
 /// Returns the number of the colour of `node`'s value.

@@ -7,10 +7,10 @@ use Rattle.cg_word.specs.declared.op.Op.{Op}
 use Rattle.cg_model.specs.Kernel.{Kernel, IsKernel}
 use Rattle.cg_model.specs.Array.{Arch, IsArch}
 use Rattle.cg_model.specs.Mapping.{Mapping, IsLegal}
-use Rattle.cg_edges.specs.declared.edge.EdgeId.{EdgeId}
-use Rattle.cg_edges.specs.Edges.{edge_of, latency}
-use Rattle.cg_edges.specs.Chain.{IsShown}
-use Rattle.cg_edges.proofs.Latencies.{latency_small}
+use Rattle.cg_recur.specs.declared.edge.EdgeId.{EdgeId}
+use Rattle.cg_recur.specs.Edges.{edge_of, latency}
+use Rattle.cg_recur.specs.Chain.{IsShown}
+use Rattle.cg_recur.proofs.Latencies.{latency_small}
 use Rattle.cg_recur.specs.Recurrences.{IsRecurrence, HasNoRecurrence}
 use Rattle.cg_recur.proofs.Decided.{recurrence_or_none, shown_short}
 use Rattle.cg_class.specs.Class.{IsOverfull, AreOfNodes}

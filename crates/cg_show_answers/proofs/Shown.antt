@@ -1,9 +1,9 @@
 -- What `show` answers, and what it leaves.
 use Rattle.std.proofs.Common.{◌≡◌, List, [], ◌∷◌, Option, Some, None, Result, Ok, Err, refl, sym, ◌∙◌, ap, subst, inl, inr}
-use Rattle.cg_ending.specs.declared.outcome.Status.TheVariants.{Done, Malformed, No}
-use Rattle.cg_ending.specs.Outcome.{Name, File, Outcome, names_of}
-use Rattle.cg_ending.specs.Ends.{Moment, Completed, Wrote}
-use Rattle.cg_ending.specs.Refusals.{reports}
+use Rattle.cg_effects.specs.declared.outcome.Status.TheVariants.{Done, Malformed, No}
+use Rattle.cg_effects.specs.Outcome.{Name, File, Outcome, names_of}
+use Rattle.cg_effects.specs.Ends.{Moment, Completed, Wrote}
+use Rattle.cg_effects.specs.Refusals.{reports}
 use Rattle.cg_files.specs.Held.{Holds, Appends}
 use Rattle.cg_check.specs.Legal.{Mapped}
 use Rattle.cg_check.specs.declared.rule.Violation.{Violation}
@@ -15,7 +15,7 @@ use Rattle.cg_inputs.proofs.Refusals.{IsRefusal, AreRefused, IsAlike, equal, ref
 use Rattle.cg_inputs.proofs.Mapped.{refused_given, given_of, valid_given, IsValid, some_mapped, alike}
 use Rattle.cg_mapping_answers.specs.Check.{illegal_report, IsLegalInput, IsIllegalCheck}
 use Rattle.cg_mapping_answers.proofs.Checked.{given_legal, no_violation, legal_without, hold_mapped, illegal_by}
-use Rattle.cg_marks.proofs.Shown.{are_exact}
+use Rattle.cg_occupancy.proofs.Shown.{are_exact}
 use Rattle.cg_show_table.specs.declared.margin.Margin.{Margin}
 use Rattle.cg_show_answers.specs.Show.{IsShow, IsShownBy, IsShowing, IsShownRun, HoldPicture, show_report, show_picture, show_writes}
 use Rattle.cg_show_answers.proofs.Margins.{some_margin}

@@ -1,17 +1,17 @@
 -- `show ARCH KERNEL MAPPING [OUT]`.
 use Rattle.std.specs.Prelude.{◌≡◌, List, [], ◌∷◌, Option, Some, None, Result, Ok, Err}
 use Rattle.cg_model.specs.Mapping.{IsLegal}
-use Rattle.cg_ending.specs.declared.outcome.Status.TheVariants.{Done, No}
+use Rattle.cg_effects.specs.declared.outcome.Status.TheVariants.{Done, No}
 use Rattle.cg_files.specs.Held.{Held, Holds, Appends}
-use Rattle.cg_ending.specs.Outcome.{Name, Bytes, File, Outcome}
-use Rattle.cg_ending.specs.Ends.{Moment}
-use Rattle.cg_ending.specs.Refusals.{reports}
+use Rattle.cg_effects.specs.Outcome.{Name, Bytes, File, Outcome}
+use Rattle.cg_effects.specs.Ends.{Moment}
+use Rattle.cg_effects.specs.Refusals.{reports}
 use Rattle.cg_check.specs.Legal.{Mapped}
 use Rattle.cg_check.specs.declared.rule.Violation.{Violation}
 use Rattle.cg_check.specs.Rules.{violation}
 use Rattle.cg_inputs.specs.Sources.{AreMapped, HoldMapped}
 use Rattle.cg_mapping_answers.specs.Check.{illegal_report}
-use Rattle.cg_marks.specs.Marks.{AreExact}
+use Rattle.cg_occupancy.specs.Marks.{AreExact}
 use Rattle.cg_show_table.specs.declared.margin.Margin.{Margin}
 use Rattle.cg_show_table.specs.Margin.{IsMargin}
 use Rattle.cg_show_table.specs.Table.{table_lines, text_of}

@@ -1,17 +1,17 @@
 //! `show ARCH KERNEL MAPPING [OUT]`.
 ghost use Rattle.std.specs.Prelude.{map, string_bytes, length, ◌≡◌, ◌≤◌, IfOk};
 ghost use Rattle.cg_model.specs.Mapping.{IsShaped};
-ghost use Rattle.cg_ending.specs.declared.outcome.Status.TheVariants.{Done};
-ghost use Rattle.cg_ending.specs.Allowed.{Allows};
-ghost use Rattle.cg_ending.specs.Outcome.{file_of, outcome_of};
+ghost use Rattle.cg_effects.specs.declared.outcome.Status.TheVariants.{Done};
+ghost use Rattle.cg_effects.specs.Allowed.{Allows};
+ghost use Rattle.cg_effects.specs.Outcome.{file_of, outcome_of};
 ghost use Rattle.cg_check.specs.Rules.{violation};
 ghost use Rattle.cg_show_answers.specs.Show.{IsShow, IsShown, IsShownBy, show_report, show_writes};
 
 use cg_check::{Arch, CheckVerdict, Kernel, LegalMapping, Mapping, check as judge};
-use cg_ending::{File, Outcome, Status, Stop};
+use cg_effects::{File, Outcome, Status, Stop};
 use cg_inputs::{arch_in, kernel_in, mapping_in};
 use cg_mapping_answers::illegal;
-use cg_marks::Marks;
+use cg_occupancy::Marks;
 use cg_show::picture;
 use cg_show_table::{Margin, margin_of, table_lines, table_text};
 use std::alloc::{AllocError, Global};

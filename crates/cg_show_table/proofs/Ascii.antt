@@ -15,10 +15,10 @@ use Rattle.cg_model.specs.declared.kernel.Node.{Node}
 use Rattle.cg_model.specs.Kernel.{Kernel, IsKernel, size, node, no_node}
 use Rattle.cg_model.specs.Array.{Arch}
 use Rattle.cg_flat.specs.Text.{op_word, op_words}
-use Rattle.cg_edges.specs.declared.edge.EdgeId.{EdgeId}
-use Rattle.cg_edges.specs.declared.edge.EdgeId.TheVariants.{Arg, Order}
-use Rattle.cg_edges.specs.Edges.{edge_of}
-use Rattle.cg_edges.specs.Chain.{latencies, distances}
+use Rattle.cg_recur.specs.declared.edge.EdgeId.{EdgeId}
+use Rattle.cg_recur.specs.declared.edge.EdgeId.TheVariants.{Arg, Order}
+use Rattle.cg_recur.specs.Edges.{edge_of}
+use Rattle.cg_recur.specs.Chain.{latencies, distances}
 use Rattle.cg_class.specs.Class.{nodes_in, units_for}
 use Rattle.cg_bound.specs.Text.{edge_word, edge_words, sums_text, counts_text, chain_text, set_text}
 use Rattle.cg_show_table.specs.declared.margin.LongChain.{LongChain}

@@ -3,10 +3,10 @@ use Rattle.std.proofs.Common.{◌≡◌, ℕ, ◌+◌, ◌*◌, Bool, false, Lis
 use Rattle.std.specs.Prelude.{max, nat_lt, is_some, if◌then◌else◌}
 use Rattle.std.proofs.Math.Path.{fun_ext}
 use Rattle.cg_check.specs.Legal.{Mapped}
-use Rattle.cg_below.specs.Below.{sum_below, count_below, greatest_below}
-use Rattle.cg_marks.specs.Marks.{start_at}
-use Rattle.cg_marks.specs.Counts.{starts_of}
-use Rattle.cg_below.proofs.Below.{sum_below-more, greatest_below-more}
+use Rattle.cg_list_laws.specs.Below.{sum_below, count_below, greatest_below}
+use Rattle.cg_occupancy.specs.Marks.{start_at}
+use Rattle.cg_occupancy.specs.Counts.{starts_of}
+use Rattle.cg_list_laws.proofs.Below.{sum_below-more, greatest_below-more}
 use Rattle.cg_show_table.specs.declared.columns.Grid.{Grid}
 use Rattle.cg_show_table.specs.Columns.{row_text, with_text}
 use Rattle.cg_show_table.specs.Sizes.{starts_from}

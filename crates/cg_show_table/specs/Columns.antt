@@ -6,9 +6,9 @@ use Rattle.cg_model.specs.Kernel.{node, size}
 use Rattle.cg_model.specs.Array.{unit}
 use Rattle.cg_model.specs.Mapping.{place}
 use Rattle.cg_check.specs.Legal.{Mapped}
-use Rattle.cg_below.specs.Below.{lists_below, count_below, greatest_below}
-use Rattle.cg_marks.specs.Marks.{start_at}
-use Rattle.cg_marks.specs.Counts.{starts_of}
+use Rattle.cg_list_laws.specs.Below.{lists_below, count_below, greatest_below}
+use Rattle.cg_occupancy.specs.Marks.{start_at}
+use Rattle.cg_occupancy.specs.Counts.{starts_of}
 use Rattle.cg_show_table.specs.declared.columns.Grid.{Grid}
 
 -- the number of characters of a row

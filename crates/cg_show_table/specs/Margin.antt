@@ -2,8 +2,8 @@
 use Rattle.std.specs.Prelude.{◌-◌, ◌≤◌, Option, Some, None}
 use Rattle.cg_model.specs.Kernel.{Kernel}
 use Rattle.cg_model.specs.Array.{Arch}
-use Rattle.cg_edges.specs.Edges.{edge_of}
-use Rattle.cg_edges.specs.Chain.{IsShown}
+use Rattle.cg_recur.specs.Edges.{edge_of}
+use Rattle.cg_recur.specs.Chain.{IsShown}
 use Rattle.cg_recur.specs.Recurrences.{IsRecurrence, HasNoRecurrence}
 use Rattle.cg_class.specs.Class.{IsOverfull, AreOfNodes}
 use Rattle.cg_bound.specs.Bound.{HasNoOverfull}

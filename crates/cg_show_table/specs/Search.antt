@@ -3,9 +3,9 @@ use Rattle.std.specs.Prelude.{ℕ, ◌<◌, List}
 use Rattle.cg_word.specs.declared.op.Op.{Op}
 use Rattle.cg_model.specs.Kernel.{Kernel}
 use Rattle.cg_model.specs.Array.{Arch}
-use Rattle.cg_edges.specs.declared.edge.EdgeId.{EdgeId}
-use Rattle.cg_edges.specs.Edges.{edge_of}
-use Rattle.cg_edges.specs.Chain.{IsShown}
+use Rattle.cg_recur.specs.declared.edge.EdgeId.{EdgeId}
+use Rattle.cg_recur.specs.Edges.{edge_of}
+use Rattle.cg_recur.specs.Chain.{IsShown}
 use Rattle.cg_recur.specs.Recurrences.{IsRecurrence, HasNoRecurrence}
 use Rattle.cg_class.specs.Class.{IsOverfull, AreOfNodes}
 use Rattle.cg_bound.specs.Bound.{HasNoOverfull}

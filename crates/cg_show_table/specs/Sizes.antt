@@ -1,8 +1,8 @@
 -- Sizes of tables, which are bounded.
 use Rattle.std.specs.Prelude.{◌≡◌, ℕ, ◌+◌, ◌≤◌, is_some}
 use Rattle.cg_check.specs.Legal.{Mapped}
-use Rattle.cg_below.specs.Below.{count_below}
-use Rattle.cg_marks.specs.Marks.{start_at}
+use Rattle.cg_list_laws.specs.Below.{count_below}
+use Rattle.cg_occupancy.specs.Marks.{start_at}
 use Rattle.cg_show_table.specs.declared.columns.Grid.{Grid}
 
 -- a table of few slots and short rows, with at least one column

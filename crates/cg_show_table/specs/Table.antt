@@ -6,7 +6,7 @@ use Rattle.cg_model.specs.Kernel.{Kernel}
 use Rattle.cg_model.specs.Array.{Arch}
 use Rattle.cg_check.specs.Legal.{Mapped, config_of}
 use Rattle.cg_bound.specs.Text.{chain_text, set_text}
-use Rattle.cg_marks.specs.Counts.{busy_units, busy_slots, resources_of, taken_slots}
+use Rattle.cg_occupancy.specs.Counts.{busy_units, busy_slots, resources_of, taken_slots}
 use Rattle.cg_show_table.specs.declared.margin.LongChain.{LongChain}
 use Rattle.cg_show_table.specs.declared.margin.FullClass.{FullClass}
 use Rattle.cg_show_table.specs.declared.margin.Margin.{Margin}

@@ -3,13 +3,13 @@ ghost use Rattle.std.specs.Prelude.{◌≡◌, ◌+◌, ◌-◌, ◌*◌, ◌/�
 ghost use Rattle.cg_model.specs.Array.{unit as unit_of};
 ghost use Rattle.cg_model.specs.Kernel.{size, node as node_of};
 ghost use Rattle.cg_model.specs.Mapping.{place as place_of};
-ghost use Rattle.cg_below.specs.Below.{lists_below};
+ghost use Rattle.cg_list_laws.specs.Below.{lists_below};
 ghost use Rattle.cg_show_table.specs.Columns as spec;
 ghost use Rattle.cg_show_table.specs.Sizes.{IsSmall, IsGridOf, starts_from};
 
 use cg_arch::Arch;
-use cg_marks::Marks;
 use cg_model::{Kernel, Mapping, Place};
+use cg_occupancy::Marks;
 use cg_word::Op;
 use std::alloc::{AllocError, Global};
 

@@ -6,6 +6,6 @@ mod columns;
 mod margin;
 mod table;
 
-pub use cg_marks::Marks;
+pub use cg_occupancy::Marks;
 pub use margin::{FullClass, LongChain, Margin, margin_of};
 pub use table::{table_lines, table_text};

@@ -1,7 +1,7 @@
 //! The least intervals that recurrences and classes of units allow, each considered alone.
 ghost use Rattle.std.specs.Prelude.{◌≤◌, IfOk, MatchOption};
-ghost use Rattle.cg_edges.specs.Chain.{IsShown};
-ghost use Rattle.cg_edges.specs.Edges.{edge_of};
+ghost use Rattle.cg_recur.specs.Chain.{IsShown};
+ghost use Rattle.cg_recur.specs.Edges.{edge_of};
 ghost use Rattle.cg_recur.specs.Recurrences.{IsRecurrence};
 ghost use Rattle.cg_class.specs.Class.{IsOverfull, AreOfNodes};
 ghost use Rattle.cg_bound.specs.Bound.{HasNoRecurrence, HasNoOverfull};
@@ -11,9 +11,8 @@ use cg_arch::Arch;
 use cg_bound::excludes;
 use cg_check::LegalMapping;
 use cg_class::{Assignment, assign};
-use cg_edges::EdgeId;
 use cg_model::Kernel;
-use cg_recur::{Recur, recurrence};
+use cg_recur::{EdgeId, Recur, recurrence};
 use cg_word::OpSet;
 use std::alloc::{AllocError, Global};
 

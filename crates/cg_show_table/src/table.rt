@@ -8,8 +8,8 @@ use crate::margin::{FullClass, LongChain, Margin};
 use cg_arch::Arch;
 use cg_bound::{push_chain, push_set};
 use cg_emit::stages;
-use cg_marks::Marks;
 use cg_model::{Kernel, Kind};
+use cg_occupancy::Marks;
 use std::alloc::{AllocError, Global};
 
 /// Returns the lines of the report on `marks` and `margin`, without their ends.

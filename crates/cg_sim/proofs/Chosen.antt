@@ -13,12 +13,12 @@ use Rattle.cg_model.specs.Machine.{driver, driven}
 use Rattle.cg_overlap.proofs.Wires.{out_within}
 use Rattle.cg_sim.specs.declared.plan.Link.{Link}
 use Rattle.cg_sim.specs.declared.plan.Links.{Links}
-use Rattle.cg_cycle.specs.declared.terminals.Terminals.{Terminals}
+use Rattle.cg_datapath.specs.declared.terminals.Terminals.{Terminals}
 use Rattle.cg_sim.specs.declared.plan.Plan.{Plan}
 use Rattle.cg_sim.specs.Plan.{link, is_register, is_net, IsLinked, AreLinks, IsPlan, AreTerminals, terminals_of}
 use Rattle.cg_sim.specs.Settle.{AreReadable, CanSettle}
-use Rattle.cg_cycle.specs.Terminals.{terminals, on_ports}
-use Rattle.cg_cycle.specs.Course.{AreShort}
+use Rattle.cg_datapath.specs.Terminals.{terminals, on_ports}
+use Rattle.cg_datapath.specs.Course.{AreShort}
 
 pub register_is : (k : Kind) → is_register k ≡ true → k ≡ Register
 register_is Wire h = absurd (true≢false (sym h))

@@ -16,10 +16,10 @@ use Rattle.cg_model.specs.Canonical.{IsCanonical}
 use Rattle.cg_model.specs.Work.{Image, Work}
 use Rattle.cg_model.specs.Machine.{Cycle, ago, driver, driven, by_kind, word_by, words_in, at_cycle, begun, begins, word, result_of, memory_by, sent_by_units, missed_by_units}
 use Rattle.cg_overlap.proofs.Wires.{unrolled, Contains-driver, out_within, same_driven}
-use Rattle.cg_cycle.specs.Terminals.{terminals, on_ports}
-use Rattle.cg_cycle.specs.Course.{Course, result_ago, works, IsStart, Keeps, AreOutsRight, GiveOuts, Advances}
-use Rattle.cg_cycle.specs.declared.terminals.Terminals.{Terminals}
-use Rattle.cg_cycle.proofs.Facts.{off_past}
+use Rattle.cg_datapath.specs.Terminals.{terminals, on_ports}
+use Rattle.cg_datapath.specs.Course.{Course, result_ago, works, IsStart, Keeps, AreOutsRight, GiveOuts, Advances}
+use Rattle.cg_datapath.specs.declared.terminals.Terminals.{Terminals}
+use Rattle.cg_datapath.proofs.Facts.{off_past}
 use Rattle.cg_sim.specs.Plan.{link, is_register, is_net, AreTerminals, IsPlan}
 use Rattle.cg_sim.specs.Settle.{chosen, AreRight, Settles, IsSettled}
 use Rattle.cg_sim.specs.State.{IsState, IsRunning}

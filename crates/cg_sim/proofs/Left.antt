@@ -7,7 +7,7 @@ use Rattle.cg_model.specs.Array.{Arch}
 use Rattle.cg_model.specs.Config.{Config}
 use Rattle.cg_model.specs.Work.{Image}
 use Rattle.cg_model.specs.Machine.{at_cycle, cycles, machine_left}
-use Rattle.cg_cycle.specs.Course.{Course}
+use Rattle.cg_datapath.specs.Course.{Course}
 use Rattle.cg_sim.specs.State.{IsState}
 
 pub left_is : (A : Arch) (C : Config) (n : ℕ) (image : Image) (c : ℕ) (words before : List ℕ) (k : Course) → IsState A C n image c words before k → c ≡ cycles C n →

@@ -7,7 +7,7 @@ use Rattle.std.proofs.Math.Seq.{get_or-append_seam}
 use Rattle.cg_model.specs.declared.array.Kind.{Kind}
 use Rattle.cg_model.specs.declared.array.Kind.TheVariants.{Wire, Register, Port, Out}
 use Rattle.cg_model.specs.Array.{Arch, resource, delay_by}
-use Rattle.cg_level.specs.Topological.{IsTopological}
+use Rattle.cg_levelize.specs.Topological.{IsTopological}
 use Rattle.cg_sim.specs.declared.plan.Link.{Link}
 use Rattle.cg_sim.specs.Plan.{is_register, is_net, link, IsLinked, AreListed, AreLinks, AreRising}
 

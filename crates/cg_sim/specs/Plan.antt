@@ -5,7 +5,7 @@ use Rattle.cg_model.specs.declared.array.Kind.TheVariants.{Wire, Register, Port}
 use Rattle.cg_model.specs.declared.array.Unit.{Unit}
 use Rattle.cg_model.specs.Array.{Arch, resource}
 use Rattle.cg_sim.specs.declared.plan.Link.{Link}
-use Rattle.cg_cycle.specs.declared.terminals.Terminals.{Terminals}
+use Rattle.cg_datapath.specs.declared.terminals.Terminals.{Terminals}
 use Rattle.cg_sim.specs.declared.plan.Plan.{Plan}
 
 abbrev pub is_register : Kind → Bool

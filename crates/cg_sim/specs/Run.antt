@@ -5,7 +5,7 @@ use Rattle.cg_model.specs.Work.{Image}
 use Rattle.cg_model.specs.Array.{Arch}
 use Rattle.cg_model.specs.Config.{Config}
 use Rattle.cg_model.specs.Machine.{State, at_cycle, cycles}
-use Rattle.cg_cycle.specs.Course.{Course}
+use Rattle.cg_datapath.specs.Course.{Course}
 
 -- an architecture with a configuration, the number of iterations and the image that they start from, and the number of
 -- cycles done

@@ -1,10 +1,10 @@
 -- The words of one cycle, found one after the other.
 use Rattle.std.specs.Prelude.{◌≡◌, ℕ, ◌+◌, ◌<◌, List, length, slice_index}
-use Rattle.cg_contexts.specs.Known.{HasSelect}
+use Rattle.cg_config.specs.Known.{HasSelect}
 use Rattle.cg_model.specs.Config.{Config, select}
 use Rattle.cg_sim.specs.declared.plan.Links.{Links}
 use Rattle.cg_sim.specs.declared.plan.Plan.{Plan}
-use Rattle.cg_cycle.specs.Course.{Keeps}
+use Rattle.cg_datapath.specs.Course.{Keeps}
 use Rattle.cg_sim.specs.Plan.{link}
 
 -- the resource from which entry j takes its word

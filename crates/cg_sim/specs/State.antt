@@ -5,7 +5,7 @@ use Rattle.cg_model.specs.Config.{Config}
 use Rattle.cg_model.specs.Canonical.{IsCanonical}
 use Rattle.cg_model.specs.Work.{Image}
 use Rattle.cg_model.specs.Machine.{at_cycle, ago}
-use Rattle.cg_cycle.specs.Course.{Course, result_ago}
+use Rattle.cg_datapath.specs.Course.{Course, result_ago}
 use Rattle.cg_sim.specs.Plan.{AreTerminals, IsPlan}
 use Rattle.cg_sim.specs.declared.plan.Plan.{Plan}
 

@@ -6,5 +6,5 @@ mod plan;
 mod settle;
 mod sim;
 
-pub use cg_cycle::{SimFault, sim_fault_text};
+pub use cg_datapath::{SimFault, sim_fault_text};
 pub use sim::Sim;

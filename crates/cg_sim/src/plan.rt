@@ -3,7 +3,7 @@ ghost use Rattle.std.specs.Prelude.{◌≡◌, ◌∷◌, ◌++◌, [], IfOk, On
 ghost use Rattle.cg_sim.specs.Plan.{IsPlan, AreTerminals};
 
 use cg_arch::{Arch, Kind, Unit};
-use cg_cycle::Terminals;
+use cg_datapath::Terminals;
 use std::alloc::{AllocError, Global};
 
 /// A resource with drivers: the index of its select 0 in the list of all drivers. Its drivers follow there, so that

@@ -1,10 +1,10 @@
 //! The words of a cycle after those of the outs, kind by kind: first the registers, then the wires and ports.
 ghost use Rattle.std.specs.Prelude.{◌≡◌, ℕ, length};
-ghost use Rattle.cg_cycle.specs.Course.{Keeps};
+ghost use Rattle.cg_datapath.specs.Course.{Keeps};
 ghost use Rattle.cg_sim.specs.Settle.{AreReadable, AreRight, GiveRegisters, GiveNets, CanSettle, Settles, IsSettled};
 
 use crate::plan::{Links, Plan};
-use cg_contexts::Contexts;
+use cg_config::Contexts;
 
 /// Sets the words of `registers` in `words`: each has the word that its driver, selected in `slot` of `contexts`, had
 /// in `before`.

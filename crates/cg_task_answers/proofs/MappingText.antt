@@ -10,9 +10,9 @@ use Rattle.cg_model.specs.Kernel.{Kernel, IsKernel, size}
 use Rattle.cg_model.specs.Mapping.{Mapping, IsLegal}
 use Rattle.cg_model.specs.declared.mapping.Place.{Place}
 use Rattle.cg_model.specs.declared.mapping.Route.{Route}
-use Rattle.cg_json_text.specs.Plain.{IsPlain, ArePlain}
-use Rattle.cg_json_text.proofs.Items.{ArePlain-map}
-use Rattle.cg_json_text.proofs.Back.{reads_back}
+use Rattle.cg_json.specs.Plain.{IsPlain, ArePlain}
+use Rattle.cg_json.proofs.Items.{ArePlain-map}
+use Rattle.cg_json.proofs.Back.{reads_back}
 use Rattle.cg_kernel_text.proofs.Plain.{name_utf8}
 use Rattle.cg_netlist.proofs.Letters.{plain_ascii}
 use Rattle.cg_netlist.proofs.Valid.{unit_plain, resource_plain}
@@ -22,7 +22,6 @@ use Rattle.cg_mapping.specs.Sound.{IsWithinLimits}
 use Rattle.cg_mapping.specs.Printed.{unit_name, resource_name, places_data, step_data, route_data, data_of}
 use Rattle.cg_mapping.proofs.Back.{answer-back}
 use Rattle.cg_mapping.proofs.Depths.{data_of-depth}
-use Rattle.cg_check.specs.Legal.{Mapped}
 use Rattle.cg_task_answers.specs.Searches.{mapping_text}
 use Rattle.cg_task_answers.proofs.Named.{names_parts, few_args, node_known}
 

@@ -4,16 +4,16 @@ use Rattle.std.specs.Prelude.{◌≤◌, ℕ, IfSome}
 use Rattle.std.proofs.lemmas.Bool.{ltb-false}
 use Rattle.cg_model.specs.Array.{Arch, IsArch}
 use Rattle.cg_model.specs.Kernel.{Kernel, IsKernel}
-use Rattle.cg_ending.specs.declared.outcome.Status.{Status}
-use Rattle.cg_ending.specs.declared.outcome.Status.TheVariants.{Done, Malformed}
-use Rattle.cg_ending.specs.Outcome.{Name, File, Outcome}
-use Rattle.cg_ending.specs.Ends.{Moment, Completed}
+use Rattle.cg_effects.specs.declared.outcome.Status.{Status}
+use Rattle.cg_effects.specs.declared.outcome.Status.TheVariants.{Done, Malformed}
+use Rattle.cg_effects.specs.Outcome.{Name, File, Outcome}
+use Rattle.cg_effects.specs.Ends.{Moment, Completed}
 use Rattle.cg_task.specs.Intervals.{IsAsked}
 use Rattle.cg_model.specs.declared.request.Request.{Request}
 use Rattle.cg_model.specs.Request.{IsInRange}
-use Rattle.cg_ending.specs.declared.read.Stop.{Stop}
-use Rattle.cg_ending.specs.Allowed.{EndsBy}
-use Rattle.cg_ending.proofs.Allowed.{ends_weaker}
+use Rattle.cg_effects.specs.declared.read.Stop.{Stop}
+use Rattle.cg_effects.specs.Allowed.{EndsBy}
+use Rattle.cg_effects.proofs.Allowed.{ends_weaker}
 use Rattle.cg_tiles.specs.Answer.{AreValidBytes}
 use Rattle.cg_kernel.specs.Answer as kernels
 use Rattle.cg_inputs.specs.Refused.{RefusesArch, RefusesKernel}

@@ -5,10 +5,10 @@ use Rattle.std.specs.Global.{Vec}
 use Rattle.cg_model.specs.Array.{Arch, IsArch}
 use Rattle.cg_model.specs.Kernel.{Kernel, IsKernel}
 use Rattle.cg_model.specs.Mapping.{Mapping, IsLegal}
-use Rattle.cg_ending.specs.declared.outcome.Status.TheVariants.{Done, Impossible, BudgetSpent}
-use Rattle.cg_ending.specs.Outcome.{Name, Bytes, File, Outcome, names_of}
-use Rattle.cg_ending.specs.Ends.{Moment, Completed, Wrote}
-use Rattle.cg_ending.specs.Refusals.{reports}
+use Rattle.cg_effects.specs.declared.outcome.Status.TheVariants.{Done, Impossible, BudgetSpent}
+use Rattle.cg_effects.specs.Outcome.{Name, Bytes, File, Outcome, names_of}
+use Rattle.cg_effects.specs.Ends.{Moment, Completed, Wrote}
+use Rattle.cg_effects.specs.Refusals.{reports}
 use Rattle.cg_files.specs.Held.{Holds, Appends}
 use Rattle.cg_bits.specs.Spelling.{AreBits}
 use Rattle.cg_check.specs.Legal.{Mapped, config_of}

@@ -1,8 +1,8 @@
 -- What is reported and written of the answer of a search.
 use Rattle.std.specs.Prelude.{◌≡◌, ℕ, ◌+◌, List, [], ◌∷◌, ◌++◌, codes, decimal}
-use Rattle.cg_ending.specs.declared.outcome.Status.TheVariants as status
-use Rattle.cg_ending.specs.Outcome.{Name, Bytes, Outcome, line_of}
-use Rattle.cg_ending.specs.Refusals.{reports}
+use Rattle.cg_effects.specs.declared.outcome.Status.TheVariants as status
+use Rattle.cg_effects.specs.Outcome.{Name, Bytes, Outcome, line_of}
+use Rattle.cg_effects.specs.Refusals.{reports}
 use Rattle.cg_check.specs.Legal.{Mapped as MappedValue}
 use Rattle.cg_task.specs.declared.answering.FoundBy.{FoundBy}
 use Rattle.cg_task.specs.declared.answering.FoundBy.TheVariants.{Hub, Moves}

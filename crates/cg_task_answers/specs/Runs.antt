@@ -1,10 +1,10 @@
 -- What a search leaves, where it finds a mapping and where it has used up its moves.
 use Rattle.std.specs.Prelude.{◌≡◌, ℕ, List, [], ◌∷◌, Ok}
 use Rattle.cg_model.specs.Mapping.{Mapping}
-use Rattle.cg_ending.specs.declared.outcome.Status.TheVariants as status
+use Rattle.cg_effects.specs.declared.outcome.Status.TheVariants as status
 use Rattle.cg_files.specs.Held.{Appends}
-use Rattle.cg_ending.specs.Outcome.{Name, Bytes, File}
-use Rattle.cg_ending.specs.Ends.{Moment, IsPut, Wrote}
+use Rattle.cg_effects.specs.Outcome.{Name, Bytes, File}
+use Rattle.cg_effects.specs.Ends.{Moment, IsPut, Wrote}
 use Rattle.cg_check.specs.Legal.{Mapped}
 use Rattle.cg_bound.specs.Bound.{IsOpen}
 use Rattle.cg_hub.specs.Hub.{HubEnough}

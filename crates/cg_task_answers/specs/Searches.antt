@@ -4,11 +4,11 @@ use Rattle.std.specs.Prelude.{◌≡◌, ◌≢◌, ℕ, nat_lt, Bool, true, fal
 use Rattle.serde_json.specs.Written.{compact_text}
 use Rattle.cg_model.specs.Array.{Arch}
 use Rattle.cg_model.specs.Mapping.{Mapping, IsLegal}
-use Rattle.cg_ending.specs.declared.outcome.Status.TheVariants as status
+use Rattle.cg_effects.specs.declared.outcome.Status.TheVariants as status
 use Rattle.cg_files.specs.Held.{Holds}
-use Rattle.cg_ending.specs.Outcome.{Name, Bytes, File, Outcome, line_of}
-use Rattle.cg_ending.specs.Ends.{Moment, IsPut, Wrote}
-use Rattle.cg_ending.specs.Refusals.{malformed_of}
+use Rattle.cg_effects.specs.Outcome.{Name, Bytes, File, Outcome, line_of}
+use Rattle.cg_effects.specs.Ends.{Moment, IsPut, Wrote}
+use Rattle.cg_effects.specs.Refusals.{malformed_of}
 use Rattle.cg_bits.specs.Spelling.{AreBits}
 use Rattle.cg_mapping.specs.Printed.{data_of}
 use Rattle.cg_check.specs.Legal.{Mapped, config_of}

@@ -1,12 +1,12 @@
 //! A mapping that was found: the report on it, and the files that are written.
 ghost use Rattle.std.specs.Prelude.{◌≡◌, IfOk, map, string_bytes};
-ghost use Rattle.cg_ending.specs.Outcome.{outcome_of};
+ghost use Rattle.cg_effects.specs.Outcome.{outcome_of};
 ghost use Rattle.cg_task_answers.specs.Searches.{IsWritten};
 ghost use Rattle.cg_task_answers.specs.Answered as spec;
 
 use crate::writing::written;
 use cg_check::LegalMapping;
-use cg_ending::Outcome;
+use cg_effects::Outcome;
 use cg_mapping_answers::emit_report;
 use cg_task::FoundBy;
 use std::alloc::{AllocError, Global};

@@ -1,13 +1,13 @@
 //! The reasons why a search has no mapping: an interval larger than the number of contexts, or an impossible interval.
 ghost use Rattle.std.specs.Prelude.{◌≡◌, IfOk};
-ghost use Rattle.cg_ending.specs.Outcome.{outcome_of};
-ghost use Rattle.cg_ending.specs.Refusals.{reports};
-ghost use Rattle.cg_ending.specs.declared.outcome.Status.TheVariants as status;
+ghost use Rattle.cg_effects.specs.Outcome.{outcome_of};
+ghost use Rattle.cg_effects.specs.Refusals.{reports};
+ghost use Rattle.cg_effects.specs.declared.outcome.Status.TheVariants as status;
 ghost use Rattle.cg_task_answers.specs.Searches.{is_above, above_contexts, impossible_report};
 
 use cg_arch::Arch;
 use cg_bound::{Certificate, certificate_text};
-use cg_ending::{Outcome, Status, malformed};
+use cg_effects::{Outcome, Status, malformed};
 use cg_model::{Kernel, Request};
 use cg_task::last_tried;
 use std::alloc::{AllocError, Global};

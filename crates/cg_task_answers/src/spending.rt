@@ -1,11 +1,11 @@
 //! A search that found no mapping: the report on what is left at each interval.
 ghost use Rattle.std.specs.Prelude.{◌≡◌, ◌+◌, ◌<◌, ◌^◌, ◌++◌, length, IfOk, OnOk};
-ghost use Rattle.cg_ending.specs.Outcome.{outcome_of};
-ghost use Rattle.cg_ending.specs.Refusals.{reports};
-ghost use Rattle.cg_ending.specs.declared.outcome.Status.TheVariants as status;
+ghost use Rattle.cg_effects.specs.Outcome.{outcome_of};
+ghost use Rattle.cg_effects.specs.Refusals.{reports};
+ghost use Rattle.cg_effects.specs.declared.outcome.Status.TheVariants as status;
 ghost use Rattle.cg_task_answers.specs.Answered as spec;
 
-use cg_ending::{Outcome, Status};
+use cg_effects::{Outcome, Status};
 use std::alloc::{AllocError, Global};
 
 /// Returns the outcome of a search that found no mapping, with the report `report`.

@@ -1,12 +1,12 @@
 //! The files that are written where a mapping was found.
 ghost use Rattle.std.specs.Prelude.{◌≡◌, IfOk, map, string_bytes};
-ghost use Rattle.cg_ending.specs.Outcome.{file_of, outcome_of};
+ghost use Rattle.cg_effects.specs.Outcome.{file_of, outcome_of};
 ghost use Rattle.cg_task_answers.specs.Searches as spec;
 ghost use Rattle.cg_task_answers.specs.Searches.{IsWritten, map_writes};
 
 use cg_check::LegalMapping;
+use cg_effects::{File, Outcome, Status};
 use cg_emit::emit as emit_bits;
-use cg_ending::{File, Outcome, Status};
 use cg_mapping::print_mapping;
 use std::alloc::{AllocError, Global};
 

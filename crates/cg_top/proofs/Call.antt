@@ -1,8 +1,8 @@
 -- All that follows from how a call ends.
 use Rattle.std.proofs.Common.{List}
-use Rattle.cg_ending.specs.declared.outcome.Status.{Status}
-use Rattle.cg_ending.specs.Outcome.{Name}
-use Rattle.cg_ending.specs.Ends.{Moment}
+use Rattle.cg_effects.specs.declared.outcome.Status.{Status}
+use Rattle.cg_effects.specs.Outcome.{Name}
+use Rattle.cg_effects.specs.Ends.{Moment}
 use Rattle.cg_top.specs.TopCall.{Ends, KeepsCounts, IsCall}
 use Rattle.cg_top.proofs.Complete.{complete, impossible}
 use Rattle.cg_top.proofs.Effects.{effect}

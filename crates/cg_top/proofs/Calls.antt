@@ -4,14 +4,14 @@ use Rattle.std.proofs.lemmas.List.{append-nil}
 use Rattle.cg_files.specs.Asked.{Names, NotesAll, NotesPart}
 use Rattle.cg_files.specs.Causes.{Rose}
 use Rattle.cg_files.specs.Held.{Held, IsMissing, IsLonger}
-use Rattle.cg_ending.specs.declared.outcome.Status.{Status}
-use Rattle.cg_ending.specs.declared.outcome.Status.TheVariants.{Memory, WriteFault, No}
-use Rattle.cg_ending.specs.Ends.{Moment, moment, Finished, Wrote, WrotePart, FailedAt, IsPut}
-use Rattle.cg_ending.specs.Outcome.{Name, Bytes, Outcome, names_of}
-use Rattle.cg_ending.specs.Reads.{read_fault_of, too_long_of}
-use Rattle.cg_ending.specs.Status.{leaves_all}
+use Rattle.cg_effects.specs.declared.outcome.Status.{Status}
+use Rattle.cg_effects.specs.declared.outcome.Status.TheVariants.{Memory, WriteFault, No}
+use Rattle.cg_effects.specs.Ends.{Moment, moment, Finished, Wrote, WrotePart, FailedAt, IsPut}
+use Rattle.cg_effects.specs.Outcome.{Name, Bytes, Outcome, names_of}
+use Rattle.cg_effects.specs.Reads.{read_fault_of, too_long_of}
+use Rattle.cg_effects.specs.Status.{leaves_all}
 use Rattle.cg_command.specs.Words.{Plan, plan_of}
-use Rattle.cg_answers.proofs.Commands.{named}
+use Rattle.cg_commands.proofs.Commands.{named}
 use Rattle.cg_top.specs.TopCall.{IsPlanned, IsPlannedBytes, IsOutcome, Asks, Writes, MakesCalls, is_answer}
 use Rattle.cg_top.proofs.Planned.{planned}
 use Rattle.cg_top.proofs.Table.{Known, known}

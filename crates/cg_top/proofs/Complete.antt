@@ -1,14 +1,14 @@
 -- Where everything fits and nothing fails, the command is done, or memory ran out; and where the interval is forbidden, it says so.
 use Rattle.std.proofs.Common.{◌≡◌, List, [], ◌∷◌, ◌++◌, sym, ◌∙◌, ◌⊎◌, inl, inr}
 use Rattle.cg_files.specs.Causes.{Rose}
-use Rattle.cg_ending.specs.declared.outcome.Status.{Status}
-use Rattle.cg_ending.specs.declared.outcome.Status.TheVariants.{Done, Memory, Impossible}
-use Rattle.cg_ending.specs.Outcome.{Name, File}
-use Rattle.cg_ending.specs.Ends.{Moment, Finished}
-use Rattle.cg_ending.proofs.Reading.{all, reads_all}
+use Rattle.cg_effects.specs.declared.outcome.Status.{Status}
+use Rattle.cg_effects.specs.declared.outcome.Status.TheVariants.{Done, Memory, Impossible}
+use Rattle.cg_effects.specs.Outcome.{Name, File}
+use Rattle.cg_effects.specs.Ends.{Moment, Finished}
+use Rattle.cg_effects.proofs.Reading.{all, reads_all}
 use Rattle.cg_top.proofs.Planned.{is_outcome}
 use Rattle.cg_top.specs.TopCall.{Ends, IsComplete, IsImpossible}
-use Rattle.cg_answers.proofs.Commands.{accepted, forbidden}
+use Rattle.cg_commands.proofs.Commands.{accepted, forbidden}
 use Rattle.cg_top.proofs.Exact.{IsOf, told}
 
 pub complete : (words : List Name) (before after : Moment) (status : Status) → Ends words before after status → IsComplete words before after status

@@ -1,12 +1,12 @@
 -- For all words and all told files an outcome is defined.
 use Rattle.std.proofs.Common.{◌≡◌, List, Option, Some, None, inl, inr, length, refl, sym, subst}
-use Rattle.cg_ending.specs.Outcome.{Name, Bytes, Outcome}
-use Rattle.cg_ending.proofs.Told.{EndsReading, ends_reading}
+use Rattle.cg_effects.specs.Outcome.{Name, Bytes, Outcome}
+use Rattle.cg_effects.proofs.Told.{EndsReading, ends_reading}
 use Rattle.cg_command.specs.Words.{Plan, plan_of, HasShape}
 use Rattle.cg_command.proofs.Shaped.{IsShaped, plan_shaped}
-use Rattle.cg_ending.specs.Refusals.{usage_outcome}
-use Rattle.cg_answers.proofs.Shapes.{as_many}
-use Rattle.cg_answers.proofs.Defined.{some_outcome}
+use Rattle.cg_effects.specs.Refusals.{usage_outcome}
+use Rattle.cg_commands.proofs.Shapes.{as_many}
+use Rattle.cg_commands.proofs.Defined.{some_outcome}
 use Rattle.cg_top.specs.TopCall.{IsPlanned, IsDefined}
 
 -- of a plan, whatever comes of reading its input files

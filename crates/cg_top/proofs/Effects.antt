@@ -1,15 +1,15 @@
 -- What is held and what was put, by status.
 use Rattle.std.proofs.Common.{◌≡◌, ◌⊎◌, true, List, [], Some, refl, sym, ◌∙◌, ap, subst, inl, inr}
 use Rattle.cg_files.specs.Causes.{Rose}
-use Rattle.cg_ending.specs.declared.outcome.Status.{Status}
-use Rattle.cg_ending.specs.declared.outcome.Status.TheVariants.{Memory, Malformed, ReadFault, WriteFault, No}
-use Rattle.cg_ending.specs.Outcome.{Name, Outcome}
-use Rattle.cg_ending.specs.Ends.{Moment, Finished, IsPut}
-use Rattle.cg_ending.specs.Status.{leaves_all}
+use Rattle.cg_effects.specs.declared.outcome.Status.{Status}
+use Rattle.cg_effects.specs.declared.outcome.Status.TheVariants.{Memory, Malformed, ReadFault, WriteFault, No}
+use Rattle.cg_effects.specs.Outcome.{Name, Outcome}
+use Rattle.cg_effects.specs.Ends.{Moment, Finished, IsPut}
+use Rattle.cg_effects.specs.Status.{leaves_all}
 use Rattle.cg_command.specs.Words.{Plan, plan_of}
-use Rattle.cg_answers.specs.Commands.{judges, RunWrites}
-use Rattle.cg_answers.proofs.Judged.{judged}
-use Rattle.cg_answers.proofs.Written.{writes_run}
+use Rattle.cg_commands.specs.Commands.{judges, RunWrites}
+use Rattle.cg_commands.proofs.Judged.{judged}
+use Rattle.cg_commands.proofs.Written.{writes_run}
 use Rattle.cg_top.proofs.Planned.{is_outcome}
 use Rattle.cg_top.specs.TopCall.{IsPlanned, IsOutcome, WritesRun, Ends, Halted, Unput, Begun, IsEffect, is_answer}
 use Rattle.cg_top.proofs.Kept.{kept}

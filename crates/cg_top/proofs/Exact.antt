@@ -1,19 +1,19 @@
 -- Over files that are told the status is determined, but for faults and running out of memory.
 use Rattle.std.proofs.Common.{◌≡◌, List, Option, Some, None, sym, ◌∙◌, ap, subst, ◌⊎◌, inl, inr}
 use Rattle.cg_files.specs.Causes.{Rose}
-use Rattle.cg_ending.specs.declared.outcome.Status.{Status}
-use Rattle.cg_ending.specs.declared.outcome.Status.TheVariants.{Memory, ReadFault, WriteFault}
-use Rattle.cg_ending.specs.Outcome.{Name, Bytes, Outcome}
-use Rattle.cg_ending.specs.Reads.{read_fault_of, too_long_of}
-use Rattle.cg_ending.specs.Ends.{Moment, Finished}
-use Rattle.cg_ending.proofs.Reading.{Reading, all, missing, longer, reading, reads_all, stops}
+use Rattle.cg_effects.specs.declared.outcome.Status.{Status}
+use Rattle.cg_effects.specs.declared.outcome.Status.TheVariants.{Memory, ReadFault, WriteFault}
+use Rattle.cg_effects.specs.Outcome.{Name, Bytes, Outcome}
+use Rattle.cg_effects.specs.Reads.{read_fault_of, too_long_of}
+use Rattle.cg_effects.specs.Ends.{Moment, Finished}
+use Rattle.cg_effects.proofs.Reading.{Reading, all, missing, longer, reading, reads_all, stops}
 use Rattle.cg_command.specs.Words.{Plan, plan_of}
 use Rattle.cg_command.specs.declared.plans.Command.{Command}
 use Rattle.cg_command.specs.declared.plans.Command.TheVariants.{Turns, TurnsOnImage, Flat, Run, Bound, Check, Emit, Map, Search, Show, Trial, Verilog, Loop, Depend, Migrate, Bench, Image, Words, Violations, Why}
-use Rattle.cg_answers.specs.Commands.{IsAnswer, AgreeIn}
+use Rattle.cg_commands.specs.Commands.{IsAnswer, AgreeIn}
 use Rattle.cg_top.proofs.Planned.{is_outcome}
 use Rattle.cg_top.specs.TopCall.{IsPlanned, Ends, Agrees, IsExact}
-use Rattle.cg_answers.proofs.Commands.{agree_in}
+use Rattle.cg_commands.proofs.Commands.{agree_in}
 
 -- what the told reading leads to
 abbrev pub IsOf : Plan → Reading → Outcome → Type 0

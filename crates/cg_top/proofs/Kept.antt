@@ -2,15 +2,15 @@
 use Rattle.std.proofs.Common.{◌≡◌, ◌++◌, List, [], ◌∷◌, Option, Some, None, refl, sym, ◌∙◌, ap, subst, ◌⊎◌, inl, inr}
 use Rattle.cg_files.specs.Causes.{Rose}
 use Rattle.cg_files.specs.Held.{Held, IsMissing, IsLonger}
-use Rattle.cg_ending.specs.declared.outcome.Status.{Status}
-use Rattle.cg_ending.specs.Outcome.{Name, File, Outcome}
-use Rattle.cg_ending.specs.Reads.{read_fault_of, too_long_of}
-use Rattle.cg_ending.specs.Ends.{Moment, Finished, Wrote}
+use Rattle.cg_effects.specs.declared.outcome.Status.{Status}
+use Rattle.cg_effects.specs.Outcome.{Name, File, Outcome}
+use Rattle.cg_effects.specs.Reads.{read_fault_of, too_long_of}
+use Rattle.cg_effects.specs.Ends.{Moment, Finished, Wrote}
 use Rattle.cg_command.specs.Words.{Plan, plan_of}
-use Rattle.cg_answers.specs.Commands.{IsAnswer}
+use Rattle.cg_commands.specs.Commands.{IsAnswer}
 use Rattle.cg_top.proofs.Planned.{is_outcome}
 use Rattle.cg_top.specs.TopCall.{IsPlanned, Ends, WritesNothing}
-use Rattle.cg_answers.proofs.Commands.{quiet}
+use Rattle.cg_commands.proofs.Commands.{quiet}
 
 quiet_plan : (held : Held) (rose : Type 0) (plan : Option Plan) (o : Outcome) → WritesNothing plan → IsPlanned held rose plan o → o.writes ≡ []
 quiet_plan held rose None o w p = ap (λ x. x.writes) p

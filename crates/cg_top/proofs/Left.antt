@@ -1,13 +1,13 @@
 -- What the command that was asked leaves.
 use Rattle.std.proofs.Common.{◌≡◌, List, Some, refl, sym, ◌∙◌, ap, subst, inl, inr}
 use Rattle.cg_files.specs.Causes.{Rose}
-use Rattle.cg_ending.specs.declared.outcome.Status.{Status}
-use Rattle.cg_ending.specs.declared.outcome.Status.TheVariants.{Memory, Malformed, ReadFault, WriteFault}
-use Rattle.cg_ending.specs.Outcome.{Name, Outcome}
-use Rattle.cg_ending.specs.Reads.{StopsAt}
-use Rattle.cg_ending.specs.Ends.{Moment, Finished, Completed}
-use Rattle.cg_answers.specs.Commands.{Leaves}
-use Rattle.cg_answers.proofs.Left as commands
+use Rattle.cg_effects.specs.declared.outcome.Status.{Status}
+use Rattle.cg_effects.specs.declared.outcome.Status.TheVariants.{Memory, Malformed, ReadFault, WriteFault}
+use Rattle.cg_effects.specs.Outcome.{Name, Outcome}
+use Rattle.cg_effects.specs.Reads.{StopsAt}
+use Rattle.cg_effects.specs.Ends.{Moment, Finished, Completed}
+use Rattle.cg_commands.specs.Commands.{Leaves}
+use Rattle.cg_commands.proofs.Left as commands
 use Rattle.cg_top.specs.TopCall.{IsPlannedBytes, Ends, IsLeft}
 
 pub left : (words : List Name) (before after : Moment) (status : Status) → Ends words before after status → IsLeft words before after status

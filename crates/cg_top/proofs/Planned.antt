@@ -1,14 +1,14 @@
 -- What a planned command answers.
 use Rattle.std.proofs.Common.{inl, inr}
 use Rattle.cg_files.specs.Held.{Held}
-use Rattle.cg_ending.specs.declared.read.Stop.{Stop}
-use Rattle.cg_ending.specs.declared.read.Stop.TheVariants.{Ended, Memory}
+use Rattle.cg_effects.specs.declared.read.Stop.{Stop}
+use Rattle.cg_effects.specs.declared.read.Stop.TheVariants.{Ended, Memory}
 use Rattle.cg_files.specs.Causes.{Rose}
-use Rattle.cg_ending.specs.declared.outcome.Status.{Status}
-use Rattle.cg_ending.specs.Allowed.{EndsBy}
-use Rattle.cg_ending.specs.Ends.{Moment}
-use Rattle.cg_ending.specs.Outcome.{Name, Outcome}
-use Rattle.cg_ending.specs.Reads.{IsStop}
+use Rattle.cg_effects.specs.declared.outcome.Status.{Status}
+use Rattle.cg_effects.specs.Allowed.{EndsBy}
+use Rattle.cg_effects.specs.Ends.{Moment}
+use Rattle.cg_effects.specs.Outcome.{Name, Outcome}
+use Rattle.cg_effects.specs.Reads.{IsStop}
 use Rattle.std.specs.Prelude.{Option, Some, None, List}
 use Rattle.cg_command.specs.Words.{Plan, plan_of}
 use Rattle.cg_top.specs.TopCall.{IsPlanned, IsPlannedBytes, IsOutcome, CarriedOut}

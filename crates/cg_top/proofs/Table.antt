@@ -4,18 +4,18 @@ use Rattle.std.proofs.lemmas.Grind.{common_steps}
 use Rattle.std.proofs.Math.Seq.{get_or-append_seam}
 use Rattle.cg_files.specs.Causes.{Rose}
 use Rattle.cg_files.specs.Held.{Held, IsMissing, IsLonger}
-use Rattle.cg_ending.specs.declared.outcome.Status.{Status}
-use Rattle.cg_ending.specs.declared.outcome.Status.TheVariants.{Done, Memory, Usage, Malformed, Impossible, ReadFault, WriteFault, BudgetSpent, No}
-use Rattle.cg_ending.specs.Outcome.{Name, Outcome}
-use Rattle.cg_ending.specs.Reads.{StopsAt, read_fault_of, too_long_of}
-use Rattle.cg_ending.specs.Ends.{Moment, Finished}
-use Rattle.cg_ending.specs.Status.{leaves_all}
+use Rattle.cg_effects.specs.declared.outcome.Status.{Status}
+use Rattle.cg_effects.specs.declared.outcome.Status.TheVariants.{Done, Memory, Usage, Malformed, Impossible, ReadFault, WriteFault, BudgetSpent, No}
+use Rattle.cg_effects.specs.Outcome.{Name, Outcome}
+use Rattle.cg_effects.specs.Reads.{StopsAt, read_fault_of, too_long_of}
+use Rattle.cg_effects.specs.Ends.{Moment, Finished}
+use Rattle.cg_effects.specs.Status.{leaves_all}
 use Rattle.cg_command.specs.Words.{Plan, plan_of}
-use Rattle.cg_ending.specs.Refusals.{usage_outcome}
+use Rattle.cg_effects.specs.Refusals.{usage_outcome}
 use Rattle.cg_top.proofs.Planned.{is_outcome}
 use Rattle.cg_top.specs.TopCall.{IsPlanned, Ends, IsAnswered, IsStopped, IsByTable}
 use Rattle.cg_top.proofs.Kept.{no_part}
-use Rattle.cg_answers.proofs.Commands.{owns_of, sound}
+use Rattle.cg_commands.proofs.Commands.{owns_of, sound}
 use Rattle.cg_inputs.proofs.Sound.{never}
 
 -- ---- where an outcome comes from

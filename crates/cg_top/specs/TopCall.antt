@@ -3,15 +3,15 @@ use Rattle.std.specs.Prelude.{◌≡◌, ◌≤◌, ◌⊎◌, Bool, true, false
 use Rattle.cg_files.specs.Asked.{Names, NotesAll, NotesPart}
 use Rattle.cg_files.specs.Causes.{Rose}
 use Rattle.cg_files.specs.Held.{Held, IsMissing, AppendsSome}
-use Rattle.cg_ending.specs.declared.outcome.Status.{Status}
-use Rattle.cg_ending.specs.declared.outcome.Status.TheVariants.{Done, Memory, Usage, Malformed, Impossible, ReadFault, WriteFault, BudgetSpent, No}
-use Rattle.cg_ending.specs.Status.{leaves_all}
-use Rattle.cg_ending.specs.Outcome.{Name, Bytes, File, Outcome, names_of}
-use Rattle.cg_ending.specs.Reads.{AreRead, HoldsBytes, StopsAt}
-use Rattle.cg_ending.specs.Ends.{Moment, Finished, Wrote, WrotePart, FailedAt, IsPut}
+use Rattle.cg_effects.specs.declared.outcome.Status.{Status}
+use Rattle.cg_effects.specs.declared.outcome.Status.TheVariants.{Done, Memory, Usage, Malformed, Impossible, ReadFault, WriteFault, BudgetSpent, No}
+use Rattle.cg_effects.specs.Status.{leaves_all}
+use Rattle.cg_effects.specs.Outcome.{Name, Bytes, File, Outcome, names_of}
+use Rattle.cg_effects.specs.Reads.{AreRead, HoldsBytes, StopsAt}
+use Rattle.cg_effects.specs.Ends.{Moment, Finished, Wrote, WrotePart, FailedAt, IsPut}
 use Rattle.cg_command.specs.Words.{Plan, plan_of}
-use Rattle.cg_ending.specs.Refusals.{usage_outcome}
-use Rattle.cg_answers.specs.Commands.{IsAnswer, Accepts, Forbids, AgreeIn, RunWrites, Leaves, judges}
+use Rattle.cg_effects.specs.Refusals.{usage_outcome}
+use Rattle.cg_commands.specs.Commands.{IsAnswer, Accepts, Forbids, AgreeIn, RunWrites, Leaves, judges}
 
 -- ---- what words and files define
 

@@ -3,19 +3,19 @@
 
 ghost use Rattle.std.specs.Prelude.{◌≡◌, ◌≤◌, [], None, Some, IfOk, length, map, string_bytes};
 ghost use Rattle.cg_files.specs.Causes.{Rose};
-ghost use Rattle.cg_ending.specs.Allowed.{Allows};
-ghost use Rattle.cg_ending.specs.Outcome.{outcome_of};
-ghost use Rattle.cg_ending.specs.Ends.{moment};
+ghost use Rattle.cg_effects.specs.Allowed.{Allows};
+ghost use Rattle.cg_effects.specs.Outcome.{outcome_of};
+ghost use Rattle.cg_effects.specs.Ends.{moment};
 ghost use Rattle.cg_command.specs.Words.{HasShape, plan_of, planned};
 ghost use Rattle.cg_top.specs.TopCall.{IsPlannedBytes, Ends, IsCall, Asks, MakesCalls};
 
 mod laws;
 
-use cg_answers::answer;
-use cg_aside::{Aside, Silent};
 pub use cg_command::{Command, Plan, plan_words};
-pub use cg_ending::Status;
-use cg_ending::{File, Outcome, Stop, finish, read_all, usage};
+use cg_commands::answer;
+use cg_diagnostics::{Aside, Silent};
+pub use cg_effects::Status;
+use cg_effects::{File, Outcome, Stop, finish, read_all, usage};
 use cg_files::{Sink, Store};
 use cg_help::note_words;
 use cg_notes_calls::{note_call, note_files};

@@ -13,8 +13,8 @@ use Rattle.cg_model.specs.declared.array.Kind.TheVariants.{Wire, Register, Port,
 use Rattle.cg_model.specs.declared.array.Resource.{Resource}
 use Rattle.cg_model.specs.Array.{Arch, resource, delay_by}
 use Rattle.cg_model.specs.First.{first_from, first_such, is_before}
-use Rattle.cg_level.specs.Topological.{Passes, IsCombinationalLoop, resource_at}
-use Rattle.cg_level.proofs.Levels.{levels_no_loop}
+use Rattle.cg_levelize.specs.Topological.{Passes, IsCombinationalLoop, resource_at}
+use Rattle.cg_levelize.proofs.Levels.{levels_no_loop}
 use Rattle.cg_parts.specs.declared.parts.Element.{Element}
 use Rattle.cg_parts.specs.declared.entry.Entry.{Entry}
 use Rattle.cg_parts.specs.Parts.{distinct}

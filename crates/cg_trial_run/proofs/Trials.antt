@@ -8,7 +8,7 @@ use Rattle.cg_model.specs.Work.{Image}
 use Rattle.cg_model.specs.Turns.{turns_left}
 use Rattle.cg_model.specs.Configured.{configuration_of}
 use Rattle.cg_model.specs.Machine.{machine_left}
-use Rattle.cg_ending.specs.Outcome.{Bytes}
+use Rattle.cg_effects.specs.Outcome.{Bytes}
 use Rattle.cg_overlap.proofs.Canonical.{canonical}
 use Rattle.cg_overlap.proofs.Overlap.{leaves_the_same}
 use Rattle.cg_bits.specs.Spelling.{AreBits}

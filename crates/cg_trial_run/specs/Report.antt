@@ -8,7 +8,7 @@ use Rattle.cg_model.specs.Turns.{turns_left}
 use Rattle.cg_model.specs.Config.{Config}
 use Rattle.cg_model.specs.Configured.{configuration_of}
 use Rattle.cg_model.specs.Machine.{machine_left}
-use Rattle.cg_ending.specs.Outcome.{Bytes, line_of, line_then}
+use Rattle.cg_effects.specs.Outcome.{Bytes, line_of, line_then}
 use Rattle.cg_pad.specs.Bytes.{image_bytes}
 use Rattle.cg_bits.specs.Spelling.{AreBits}
 use Rattle.cg_check.specs.Legal.{Mapped}

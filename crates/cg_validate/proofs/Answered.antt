@@ -2,8 +2,8 @@
 use Rattle.std.proofs.Common.{◌≡◌, ℕ, ◌≤◌, List, length, None, arith}
 use Rattle.cg_model.specs.Array.{IsArch}
 use Rattle.cg_model.proofs.Options.{or_none}
-use Rattle.cg_level.specs.Topological.{IsTopological, AreKnown}
-use Rattle.cg_level.proofs.Levels.{place_of, order_levels, order_no_loop}
+use Rattle.cg_levelize.specs.Topological.{IsTopological, AreKnown}
+use Rattle.cg_levelize.proofs.Levels.{place_of, order_levels, order_no_loop}
 use Rattle.cg_parts.specs.declared.parts.Parts.{Parts}
 use Rattle.cg_parts.specs.Rules.{fault_before_loops, unit_or_contexts_fault}
 use Rattle.cg_validate.specs.Flat.{arch_of}

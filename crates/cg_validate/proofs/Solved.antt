@@ -2,8 +2,8 @@
 use Rattle.std.proofs.Common.{◌≡◌, ◌≢◌, List, [], ℕ, Option, Some, None, Result, Ok, Err, refl, ap, ◌∙◌, ⊎_elim}
 use Rattle.std.specs.Option.{option_map, option_or}
 use Rattle.cg_model.specs.Array.{Arch}
-use Rattle.cg_level.specs.Topological.{IsCombinationalLoop}
-use Rattle.cg_level.proofs.Solved.{order_or_loop}
+use Rattle.cg_levelize.specs.Topological.{IsCombinationalLoop}
+use Rattle.cg_levelize.proofs.Solved.{order_or_loop}
 use Rattle.cg_parts.specs.declared.parts.Parts.{Parts}
 use Rattle.cg_parts.specs.declared.fault.ArchFault.{ArchFault}
 use Rattle.cg_parts.specs.declared.fault.ArchFault.TheVariants as fault

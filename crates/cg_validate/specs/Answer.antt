@@ -2,7 +2,7 @@
 use Rattle.std.specs.Prelude.{◌≡◌, ◌≢◌, ℕ, List, map, Option, Some, None, Result, Ok, Err}
 use Rattle.std.specs.Option.{option_or}
 use Rattle.cg_model.specs.Array.{Arch, resource}
-use Rattle.cg_level.specs.Topological.{IsCombinationalLoop}
+use Rattle.cg_levelize.specs.Topological.{IsCombinationalLoop}
 use Rattle.cg_parts.specs.declared.parts.Parts.{Parts}
 use Rattle.cg_parts.specs.declared.fault.ArchFault.{ArchFault}
 use Rattle.cg_parts.specs.declared.fault.ArchFault.TheVariants as fault

@@ -4,7 +4,7 @@ ghost use Rattle.cg_model.specs.Array.{IsArch};
 ghost use Rattle.cg_parts.specs.Parts.{entries};
 ghost use Rattle.cg_parts.specs.Numbers.{IsNumbering};
 ghost use Rattle.cg_parts.specs.Rules.{fault_before_loops};
-ghost use Rattle.cg_level.specs.Topological.{IsTopological};
+ghost use Rattle.cg_levelize.specs.Topological.{IsTopological};
 ghost use Rattle.cg_validate.specs.Flat.{arch_of};
 ghost use Rattle.cg_validate.specs.Answer as spec;
 
@@ -12,7 +12,7 @@ use crate::build::flat_of;
 use crate::hub::{hub_fault, name_of};
 use cg_arch::{Arch, keep};
 use cg_flat::Flat;
-use cg_level::{OrderFault, topological_order};
+use cg_levelize::{OrderFault, topological_order};
 use cg_model::Words;
 use cg_parts::{
     ArchFault, Entry, Names, Numbers, Parts, entries_of_all, fault_before_loops, numbers_of,

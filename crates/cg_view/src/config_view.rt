@@ -3,7 +3,7 @@
 use crate::context_view::ContextView;
 use cg_arch::Arch;
 use cg_bits::{BitsFault, Contexts, HEADER, UnitFields, check_bits, ii_in, stages_in};
-use cg_contexts::UnitHead;
+use cg_config::UnitHead;
 use std::marker::Model;
 
 /// The configuration in borrowed bitstream bytes. Contracts see it as this configuration. It keeps the length of a slot

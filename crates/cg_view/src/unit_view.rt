@@ -5,11 +5,11 @@ ghost use Rattle.cg_model.specs.Config.{arg, no_arg};
 ghost use Rattle.cg_bits.specs.Numbers.{bits_of_bytes, number_at};
 ghost use Rattle.cg_bits.specs.Format.{cgb2};
 ghost use Rattle.cg_bits.specs.Reading.{unit_in};
-ghost use Rattle.cg_contexts.specs.Told.{head_of, told};
+ghost use Rattle.cg_config.specs.Told.{head_of, told};
 ghost use Rattle.cg_view.specs.Held.{HoldsUnit};
 
 use cg_bits::{ArgFields, CGB2, NO_ARG, UnitFields, number_at, op_of};
-use cg_contexts::UnitHead;
+use cg_config::UnitHead;
 use cg_word::Op;
 use std::marker::Model;
 
@@ -57,7 +57,7 @@ impl<'a> UnitView<'a> {
     ghost use Rattle.cg_bits.specs.Numbers.{bits_of_bytes};
     ghost use Rattle.cg_bits.specs.Format.{cgb2};
     ghost use Rattle.cg_bits.specs.Reading.{unit_in};
-    ghost use Rattle.cg_contexts.specs.Told.{head_of, told};
+    ghost use Rattle.cg_config.specs.Told.{head_of, told};
     ghost use Rattle.cg_view.specs.Held.{HoldsUnit};
 
     /// Returns the unit of `ports` ports that begins at bit `at` of `body`.

@@ -4,7 +4,7 @@ use Rattle.std.proofs.lemmas.Bool.{cases_lt}
 use Rattle.std.proofs.lemmas.List.Elements.{Contains-append_cases, Contains-append_left, Contains-append_right}
 use Rattle.cg_overlap.proofs.Facts.{Contains-first, Contains-cases}
 use Rattle.cg_model.proofs.Lookups.{Contains-nil}
-use Rattle.cg_below.specs.Below.{lists_below}
+use Rattle.cg_list_laws.specs.Below.{lists_below}
 use Rattle.cg_check.specs.declared.rule.Rule.{Rule}
 use Rattle.cg_check.specs.declared.rule.RulePlace.{RulePlace}
 use Rattle.cg_check.specs.declared.rule.Violation.{Violation}

@@ -1,6 +1,6 @@
 -- Violations by the marks and the claims in tables.
 use Rattle.std.specs.Prelude.{ℕ, ◌+◌, ◌*◌, List, take}
-use Rattle.cg_below.specs.Below.{lists_below}
+use Rattle.cg_list_laws.specs.Below.{lists_below}
 use Rattle.cg_model.specs.declared.mapping.Place.{Place}
 use Rattle.cg_check.specs.declared.rule.Rule.{Rule}
 use Rattle.cg_check.specs.declared.rule.Rule.TheVariants.{L3}

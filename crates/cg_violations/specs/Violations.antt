@@ -1,6 +1,6 @@
 -- All places at which a mapping violates a rule: rule by rule, and within a rule by place.
 use Rattle.std.specs.Prelude.{◌≡◌, ◌↔◌, ℕ, Bool, not, if◌then◌else◌, List, [], ◌∷◌, length, take, flat_map, Contains, slice_get, slice_index_or}
-use Rattle.cg_below.specs.Below.{lists_below}
+use Rattle.cg_list_laws.specs.Below.{lists_below}
 use Rattle.cg_model.specs.declared.kernel.OrderEdge.{OrderEdge}
 use Rattle.cg_model.specs.Kernel.{Kernel, size}
 use Rattle.cg_model.specs.Array.{Arch}

@@ -1,6 +1,6 @@
 //! The violations of L6 and L7: what routes that meet on a resource in a slot must share.
 ghost use Rattle.std.specs.Prelude.{◌≡◌, ◌++◌, ◌+◌, ◌*◌, ◌<◌, ◌≤◌, length, OnOk};
-ghost use Rattle.cg_below.specs.Below.{lists_below};
+ghost use Rattle.cg_list_laws.specs.Below.{lists_below};
 ghost use Rattle.cg_check.specs.Claims.{alike, is_clash as is_clash_in, rule_of as rule_by};
 ghost use Rattle.cg_violations.specs.Cells as cells;
 ghost use Rattle.cg_violations.specs.Violations as spec;

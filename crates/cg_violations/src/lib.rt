@@ -1,4 +1,4 @@
-//! All violations of a mapping, and their lines.
+//! All violations of a mapping and their lines, and the positions of all its routes.
 #![tactic(auto)]
 
 mod buckets;
@@ -13,3 +13,4 @@ mod stops;
 pub use cg_check::{Arch, Kernel, Mapping, Rule, RulePlace, Violation};
 pub use finding::violations;
 pub use lines::fault_lines;
+pub use stops::all_stops;

@@ -1,6 +1,6 @@
 //! The violations of L3: a unit begins at most one node in each slot.
 ghost use Rattle.std.specs.Prelude.{◌≡◌, ◌++◌, ◌%◌, ◌+◌, ◌<◌, ◌&&◌, Bool, true, [], eqb, length, take, OnOk, slice_index_or, slice_set};
-ghost use Rattle.cg_below.specs.Below.{lists_below};
+ghost use Rattle.cg_list_laws.specs.Below.{lists_below};
 ghost use Rattle.cg_model.specs.Kernel.{size};
 ghost use Rattle.cg_check.specs.Rules.{is_shared};
 ghost use Rattle.cg_check.specs.declared.rule.Rule.TheVariants.{L3};

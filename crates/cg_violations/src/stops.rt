@@ -66,7 +66,7 @@ fn push_route(
 
 /// Returns the stops of all routes of `mapping`, in the order of routes and paths.
 #[tactic(auto, unfolding(cg_model::specs::Mapping::positions))]
-pub(crate) fn all_stops(
+pub fn all_stops(
     alloc: Global,
     arch: &Arch,
     kernel: &Kernel,

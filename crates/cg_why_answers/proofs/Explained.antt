@@ -3,19 +3,19 @@ use Rattle.std.proofs.Common.{◌≡◌, ℕ, ◌≤◌, [], Option, Some, None,
 use Rattle.cg_model.specs.Array.{Arch}
 use Rattle.cg_model.specs.Kernel.{Kernel, IsKernel}
 use Rattle.cg_model.specs.Mapping.{Mapping, IsLegal}
-use Rattle.cg_ending.specs.declared.outcome.Status.TheVariants.{Done, Malformed}
-use Rattle.cg_ending.specs.Outcome.{Name, File, Outcome}
-use Rattle.cg_ending.specs.Ends.{Moment, Completed}
-use Rattle.cg_ending.specs.Refusals.{reports}
+use Rattle.cg_effects.specs.declared.outcome.Status.TheVariants.{Done, Malformed}
+use Rattle.cg_effects.specs.Outcome.{Name, File, Outcome}
+use Rattle.cg_effects.specs.Ends.{Moment, Completed}
+use Rattle.cg_effects.specs.Refusals.{reports}
 use Rattle.cg_files.specs.Held.{Holds, Appends}
 use Rattle.cg_inputs.specs.Sources.{Pair, ArePaired}
 use Rattle.cg_mapping_answers.specs.Bound.{IsPairInput, IsBelow}
-use Rattle.cg_why.specs.declared.numbers.Fars.{Fars}
-use Rattle.cg_why.specs.declared.why.Why.{Why}
-use Rattle.cg_why.specs.Why.{AreAllNumbers, IsImpossible, IsLeastWithout, IsWhy, far_at}
-use Rattle.cg_why.proofs.Always.{some_why}
-use Rattle.cg_why.proofs.Reasons.{none_excludes, numbers_for}
-use Rattle.cg_why_text.specs.Text.{why_text}
+use Rattle.cg_bound_all.specs.declared.numbers.HopTables.{HopTables}
+use Rattle.cg_bound_all.specs.declared.why.Why.{Why}
+use Rattle.cg_bound_all.specs.Why.{AreAllNumbers, IsImpossible, IsLeastWithout, IsWhy, hops_at}
+use Rattle.cg_bound_all.proofs.Always.{some_why}
+use Rattle.cg_bound_all.proofs.Reasons.{none_excludes, numbers_for}
+use Rattle.cg_bound_text.specs.Text.{why_text}
 use Rattle.cg_why_answers.specs.Why.{IsWhyOf, IsExplaining, IsExplained, IsWhyRun}
 use Rattle.cg_inputs.proofs.Sound.{IsSound, plain}
 use Rattle.cg_inputs.proofs.Wholes.{whole}
@@ -85,13 +85,13 @@ below_impossible P most (Some l) (some, few, free, each) ii one within below = e
 below_impossible P most None each ii one within below = each ii one within
 
 module _ (A : Arch) (K : Kernel) (M : Mapping) (good : IsKernel K) (legal : IsLegal A K M) where
-  not_impossible : (f : Fars) → AreAllNumbers A K f → IsImpossible A K f M.ii → ⊥
-  not_impossible f all (kind, h) = none_excludes A K M (far_at f M.ii) good legal (numbers_for A K f M.ii (let a = legal.interval in omega arith) all).fars kind h
+  not_impossible : (f : HopTables) → AreAllNumbers A K f → IsImpossible A K f M.ii → ⊥
+  not_impossible f all (kind, h) = none_excludes A K M (hops_at f M.ii) good legal (numbers_for A K f M.ii (let a = legal.interval in omega arith) all).tables kind h
 
   not_below : (w : Why) → IsWhy A K w → IsBelow w.least.interval M.ii → ⊥
   not_below w is below =
-      not_impossible w.fars is.fars
-      (below_impossible (IsImpossible A K w.fars) A.contexts w.least.interval is.least.least M.ii (let a = legal.interval in omega arith) legal.contexts below)
+      not_impossible w.tables is.tables
+      (below_impossible (IsImpossible A K w.tables) A.contexts w.least.interval is.least.least M.ii (let a = legal.interval in omega arith) legal.contexts below)
 
 module _ (arch kernel : Name) (f g : File) (before after : Moment) (arch_held : Holds before.held arch f.bytes) (kernel_held : Holds before.held kernel g.bytes) where
   left_by : (pair : Result Pair Outcome) (o : Outcome) → ArePaired f g pair → IsExplaining pair o → o.status ≡ Done → Completed o before after Done → IsWhyRun arch kernel before after

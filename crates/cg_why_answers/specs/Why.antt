@@ -1,16 +1,16 @@
 -- `why ARCH KERNEL`.
 use Rattle.std.specs.Prelude.{◌≡◌, Result, Ok, Err}
 use Rattle.cg_model.specs.Mapping.{Mapping, IsLegal}
-use Rattle.cg_ending.specs.declared.outcome.Status.TheVariants.{Done}
+use Rattle.cg_effects.specs.declared.outcome.Status.TheVariants.{Done}
 use Rattle.cg_files.specs.Held.{Appends}
-use Rattle.cg_ending.specs.Outcome.{Name, File, Outcome}
-use Rattle.cg_ending.specs.Ends.{Moment}
-use Rattle.cg_ending.specs.Refusals.{reports}
+use Rattle.cg_effects.specs.Outcome.{Name, File, Outcome}
+use Rattle.cg_effects.specs.Ends.{Moment}
+use Rattle.cg_effects.specs.Refusals.{reports}
 use Rattle.cg_inputs.specs.Sources.{Pair, ArePaired, HoldPair}
 use Rattle.cg_mapping_answers.specs.Bound.{IsBelow}
-use Rattle.cg_why.specs.declared.why.Why.{Why}
-use Rattle.cg_why.specs.Why.{IsWhy}
-use Rattle.cg_why_text.specs.Text.{why_text}
+use Rattle.cg_bound_all.specs.declared.why.Why.{Why}
+use Rattle.cg_bound_all.specs.Why.{IsWhy}
+use Rattle.cg_bound_text.specs.Text.{why_text}
 
 -- where several reasons are valid, which ones are shown is left open, and so are the times that show that there are
 -- enough registers

@@ -1,14 +1,14 @@
 //! `why ARCH KERNEL`.
-ghost use Rattle.cg_ending.specs.Allowed.{Allows};
-ghost use Rattle.cg_ending.specs.Outcome.{file_of};
+ghost use Rattle.cg_effects.specs.Allowed.{Allows};
+ghost use Rattle.cg_effects.specs.Outcome.{file_of};
 ghost use Rattle.cg_why_answers.specs.Why.{IsWhyOf, IsExplained};
 
 use cg_arch::Arch;
-use cg_ending::{File, Outcome, Status, Stop};
+use cg_bound_all::explain;
+use cg_bound_text::why_report;
+use cg_effects::{File, Outcome, Status, Stop};
 use cg_inputs::{arch_in, kernel_in};
 use cg_model::Kernel;
-use cg_why::explain;
-use cg_why_text::why_report;
 use std::alloc::Global;
 
 /// Returns the outcome of `why`: the least interval that no reason excludes for the kernel in the file `kernel` on the

@@ -2,10 +2,10 @@
 //! that no reason excludes, and what excludes those below it.
 #![tactic(auto)]
 
+use cg_bound_all::{Arch, Kernel, explain};
+use cg_bound_text::why_report;
 use cg_kernel::read_kernel;
 use cg_tiles::read_arch;
-use cg_why::{Arch, Kernel, explain};
-use cg_why_text::why_report;
 use std::rt::Files;
 use std::{env, fs, io};
 

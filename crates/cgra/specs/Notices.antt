@@ -1,8 +1,8 @@
 -- The notices on the standard error, separate from the report.
 use Rattle.std.specs.Prelude.{◌==◌, ℕ, List, [], ◌∷◌, codes, if◌then◌else◌}
-use Rattle.cg_ending.specs.declared.outcome.Status.{Status}
-use Rattle.cg_ending.specs.declared.outcome.Status.TheVariants.{Memory, WriteFault}
-use Rattle.cg_ending.specs.Outcome.{line_of}
+use Rattle.cg_effects.specs.declared.outcome.Status.{Status}
+use Rattle.cg_effects.specs.declared.outcome.Status.TheVariants.{Memory, WriteFault}
+use Rattle.cg_effects.specs.Outcome.{line_of}
 
 -- the notice for a call that ends with that status, in which `write_faults` writes of files failed; where none did, a
 -- write fault is one of the report

@@ -3,7 +3,7 @@
 
 ghost use Rattle.std.specs.Prelude.{◌≡◌};
 ghost use Rattle.std.specs.Process.{exit_status};
-ghost use Rattle.cg_ending.specs.Status.{number_of};
+ghost use Rattle.cg_effects.specs.Status.{number_of};
 
 mod notes;
 mod notices;

@@ -1,6 +1,6 @@
 //! Notes and progress on the standard error.
 
-use cg_aside::Aside;
+use cg_diagnostics::Aside;
 use std::alloc::AllocError;
 
 /// A writer of notes to the standard error, a line each. Progress is shown there on one line that is overwritten.

@@ -6,8 +6,8 @@ ghost use Rattle.cg_anneal.specs.Ended.{IsWalked};
 use crate::counting::Counting;
 use crate::finding::{Found, search_by};
 use crate::walk::{WEIGHT, Walk};
-use cg_aside::Silent;
-use cg_claims::laws::PlainUsage;
+use cg_congestion::laws::PlainUsage;
+use cg_diagnostics::Silent;
 use cg_model::Request;
 use cg_place::Move;
 use cg_place::laws::PlainPlacement;
@@ -28,8 +28,8 @@ pub fn plain_search<'a>(
 
 impl<'g, 'a> Walk<'g, 'a> {
     ghost use Rattle.std.specs.Prelude.{◌≡◌, ◌≤◌, ◌^◌, IfOk};
-    ghost use Rattle.cg_claims.specs.Table.{excess};
-    ghost use Rattle.cg_walk.specs.State.{cost, table_of_state};
+    ghost use Rattle.cg_congestion.specs.Table.{excess};
+    ghost use Rattle.cg_walk_spec.specs.State.{cost, table_of_state};
 
     /// Returns a placement of the walk's places. Its earliest times are 0, as no count depends on them.
     fn placement_anew(&self, alloc: Global) -> Result<PlainPlacement<'a>, AllocError>

@@ -1,11 +1,11 @@
 use Rattle.std.proofs.Common.{rules, ◌≡◌, Some, length, map, string_bytes, sym, ◌∙◌, ap, subst, inl}
 use Rattle.std.proofs.lemmas.List.{length-map}
 use Rattle.cg_files.specs.Causes.{Rose}
-use Rattle.cg_ending.specs.Outcome.{file_of}
-use Rattle.cg_ending.proofs.Allowed.{allows_weaker, stopped}
+use Rattle.cg_effects.specs.Outcome.{file_of}
+use Rattle.cg_effects.proofs.Allowed.{allows_weaker, stopped}
 use Rattle.cg_command.specs.Words.{HasShape, planned}
-use Rattle.cg_answers.specs.Commands.{IsAnswer}
-use Rattle.cg_answers.proofs.Shapes.{as_many}
+use Rattle.cg_commands.specs.Commands.{IsAnswer}
+use Rattle.cg_commands.proofs.Shapes.{as_many}
 use Rattle.cg_top.specs.TopCall.{IsPlannedBytes}
 use Rattle.cg_top.proofs.Planned.{not_read}
 use Rattle.cg_top.proofs.answered.Goals as goal

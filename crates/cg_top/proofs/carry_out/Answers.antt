@@ -1,5 +1,5 @@
 use Rattle.std.proofs.Common.{rules, ◌≡◌, inl, refl}
-use Rattle.cg_ending.specs.Outcome.{outcome_of}
+use Rattle.cg_effects.specs.Outcome.{outcome_of}
 use Rattle.cg_top.proofs.Calls.{calls, stopped, finished_since, none_written}
 use Rattle.cg_top.proofs.carry_out.Goals as goal
 

@@ -1,7 +1,7 @@
 use Rattle.std.proofs.Common.{◌∙◌, ◌++◌, take, sym, ap}
 use Rattle.std.proofs.lemmas.List.{append_assoc}
 use Rattle.cg_model.specs.declared.kernel.Operand.{Operand}
-use Rattle.cg_walk.specs.State.{edges_among}
+use Rattle.cg_walk_spec.specs.State.{edges_among}
 use Rattle.cg_anneal.specs.Edges.{operand_edge}
 use Rattle.cg_anneal.proofs.Operands.{among_more}
 use Rattle.cg_anneal.proofs.edges.add_operands.Goals as goal

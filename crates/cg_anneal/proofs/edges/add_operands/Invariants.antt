@@ -1,5 +1,5 @@
 use Rattle.std.proofs.Common.{◌≡◌, ◌++◌, take}
-use Rattle.cg_walk.specs.State.{edges_among}
+use Rattle.cg_walk_spec.specs.State.{edges_among}
 use Rattle.cg_anneal.proofs.edges.add_operands.Given as goal
 
 abbrev pub invariant-loop-arg : goal.invariant-loop-arg

@@ -1,7 +1,7 @@
 use Rattle.std.proofs.Common.{◌∙◌, ◌++◌, get_or, sym, ap}
 use Rattle.std.proofs.lemmas.List.{take_all}
 use Rattle.cg_model.specs.declared.kernel.Node.{Node}
-use Rattle.cg_walk.specs.State.{edges, edges_among, edges_from}
+use Rattle.cg_walk_spec.specs.State.{edges, edges_among, edges_from}
 use Rattle.cg_anneal.proofs.Operands.{from_more}
 use Rattle.cg_anneal.proofs.edges.edges_of_kernel.Goals as goal
 

@@ -1,5 +1,5 @@
 use Rattle.std.proofs.Common.{◌≡◌, take}
-use Rattle.cg_walk.specs.State.{edges_from}
+use Rattle.cg_walk_spec.specs.State.{edges_from}
 use Rattle.cg_anneal.proofs.edges.edges_of_kernel.Given as goal
 
 abbrev pub invariant-loop-node : goal.invariant-loop-node

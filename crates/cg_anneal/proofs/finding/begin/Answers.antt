@@ -1,5 +1,5 @@
 use Rattle.std.proofs.Common.{◌≡◌, sym, subst, refl}
-use Rattle.cg_walk.specs.Walk.{unrouted_start}
+use Rattle.cg_walk_spec.specs.Walk.{unrouted_start}
 use Rattle.cg_anneal.specs.Walking.{Walking}
 use Rattle.cg_anneal.proofs.Reached.{starts}
 use Rattle.cg_anneal.proofs.finding.begin.Goals as goal

@@ -1,5 +1,5 @@
 use Rattle.std.proofs.Common.{◌≡◌, sym, subst}
-use Rattle.cg_walk.specs.State.{cost}
+use Rattle.cg_walk_spec.specs.State.{cost}
 use Rattle.cg_anneal.specs.Walking.{Walking}
 use Rattle.cg_anneal.specs.Ended.{IsFoundAt, IsReached}
 use Rattle.cg_anneal.proofs.Reached.{ends_found}

@@ -2,7 +2,7 @@ use Rattle.std.proofs.Common.{sym, subst}
 use Rattle.cg_model.specs.Array.{Arch}
 use Rattle.cg_model.specs.Kernel.{Kernel}
 use Rattle.cg_model.specs.Mapping.{Mapping, IsLegal}
-use Rattle.cg_walk.proofs.Rules.{legal_at_zero}
+use Rattle.cg_walk_spec.proofs.Rules.{legal_at_zero}
 use Rattle.cg_anneal.proofs.finding.legal_end.Goals as goal
 
 pub new-requires : goal.new-requires

@@ -1,9 +1,9 @@
 use Rattle.std.proofs.Common.{◌≡◌, ◌∙◌, ◌<◌, length, inl, inr, sym, ap, subst, arith, refl}
-use Rattle.cg_walk.specs.State.{cost}
-use Rattle.cg_walk.specs.Words.{generator}
-use Rattle.cg_walk.specs.Walk.{Walked, start}
-use Rattle.cg_walk.proofs.Histories.{histories_small}
-use Rattle.cg_walk.proofs.Keeps.{walked_good}
+use Rattle.cg_walk_spec.specs.State.{cost}
+use Rattle.cg_walk_spec.specs.Words.{generator}
+use Rattle.cg_walk_spec.specs.Walk.{Walked, start}
+use Rattle.cg_walk_spec.proofs.Histories.{histories_small}
+use Rattle.cg_walk_spec.proofs.Keeps.{walked_good}
 use Rattle.cg_anneal.specs.Walking.{Walking}
 use Rattle.cg_anneal.proofs.Reached.{goes_on}
 use Rattle.cg_anneal.proofs.Nodeless.{some_nodes}

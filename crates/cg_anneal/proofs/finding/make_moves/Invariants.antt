@@ -1,5 +1,5 @@
 use Rattle.std.proofs.Common.{◌≡◌}
-use Rattle.cg_walk.specs.Walk.{Walked}
+use Rattle.cg_walk_spec.specs.Walk.{Walked}
 use Rattle.cg_anneal.specs.Walking.{at_state}
 use Rattle.cg_anneal.proofs.finding.make_moves.Given as goal
 

@@ -1,10 +1,10 @@
 use Rattle.std.proofs.Common.{◌∙◌, ◌<◌, length, sym, subst}
 use Rattle.std.specs.Prelude.{All, OnOk}
-use Rattle.cg_walk.specs.State.{State, edges}
-use Rattle.cg_walk.specs.Walk.{unrouted_start}
-use Rattle.cg_walk.specs.Pending.{Rising, Pending}
-use Rattle.cg_walk.proofs.Uses.{all_known}
-use Rattle.cg_walk.proofs.Pending.{all_rising, pending_start}
+use Rattle.cg_walk_spec.specs.State.{State, edges}
+use Rattle.cg_walk_spec.specs.Walk.{unrouted_start}
+use Rattle.cg_walk_spec.specs.Pending.{Rising, Pending}
+use Rattle.cg_walk_spec.proofs.Uses.{all_known}
+use Rattle.cg_walk_spec.proofs.Pending.{all_rising, pending_start}
 use Rattle.cg_anneal.specs.Walking.{IsRoutedBy}
 use Rattle.cg_anneal.proofs.finding.route_first.Goals as goal
 

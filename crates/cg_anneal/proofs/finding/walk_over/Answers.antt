@@ -1,6 +1,6 @@
 use Rattle.std.proofs.Common.{sym, subst}
 use Rattle.std.specs.Prelude.{IfOk}
-use Rattle.cg_walk.specs.Walk.{IsStart}
+use Rattle.cg_walk_spec.specs.Walk.{IsStart}
 use Rattle.cg_anneal.specs.Walking.{Walking}
 use Rattle.cg_anneal.specs.Ended.{IsWalkedFrom}
 use Rattle.cg_anneal.proofs.finding.walk_over.Goals as goal

@@ -1,11 +1,11 @@
 use Rattle.std.proofs.Common.{◌≡◌, ◌<◌, ℕ, length, ap, ◌∙◌, arith}
-use Rattle.cg_ending.specs.Outcome.{file_of}
-use Rattle.cg_ending.specs.Refusals.{malformed_of}
-use Rattle.cg_ending.proofs.Allowed.{allows_weaker, ends_weaker, stopped}
+use Rattle.cg_effects.specs.Outcome.{file_of}
+use Rattle.cg_effects.specs.Refusals.{malformed_of}
+use Rattle.cg_effects.proofs.Allowed.{allows_weaker, ends_weaker, stopped}
 use Rattle.cg_pad.specs.Bytes as images
-use Rattle.cg_cycle.specs.Texts.{sim_fault_text}
-use Rattle.cg_cycle.specs.declared.fault.SimFault.{SimFault}
-use Rattle.cg_cycle.specs.declared.fault.SimFault.TheVariants.{ImageTooLarge}
+use Rattle.cg_datapath.specs.Texts.{sim_fault_text}
+use Rattle.cg_datapath.specs.declared.fault.SimFault.{SimFault}
+use Rattle.cg_datapath.specs.declared.fault.SimFault.TheVariants.{ImageTooLarge}
 use Rattle.cg_run_answers.specs.Run.{array_by_image}
 use Rattle.cg_bench_answers.specs.Bench.{benched}
 use Rattle.cg_run_answers.proofs.Allowed.{array_image_refused, array_done, array_too_large}

@@ -1,7 +1,7 @@
 use Rattle.std.proofs.Common.{◌≡◌, ◌+◌, ◌*◌, true, false, ◌∙◌, sym}
 use Rattle.cg_bits.specs.Parts.{joined}
 use Rattle.cg_bits.specs.Faults.{unless}
-use Rattle.cg_contexts.specs.Rules.{mode_ok, count_ok, word_ok}
+use Rattle.cg_config.specs.Rules.{mode_ok, count_ok, word_ok}
 use Rattle.cg_bits.specs.Checks.{word_fault}
 use Rattle.cg_bits.proofs.None.{unless_none}
 use Rattle.cg_bits.proofs.First.{first_joined, first_unless, first_right, joined_none_zero, joined_none_more}

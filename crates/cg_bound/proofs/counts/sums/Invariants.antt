@@ -1,6 +1,6 @@
 use Rattle.std.proofs.Common.{◌≡◌, ◌+◌, ◌*◌, ◌^◌, ◌≤◌, drop}
-use Rattle.cg_edges.specs.Chain.{latencies, distances}
-use Rattle.cg_edges.specs.Edges.{edge_of}
+use Rattle.cg_recur.specs.Chain.{latencies, distances}
+use Rattle.cg_recur.specs.Edges.{edge_of}
 use Rattle.cg_bound.proofs.counts.sums.Given as goal
 
 abbrev pub invariant-loop-id : goal.invariant-loop-id

@@ -1,6 +1,6 @@
 use Rattle.std.proofs.Common.{◌+◌, Some, cond, string_bytes, ap, ◌∙◌, bytes_eq}
 use Rattle.std.proofs.lemmas.Map.Text.{hash_map_updates_text}
-use Rattle.cg_names.specs.Numbers.{found_in}
+use Rattle.cg_reading.specs.Numbers.{found_in}
 use Rattle.cg_gates.proofs.Counting.{one_more}
 use Rattle.cg_gates.proofs.counts.add_one.Goals as goal
 

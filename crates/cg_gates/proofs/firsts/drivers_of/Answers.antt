@@ -1,6 +1,6 @@
 use Rattle.std.proofs.Common.{◌∙◌, ap, arith, cond, bytes_eq, Some, None}
 use Rattle.std.specs.Option.{option_or}
-use Rattle.cg_names.specs.Numbers.{found_in}
+use Rattle.cg_reading.specs.Numbers.{found_in}
 use Rattle.cg_gates.specs.Shape.{shape_of}
 use Rattle.cg_gates.specs.Numbers.{by_net}
 use Rattle.cg_gates.proofs.Places.{all_mapped, mapped_more}

@@ -1,6 +1,6 @@
 use Rattle.std.proofs.Common.{ap, sym, ◌∙◌}
 use Rattle.cg_model.specs.First.{is_before}
-use Rattle.cg_names.specs.Numbers.{found_in}
+use Rattle.cg_reading.specs.Numbers.{found_in}
 use Rattle.cg_gates.specs.Numbers.{is_repeated}
 use Rattle.cg_gates.proofs.Places.{first_here, first_next}
 use Rattle.cg_gates.proofs.instances.first_repeated.Goals as goal

@@ -1,6 +1,6 @@
 use Rattle.std.proofs.Common.{ap, ◌∙◌, cond, bytes_eq, Some, None}
 use Rattle.std.specs.Option.{option_or}
-use Rattle.cg_names.specs.Numbers.{found_in}
+use Rattle.cg_reading.specs.Numbers.{found_in}
 use Rattle.cg_gates.specs.Numbers.{by_name}
 use Rattle.cg_gates.proofs.Places.{first_more}
 use Rattle.cg_gates.proofs.numbers.numbers_of.Goals as goal

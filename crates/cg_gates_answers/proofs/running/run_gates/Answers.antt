@@ -1,12 +1,12 @@
 use Rattle.std.proofs.Common.{◌≡◌, ◌<◌, ◌≤◌, ℕ, length, Err, ap, ◌∙◌, arith, ⊎_elim, refl, subst}
 use Rattle.std.proofs.lemmas.Bool.{cases_lt}
-use Rattle.cg_ending.specs.Outcome.{file_of}
-use Rattle.cg_ending.specs.Allowed.{Allows}
-use Rattle.cg_ending.specs.Refusals.{malformed_of}
-use Rattle.cg_ending.proofs.Allowed.{allows_weaker, ends_weaker}
-use Rattle.cg_cycle.specs.Texts.{sim_fault_text}
-use Rattle.cg_cycle.specs.declared.fault.SimFault.{SimFault}
-use Rattle.cg_cycle.specs.declared.fault.SimFault.TheVariants.{ImageTooLarge}
+use Rattle.cg_effects.specs.Outcome.{file_of}
+use Rattle.cg_effects.specs.Allowed.{Allows}
+use Rattle.cg_effects.specs.Refusals.{malformed_of}
+use Rattle.cg_effects.proofs.Allowed.{allows_weaker, ends_weaker}
+use Rattle.cg_datapath.specs.Texts.{sim_fault_text}
+use Rattle.cg_datapath.specs.declared.fault.SimFault.{SimFault}
+use Rattle.cg_datapath.specs.declared.fault.SimFault.TheVariants.{ImageTooLarge}
 use Rattle.cg_gates_run.specs.Run.{Run}
 use Rattle.cg_gates_answers.specs.Netlist.{gates_ran, run_by_size}
 use Rattle.cg_gates_answers.proofs.Allowed.{gates_fit, gates_too_large}

@@ -1,5 +1,5 @@
 use Rattle.std.proofs.Common.{◌≡◌, ◌<◌, ℕ, take, length}
-use Rattle.cg_cycle.specs.Terminals.{terminals}
+use Rattle.cg_datapath.specs.Terminals.{terminals}
 use Rattle.cg_gates_run.proofs.run.copied.Given as goal
 
 abbrev pub invariant-loop-j : goal.invariant-loop-j

@@ -1,7 +1,7 @@
 use Rattle.std.proofs.Common.{◌≡◌, ◌<◌, ℕ, length, ◌∙◌, refl, arith, rules}
 use Rattle.cg_gates.specs.Tables.{select_cell}
 use Rattle.cg_gates_run.specs.Settle.{GiveSelects}
-use Rattle.cg_cycle.proofs.Kept.{kept_more, right_more}
+use Rattle.cg_datapath.proofs.Kept.{kept_more, right_more}
 use Rattle.cg_gates_run.proofs.settle.give_selects.Goals as goal
 
 pub loop-j-preserved : goal.loop-j-preserved

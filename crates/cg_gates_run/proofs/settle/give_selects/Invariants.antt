@@ -1,5 +1,5 @@
 use Rattle.std.proofs.Common.{ℕ}
-use Rattle.cg_cycle.specs.Course.{Keeps}
+use Rattle.cg_datapath.specs.Course.{Keeps}
 use Rattle.cg_gates_run.specs.Settle.{GiveSelects, AreSelectsRight}
 use Rattle.cg_gates_run.proofs.settle.give_selects.Given as goal
 

@@ -1,6 +1,6 @@
 use Rattle.std.proofs.Common.{◌≡◌, ◌<◌, ◌+◌, ◌%◌, ℕ, length, sym, ap, ◌∙◌, subst, rules}
 use Rattle.cg_model.specs.Config.{Config}
-use Rattle.cg_cycle.specs.Course.{Keeps, AreOutsRight}
+use Rattle.cg_datapath.specs.Course.{Keeps, AreOutsRight}
 use Rattle.cg_gates.specs.Shape.{is_context, is_preselect, is_register, is_mux}
 use Rattle.cg_gates.specs.Gates.{nets_in}
 use Rattle.cg_gates_run.specs.Settle.{AreSelectsRight, AreRight}

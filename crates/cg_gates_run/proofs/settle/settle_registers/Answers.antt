@@ -4,7 +4,7 @@ use Rattle.std.proofs.lemmas.List.{get_or_read}
 use Rattle.cg_gates.specs.declared.tables.Choice.{Choice}
 use Rattle.cg_gates.specs.Tables.{choice}
 use Rattle.cg_gates_run.specs.Settle.{IsReadable, GiveRegisters, chosen_by}
-use Rattle.cg_cycle.proofs.Kept.{kept_more, right_more}
+use Rattle.cg_datapath.proofs.Kept.{kept_more, right_more}
 use Rattle.cg_gates_run.proofs.settle.settle_registers.Goals as goal
 
 pub loop-j-preserved : goal.loop-j-preserved

@@ -1,5 +1,5 @@
 use Rattle.std.proofs.Common.{ℕ}
-use Rattle.cg_cycle.specs.Course.{Keeps}
+use Rattle.cg_datapath.specs.Course.{Keeps}
 use Rattle.cg_gates_run.specs.Settle.{GiveRegisters, AreRight}
 use Rattle.cg_gates_run.proofs.settle.settle_registers.Given as goal
 

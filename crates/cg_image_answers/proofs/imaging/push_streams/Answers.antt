@@ -1,4 +1,4 @@
-use Rattle.cg_below.proofs.Grown.{unbegun, grown}
+use Rattle.cg_list_laws.proofs.Grown.{unbegun, grown}
 use Rattle.cg_image_answers.specs.Image.{stream_line}
 use Rattle.cg_image_answers.proofs.imaging.push_streams.Goals as goal
 

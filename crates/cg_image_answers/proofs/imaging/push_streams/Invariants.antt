@@ -1,5 +1,5 @@
 use Rattle.std.proofs.Common.{◌≡◌, ◌++◌}
-use Rattle.cg_below.specs.Below.{lists_below}
+use Rattle.cg_list_laws.specs.Below.{lists_below}
 use Rattle.cg_image_answers.specs.Image.{stream_line}
 use Rattle.cg_image_answers.proofs.imaging.push_streams.Given as goal
 

@@ -2,7 +2,7 @@ use Rattle.std.proofs.Common.{◌≡◌, None, sym, ap, ◌∙◌, subst}
 use Rattle.std.specs.Prelude.{map}
 use Rattle.cg_loop_syntax.specs.Uses.{fault_of}
 use Rattle.cg_loop_syntax.specs.Well.{IsWell}
-use Rattle.cg_loop_names.specs.Used.{use_of}
+use Rattle.cg_loop_reader.specs.Used.{use_of}
 use Rattle.cg_loop_reader.specs.Left.{noted}
 use Rattle.cg_loop_reader.proofs.Answered.{parts_well}
 use Rattle.cg_loop_reader.proofs.read.judged.Goals as goal

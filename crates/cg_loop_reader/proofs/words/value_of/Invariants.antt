@@ -1,5 +1,5 @@
 use Rattle.std.proofs.Common.{◌≡◌, ◌<◌, ◌^◌, take}
-use Rattle.cg_loop_text.specs.Words.{number_of}
+use Rattle.cg_loop_text_spec.specs.Words.{number_of}
 use Rattle.cg_loop_reader.proofs.words.value_of.Given as goal
 
 -- the number of the digits so far

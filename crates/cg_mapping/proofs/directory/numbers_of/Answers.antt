@@ -1,6 +1,6 @@
 use Rattle.std.proofs.Common.{arith, ◌≡◌, ◌+◌, Some}
 use Rattle.cg_model.proofs.Positions.{position_from-more}
-use Rattle.cg_names.specs.Numbers.{has_name}
+use Rattle.cg_reading.specs.Numbers.{has_name}
 use Rattle.cg_mapping.proofs.directory.numbers_of.Goals as goal
 
 pub loop-number-preserved : goal.loop-number-preserved

@@ -1,5 +1,5 @@
 use Rattle.std.proofs.Common.{◌≡◌, ℕ, List, Some, take}
-use Rattle.cg_names.specs.Numbers.{found_in, number_of}
+use Rattle.cg_reading.specs.Numbers.{found_in, number_of}
 use Rattle.cg_mapping.proofs.directory.numbers_of.Given as goal
 
 abbrev pub invariant-loop-number : goal.invariant-loop-number

@@ -2,7 +2,7 @@ use Rattle.std.proofs.Common.{◌∙◌, ◌||◌, ap, sym, take, bytes_eq, cond
 use Rattle.std.specs.List.{list_any}
 use Rattle.std.specs.Option.{option_or}
 use Rattle.std.proofs.lemmas.List.Folds.{list_any_more}
-use Rattle.cg_names.specs.Numbers.{found_in}
+use Rattle.cg_reading.specs.Numbers.{found_in}
 use Rattle.cg_parts.proofs.Lists.{or_twice}
 use Rattle.cg_parts.proofs.claims.add_claims.Goals as goal
 

@@ -1,5 +1,5 @@
 use Rattle.std.proofs.Common.{◌≡◌, ℕ, List, take}
-use Rattle.cg_names.specs.Numbers.{found_in}
+use Rattle.cg_reading.specs.Numbers.{found_in}
 use Rattle.cg_parts.specs.Numbers.{claimer_of}
 use Rattle.cg_parts.proofs.claims.claimers_of.Given as goal
 

@@ -1,6 +1,6 @@
 use Rattle.std.proofs.Common.{◌≡◌, drop}
 use Rattle.cg_model.specs.First.{first_from}
-use Rattle.cg_names.specs.Numbers.{found_in}
+use Rattle.cg_reading.specs.Numbers.{found_in}
 use Rattle.cg_parts.specs.Rules.{repeats_by}
 use Rattle.cg_parts.proofs.claims.first_repeat_by.Given as goal
 

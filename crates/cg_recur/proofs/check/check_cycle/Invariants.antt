@@ -1,6 +1,6 @@
 use Rattle.std.proofs.Common.{◌≡◌, ◌+◌, ◌*◌, ◌^◌, ◌≤◌, drop}
-use Rattle.cg_edges.specs.Chain.{Goes, latencies, distances}
-use Rattle.cg_edges.specs.Edges.{edge_of}
+use Rattle.cg_recur.specs.Chain.{Goes, latencies, distances}
+use Rattle.cg_recur.specs.Edges.{edge_of}
 use Rattle.cg_recur.proofs.check.check_cycle.Given as goal
 
 abbrev pub invariant-loop-id : goal.invariant-loop-id

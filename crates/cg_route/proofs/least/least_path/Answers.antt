@@ -2,7 +2,7 @@ use Rattle.std.proofs.Common.{◌≡◌, ◌∙◌, ℕ, ◌-◌, ◌<◌, List,
 use Rattle.std.specs.declared.vec.Vec.{Vec}
 use Rattle.std.specs.declared.alloc.Global.{Global}
 use Rattle.cg_model.specs.Array.{Arch}
-use Rattle.cg_claims.specs.Table.{Table}
+use Rattle.cg_congestion.specs.Table.{Table}
 use Rattle.cg_route.specs.Least.{IsLeastPath, IsTimedPath, AreNear}
 use Rattle.cg_route.specs.Layers.{Layer, Leads, Follows, at, layer_at, size}
 use Rattle.cg_route.proofs.Cases.{some_then, none_then}

@@ -1,5 +1,5 @@
 use Rattle.std.proofs.Common.{◌∙◌, ap}
-use Rattle.cg_ending.specs.Outcome.{Outcome}
+use Rattle.cg_effects.specs.Outcome.{Outcome}
 use Rattle.cg_turns.specs.Done.{left_of}
 use Rattle.cg_run_answers.proofs.Imaged.{file_with, imaged_by}
 use Rattle.cg_run_answers.proofs.imaging.imaged.Goals as goal

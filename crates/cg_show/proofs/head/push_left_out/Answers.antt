@@ -1,7 +1,7 @@
 use Rattle.std.proofs.Common.{◌-◌, ◌++◌, ◌∙◌, Bool, cond, [], sym, ap}
 use Rattle.std.specs.Prelude.{codes, decimal}
 use Rattle.std.proofs.lemmas.Bool.{lt-ltb}
-use Rattle.cg_drawing.specs.Svg.{words_text}
+use Rattle.cg_layout.specs.Svg.{words_text}
 use Rattle.cg_show.proofs.head.push_left_out.Goals as goal
 
 pub returns-in_ok-push_words : goal.returns-in_ok-push_words

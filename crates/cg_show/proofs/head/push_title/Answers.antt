@@ -1,7 +1,7 @@
 use Rattle.std.proofs.Common.{◌≡◌, ◌++◌, ◌∙◌, ap}
 use Rattle.std.specs.Prelude.{codes, decimal}
 use Rattle.cg_check.specs.Legal.{config_of}
-use Rattle.cg_drawing.specs.Svg.{words_text}
+use Rattle.cg_layout.specs.Svg.{words_text}
 use Rattle.cg_show.proofs.head.push_title.Goals as goal
 
 pub returns : goal.returns

@@ -1,5 +1,5 @@
 use Rattle.std.proofs.Common.{Some, ap}
-use Rattle.cg_marks.specs.Marks.{position_of}
+use Rattle.cg_occupancy.specs.Marks.{position_of}
 use Rattle.cg_show.specs.Marked.{cell_by, cell_in}
 use Rattle.cg_show.proofs.Panelled.{same_part}
 use Rattle.cg_show.proofs.marked.push_cell.Goals as goal

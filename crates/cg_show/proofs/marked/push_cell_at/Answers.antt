@@ -1,5 +1,5 @@
 use Rattle.std.proofs.Common.{◌∙◌}
-use Rattle.cg_marks.specs.Marks.{position_of}
+use Rattle.cg_occupancy.specs.Marks.{position_of}
 use Rattle.cg_show.proofs.Panelled.{cell_is}
 use Rattle.cg_show.proofs.marked.push_cell_at.Goals as goal
 

@@ -1,7 +1,7 @@
 use Rattle.std.proofs.Common.{◌∙◌, ap}
-use Rattle.cg_marks.specs.Marks.{position_of}
-use Rattle.cg_drawing.specs.Layout.{frame_of, seat}
-use Rattle.cg_drawing.specs.Ways.{way}
+use Rattle.cg_occupancy.specs.Marks.{position_of}
+use Rattle.cg_layout.specs.Layout.{frame_of, seat}
+use Rattle.cg_layout.specs.Ways.{way}
 use Rattle.cg_show.proofs.Panelled.{link_is}
 use Rattle.cg_show.proofs.marked.push_link_from.Goals as goal
 

@@ -1,5 +1,5 @@
 use Rattle.std.proofs.Common.{Some, sym, ap}
-use Rattle.cg_marks.specs.Marks.{position_of}
+use Rattle.cg_occupancy.specs.Marks.{position_of}
 use Rattle.cg_show.specs.Marked.{link_from}
 use Rattle.cg_show.proofs.Panelled.{same_part, no_part}
 use Rattle.cg_show.proofs.marked.push_link_of.Goals as goal

@@ -1,5 +1,5 @@
 use Rattle.std.proofs.Common.{◌∙◌, ap}
-use Rattle.cg_drawing.specs.Layout.{frame_of, box}
+use Rattle.cg_layout.specs.Layout.{frame_of, box}
 use Rattle.cg_show.specs.Marked.{start_mark, start_by, start_in}
 use Rattle.cg_show.proofs.Panelled.{same_part}
 use Rattle.cg_show.proofs.marked.push_start.Goals as goal

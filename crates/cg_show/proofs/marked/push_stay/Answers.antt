@@ -1,6 +1,6 @@
 use Rattle.std.proofs.Common.{◌∙◌, ap}
-use Rattle.cg_drawing.specs.Layout.{frame_of, seat}
-use Rattle.cg_marks.specs.Marks.{position_of}
+use Rattle.cg_layout.specs.Layout.{frame_of, seat}
+use Rattle.cg_occupancy.specs.Marks.{position_of}
 use Rattle.cg_show.specs.Marked.{stay_mark, stay_by, stay_in}
 use Rattle.cg_show.proofs.Panelled.{same_part}
 use Rattle.cg_show.proofs.marked.push_stay.Goals as goal

@@ -1,5 +1,5 @@
 use Rattle.std.proofs.Common.{◌≡◌, ◌≤◌, length}
-use Rattle.cg_below.specs.Below.{lists_below}
+use Rattle.cg_list_laws.specs.Below.{lists_below}
 use Rattle.cg_show.specs.Panels.{panel_text}
 use Rattle.cg_show.proofs.panels.panels.Given as goal
 

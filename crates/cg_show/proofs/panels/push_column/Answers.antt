@@ -1,6 +1,6 @@
 use Rattle.std.proofs.Common.{◌+◌, ◌*◌, ◌++◌, ◌∙◌, ap}
 use Rattle.std.specs.Prelude.{codes}
-use Rattle.cg_drawing.specs.Svg.{group_head, words_text, mark_end}
+use Rattle.cg_layout.specs.Svg.{group_head, words_text, mark_end}
 use Rattle.cg_show.specs.Marked.{cells_text}
 use Rattle.cg_show.specs.Panels.{slot_words}
 use Rattle.cg_show.proofs.Steps.{joined}

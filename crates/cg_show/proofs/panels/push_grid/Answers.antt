@@ -1,7 +1,7 @@
 use Rattle.std.proofs.Common.{◌++◌, ◌∙◌, ap}
 use Rattle.std.specs.Prelude.{codes}
-use Rattle.cg_drawing.specs.Layout.{frame_of}
-use Rattle.cg_drawing.specs.Svg.{group_head, words_text, mark_end}
+use Rattle.cg_layout.specs.Layout.{frame_of}
+use Rattle.cg_layout.specs.Svg.{group_head, words_text, mark_end}
 use Rattle.cg_show.specs.Marked.{links_text, starts_text, stays_text}
 use Rattle.cg_show.specs.Panels.{panel_left, panel_top, slot_words}
 use Rattle.cg_show.proofs.Steps.{joined}

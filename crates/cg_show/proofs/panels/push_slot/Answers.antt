@@ -1,6 +1,6 @@
 use Rattle.std.proofs.Common.{◌++◌, ◌∙◌, ap}
 use Rattle.std.specs.Prelude.{codes}
-use Rattle.cg_drawing.specs.Svg.{words_text}
+use Rattle.cg_layout.specs.Svg.{words_text}
 use Rattle.cg_show.proofs.panels.push_slot.Goals as goal
 
 pub returns : goal.returns

@@ -1,6 +1,6 @@
 use Rattle.std.proofs.Common.{◌≡◌, ◌+◌, max, ◌∙◌, ap, length, arith}
 use Rattle.cg_model.specs.Kernel.{size}
-use Rattle.cg_below.specs.Below.{greatest_below}
+use Rattle.cg_list_laws.specs.Below.{greatest_below}
 use Rattle.cg_show.specs.Schedule.{cycles, end_of}
 use Rattle.cg_show.proofs.Steps.{greatest_more, greatest_none, greater_is}
 use Rattle.cg_show.proofs.schedule.cycles.Goals as goal

@@ -1,5 +1,5 @@
 use Rattle.std.proofs.Common.{◌≡◌, ◌<◌, ◌^◌}
-use Rattle.cg_below.specs.Below.{greatest_below}
+use Rattle.cg_list_laws.specs.Below.{greatest_below}
 use Rattle.cg_show.specs.Schedule.{end_of}
 use Rattle.cg_show.proofs.schedule.cycles.Given as goal
 

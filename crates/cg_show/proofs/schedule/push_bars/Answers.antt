@@ -1,7 +1,7 @@
 use Rattle.std.proofs.Common.{◌≡◌, ◌+◌, ◌*◌, ◌++◌, true, false, ◌∙◌, sym, ap, length, arith}
 use Rattle.std.specs.Prelude.{nat_lt}
 use Rattle.std.proofs.lemmas.Bool.{lt-ltb, le-ltb}
-use Rattle.cg_marks.specs.Counts.{starts_of}
+use Rattle.cg_occupancy.specs.Counts.{starts_of}
 use Rattle.cg_show.specs.Schedule.{row_top, row_by, bars_text}
 use Rattle.cg_show.proofs.Steps.{unbegun, grown, ended, unchanged}
 use Rattle.cg_show.proofs.Rows.{row_shown, row_hidden, row_first, row_after, row_same}

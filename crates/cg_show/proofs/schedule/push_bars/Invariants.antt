@@ -1,5 +1,5 @@
 use Rattle.std.proofs.Common.{◌≡◌, ◌≤◌, ◌++◌}
-use Rattle.cg_below.specs.Below.{lists_below, sum_below}
+use Rattle.cg_list_laws.specs.Below.{lists_below, sum_below}
 use Rattle.cg_show.specs.Schedule.{row_by}
 use Rattle.cg_show.proofs.Rows.{busy}
 use Rattle.cg_show.proofs.schedule.push_bars.Given as goal

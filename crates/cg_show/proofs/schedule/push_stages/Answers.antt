@@ -1,8 +1,8 @@
 use Rattle.std.proofs.Common.{ℕ, ◌++◌, suc, ◌∙◌, ap}
 use Rattle.std.specs.Prelude.{codes}
 use Rattle.cg_check.specs.Legal.{config_of}
-use Rattle.cg_below.specs.Below.{lists_below}
-use Rattle.cg_marks.specs.Counts.{busy_units}
+use Rattle.cg_list_laws.specs.Below.{lists_below}
+use Rattle.cg_occupancy.specs.Counts.{busy_units}
 use Rattle.cg_show.specs.Schedule.{stage_line, stages_text}
 use Rattle.cg_show.proofs.Steps.{joined}
 use Rattle.cg_show.proofs.schedule.push_stages.Goals as goal

@@ -1,6 +1,6 @@
 use Rattle.std.proofs.Common.{◌+◌, refl}
 use Rattle.std.specs.Prelude.{codes}
-use Rattle.cg_below.specs.Below.{lists_below}
+use Rattle.cg_list_laws.specs.Below.{lists_below}
 use Rattle.cg_show.specs.Words.{unit_name}
 use Rattle.cg_show.specs.Schedule.{bar_in}
 use Rattle.cg_show.proofs.Steps.{joined, same_words}

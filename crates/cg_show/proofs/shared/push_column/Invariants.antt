@@ -1,5 +1,5 @@
 use Rattle.std.proofs.Common.{◌≡◌, ◌++◌}
-use Rattle.cg_below.specs.Below.{lists_below}
+use Rattle.cg_list_laws.specs.Below.{lists_below}
 use Rattle.cg_show.specs.Panels.{cell_part}
 use Rattle.cg_show.proofs.shared.push_column.Given as goal
 

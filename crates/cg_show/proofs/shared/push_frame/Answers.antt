@@ -1,5 +1,5 @@
 use Rattle.std.proofs.Common.{◌≡◌, true, false, sym, ◌∙◌}
-use Rattle.cg_drawing.specs.Layout.{frame_of}
+use Rattle.cg_layout.specs.Layout.{frame_of}
 use Rattle.cg_show.specs.Panels.{begins_tile, tile_text, frame_text}
 use Rattle.cg_show.proofs.Panelled.{same_part, no_part, frame_shown, frame_hidden}
 use Rattle.cg_show.proofs.shared.push_frame.Goals as goal

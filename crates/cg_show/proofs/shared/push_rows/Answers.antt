@@ -1,6 +1,6 @@
 use Rattle.std.proofs.Common.{◌≡◌, ◌+◌, ◌*◌, ◌++◌, ◌∙◌, ap, length, arith}
 use Rattle.std.specs.Prelude.{codes}
-use Rattle.cg_drawing.specs.Svg.{words_text}
+use Rattle.cg_layout.specs.Svg.{words_text}
 use Rattle.cg_show.specs.Panels.{row_part, rows_text}
 use Rattle.cg_show.proofs.Steps.{unbegun, grown, ended}
 use Rattle.cg_show.proofs.shared.push_rows.Goals as goal

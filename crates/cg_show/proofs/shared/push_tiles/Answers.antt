@@ -1,5 +1,5 @@
 use Rattle.std.proofs.Common.{◌≡◌, ◌++◌, ◌∙◌, ap, length, arith}
-use Rattle.cg_drawing.specs.Layout.{frame_of, seat}
+use Rattle.cg_layout.specs.Layout.{frame_of, seat}
 use Rattle.cg_show.specs.Panels.{frame_text, chip_text, tile_part, tiles_text}
 use Rattle.cg_show.proofs.Steps.{joined, unbegun, grown, ended}
 use Rattle.cg_show.proofs.shared.push_tiles.Goals as goal

@@ -1,6 +1,6 @@
 use Rattle.std.proofs.Common.{◌≡◌, ◌++◌, ◌∙◌, ap}
 use Rattle.std.specs.Prelude.{codes}
-use Rattle.cg_drawing.specs.Svg.{words_head}
+use Rattle.cg_layout.specs.Svg.{words_head}
 use Rattle.cg_show.specs.Words.{cut}
 use Rattle.cg_show.proofs.Steps.{joined, headed}
 use Rattle.cg_show.proofs.words.push_name_with.Goals as goal

@@ -1,5 +1,5 @@
 use Rattle.std.proofs.Common.{◌≡◌, ◌≤◌}
-use Rattle.cg_below.specs.Below.{greatest_below}
+use Rattle.cg_list_laws.specs.Below.{greatest_below}
 use Rattle.cg_show_table.specs.Columns.{node_width}
 use Rattle.cg_show_table.proofs.columns.cell_width.Given as goal
 

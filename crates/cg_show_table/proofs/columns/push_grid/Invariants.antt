@@ -1,6 +1,6 @@
 use Rattle.std.proofs.Common.{◌≡◌, ◌++◌, map}
 use Rattle.std.specs.Prelude.{string_bytes}
-use Rattle.cg_below.specs.Below.{lists_below}
+use Rattle.cg_list_laws.specs.Below.{lists_below}
 use Rattle.cg_show_table.specs.Columns.{block_lines}
 use Rattle.cg_show_table.proofs.columns.push_grid.Given as goal
 

@@ -1,7 +1,7 @@
 use Rattle.std.proofs.Common.{map}
 use Rattle.std.specs.Prelude.{string_bytes}
 use Rattle.cg_show_table.specs.Columns.{unit_lines}
-use Rattle.cg_below.proofs.Grown.{grown, unbegun}
+use Rattle.cg_list_laws.proofs.Grown.{grown, unbegun}
 use Rattle.cg_show_table.proofs.columns.push_units.Goals as goal
 
 pub loop-unit-init : goal.loop-unit-init

@@ -1,5 +1,5 @@
 use Rattle.std.proofs.Common.{◌<◌, ℕ, length}
-use Rattle.cg_cycle.specs.Course.{Keeps}
+use Rattle.cg_datapath.specs.Course.{Keeps}
 use Rattle.cg_sim.specs.Settle.{Follows, AreRight}
 use Rattle.cg_sim.proofs.settle.settle.Goals as goal
 

@@ -5,7 +5,7 @@ use Rattle.cg_model.specs.Config as config
 use Rattle.cg_sim.specs.declared.plan.Link.{Link}
 use Rattle.cg_sim.specs.Plan.{link}
 use Rattle.cg_sim.specs.Settle.{chosen, IsReadable, Follows}
-use Rattle.cg_cycle.proofs.Kept.{kept_more, right_more}
+use Rattle.cg_datapath.proofs.Kept.{kept_more, right_more}
 use Rattle.cg_sim.proofs.settle.settle_nets.Goals as goal
 
 pub loop-j-preserved : goal.loop-j-preserved

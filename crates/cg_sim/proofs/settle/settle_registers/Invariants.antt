@@ -1,5 +1,5 @@
 use Rattle.std.proofs.Common.{ℕ}
-use Rattle.cg_cycle.specs.Course.{Keeps}
+use Rattle.cg_datapath.specs.Course.{Keeps}
 use Rattle.cg_sim.specs.Settle.{AreRight, GiveRegisters}
 use Rattle.cg_sim.proofs.settle.settle_registers.Given as goal
 

@@ -1,7 +1,7 @@
 use Rattle.std.proofs.Common.{rules, ◌≡◌, ◌++◌, codes, decimal, ap, ◌∙◌}
 use Rattle.std.proofs.lemmas.Result.{IfOk-weaker}
-use Rattle.cg_ending.specs.Outcome.{outcome_of}
-use Rattle.cg_ending.specs.Refusals.{malformed_of}
+use Rattle.cg_effects.specs.Outcome.{outcome_of}
+use Rattle.cg_effects.specs.Refusals.{malformed_of}
 use Rattle.cg_task_answers.specs.Searches.{above_contexts}
 use Rattle.cg_task_answers.proofs.refusing.above.Goals as goal
 

@@ -1,8 +1,8 @@
 use Rattle.std.proofs.Common.{◌≡◌, ◌∙◌, ℕ, List, ap, sym, subst, arith, length}
 use Rattle.cg_model.specs.declared.array.Resource.{Resource}
-use Rattle.cg_level.specs.Topological.{AreKnown, IsCombinationalLoop}
-use Rattle.cg_level.specs.Fault.{IsFaultOf}
-use Rattle.cg_level.specs.declared.fault.OrderFault.TheVariants.{CombinationalLoop}
+use Rattle.cg_levelize.specs.Topological.{AreKnown, IsCombinationalLoop}
+use Rattle.cg_levelize.specs.Fault.{IsFaultOf}
+use Rattle.cg_levelize.specs.declared.fault.OrderFault.TheVariants.{CombinationalLoop}
 use Rattle.cg_parts.specs.declared.fault.ArchFault.TheVariants as fault
 use Rattle.cg_validate.specs.Flat.{arch_of}
 use Rattle.cg_validate.specs.Answer.{IsFault, a_loop, names_of}

@@ -1,6 +1,6 @@
 use Rattle.std.proofs.Common.{◌∙◌, sym, subst}
 use Rattle.cg_model.specs.Array.{Arch, IsArch}
-use Rattle.cg_level.specs.Topological.{IsTopological}
+use Rattle.cg_levelize.specs.Topological.{IsTopological}
 use Rattle.cg_validate.specs.Answer.{late}
 use Rattle.cg_validate.proofs.Answered.{no_loop, valid_by}
 use Rattle.cg_validate.proofs.validation.ordered.Goals as goal

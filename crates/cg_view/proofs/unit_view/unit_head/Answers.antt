@@ -1,6 +1,6 @@
 use Rattle.std.proofs.Common.{◌≡◌, ◌/◌, ◌%◌, ◌^◌, sym, ap, ◌∙◌, arith}
-use Rattle.cg_contexts.specs.Told.{head_of}
-use Rattle.cg_contexts.proofs.ByCase.{head_same}
+use Rattle.cg_config.specs.Told.{head_of}
+use Rattle.cg_config.proofs.ByCase.{head_same}
 use Rattle.cg_bits.specs.Numbers.{bits_of_bytes, number_at}
 use Rattle.cg_bits.specs.Format.{cgb2, op_of}
 use Rattle.cg_bits.specs.Reading.{unit_in}

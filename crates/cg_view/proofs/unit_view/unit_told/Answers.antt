@@ -1,7 +1,7 @@
 use Rattle.std.proofs.Common.{◌≡◌, ◌+◌, ◌*◌, ◌/◌, ◌%◌, ◌^◌, ◌<◌, ◌≤◌, Some, sym, ap, subst, ◌∙◌, arith}
 use Rattle.std.proofs.lemmas.Bool.{eq-eqb, ne_eqb}
 use Rattle.cg_model.specs.Config.{arg}
-use Rattle.cg_contexts.proofs.ByCase.{told_fixed, told_initial, told_none}
+use Rattle.cg_config.proofs.ByCase.{told_fixed, told_initial, told_none}
 use Rattle.cg_bits.specs.Numbers.{bits_of_bytes, number_at}
 use Rattle.cg_bits.specs.Format.{cgb2}
 use Rattle.cg_bits.specs.Reading.{unit_in}

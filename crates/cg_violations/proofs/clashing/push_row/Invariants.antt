@@ -1,5 +1,5 @@
 use Rattle.std.proofs.Common.{◌≡◌, ◌++◌}
-use Rattle.cg_below.specs.Below.{lists_below}
+use Rattle.cg_list_laws.specs.Below.{lists_below}
 use Rattle.cg_violations.specs.Cells.{cell_violation}
 use Rattle.cg_violations.proofs.clashing.push_row.Given as goal
 

@@ -1,5 +1,5 @@
 use Rattle.cg_violations.specs.Cells.{row_violations}
-use Rattle.cg_below.proofs.Grown.{grown, unbegun}
+use Rattle.cg_list_laws.proofs.Grown.{grown, unbegun}
 use Rattle.cg_violations.proofs.clashing.push_table.Goals as goal
 
 pub loop-resource-init : goal.loop-resource-init

@@ -1,5 +1,5 @@
 use Rattle.cg_violations.specs.Violations.{order_violation}
-use Rattle.cg_below.proofs.Grown.{grown, unbegun}
+use Rattle.cg_list_laws.proofs.Grown.{grown, unbegun}
 use Rattle.cg_violations.proofs.placing.push_order.Goals as goal
 
 pub loop-edge-init : goal.loop-edge-init

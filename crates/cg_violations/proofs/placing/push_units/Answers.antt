@@ -1,5 +1,5 @@
 use Rattle.cg_violations.specs.Violations.{unit_violation}
-use Rattle.cg_below.proofs.Grown.{grown, unbegun}
+use Rattle.cg_list_laws.proofs.Grown.{grown, unbegun}
 use Rattle.cg_violations.proofs.placing.push_units.Goals as goal
 
 pub loop-node-init : goal.loop-node-init

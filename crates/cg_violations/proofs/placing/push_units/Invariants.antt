@@ -1,5 +1,5 @@
 use Rattle.std.proofs.Common.{◌≡◌, ◌++◌}
-use Rattle.cg_below.specs.Below.{lists_below}
+use Rattle.cg_list_laws.specs.Below.{lists_below}
 use Rattle.cg_violations.specs.Violations.{unit_violation}
 use Rattle.cg_violations.proofs.placing.push_units.Given as goal
 

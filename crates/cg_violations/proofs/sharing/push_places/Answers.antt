@@ -1,5 +1,5 @@
 use Rattle.cg_violations.specs.Cells.{shared_violation}
-use Rattle.cg_below.proofs.Grown.{grown, unbegun}
+use Rattle.cg_list_laws.proofs.Grown.{grown, unbegun}
 use Rattle.cg_violations.proofs.Steps.{pushed}
 use Rattle.cg_violations.proofs.sharing.push_places.Goals as goal
 

@@ -1,5 +1,5 @@
 use Rattle.std.proofs.Common.{◌≡◌, ◌++◌, take}
-use Rattle.cg_below.specs.Below.{lists_below}
+use Rattle.cg_list_laws.specs.Below.{lists_below}
 use Rattle.cg_check.specs.Slots.{AreMarks}
 use Rattle.cg_violations.specs.Cells.{shared_violation}
 use Rattle.cg_violations.proofs.sharing.push_places.Given as goal

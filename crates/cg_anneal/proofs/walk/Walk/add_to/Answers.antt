@@ -2,7 +2,7 @@ use Rattle.std.proofs.Common.{◌≡◌, ◌∙◌, ℕ, ◌+◌, ◌<◌, ◌�
 use Rattle.std.specs.Prelude.{All, slice_get}
 use Rattle.cg_model.specs.Array.{Arch}
 use Rattle.cg_route.specs.Least.{Ends}
-use Rattle.cg_walk.specs.State.{edges, state_positions}
+use Rattle.cg_walk_spec.specs.State.{edges, state_positions}
 use Rattle.cg_anneal.specs.Walking.{Walking, ends_are, ends_at}
 use Rattle.cg_anneal.proofs.Keeping as keeping
 use Rattle.cg_anneal.proofs.walk.Walk.add_to.Goals as goal

@@ -1,7 +1,7 @@
 use Rattle.std.proofs.Common.{◌∙◌, sym, ap, subst}
-use Rattle.cg_claims.specs.Table.{Table}
-use Rattle.cg_walk.specs.State.{State}
-use Rattle.cg_walk.specs.Walk.{aged_state}
+use Rattle.cg_congestion.specs.Table.{Table}
+use Rattle.cg_walk_spec.specs.State.{State}
+use Rattle.cg_walk_spec.specs.Walk.{aged_state}
 use Rattle.cg_anneal.specs.Walking.{Walking, IsKept, at_state}
 use Rattle.cg_anneal.proofs.Keeping as keeping
 use Rattle.cg_anneal.proofs.walk.Walk.age.Goals as goal

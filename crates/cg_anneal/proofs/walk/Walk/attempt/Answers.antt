@@ -1,6 +1,6 @@
 use Rattle.std.proofs.Common.{◌∙◌, refl, sym, ap, subst}
 use Rattle.cg_place.specs.declared.moves.Move.{Move}
-use Rattle.cg_walk.specs.Walk.{unrouted, moved_by}
+use Rattle.cg_walk_spec.specs.Walk.{unrouted, moved_by}
 use Rattle.cg_anneal.specs.Walking.{Walking, MayPlace, at_state}
 use Rattle.cg_anneal.proofs.Attempts as moves
 use Rattle.cg_anneal.proofs.walk.Walk.attempt.Goals as goal

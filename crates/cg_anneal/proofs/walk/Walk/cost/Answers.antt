@@ -1,5 +1,5 @@
 use Rattle.std.proofs.Common.{◌≡◌, ◌+◌, ◌*◌, subst, ◌∙◌, arith}
-use Rattle.cg_walk.specs.State.{cost}
+use Rattle.cg_walk_spec.specs.State.{cost}
 use Rattle.cg_anneal.specs.Walking.{Walking}
 use Rattle.cg_anneal.proofs.Keeping as keeping
 use Rattle.cg_anneal.proofs.walk.Walk.cost.Goals as goal

@@ -1,7 +1,7 @@
 use Rattle.std.proofs.Common.{◌∙◌, ◌<◌, length, get_or, sym, ap, subst}
 use Rattle.std.proofs.lemmas.List.{take_all}
-use Rattle.cg_walk.specs.State.{edges}
-use Rattle.cg_walk.specs.Walk.{unrouted}
+use Rattle.cg_walk_spec.specs.State.{edges}
+use Rattle.cg_walk_spec.specs.Walk.{unrouted}
 use Rattle.cg_anneal.specs.Walking.{Walking, at_state}
 use Rattle.cg_anneal.proofs.Loops.{taken_more}
 use Rattle.cg_anneal.proofs.walk.Walk.drop_all.Goals as goal

@@ -1,5 +1,5 @@
 use Rattle.std.proofs.Common.{◌≡◌, take}
-use Rattle.cg_walk.specs.Walk.{unrouted}
+use Rattle.cg_walk_spec.specs.Walk.{unrouted}
 use Rattle.cg_anneal.specs.Walking.{at_state}
 use Rattle.cg_anneal.proofs.walk.Walk.drop_all.Given as goal
 

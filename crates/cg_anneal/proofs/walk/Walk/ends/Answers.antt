@@ -1,6 +1,6 @@
 use Rattle.std.proofs.Common.{◌<◌, length, subst, sym}
-use Rattle.cg_walk.specs.State.{edges}
-use Rattle.cg_walk.specs.Ranges.{AreInRange}
+use Rattle.cg_walk_spec.specs.State.{edges}
+use Rattle.cg_walk_spec.specs.Ranges.{AreInRange}
 use Rattle.cg_anneal.specs.Walking.{Walking, ends_are}
 use Rattle.cg_anneal.proofs.Keeping as keeping
 use Rattle.cg_anneal.proofs.walk.Walk.ends.Goals as goal

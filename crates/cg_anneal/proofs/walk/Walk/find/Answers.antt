@@ -1,7 +1,7 @@
 use Rattle.std.proofs.Common.{◌≡◌, ℕ, ◌<◌, List, length, Some, subst, sym}
 use Rattle.cg_route.specs.Least.{IsLeastPath, AreNear}
-use Rattle.cg_walk.specs.State.{edges}
-use Rattle.cg_walk.specs.Walk.{edge, IsFoundFor}
+use Rattle.cg_walk_spec.specs.State.{edges}
+use Rattle.cg_walk_spec.specs.Walk.{edge, IsFoundFor}
 use Rattle.cg_anneal.specs.Walking.{Walking, ends_are, ends_at}
 use Rattle.cg_anneal.proofs.Keeping as keeping
 use Rattle.cg_anneal.proofs.walk.Walk.find.Goals as goal

@@ -1,6 +1,6 @@
 use Rattle.std.proofs.Common.{◌≡◌, rules, arith}
 use Rattle.std.specs.Prelude.{count_by}
-use Rattle.cg_walk.specs.State.{is_missing}
+use Rattle.cg_walk_spec.specs.State.{is_missing}
 use Rattle.cg_anneal.proofs.Keeping as keeping
 use Rattle.cg_anneal.proofs.walk.Walk.missing_anew.Goals as goal
 

@@ -1,7 +1,7 @@
 use Rattle.std.proofs.Common.{◌≡◌, List, ℕ, Option, None, sym, ap, subst}
-use Rattle.cg_walk.specs.State.{State}
-use Rattle.cg_walk.specs.Walk.{with_route}
-use Rattle.cg_walk.proofs.Pending.{with_same_route}
+use Rattle.cg_walk_spec.specs.State.{State}
+use Rattle.cg_walk_spec.specs.Walk.{with_route}
+use Rattle.cg_walk_spec.proofs.Pending.{with_same_route}
 use Rattle.cg_anneal.specs.Walking.{at_state}
 use Rattle.cg_anneal.proofs.walk.Walk.put.Goals as goal
 

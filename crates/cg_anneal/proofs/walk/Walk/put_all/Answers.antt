@@ -1,8 +1,8 @@
 use Rattle.std.proofs.Common.{◌≡◌, ◌∙◌, ℕ, ◌<◌, List, Option, length, get_or, take, None, sym, ap, subst, arith}
 use Rattle.std.proofs.lemmas.List.{take_all, get_or_read, length-set, get_or-set_other}
-use Rattle.cg_walk.specs.State.{edges}
-use Rattle.cg_walk.specs.Walk.{edge}
-use Rattle.cg_walk.specs.Pending.{Fits}
+use Rattle.cg_walk_spec.specs.State.{edges}
+use Rattle.cg_walk_spec.specs.Walk.{edge}
+use Rattle.cg_walk_spec.specs.Pending.{Fits}
 use Rattle.cg_anneal.specs.Walking.{Walking, at_state}
 use Rattle.cg_anneal.specs.Steps.{put_back}
 use Rattle.cg_anneal.proofs.Loops.{pending_here, put_more, put_pending, put_places}

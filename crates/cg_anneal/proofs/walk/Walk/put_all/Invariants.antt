@@ -1,5 +1,5 @@
 use Rattle.std.proofs.Common.{◌≡◌, ℕ, ◌≤◌, length, take, drop, get_or, None}
-use Rattle.cg_walk.specs.Pending.{Pending}
+use Rattle.cg_walk_spec.specs.Pending.{Pending}
 use Rattle.cg_anneal.specs.Walking.{at_state}
 use Rattle.cg_anneal.specs.Steps.{put_back}
 use Rattle.cg_anneal.proofs.walk.Walk.put_all.Given as goal

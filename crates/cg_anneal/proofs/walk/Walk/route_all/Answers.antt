@@ -1,6 +1,6 @@
 use Rattle.std.proofs.Common.{◌<◌, length, get_or, sym, subst}
 use Rattle.std.proofs.lemmas.List.{take_all}
-use Rattle.cg_walk.specs.State.{edges}
+use Rattle.cg_walk_spec.specs.State.{edges}
 use Rattle.cg_anneal.specs.Walking.{Walking, IsRoutedBy}
 use Rattle.cg_anneal.proofs.Loops.{routed_none, routed_by_more, routed_pending, pending_here}
 use Rattle.cg_anneal.proofs.walk.Walk.route_all.Goals as goal

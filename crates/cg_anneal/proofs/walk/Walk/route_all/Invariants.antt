@@ -1,5 +1,5 @@
 use Rattle.std.proofs.Common.{take, drop}
-use Rattle.cg_walk.specs.Pending.{Pending}
+use Rattle.cg_walk_spec.specs.Pending.{Pending}
 use Rattle.cg_anneal.specs.Walking.{IsRoutedBy}
 use Rattle.cg_anneal.proofs.walk.Walk.route_all.Given as goal
 

@@ -1,9 +1,9 @@
 use Rattle.std.proofs.Common.{◌≡◌, ℕ, ◌+◌, ◌≤◌, ◌<◌, ◌^◌, List, length, Some, None, ap, subst, sym, arith}
 use Rattle.std.specs.Prelude.{All, slice_get}
-use Rattle.cg_claims.specs.Table.{IsMore}
+use Rattle.cg_congestion.specs.Table.{IsMore}
 use Rattle.cg_route.specs.Least.{Ends, IsTimedPath}
-use Rattle.cg_walk.specs.State.{edges}
-use Rattle.cg_walk.specs.Walk.{edge}
+use Rattle.cg_walk_spec.specs.State.{edges}
+use Rattle.cg_walk_spec.specs.Walk.{edge}
 use Rattle.cg_anneal.specs.Walking.{Walking, ends_are, ends_at}
 use Rattle.cg_anneal.proofs.Keeping as keeping
 use Rattle.cg_anneal.proofs.walk.Walk.set.Goals as goal

@@ -1,8 +1,8 @@
 use Rattle.std.proofs.Common.{◌≡◌, ◌∙◌, List, length, sym, ap, subst, arith}
 use Rattle.cg_model.specs.Kernel.{IsKernel}
-use Rattle.cg_walk.specs.declared.edge.EdgeOperand.{EdgeOperand}
-use Rattle.cg_walk.specs.Walk.{unrouted_start}
-use Rattle.cg_walk.proofs.Small.{edges_few}
+use Rattle.cg_walk_spec.specs.declared.edge.EdgeOperand.{EdgeOperand}
+use Rattle.cg_walk_spec.specs.Walk.{unrouted_start}
+use Rattle.cg_walk_spec.proofs.Small.{edges_few}
 use Rattle.cg_task.specs.Posed.{Posed, IsTask}
 use Rattle.cg_anneal.proofs.Ready.{ready, posed}
 use Rattle.cg_anneal.proofs.Keeping as keeping

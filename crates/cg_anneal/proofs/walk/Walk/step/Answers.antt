@@ -1,6 +1,6 @@
 use Rattle.std.proofs.Common.{◌∙◌, ap, arith}
 use Rattle.cg_place.specs.Draws.{drawn_move}
-use Rattle.cg_walk.specs.Words.{word}
+use Rattle.cg_walk_spec.specs.Words.{word}
 use Rattle.cg_anneal.proofs.Attempts.{attempt_small, stepped}
 use Rattle.cg_anneal.proofs.walk.Walk.step.Goals as goal
 

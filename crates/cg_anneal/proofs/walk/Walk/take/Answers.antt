@@ -1,10 +1,10 @@
 use Rattle.std.proofs.Common.{◌≡◌, ◌∙◌, ℕ, ◌+◌, ◌<◌, ◌^◌, List, length, set, Option, Some, ap, subst, sym, arith}
 use Rattle.std.specs.Prelude.{All, slice_get}
 use Rattle.cg_model.specs.Mapping.{positions_on}
-use Rattle.cg_claims.specs.Table.{IsMore}
+use Rattle.cg_congestion.specs.Table.{IsMore}
 use Rattle.cg_route.specs.Least.{Ends}
-use Rattle.cg_walk.specs.State.{edges}
-use Rattle.cg_walk.specs.Walk.{edge}
+use Rattle.cg_walk_spec.specs.State.{edges}
+use Rattle.cg_walk_spec.specs.Walk.{edge}
 use Rattle.cg_anneal.specs.Walking.{Walking, IsKept, ends_are, ends_at}
 use Rattle.cg_anneal.proofs.Keeping as keeping
 use Rattle.cg_anneal.proofs.walk.Walk.take.Goals as goal

@@ -1,5 +1,5 @@
 use Rattle.std.proofs.Common.{◌∙◌, ap}
-use Rattle.cg_walk.specs.State.{mapping_of}
+use Rattle.cg_walk_spec.specs.State.{mapping_of}
 use Rattle.cg_anneal.proofs.walk.Walk.take_mapping.Goals as goal
 
 pub returns : goal.returns

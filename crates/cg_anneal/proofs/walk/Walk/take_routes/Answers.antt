@@ -1,6 +1,6 @@
 use Rattle.std.proofs.Common.{◌≡◌, ◌∙◌, ◌++◌, ◌<◌, length, take, sym, ap, arith}
-use Rattle.cg_walk.specs.State.{edges, routes_by}
-use Rattle.cg_walk.specs.Walk.{edge}
+use Rattle.cg_walk_spec.specs.State.{edges, routes_by}
+use Rattle.cg_walk_spec.specs.Walk.{edge}
 use Rattle.cg_anneal.specs.Walking.{Walking}
 use Rattle.cg_anneal.specs.Steps.{route_of}
 use Rattle.cg_anneal.proofs.Takes.{taken_next, route_next, routes_by_more}

@@ -1,6 +1,6 @@
 use Rattle.std.proofs.Common.{◌≡◌, take}
-use Rattle.cg_walk.specs.State.{edges, routes_by}
-use Rattle.cg_walk.specs.Walk.{all_edges, unrouted}
+use Rattle.cg_walk_spec.specs.State.{edges, routes_by}
+use Rattle.cg_walk_spec.specs.Walk.{all_edges, unrouted}
 use Rattle.cg_anneal.specs.Walking.{at_state}
 use Rattle.cg_anneal.proofs.walk.Walk.take_routes.Given as goal
 

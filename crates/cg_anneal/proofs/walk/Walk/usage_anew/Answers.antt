@@ -1,5 +1,5 @@
 use Rattle.std.proofs.Common.{◌≡◌, ◌<◌, length, subst, arith}
-use Rattle.cg_walk.specs.State.{edges}
+use Rattle.cg_walk_spec.specs.State.{edges}
 use Rattle.cg_anneal.proofs.Anew.{IsUsedTo, used_room, used_more, used_excess, used_few}
 use Rattle.cg_anneal.proofs.walk.Walk.usage_anew.Goals as goal
 

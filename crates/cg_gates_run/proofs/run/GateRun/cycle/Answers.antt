@@ -1,7 +1,7 @@
 use Rattle.std.proofs.Common.{◌≡◌, ℕ, List, Vec, Global, sym, ap, subst, ◌∙◌, rules}
 use Rattle.std.specs.Vec.{with_items}
 use Rattle.std.proofs.lemmas.List.{with_items_is}
-use Rattle.cg_cycle.specs.Course.{Course, Advances}
+use Rattle.cg_datapath.specs.Course.{Course, Advances}
 use Rattle.cg_gates.specs.Gates.{GateCycle, nets_in, gates_at}
 use Rattle.cg_gates_run.specs.Settle.{Precedes, IsSettled}
 use Rattle.cg_gates_run.specs.State.{IsRunning}

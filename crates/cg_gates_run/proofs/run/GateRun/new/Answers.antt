@@ -1,7 +1,7 @@
 use Rattle.std.proofs.Common.{◌<◌, sym, subst}
 use Rattle.cg_model.specs.Array.{Arch}
-use Rattle.cg_cycle.specs.declared.fault.SimFault.TheVariants.{TooManyTurns, ImageTooLarge}
-use Rattle.cg_cycle.proofs.Carried.{carried}
+use Rattle.cg_datapath.specs.declared.fault.SimFault.TheVariants.{TooManyTurns, ImageTooLarge}
+use Rattle.cg_datapath.proofs.Carried.{carried}
 use Rattle.cg_gates_run.proofs.run.GateRun.new.Goals as goal
 
 pub returns-in-Err-clause-many : goal.returns-in-Err-clause-many

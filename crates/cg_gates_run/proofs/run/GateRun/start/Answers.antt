@@ -1,9 +1,9 @@
 use Rattle.std.proofs.Common.{◌≡◌, ◌+◌, length, replicate, ap, sym, subst, ◌∙◌, arith, rules}
 use Rattle.cg_model.specs.Array.{Arch}
 use Rattle.cg_netlist.specs.Netlist.{NetGraph}
-use Rattle.cg_cycle.specs.Course.{IsStart}
-use Rattle.cg_cycle.specs.declared.fault.SimFault.TheVariants.{TooManyTurns, ImageTooLarge}
-use Rattle.cg_cycle.proofs.Carried.{carried}
+use Rattle.cg_datapath.specs.Course.{IsStart}
+use Rattle.cg_datapath.specs.declared.fault.SimFault.TheVariants.{TooManyTurns, ImageTooLarge}
+use Rattle.cg_datapath.proofs.Carried.{carried}
 use Rattle.cg_gates.specs.Tables.{AreTerminals}
 use Rattle.cg_gates_run.proofs.Running.{are_short, first_running}
 use Rattle.cg_gates_run.proofs.run.GateRun.start.Goals as goal

@@ -8,11 +8,11 @@ use Rattle.cg_loop_syntax.specs.Grouped.{expr_of}
 use Rattle.cg_loop_syntax.specs.Well.{is_loop_name, is_well_expr}
 use Rattle.cg_loop_syntax.proofs.Rows.{apply_is}
 use Rattle.cg_loop_syntax.proofs.WellRows.{well_apply_is}
-use Rattle.cg_loop_text.specs.Words.{added_by}
-use Rattle.cg_loop_text.specs.Grammar.{atom_tokens, prod_tokens}
-use Rattle.cg_loop_text.specs.Read.{begins_with, begins_adding, begins_comparing}
-use Rattle.cg_loop_text.proofs.Texts.{op_name}
-use Rattle.cg_loop_text.proofs.Steps.{op_misses, room_misses}
+use Rattle.cg_loop_text_spec.specs.Words.{added_by}
+use Rattle.cg_loop_text_spec.specs.Grammar.{atom_tokens, prod_tokens}
+use Rattle.cg_loop_text_spec.specs.Read.{begins_with, begins_adding, begins_comparing}
+use Rattle.cg_loop_text_spec.proofs.Texts.{op_name}
+use Rattle.cg_loop_text_spec.proofs.Steps.{op_misses, room_misses}
 use Rattle.cg_loop_reader.specs.Left.{left, last_token, Takes, TakesSign}
 use Rattle.cg_loop_reader.specs.Found.{FindsAtom, FindsProduct, FindsTerms, FindsSum, FindsOperands}
 use Rattle.cg_loop_reader.proofs.Atoms.{named_found, item_found, word_further, bracket_found, apply_found, last_found, more_found}

@@ -1,5 +1,5 @@
 use Rattle.std.proofs.Common.{◌≡◌, ◌+◌, ◌*◌, length, codes, false}
-use Rattle.cg_loop_text.specs.Read.{begins_with}
+use Rattle.cg_loop_text_spec.specs.Read.{begins_with}
 use Rattle.cg_loop_reader.specs.Left.{left}
 use Rattle.cg_loop_reader.specs.Found.{FindsProduct, FindsTerms}
 use Rattle.cg_loop_reader.proofs.reader.Reader.+reading.Given as goal

@@ -2,7 +2,7 @@ use Rattle.std.proofs.Common.{◌≡◌, ◌%◌, Some, subst, refl}
 use Rattle.std.specs.List.{list_any}
 use Rattle.cg_model.specs.Mapping.{Position}
 use Rattle.cg_mrrg.specs.declared.links.MNode.{MNode}
-use Rattle.cg_claims.specs.Claims.{same}
+use Rattle.cg_congestion.specs.Claims.{same}
 use Rattle.cg_route.specs.Layers.{Sought}
 use Rattle.cg_route.proofs.Offers.{link_is}
 use Rattle.cg_route.proofs.search.Search.link.Goals as goal

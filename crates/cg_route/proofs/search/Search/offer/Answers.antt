@@ -1,6 +1,6 @@
 use Rattle.std.proofs.Common.{◌≡◌, ◌∙◌, ℕ, ◌+◌, ◌%◌, ◌<◌, length, get_or, set, take, sym, ap, subst, arith}
 use Rattle.cg_mrrg.specs.declared.links.Link.{Link}
-use Rattle.cg_claims.specs.Table as tables
+use Rattle.cg_congestion.specs.Table as tables
 use Rattle.cg_route.specs.Layers.{Sought, Layer, IsSearch, AreOffered, IsBelow, drivers, at, better, link}
 use Rattle.cg_route.proofs.Offers.{next_driver, offered_more, set_below, fresh}
 use Rattle.cg_route.proofs.search.Search.offer.Goals as goal

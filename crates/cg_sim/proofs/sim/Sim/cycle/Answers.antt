@@ -3,8 +3,8 @@ use Rattle.std.specs.Vec.{with_items}
 use Rattle.std.proofs.lemmas.List.{with_items_is}
 use Rattle.cg_model.specs.Config.{Config}
 use Rattle.cg_model.specs.Machine.{words_in, at_cycle}
-use Rattle.cg_cycle.specs.Terminals.{terminals}
-use Rattle.cg_cycle.specs.Course.{Course, Keeps, AreOutsRight, Advances}
+use Rattle.cg_datapath.specs.Terminals.{terminals}
+use Rattle.cg_datapath.specs.Course.{Course, Keeps, AreOutsRight, Advances}
 use Rattle.cg_sim.specs.Settle.{CanSettle, IsSettled}
 use Rattle.cg_sim.specs.State.{IsRunning}
 use Rattle.cg_sim.proofs.Chosen.{can_settle, outs_known, ports_known, units_long}

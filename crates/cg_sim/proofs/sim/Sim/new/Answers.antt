@@ -1,5 +1,5 @@
-use Rattle.cg_cycle.specs.declared.fault.SimFault.TheVariants.{TooManyTurns, ImageTooLarge}
-use Rattle.cg_cycle.proofs.Carried.{carried}
+use Rattle.cg_datapath.specs.declared.fault.SimFault.TheVariants.{TooManyTurns, ImageTooLarge}
+use Rattle.cg_datapath.proofs.Carried.{carried}
 use Rattle.cg_sim.proofs.sim.Sim.new.Goals as goal
 
 pub returns-in-Err-clause-many : goal.returns-in-Err-clause-many

@@ -1,6 +1,6 @@
 use Rattle.std.proofs.Common.{arith}
-use Rattle.cg_cycle.specs.declared.fault.SimFault.TheVariants.{TooManyTurns, ImageTooLarge}
-use Rattle.cg_cycle.proofs.Carried.{carried}
+use Rattle.cg_datapath.specs.declared.fault.SimFault.TheVariants.{TooManyTurns, ImageTooLarge}
+use Rattle.cg_datapath.proofs.Carried.{carried}
 use Rattle.cg_sim.proofs.Chosen.{are_short}
 use Rattle.cg_sim.proofs.Cycles.{first_running, terminals_by}
 use Rattle.cg_sim.proofs.sim.Sim.start.Goals as goal

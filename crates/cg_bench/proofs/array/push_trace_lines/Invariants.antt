@@ -1,7 +1,0 @@
-use Rattle.std.proofs.Common.{◌≡◌, ◌++◌}
-use Rattle.cg_below.specs.Below.{lists_below}
-use Rattle.cg_bench.specs.Array.{trace_line}
-use Rattle.cg_bench.proofs.array.push_trace_lines.Given as goal
-
-abbrev pub invariant-loop-resource : goal.invariant-loop-resource
-invariant-loop-resource l = l.text.items ≡ l.fn.text.items ++ lists_below (trace_line l.arch) l.resource-index

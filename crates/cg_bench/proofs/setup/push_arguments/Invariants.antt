@@ -1,7 +1,0 @@
-use Rattle.std.proofs.Common.{◌≡◌, ◌++◌}
-use Rattle.cg_below.specs.Below.{lists_below}
-use Rattle.cg_bench.specs.Setup.{argument_lines}
-use Rattle.cg_bench.proofs.setup.push_arguments.Given as goal
-
-abbrev pub invariant-loop-number : goal.invariant-loop-number
-invariant-loop-number l = l.text.items ≡ l.fn.text.items ++ lists_below (argument_lines l.cell l.slot l.fields) l.number

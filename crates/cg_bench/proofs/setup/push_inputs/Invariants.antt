@@ -1,7 +1,0 @@
-use Rattle.std.proofs.Common.{◌≡◌, ◌++◌}
-use Rattle.cg_below.specs.Below.{lists_below}
-use Rattle.cg_bench.specs.Setup.{input_lines}
-use Rattle.cg_bench.proofs.setup.push_inputs.Given as goal
-
-abbrev pub invariant-loop-port : goal.invariant-loop-port
-invariant-loop-port l = l.text.items ≡ l.fn.text.items ++ lists_below (input_lines l.turns l.image.streams) l.port

@@ -1,0 +1,13 @@
+use Rattle.std.proofs.Common.{◌≡◌, ℕ, ◌+◌, ◌-◌, ◌<◌, length}
+use Rattle.std.specs.Prelude.{slice_index}
+use Rattle.cg_bound_flow.specs.Finish.{stay_of}
+use Rattle.cg_bound_flow.proofs.find.schedule.Given as goal
+
+abbrev pub invariant-loop-w : goal.invariant-loop-w
+invariant-loop-w l =
+    (length l.time.items ≡ l.w)
+    × (length l.lasts.items ≡ l.w)
+    × (length l.longest.items ≡ l.w)
+    × ((v : ℕ) → v < l.w → slice_index l.time.items v ≡ slice_index l.at v)
+    × ((v : ℕ) → v < l.w → slice_index l.lasts.items v ≡ slice_index l.at (l.n + v) - slice_index l.at v)
+    × ((v : ℕ) → v < l.w → slice_index l.longest.items v ≡ stay_of l.n l.at l.routed v)

@@ -1,0 +1,9 @@
+use Rattle.cg_bound_routes.specs.Question.{AreAnswers, IsRowTo}
+use Rattle.cg_bound_routes.proofs.ways.row_of.Given as goal
+
+abbrev pub invariant-loop-arg : goal.invariant-loop-arg
+invariant-loop-arg l =
+    record {
+      row : IsRowTo l.arch l.kernel l.ii l.node l.arg l.row.items;
+      answers : AreAnswers l.arch l.answers.items;
+    }

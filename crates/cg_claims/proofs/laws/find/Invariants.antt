@@ -1,7 +1,0 @@
-use Rattle.std.proofs.Common.{◌≡◌, drop}
-use Rattle.cg_claims.specs.Claims.{uses}
-use Rattle.cg_claims.specs.Plain.{plain, plains}
-use Rattle.cg_claims.proofs.laws.find.Given as goal
-
-abbrev pub invariant-loop-place : goal.invariant-loop-place
-invariant-loop-place l = uses (plains l.positions) (plain l.position) ≡ uses (plains (drop l.place l.positions)) (plain l.position)

@@ -1,0 +1,190 @@
+-- The answer of each command for its input files. Each definition has a case for each command.
+use Rattle.std.specs.Prelude.{◌≡◌, ℕ, Bool, true, false, List, [], ◌∷◌, Ok}
+use Rattle.cg_model.specs.Kernel.{Kernel}
+use Rattle.cg_effects.specs.declared.outcome.Status.{Status}
+use Rattle.cg_effects.specs.declared.outcome.Status.TheVariants.{Done, Usage, Impossible, BudgetSpent, No}
+use Rattle.cg_effects.specs.Outcome.{Name, File, Outcome}
+use Rattle.cg_effects.specs.Ends.{Moment}
+use Rattle.cg_kernel.specs.Answer.{answer_of}
+use Rattle.cg_command.specs.declared.plans.Command.{Command}
+use Rattle.cg_command.specs.declared.plans.Command.TheVariants.{Turns, TurnsOnImage, Flat, Run, Bound, Check, Emit, Map, Search, Show, Trial, Verilog, Loop, Depend, Migrate, Bench, Image, Words, Violations, Why}
+use Rattle.cg_pad.specs.Bytes as images
+use Rattle.cg_model.specs.Work as works
+use Rattle.cg_model.specs.Array.{Arch}
+use Rattle.cg_tiles.specs.Answer.{AreValidBytes}
+use Rattle.cg_model.specs.Order.{IsUnaliased}
+use Rattle.cg_run_answers.specs.Turns.{turns_of, IsTurned}
+use Rattle.cg_run_answers.specs.TurnsOnImage.{IsTurnsOnImage, IsOrderedRun, IsUnorderedRun}
+use Rattle.cg_run_answers.specs.Flat.{IsFlat, IsFlattened}
+use Rattle.cg_run_answers.specs.Run.{IsRun, IsRunnable, IsArrayRun}
+use Rattle.cg_gates_answers.specs.Netlist.{IsNetlistRun, IsNetlistRunnable, IsGatesRun}
+use Rattle.cg_bench_answers.specs.Bench.{IsBench, IsBenchRun}
+use Rattle.cg_image_answers.specs.Image.{image_of, IsImageText, IsImaged}
+use Rattle.cg_image_answers.specs.Words.{words_of, IsImageFile, IsWorded}
+use Rattle.cg_mapping_answers.specs.Bound.{IsBoundOf, IsPairInput, IsBoundRun}
+use Rattle.cg_mapping_answers.specs.Check.{IsCheck, IsLegalInput, IsLegalCheck, IsIllegalCheck}
+use Rattle.cg_mapping_answers.specs.Emit.{IsEmit, RunsRead, IsEmittedRun}
+use Rattle.cg_violations_answers.specs.Violations.{IsViolations, IsViolatedRun}
+use Rattle.cg_why_answers.specs.Why.{IsWhyOf, IsWhyRun}
+use Rattle.cg_map_answers.specs.Map.{IsMap, IsMappable, IsMapRun, IsSpentRun}
+use Rattle.cg_task_answers.specs.Searches.{IsForbiddenInput, IsImpossibleRun}
+use Rattle.cg_task_answers.specs.Runs.{RunsOfPair}
+use Rattle.cg_search_answers.specs.Search.{IsSearch, IsSearchable, IsSearchRun, IsSearchSpentRun, AreAgreed}
+use Rattle.cg_show_answers.specs.Show.{IsShow, IsShownRun}
+use Rattle.cg_commands.specs.Trial.{IsTrialOf, IsTrialRun}
+use Rattle.cg_commands.specs.Verilog.{IsVerilog, IsNetlisted}
+use Rattle.cg_loop_answers.specs.Loop.{IsLoopOf, IsTranslatable, IsLooped}
+use Rattle.cg_commands.specs.Depend.{IsDependOf, IsDependable, IsDepended}
+use Rattle.cg_commands.specs.Migrate.{IsMigrate, IsMigratable, IsMigrated}
+
+-- the outcomes that the command allows
+abbrev pub IsAnswer : Command → List File → List Name → Outcome → Type 0
+IsAnswer (Turns n) (file ∷ []) [] o = o ≡ turns_of n file
+IsAnswer (TurnsOnImage n) (file ∷ input ∷ []) (out ∷ []) o = IsTurnsOnImage n file input out o
+IsAnswer Flat (file ∷ []) (out ∷ []) o = IsFlat file out o
+IsAnswer (Run n) (arch ∷ file ∷ input ∷ []) (out ∷ []) o = IsRun n arch file input out o
+IsAnswer (Run n) (arch ∷ file ∷ input ∷ netlist ∷ []) (out ∷ []) o = IsNetlistRun n arch file input netlist out o
+IsAnswer Bound (arch ∷ kernel ∷ []) [] o = IsBoundOf arch kernel o
+IsAnswer Check (arch ∷ kernel ∷ mapping ∷ []) [] o = IsCheck arch kernel mapping o
+IsAnswer Emit (arch ∷ kernel ∷ mapping ∷ []) (out ∷ []) o = IsEmit arch kernel mapping out o
+IsAnswer (Map s) (arch ∷ kernel ∷ []) outs o = IsMap s arch kernel outs o
+IsAnswer (Search s) (arch ∷ kernel ∷ []) outs o = IsSearch s arch kernel outs o
+IsAnswer Show (arch ∷ kernel ∷ mapping ∷ []) outs o = IsShow arch kernel mapping outs o
+IsAnswer (Trial seed) [] [] o = IsTrialOf seed o
+IsAnswer Verilog (file ∷ []) (out ∷ []) o = IsVerilog file out o
+IsAnswer Loop (file ∷ []) (out ∷ []) o = IsLoopOf file out o
+IsAnswer Depend (file ∷ []) (out ∷ []) o = IsDependOf file out o
+IsAnswer Migrate (arch ∷ file ∷ []) (out ∷ []) o = IsMigrate arch file out o
+IsAnswer (Bench n) (arch ∷ file ∷ input ∷ []) (out ∷ []) o = IsBench n arch file input out o
+IsAnswer Image (file ∷ []) (out ∷ []) o = o ≡ image_of file out
+IsAnswer Words (file ∷ []) [] o = o ≡ words_of file
+IsAnswer Violations (arch ∷ kernel ∷ mapping ∷ []) [] o = IsViolations arch kernel mapping o
+IsAnswer Why (arch ∷ kernel ∷ []) [] o = IsWhyOf arch kernel o
+IsAnswer _ _ _ o = ⊥
+
+-- how the statuses of two outcomes that the command allows for the same files agree: they are equal, except that
+-- whether `search` finds a mapping is left open
+abbrev pub AgreeIn : Command → Status → Status → Type 0
+AgreeIn (Search s) a b = AreAgreed a b
+AgreeIn _ a b = a ≡ b
+
+-- the bytes describe a kernel
+abbrev pub SpellsKernel : File → Type 0
+SpellsKernel file = (K : Kernel) × (answer_of file.bytes ≡ Ok K)
+
+-- the files contain a kernel and an image, and in the n iterations all accesses that matter are ordered
+pub record IsUnaliasedRun (n : ℕ) (file input : File) : Type 0 where
+  pub kernel : Kernel
+  pub image : works.Image
+  pub kernel_is : answer_of file.bytes ≡ Ok kernel
+  pub image_is : images.answer_of input.bytes ≡ Ok image
+  pub unaliased : IsUnaliased kernel n image
+
+-- the bytes describe an architecture
+abbrev pub GivesArch : File → Type 0
+GivesArch file = (A : Arch) × AreValidBytes file.bytes A
+
+-- the input files for which the command completes
+abbrev pub Accepts : Command → List File → Type 0
+Accepts (Turns n) (file ∷ []) = SpellsKernel file
+Accepts (TurnsOnImage n) (file ∷ input ∷ []) = IsUnaliasedRun n file input
+Accepts Flat (file ∷ []) = GivesArch file
+Accepts (Run n) (arch ∷ file ∷ input ∷ []) = IsRunnable arch file input
+Accepts (Run n) (arch ∷ file ∷ input ∷ netlist ∷ []) = IsNetlistRunnable arch file input netlist
+Accepts Bound (arch ∷ kernel ∷ []) = IsPairInput arch kernel
+Accepts Check (arch ∷ kernel ∷ mapping ∷ []) = IsLegalInput arch kernel mapping
+Accepts Emit (arch ∷ kernel ∷ mapping ∷ []) = IsLegalInput arch kernel mapping
+Accepts (Map s) (arch ∷ kernel ∷ []) = IsMappable s arch kernel
+Accepts (Search s) (arch ∷ kernel ∷ []) = IsSearchable s arch kernel
+Accepts Show (arch ∷ kernel ∷ mapping ∷ []) = IsLegalInput arch kernel mapping
+Accepts (Trial seed) [] = Unit {0}
+Accepts Verilog (file ∷ []) = GivesArch file
+Accepts Loop (file ∷ []) = IsTranslatable file
+Accepts Depend (file ∷ []) = IsDependable file
+Accepts Migrate (arch ∷ file ∷ []) = IsMigratable arch file
+Accepts (Bench n) (arch ∷ file ∷ input ∷ []) = IsRunnable arch file input
+Accepts Image (file ∷ []) = IsImageText file
+Accepts Words (file ∷ []) = IsImageFile file
+Accepts Violations (arch ∷ kernel ∷ mapping ∷ []) = IsLegalInput arch kernel mapping
+Accepts Why (arch ∷ kernel ∷ []) = IsPairInput arch kernel
+Accepts _ _ = ⊥
+
+-- the input files for which the command reports that an interval is impossible
+abbrev pub Forbids : Command → List File → Type 0
+Forbids (Map s) (arch ∷ kernel ∷ []) = IsForbiddenInput s arch kernel
+Forbids (Search s) (arch ∷ kernel ∷ []) = IsForbiddenInput s arch kernel
+Forbids _ _ = ⊥
+
+-- the first of the files that `map`, `search` and `emit` write runs a mapping of what was read under these names;
+-- whether it was written, and how the call ended, is stated separately
+abbrev pub RunWrites : List File → Command → List Name → Moment → Type 0
+RunWrites [] command inputs before = Unit {0}
+RunWrites (file ∷ files) (Map s) (arch ∷ kernel ∷ []) before = RunsOfPair arch kernel before file.bytes
+RunWrites (file ∷ files) (Search s) (arch ∷ kernel ∷ []) before = RunsOfPair arch kernel before file.bytes
+RunWrites (file ∷ files) Emit (arch ∷ kernel ∷ mapping ∷ []) before = RunsRead arch kernel mapping before file.bytes
+RunWrites (file ∷ files) _ _ before = Unit {0}
+
+-- what a command whose input and output files have these names leaves where it ends with Done: what is held, and what
+-- was reported
+abbrev pub LeavesDone : Command → List Name → List Name → Moment → Moment → Type 0
+LeavesDone (Turns n) (file ∷ []) [] before after = IsTurned n file before after
+LeavesDone (TurnsOnImage n) (file ∷ input ∷ []) (out ∷ []) before after = IsOrderedRun n file input out before after
+LeavesDone Flat (file ∷ []) (out ∷ []) before after = IsFlattened file out before after
+LeavesDone (Run n) (arch ∷ file ∷ input ∷ []) (out ∷ []) before after = IsArrayRun n arch file input out before after
+LeavesDone (Run n) (arch ∷ file ∷ input ∷ netlist ∷ []) (out ∷ []) before after = IsGatesRun n arch file input netlist out before after
+LeavesDone Bound (arch ∷ kernel ∷ []) [] before after = IsBoundRun arch kernel before after
+LeavesDone Check (arch ∷ kernel ∷ mapping ∷ []) [] before after = IsLegalCheck arch kernel mapping before after
+LeavesDone Emit (arch ∷ kernel ∷ mapping ∷ []) (out ∷ []) before after = IsEmittedRun arch kernel mapping out before after
+LeavesDone (Map s) (arch ∷ kernel ∷ []) outs before after = IsMapRun s arch kernel outs before after
+LeavesDone (Search s) (arch ∷ kernel ∷ []) outs before after = IsSearchRun s arch kernel outs before after
+LeavesDone Show (arch ∷ kernel ∷ mapping ∷ []) outs before after = IsShownRun arch kernel mapping outs before after
+LeavesDone (Trial seed) [] [] before after = IsTrialRun seed before after
+LeavesDone Verilog (file ∷ []) (out ∷ []) before after = IsNetlisted file out before after
+LeavesDone Loop (file ∷ []) (out ∷ []) before after = IsLooped file out before after
+LeavesDone Depend (file ∷ []) (out ∷ []) before after = IsDepended file out before after
+LeavesDone Migrate (arch ∷ file ∷ []) (out ∷ []) before after = IsMigrated arch file out before after
+LeavesDone (Bench n) (arch ∷ file ∷ input ∷ []) (out ∷ []) before after = IsBenchRun n arch file input out before after
+LeavesDone Image (file ∷ []) (out ∷ []) before after = IsImaged file out before after
+LeavesDone Words (file ∷ []) [] before after = IsWorded file before after
+LeavesDone Violations (arch ∷ kernel ∷ mapping ∷ []) [] before after = IsLegalCheck arch kernel mapping before after
+LeavesDone Why (arch ∷ kernel ∷ []) [] before after = IsWhyRun arch kernel before after
+LeavesDone _ _ _ before after = ⊥
+
+-- the commands that judge a mapping before they write: where they end with No, they write nothing
+abbrev pub judges : Command → Bool
+judges Check = true
+judges Emit = true
+judges Show = true
+judges Violations = true
+judges _ = false
+
+-- what the command leaves where it ends with No
+abbrev pub LeavesNo : Command → List Name → List Name → Moment → Moment → Type 0
+LeavesNo (TurnsOnImage n) (file ∷ input ∷ []) (out ∷ []) before after = IsUnorderedRun n file input out before after
+LeavesNo Check (arch ∷ kernel ∷ mapping ∷ []) [] before after = IsIllegalCheck arch kernel mapping before after
+LeavesNo Emit (arch ∷ kernel ∷ mapping ∷ []) (out ∷ []) before after = IsIllegalCheck arch kernel mapping before after
+LeavesNo Show (arch ∷ kernel ∷ mapping ∷ []) outs before after = IsIllegalCheck arch kernel mapping before after
+LeavesNo Violations (arch ∷ kernel ∷ mapping ∷ []) [] before after = IsViolatedRun arch kernel mapping before after
+LeavesNo _ _ _ before after = ⊥
+
+-- what the command leaves where it ends with Impossible
+abbrev pub LeavesImpossible : Command → List Name → Moment → Moment → Type 0
+LeavesImpossible (Map s) (arch ∷ kernel ∷ []) before after = IsImpossibleRun s arch kernel before after
+LeavesImpossible (Search s) (arch ∷ kernel ∷ []) before after = IsImpossibleRun s arch kernel before after
+LeavesImpossible _ _ before after = ⊥
+
+-- what the command leaves where it ends with BudgetSpent
+abbrev pub LeavesSpent : Command → List Name → Moment → Moment → Type 0
+LeavesSpent (Map s) (arch ∷ kernel ∷ []) before after = IsSpentRun s arch kernel before after
+LeavesSpent (Search s) (arch ∷ kernel ∷ []) before after = IsSearchSpentRun s arch kernel before after
+LeavesSpent _ _ before after = ⊥
+
+-- what the command leaves, by its status; nothing where it can't end with the status. Faults, running out of memory and
+-- the refusal of a file are covered by the table of statuses
+abbrev pub Leaves : Command → List Name → List Name → Status → Moment → Moment → Type 0
+Leaves command inputs outputs Done before after = LeavesDone command inputs outputs before after
+Leaves command inputs outputs No before after = LeavesNo command inputs outputs before after
+Leaves command inputs outputs Impossible before after = LeavesImpossible command inputs before after
+Leaves command inputs outputs BudgetSpent before after = LeavesSpent command inputs before after
+Leaves command inputs outputs Usage before after = ⊥
+Leaves command inputs outputs _ before after = Unit {0}

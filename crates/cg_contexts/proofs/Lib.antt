@@ -1,2 +1,0 @@
-pub mod ByCase
-pub mod Fielded

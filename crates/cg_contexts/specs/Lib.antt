@@ -1,3 +1,0 @@
-pub mod Known
-pub mod Rules
-pub mod Told

@@ -1,9 +1,0 @@
-use Rattle.cg_cycle.specs.declared.fault.SimFault.TheVariants.{TooManyTurns, ImageTooLarge}
-use Rattle.cg_cycle.proofs.Carried.{carried}
-use Rattle.cg_cycle.proofs.course.Course.new.Goals as goal
-
-pub returns-in-Err-clause-many : goal.returns-in-Err-clause-many
-returns-in-Err-clause-many g c = λ t. carried _ c.in-Err.fault (TooManyTurns t) _ (c.in-Err.ensures.many t)
-
-pub returns-in-Err-clause-large : goal.returns-in-Err-clause-large
-returns-in-Err-clause-large g c = λ w. carried _ c.in-Err.fault (ImageTooLarge w) _ (c.in-Err.ensures.large w)

@@ -1,6 +1,0 @@
-use Rattle.std.proofs.Common.{◌≡◌, drop}
-use Rattle.cg_cycle.specs.Effects.{applied}
-use Rattle.cg_cycle.proofs.effects.store_all.Given as goal
-
-abbrev pub invariant-loop-store : goal.invariant-loop-store
-invariant-loop-store l = applied l.memory (drop l.store-index l.pending) ≡ applied l.initial.memory l.pending

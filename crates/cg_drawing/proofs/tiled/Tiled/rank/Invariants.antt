@@ -1,7 +1,0 @@
-use Rattle.std.proofs.Common.{◌≡◌, ◌≤◌}
-use Rattle.cg_below.specs.Below.{count_below}
-use Rattle.cg_drawing.specs.Layout.{is_beside}
-use Rattle.cg_drawing.proofs.tiled.Tiled.rank.Given as goal
-
-abbrev pub invariant-loop-other : goal.invariant-loop-other
-invariant-loop-other l = (l.count ≡ count_below (is_beside l.self l.resource) l.other) × (l.count ≤ l.other)

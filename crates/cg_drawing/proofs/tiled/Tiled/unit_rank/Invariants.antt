@@ -1,7 +1,0 @@
-use Rattle.std.proofs.Common.{◌≡◌, ◌≤◌, eqb}
-use Rattle.cg_below.specs.Below.{count_below}
-use Rattle.cg_drawing.specs.Tiles.{unit_tile}
-use Rattle.cg_drawing.proofs.tiled.Tiled.unit_rank.Given as goal
-
-abbrev pub invariant-loop-other : goal.invariant-loop-other
-invariant-loop-other l = (l.count ≡ count_below (λ y. eqb (unit_tile l.self y) (unit_tile l.self l.unit)) l.other) × (l.count ≤ l.other)

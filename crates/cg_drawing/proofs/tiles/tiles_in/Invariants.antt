@@ -1,6 +1,0 @@
-use Rattle.std.proofs.Common.{◌≡◌, take}
-use Rattle.cg_drawing.specs.Tiles.{tiles_in}
-use Rattle.cg_drawing.proofs.tiles.tiles_in.Given as goal
-
-abbrev pub invariant-loop-resource : goal.invariant-loop-resource
-invariant-loop-resource l = l.tiles.items ≡ tiles_in (take l.resource-index l.resource-items)

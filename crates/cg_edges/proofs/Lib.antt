@@ -1,2 +1,0 @@
-pub mod Latencies
-pub mod Listed

@@ -1,6 +1,0 @@
-use Rattle.cg_model.specs.Kernel.{size}
-use Rattle.cg_edges.specs.Listed.{AreSoFar}
-use Rattle.cg_edges.proofs.list.add_order.Given as goal
-
-abbrev pub invariant-loop-number : goal.invariant-loop-number
-invariant-loop-number l = AreSoFar l.arch l.kernel (size l.kernel) 0 l.number l.list.names.items l.list.edges.items

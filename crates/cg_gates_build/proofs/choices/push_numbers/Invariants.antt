@@ -1,7 +1,0 @@
-use Rattle.std.proofs.Common.{◌≡◌, ◌++◌, map, take}
-use Rattle.cg_netlist.specs.declared.parts.Pin.{Pin}
-use Rattle.cg_gates.specs.Order.{net_number}
-use Rattle.cg_gates_build.proofs.choices.push_numbers.Given as goal
-
-abbrev pub invariant-loop-pin : goal.invariant-loop-pin
-invariant-loop-pin l = l.list.items ≡ l.fn.list.items ++ map (net_number l.nets) (map (λ (p : Pin). p.net) (take l.pin-index l.pins))

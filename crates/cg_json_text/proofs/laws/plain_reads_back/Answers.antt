@@ -1,5 +1,0 @@
-use Rattle.cg_json_text.proofs.Back.{reads_back}
-use Rattle.cg_json_text.proofs.laws.plain_reads_back.Goals as goal
-
-pub returns : goal.returns
-returns c = reads_back

@@ -1,5 +1,0 @@
-use Rattle.cg_level.proofs.Levels.{place_of, order_levels, order_no_loop}
-use Rattle.cg_level.proofs.laws.orders_give_levels.Goals as goal
-
-pub returns : goal.returns
-returns c = record { levels = λ rs order is. (place_of order, order_levels rs order is); no_loop = order_no_loop }

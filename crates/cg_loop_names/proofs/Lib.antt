@@ -1,6 +1,0 @@
-mod Assigned
-mod Declared
-mod Meeting
-mod Named
-mod Renamed
-mod Steps

@@ -1,7 +1,0 @@
-use Rattle.std.proofs.Common.{◌≡◌, ◌≤◌, ◌*◌}
-use Rattle.cg_below.specs.Below.{sum_below}
-use Rattle.cg_marks.proofs.Counted.{taken_by}
-use Rattle.cg_marks.proofs.marks.Marks.taken_slots.Given as goal
-
-abbrev pub invariant-loop-resource : goal.invariant-loop-resource
-invariant-loop-resource l = (l.count ≡ sum_below (taken_by l.self l.kind) l.resource) × (l.count ≤ 64 * l.resource)

@@ -1,6 +1,0 @@
-use Rattle.std.proofs.Common.{◌≡◌, ℕ, List, take}
-use Rattle.cg_names.specs.Numbers.{found_in, number_of}
-use Rattle.cg_names.proofs.numbers.numbers_of.Given as goal
-
-abbrev pub invariant-loop-number : goal.invariant-loop-number
-invariant-loop-number g l = (name : List ℕ) → found_in l.numbers name ≡ number_of g.T.Named.own_name (take l.number l.items) name

@@ -1,5 +1,0 @@
-use Rattle.cg_pressure.proofs.Intervals.{rises}
-use Rattle.cg_pressure.proofs.laws.rises.Goals as goal
-
-pub returns : goal.returns
-returns c = rises

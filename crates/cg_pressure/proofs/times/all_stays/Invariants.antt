@@ -1,7 +1,0 @@
-use Rattle.std.proofs.Common.{◌≡◌, ◌*◌, ◌^◌, ◌≤◌}
-use Rattle.cg_pressure.specs.Pressure.{total}
-use Rattle.cg_pressure.specs.Times.{longest}
-use Rattle.cg_pressure.proofs.times.all_stays.Given as goal
-
-abbrev pub invariant-loop-w : goal.invariant-loop-w
-invariant-loop-w l = (l.sum ≡ total l.w (longest l.times)) × (l.sum ≤ l.w * 2 ^ 64)

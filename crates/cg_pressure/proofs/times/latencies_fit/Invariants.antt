@@ -1,6 +1,0 @@
-use Rattle.std.proofs.Common.{ℕ, ◌<◌}
-use Rattle.cg_pressure.specs.Times.{Fits}
-use Rattle.cg_pressure.proofs.times.latencies_fit.Given as goal
-
-abbrev pub invariant-loop-w : goal.invariant-loop-w
-invariant-loop-w l = (w : ℕ) → w < l.w → Fits l.arch l.kernel l.times w

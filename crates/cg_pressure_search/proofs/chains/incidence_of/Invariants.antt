@@ -1,8 +1,0 @@
-use Rattle.cg_pressure_search.specs.Chains.{IsChain, begin_of, end_of}
-use Rattle.cg_pressure_search.proofs.chains.incidence_of.Given as goal
-
-abbrev pub invariant-loop-k : goal.invariant-loop-k
-invariant-loop-k l = record {
-  begins : IsChain (begin_of l.links) l.n l.k l.begins;
-  ends : IsChain (end_of l.links) l.n l.k l.ends;
-}

@@ -1,5 +1,0 @@
-use Rattle.cg_pressure_search.proofs.Certificates.{pull_added}
-use Rattle.cg_pressure_search.proofs.extract.add_pull.Goals as goal
-
-pub returns-in_ok-push-clause-taken : goal.returns-in_ok-push-clause-taken
-returns-in_ok-push-clause-taken c = λ f. pull_added c.args.kernel.now f c.args.list.now.items c.push.new.self.items c.args.part c.in-Pull.node c.in-Pull.arg c.args.flow c.in_ok-push.ensures.items c.in-Pull.is

@@ -1,8 +1,0 @@
-use Rattle.cg_pressure_search.specs.Lift.{IsLifting}
-use Rattle.cg_pressure_search.proofs.lift.lift.Given as goal
-
-abbrev pub invariant-loop-left : goal.invariant-loop-left
-invariant-loop-left l = IsLifting l.links l.count l.flow l.initial.at.items l.start l.goal l.need l.at.items l.left
-
-abbrev pub decreases-loop-left : goal.decreases-loop-left
-decreases-loop-left l = l.left

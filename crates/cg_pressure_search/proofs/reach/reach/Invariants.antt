@@ -1,9 +1,0 @@
-use Rattle.std.proofs.Common.{◌-◌, length}
-use Rattle.cg_pressure_search.specs.Reach.{IsSpread}
-use Rattle.cg_pressure_search.proofs.reach.reach.Given as goal
-
-abbrev pub invariant-loop-done : goal.invariant-loop-done
-invariant-loop-done l = IsSpread l.links l.count l.flow l.at l.start l.steps.items l.order.items l.done
-
-abbrev pub decreases-loop-done : goal.decreases-loop-done
-decreases-loop-done l = length l.at - l.done

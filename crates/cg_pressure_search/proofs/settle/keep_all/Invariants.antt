@@ -1,6 +1,0 @@
-use Rattle.std.proofs.Common.{length}
-use Rattle.cg_pressure_search.specs.Route.{IsSettling}
-use Rattle.cg_pressure_search.proofs.settle.keep_all.Given as goal
-
-abbrev pub invariant-loop-k : goal.invariant-loop-k
-invariant-loop-k l = IsSettling l.links l.flow (length l.initial.at.items) l.k l.at.items

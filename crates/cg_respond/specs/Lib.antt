@@ -1,2 +1,0 @@
-pub mod Responded
-pub mod Faults

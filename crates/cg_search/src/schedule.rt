@@ -1,0 +1,79 @@
+//! The order of the searches of a call.
+ghost use Rattle.std.specs.Prelude.{◌≡◌, ◌+◌, ◌≤◌, IfOk, length};
+ghost use Rattle.cg_model.specs.Limits.{most_moves};
+ghost use Rattle.cg_task.specs.Intervals.{last_tried};
+ghost use Rattle.cg_search.specs.Course.{IsPosed, AreMisses, Comes};
+
+use crate::descent::descend;
+use crate::misses::{Misses, add, nothing};
+use crate::probing::probe;
+use crate::retrying::{Retried, retry};
+use crate::trying::{Call, Found, Outcome, search_long};
+use cg_diagnostics::Aside;
+use cg_search_respond::Responded;
+use std::alloc::{AllocError, Global};
+
+/// Searches at the intervals of `call`: at the interval that is asked for, by a long search; otherwise by probes
+/// upwards until one finds a mapping, and by long searches downwards from there. `aside` takes the progress.
+pub(crate) fn run_schedule<'a>(
+    alloc: Global,
+    call: &Call<'a, '_>,
+    aside: &mut dyn Aside,
+) -> Result<Outcome<'a>, AllocError>
+    requires posed { IsPosed call.now.arch.now call.now.kernel.now call.now.request.ii call.now.first }
+    requires few { call.now.request.moves ≤ most_moves }
+    ensures { IfOk result (Comes call.now.arch.now call.now.kernel.now call.now.request.ii call.now.request.moves call.now.first) }
+{
+    if let Some(_) = call.request.ii {
+        return search_requested(alloc, call, aside);
+    }
+    match probe(alloc, call, aside)? {
+        Outcome::Found(found) => Ok(Outcome::Found(descend(alloc, call, found, &[], aside)?)),
+        Outcome::Left(left) => from_nearest(alloc, call, left, aside),
+    }
+}
+
+/// Makes a long search at the interval that is asked for, which is the first of `call`. `aside` takes the progress.
+fn search_requested<'a>(
+    alloc: Global,
+    call: &Call<'a, '_>,
+    aside: &mut dyn Aside,
+) -> Result<Outcome<'a>, AllocError>
+    requires posed { IsPosed call.now.arch.now call.now.kernel.now call.now.request.ii call.now.first }
+    requires few { call.now.request.moves ≤ most_moves }
+    requires only { call.now.first ≡ last_tried call.now.arch.now call.now.request.ii }
+    ensures { IfOk result (Comes call.now.arch.now call.now.kernel.now call.now.request.ii call.now.request.moves call.now.first) }
+{
+    match search_long(alloc, call, call.first, aside)? {
+        Responded::Mapped(mapping, moves) => Ok(Outcome::Found(Found { mapping, moves })),
+        Responded::Spent { faults, mapping } => {
+            let mut left = nothing(alloc, call);
+            add(call, &mut left, faults, mapping)?;
+            Ok(Outcome::Left(left))
+        }
+    }
+}
+
+/// Makes long searches at the intervals of `call` that are nearest to a mapping, where the probes had the result
+/// `left`, and then downwards from the first interval at which a search finds a mapping. `aside` takes the progress.
+fn from_nearest<'a>(
+    alloc: Global,
+    call: &Call<'a, '_>,
+    left: Misses,
+    aside: &mut dyn Aside,
+) -> Result<Outcome<'a>, AllocError>
+    requires posed { IsPosed call.now.arch.now call.now.kernel.now call.now.request.ii call.now.first }
+    requires few { call.now.request.moves ≤ most_moves }
+    requires misses { AreMisses call.now.arch.now call.now.kernel.now call.now.first left }
+    requires all { call.now.first + length left.faults.items ≡ last_tried call.now.arch.now call.now.request.ii + 1 }
+    ensures { IfOk result (Comes call.now.arch.now call.now.kernel.now call.now.request.ii call.now.request.moves call.now.first) }
+{
+    let Retried { outcome, failed } = retry(alloc, call, left, aside)?;
+    match outcome {
+        Outcome::Found(found) => {
+            let least = descend(alloc, call, found, failed.as_slice(), aside)?;
+            Ok(Outcome::Found(least))
+        }
+        Outcome::Left(left) => Ok(Outcome::Left(left)),
+    }
+}

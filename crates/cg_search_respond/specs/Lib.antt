@@ -1,0 +1,3 @@
+pub mod Responded
+pub mod Faults
+pub mod Kept

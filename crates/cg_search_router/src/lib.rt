@@ -1,0 +1,12 @@
+//! Least prices of routes in layers of time, forward from where a value begins and backward from where it is read.
+#![tactic(auto)]
+
+mod backward;
+mod buffers;
+mod forward;
+mod stand;
+mod steps;
+
+pub use buffers::{ENTRY_BYTES, Layers, UNREACHED};
+pub use cg_search_costs::{Occupancy, Wiring};
+pub use stand::Stand;

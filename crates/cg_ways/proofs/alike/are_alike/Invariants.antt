@@ -1,5 +1,0 @@
-use Rattle.cg_ways.proofs.Shared.{AreAlikeTo}
-use Rattle.cg_ways.proofs.alike.are_alike.Given as goal
-
-abbrev pub invariant-loop-place : goal.invariant-loop-place
-invariant-loop-place l = AreAlikeTo l.arch l.a l.b l.place

@@ -1,4 +1,0 @@
-use Rattle.cg_ways.proofs.alike.first_alike.Goals as goal
-
-pub returns : goal.returns
-returns c = λ x. (λ offered. offered, λ offered. offered)

@@ -1,5 +1,0 @@
-use Rattle.cg_ways.proofs.Legal.{kept}
-use Rattle.cg_ways.proofs.laws.kept.Goals as goal
-
-pub returns : goal.returns
-returns c = λ A K M rows good legal ways. kept A K M good legal rows ways

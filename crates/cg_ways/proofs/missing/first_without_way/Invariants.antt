@@ -1,5 +1,0 @@
-use Rattle.cg_ways.proofs.Tables.{NoneBelow}
-use Rattle.cg_ways.proofs.missing.first_without_way.Given as goal
-
-abbrev pub invariant-loop-node : goal.invariant-loop-node
-invariant-loop-node l = NoneBelow l.kernel l.ways l.node

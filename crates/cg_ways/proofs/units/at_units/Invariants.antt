@@ -1,6 +1,0 @@
-use Rattle.cg_ways.specs.Search.{IsFound}
-use Rattle.cg_ways.specs.Question.{HasAskedWay}
-use Rattle.cg_ways.proofs.units.at_units.Given as goal
-
-abbrev pub invariant-loop-place : goal.invariant-loop-place
-invariant-loop-place l = IsFound l.arch (HasAskedWay l.arch l.question l.place) l.best

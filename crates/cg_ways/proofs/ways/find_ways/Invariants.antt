@@ -1,9 +1,0 @@
-use Rattle.cg_ways.specs.Question.{AreAnswers, AreRowsTo}
-use Rattle.cg_ways.proofs.ways.find_ways.Given as goal
-
-abbrev pub invariant-loop-node : goal.invariant-loop-node
-invariant-loop-node l =
-    record {
-      rows : AreRowsTo l.arch l.kernel l.ii l.node l.rows.items;
-      answers : AreAnswers l.arch l.answers.items;
-    }

@@ -1,9 +1,0 @@
-use Rattle.std.proofs.Common.{◌-◌}
-use Rattle.cg_why.specs.Scan.{IsBetween}
-use Rattle.cg_why.proofs.bounds.halve.Given as goal
-
-abbrev pub invariant-loop-low : goal.invariant-loop-low
-invariant-loop-low l = IsBetween l.arch l.kernel l.fars l.kind l.low l.high l.below
-
-abbrev pub decreases-loop-low : goal.decreases-loop-low
-decreases-loop-low l = l.high - l.low

@@ -1,5 +1,0 @@
-use Rattle.cg_why.proofs.Reasons.{same_numbers}
-use Rattle.cg_why.proofs.numbers.find_fars.Goals as goal
-
-pub returns : goal.returns
-returns c = record { first = c.in_ok-first.ensures; rest = λ ii l. same_numbers c.args.arch.now c.args.kernel.now ii c.in_ok-rest.rest l c.in_ok-rest.ensures }
