@@ -12,7 +12,7 @@ use Rattle.cg_anneal.specs.declared.finding.Found.{Found}
 use Rattle.cg_anneal.specs.declared.finding.Found.TheVariants.{Mapped, Spent}
 use Rattle.cg_anneal.specs.Ended.{IsWalkedFrom, IsWalked}
 use Rattle.cg_anneal.proofs.Ready.{ready}
-use Rattle.cg_task.specs.Posed.{Posed, IsTask}
+use Rattle.cg_place.specs.Posed.{Posed, IsTask}
 
 module _ (A : Arch) (K : Kernel) (ii seed moves : ℕ) where
   -- what an end of the walk gives

@@ -18,7 +18,7 @@ use Rattle.cg_anneal.specs.declared.finding.Found.{Found}
 use Rattle.cg_anneal.specs.declared.finding.Found.TheVariants.{Mapped, Spent}
 use Rattle.cg_anneal.specs.Ended.{IsWalkedFrom, IsWalked}
 use Rattle.cg_anneal.proofs.Ready.{ready}
-use Rattle.cg_task.specs.Posed.{Posed, IsTask}
+use Rattle.cg_place.specs.Posed.{Posed, IsTask}
 
 pub one_time : (A : Arch) (K : Kernel) (ii : ℕ) (early other : List ℕ) → AreEarliest A K ii early → AreEarliest A K ii other → early ≡ other
 one_time A K ii early other a b =

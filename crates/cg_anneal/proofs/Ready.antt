@@ -4,7 +4,7 @@ use Rattle.cg_model.specs.Kernel.{Kernel}
 use Rattle.cg_model.specs.Array.{Arch}
 use Rattle.cg_walk_spec.specs.Good.{IsReady}
 use Rattle.cg_walk_spec.proofs.Early.{early_soon}
-use Rattle.cg_task.specs.Posed.{Posed, IsTask}
+use Rattle.cg_place.specs.Posed.{Posed, IsTask}
 
 pub ready : (T : Posed) → IsTask T → IsReady T.arch T.kernel T.ii T.early
 ready T t = record {

@@ -4,7 +4,7 @@ use Rattle.cg_model.specs.Kernel.{Kernel}
 use Rattle.cg_model.specs.Array.{Arch}
 use Rattle.cg_model.specs.Mapping.{IsLegal}
 use Rattle.cg_recur.specs.Recurrences.{AreEarliest}
-use Rattle.cg_task.specs.Posed.{Posed, IsTask}
+use Rattle.cg_place.specs.Posed.{Posed, IsTask}
 use Rattle.cg_check.specs.Legal as checks
 use Rattle.cg_anneal.specs.declared.finding.Found.{Found}
 use Rattle.cg_anneal.specs.declared.finding.Found.TheVariants.{Mapped}

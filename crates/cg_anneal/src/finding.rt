@@ -14,7 +14,7 @@ use cg_check::LegalMapping;
 use cg_diagnostics::Aside;
 use cg_model::Request;
 use cg_mrrg::Mrrg;
-use cg_task::Task;
+use cg_place::Task;
 use rand_pcg::Lcg64Xsh32;
 use std::alloc::{AllocError, Global};
 

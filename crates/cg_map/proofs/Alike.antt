@@ -6,20 +6,20 @@ use Rattle.cg_model.specs.Kernel.{Kernel, IsKernel}
 use Rattle.cg_model.specs.Array.{Arch, IsArch}
 use Rattle.cg_model.specs.Mapping.{IsLegal}
 use Rattle.cg_check.specs.Legal.{Mapped as MappedValue}
-use Rattle.cg_task.specs.declared.answering.FoundBy.{FoundBy}
+use Rattle.cg_intervals.specs.declared.answering.FoundBy.{FoundBy}
 use Rattle.cg_map.specs.declared.trying.Attempt.TheVariants as at
-use Rattle.cg_task.specs.declared.answering.Answer.{Answer}
-use Rattle.cg_task.specs.declared.answering.Answer.TheVariants.{Impossible, Mapped, Spent}
-use Rattle.cg_task.specs.Intervals.{IsAsked, last_tried}
-use Rattle.cg_task.specs.Answers.{IsMapping, IsSearched}
-use Rattle.cg_task.proofs.Answers.{not_impossible}
+use Rattle.cg_intervals.specs.declared.answering.Answer.{Answer}
+use Rattle.cg_intervals.specs.declared.answering.Answer.TheVariants.{Impossible, Mapped, Spent}
+use Rattle.cg_intervals.specs.Intervals.{IsAsked, last_tried}
+use Rattle.cg_intervals.specs.Answers.{IsMapping, IsSearched}
+use Rattle.cg_intervals.proofs.Answers.{not_impossible}
 use Rattle.cg_map.specs.Tried.{IsAttempt, IsTried, IsFirstMapping, AreAllLeft, IsAnswer}
 use Rattle.cg_map.specs.Laws.{AreAlike}
 use Rattle.cg_hub.proofs.Legal.{hub_legal}
 use Rattle.cg_hub.proofs.Hubs.{hub_interval}
 use Rattle.cg_hub.specs.Hub.{HubEnough, hub_map}
 use Rattle.cg_bound.proofs.Legal.{excluded}
-use Rattle.cg_task.proofs.Intervals.{shown_forbids, one_first, first_within, last_positive, open_from}
+use Rattle.cg_intervals.proofs.Intervals.{shown_forbids, one_first, first_within, last_positive, open_from}
 use Rattle.cg_map.proofs.Attempts.{not_left, one_mapped, left_at, one_costs, legal_attempt}
 
 module _ (A : Arch) (K : Kernel) (arch : IsArch A) (kernel : IsKernel K) (asked : Option ℕ) (seed moves : ℕ) where

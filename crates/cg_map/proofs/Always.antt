@@ -6,13 +6,13 @@ use Rattle.cg_model.specs.Array.{Arch, IsArch}
 use Rattle.cg_bound.specs.Bound.{IsOpen}
 use Rattle.cg_map.specs.declared.trying.Attempt.{Attempt}
 use Rattle.cg_map.specs.declared.trying.Attempt.TheVariants as at
-use Rattle.cg_task.specs.declared.answering.Answer.{Answer}
-use Rattle.cg_task.specs.declared.answering.Answer.TheVariants.{Mapped, Spent}
-use Rattle.cg_task.specs.Intervals.{IsAsked, last_tried, IsFirst}
+use Rattle.cg_intervals.specs.declared.answering.Answer.{Answer}
+use Rattle.cg_intervals.specs.declared.answering.Answer.TheVariants.{Mapped, Spent}
+use Rattle.cg_intervals.specs.Intervals.{IsAsked, last_tried, IsFirst}
 use Rattle.cg_map.specs.Tried.{IsAttempt, AreLeft, IsTried, IsAnswer}
-use Rattle.cg_task.proofs.Intervals.{first_within, last_positive, open_from}
-use Rattle.cg_task.proofs.Answers as answers
-use Rattle.cg_task.proofs.Answers.{held}
+use Rattle.cg_intervals.proofs.Intervals.{first_within, last_positive, open_from}
+use Rattle.cg_intervals.proofs.Answers as answers
+use Rattle.cg_intervals.proofs.Answers.{held}
 use Rattle.cg_map.proofs.Attempts.{some_attempt, left_more}
 
 module _ (A : Arch) (K : Kernel) (arch : IsArch A) (kernel : IsKernel K) (asked : Option ℕ) (seed moves : ℕ) (is : IsAsked A asked) where

@@ -8,21 +8,21 @@ use Rattle.cg_check.specs.Legal.{Mapped as MappedValue}
 use Rattle.cg_bound.specs.Bound.{IsOpen}
 use Rattle.cg_recur.proofs.Latencies.{latency_small}
 use Rattle.cg_recur.proofs.Earliest.{earliest}
-use Rattle.cg_task.specs.Posed.{IsTask}
+use Rattle.cg_place.specs.Posed.{IsTask}
 use Rattle.cg_anneal.specs.declared.finding.Found.{Found}
 use Rattle.cg_anneal.specs.declared.finding.Found.TheVariants as found
 use Rattle.cg_anneal.specs.Ended.{IsWalked}
 use Rattle.cg_hub.specs.Hub.{HubEnough, hub_map}
 use Rattle.cg_hub.proofs.Legal.{hub_legal}
 use Rattle.cg_hub.proofs.Hubs.{enough_or_not}
-use Rattle.cg_task.specs.declared.answering.FoundBy.{FoundBy}
-use Rattle.cg_task.specs.declared.answering.FoundBy.TheVariants.{Hub, Moves}
+use Rattle.cg_intervals.specs.declared.answering.FoundBy.{FoundBy}
+use Rattle.cg_intervals.specs.declared.answering.FoundBy.TheVariants.{Hub, Moves}
 use Rattle.cg_map.specs.declared.trying.Attempt.{Attempt}
 use Rattle.cg_map.specs.declared.trying.Attempt.TheVariants.{Mapped, Left}
 use Rattle.cg_map.specs.Tried.{IsAttempt, AreLeft}
 use Rattle.cg_anneal.proofs.Always.{some_found}
 use Rattle.cg_anneal.proofs.One.{one_answer, legal_end}
-use Rattle.cg_task.proofs.Intervals.{offered}
+use Rattle.cg_intervals.proofs.Intervals.{offered}
 
 module _ (A : Arch) (K : Kernel) (seed moves : ℕ) where
   -- a cost more

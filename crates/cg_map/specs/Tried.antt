@@ -3,17 +3,17 @@ use Rattle.std.specs.Prelude.{◌≡◌, ℕ, ◌+◌, ◌≤◌, List, [], ◌�
 use Rattle.cg_model.specs.Kernel.{Kernel}
 use Rattle.cg_model.specs.Array.{Arch}
 use Rattle.cg_check.specs.Legal.{Mapped as MappedValue}
-use Rattle.cg_task.specs.Intervals.{last_tried}
-use Rattle.cg_task.specs.Answers as answers
+use Rattle.cg_intervals.specs.Intervals.{last_tried}
+use Rattle.cg_intervals.specs.Answers as answers
 use Rattle.cg_anneal.specs.declared.finding.Found.TheVariants as found
 use Rattle.cg_anneal.specs.Ended.{IsWalked}
 use Rattle.cg_hub.specs.Hub.{HubEnough, hub_map}
-use Rattle.cg_task.specs.declared.answering.FoundBy.{FoundBy}
-use Rattle.cg_task.specs.declared.answering.FoundBy.TheVariants.{Hub, Moves}
+use Rattle.cg_intervals.specs.declared.answering.FoundBy.{FoundBy}
+use Rattle.cg_intervals.specs.declared.answering.FoundBy.TheVariants.{Hub, Moves}
 use Rattle.cg_map.specs.declared.trying.Attempt.{Attempt}
 use Rattle.cg_map.specs.declared.trying.Attempt.TheVariants as at
-use Rattle.cg_task.specs.declared.answering.Answer.{Answer}
-use Rattle.cg_task.specs.declared.answering.Answer.TheVariants.{Impossible, Mapped, Spent}
+use Rattle.cg_intervals.specs.declared.answering.Answer.{Answer}
+use Rattle.cg_intervals.specs.declared.answering.Answer.TheVariants.{Impossible, Mapped, Spent}
 
 module _ (A : Arch) (K : Kernel) (seed moves : ℕ) where
   -- the result of an interval: the hub's mapping where the hub suffices, else the result of the walk with that seed and

@@ -2,16 +2,17 @@
 ghost use Rattle.std.specs.Prelude.{◌≡◌, ◌≤◌, IfOk};
 ghost use Rattle.cg_model.specs.Limits.{most_moves};
 ghost use Rattle.cg_bound.specs.Bound.{IsOpen};
-ghost use Rattle.cg_task.specs.Intervals as spec;
-ghost use Rattle.cg_task.specs.Intervals.{IsAsked, IsFirst};
+ghost use Rattle.cg_intervals.specs.Intervals as spec;
+ghost use Rattle.cg_intervals.specs.Intervals.{IsAsked, IsFirst};
 ghost use Rattle.cg_map.specs.Tried.{IsAnswer, IsTried};
 
 use crate::trying::{Attempt, try_task};
 use cg_arch::Arch;
 use cg_bound::{IntervalVerdict, verdict};
 use cg_diagnostics::Aside;
+use cg_intervals::{Answer, first_tried, last_tried};
 use cg_model::{Kernel, Request};
-use cg_task::{Answer, Task, first_tried, last_tried};
+use cg_place::Task;
 use std::alloc::{AllocError, Global};
 
 /// Searches a mapping of `kernel` on `arch`, at the interval that `request` asks for, or at each interval from the

@@ -7,8 +7,9 @@ use cg_anneal::{Found, search};
 use cg_check::LegalMapping;
 use cg_diagnostics::Aside;
 use cg_hub::{hub_enough, hub_mapping};
+use cg_intervals::FoundBy;
 use cg_model::Request;
-use cg_task::{FoundBy, Task};
+use cg_place::Task;
 use std::alloc::{AllocError, Global};
 
 /// The result of an attempt at an interval.

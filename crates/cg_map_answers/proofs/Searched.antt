@@ -7,10 +7,10 @@ use Rattle.cg_effects.specs.Outcome.{Name, File, Outcome}
 use Rattle.cg_effects.specs.Ends.{Moment, Completed}
 use Rattle.cg_files.specs.Held.{Holds}
 use Rattle.cg_check.specs.Legal.{Mapped}
-use Rattle.cg_task.specs.declared.answering.FoundBy.{FoundBy}
-use Rattle.cg_task.specs.declared.answering.Answer.{Answer}
-use Rattle.cg_task.specs.declared.answering.Answer.TheVariants as answer
-use Rattle.cg_task.specs.Answers.{IsMapping}
+use Rattle.cg_intervals.specs.declared.answering.FoundBy.{FoundBy}
+use Rattle.cg_intervals.specs.declared.answering.Answer.{Answer}
+use Rattle.cg_intervals.specs.declared.answering.Answer.TheVariants as answer
+use Rattle.cg_intervals.specs.Answers.{IsMapping}
 use Rattle.cg_map.specs.Laws.{AreAlike}
 use Rattle.cg_map.proofs.Alike.{alike, legal, by_hub}
 use Rattle.cg_map.proofs.Always.{some_answer}

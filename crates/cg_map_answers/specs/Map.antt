@@ -4,10 +4,10 @@ use Rattle.cg_effects.specs.Outcome.{Name, Bytes, File, Outcome}
 use Rattle.cg_effects.specs.Ends.{Moment}
 use Rattle.cg_check.specs.Legal.{Mapped}
 use Rattle.cg_hub.specs.Hub.{HubEnough}
-use Rattle.cg_task.specs.declared.answering.FoundBy.{FoundBy}
-use Rattle.cg_task.specs.declared.answering.Answer.{Answer}
-use Rattle.cg_task.specs.declared.answering.Answer.TheVariants as answer
-use Rattle.cg_task.specs.Intervals.{last_tried, IsFirst}
+use Rattle.cg_intervals.specs.declared.answering.FoundBy.{FoundBy}
+use Rattle.cg_intervals.specs.declared.answering.Answer.{Answer}
+use Rattle.cg_intervals.specs.declared.answering.Answer.TheVariants as answer
+use Rattle.cg_intervals.specs.Intervals.{last_tried, IsFirst}
 use Rattle.cg_map.specs.Tried.{AreAllLeft, IsAnswer}
 use Rattle.cg_model.specs.declared.request.Request.{Request}
 use Rattle.cg_inputs.specs.Sources.{Pair, GivesPair}

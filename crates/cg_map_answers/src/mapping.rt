@@ -12,7 +12,7 @@ use cg_effects::{File, Outcome, Stop};
 use cg_inputs::{arch_in, kernel_in};
 use cg_map::map_answer;
 use cg_model::{Kernel, Request};
-use cg_task::Answer;
+use cg_intervals::Answer;
 use cg_task_answers::{above, asks_above, found, impossible, left_report, spent};
 use std::alloc::{AllocError, Global};
 

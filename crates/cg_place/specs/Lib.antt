@@ -5,3 +5,4 @@ pub mod Reservations
 pub mod Touching
 pub mod Kept
 pub mod Schedules
+pub mod Posed

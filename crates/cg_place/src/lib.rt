@@ -1,5 +1,5 @@
-//! Placements of a kernel's nodes on an architecture: the start, the proposals and the moves of a walk, with the two
-//! counts that measure how far a placement is from a schedule.
+//! What is to be placed: a kernel on an architecture at an interval. And placements of its nodes: the start, the
+//! proposals and the moves of a walk, with the two counts that measure how far a placement is from a schedule.
 #![tactic(auto)]
 
 mod draws;
@@ -9,6 +9,7 @@ mod offers;
 mod placement;
 mod places;
 mod reservations;
+mod task;
 mod touching;
 
 pub use cg_arch::Arch;
@@ -17,3 +18,4 @@ pub use moves::Move;
 pub use offers::is_offered;
 pub use placement::Placement;
 pub use places::are_early;
+pub use task::Task;

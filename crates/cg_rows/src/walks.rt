@@ -9,9 +9,8 @@ use cg_arch::Arch;
 use cg_check::LegalMapping;
 use cg_diagnostics::Silent;
 use cg_model::{Kernel, Mapping, Place, Request, Route};
-use cg_place::is_offered;
+use cg_place::{Task, is_offered};
 use cg_recur::{Recur, recurrence};
-use cg_task::Task;
 use std::alloc::{AllocError, Global};
 
 /// The ends of the walk and of the plain walk, if they could be made.

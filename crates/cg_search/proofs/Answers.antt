@@ -16,13 +16,13 @@ use Rattle.cg_hub.specs.Hub.{HubEnough, hub_map}
 use Rattle.cg_hub.proofs.Legal.{hub_legal}
 use Rattle.cg_distance.proofs.Searches.{Decided, IsFirst as IsFirstOf, first_below, both_decided}
 use Rattle.cg_hub.proofs.Hubs.{hub_interval, enough_or_not}
-use Rattle.cg_task.specs.Intervals.{IsAsked, last_tried}
-use Rattle.cg_task.specs.Answers.{IsMapping}
-use Rattle.cg_task.proofs.Answers.{held, IsCertified}
-use Rattle.cg_task.proofs.Intervals.{not_both, shown_forbids, last_positive}
-use Rattle.cg_task.specs.declared.answering.FoundBy.TheVariants.{Hub}
-use Rattle.cg_task.specs.declared.answering.Answer.{Answer}
-use Rattle.cg_task.specs.declared.answering.Answer.TheVariants.{Impossible, Mapped, Spent}
+use Rattle.cg_intervals.specs.Intervals.{IsAsked, last_tried}
+use Rattle.cg_intervals.specs.Answers.{IsMapping}
+use Rattle.cg_intervals.proofs.Answers.{held, IsCertified}
+use Rattle.cg_intervals.proofs.Intervals.{not_both, shown_forbids, last_positive}
+use Rattle.cg_intervals.specs.declared.answering.FoundBy.TheVariants.{Hub}
+use Rattle.cg_intervals.specs.declared.answering.Answer.{Answer}
+use Rattle.cg_intervals.specs.declared.answering.Answer.TheVariants.{Impossible, Mapped, Spent}
 use Rattle.cg_search.specs.declared.begin.Exclusion.{Exclusion}
 use Rattle.cg_search.specs.Begin.{first_asked, IsBegin, ExcludesAt}
 use Rattle.cg_search.specs.Search.{HasNoHub, IsFound, IsTried, IsBegun, IsAnswer}

@@ -8,7 +8,7 @@ use Rattle.cg_model.specs.Mapping.{Mapping, IsLegal}
 use Rattle.cg_recur.specs.Recurrences.{HasNoRecurrence}
 use Rattle.cg_bound.proofs.Intervals.{free_above}
 use Rattle.cg_distance.proofs.Searches.{Decided, IsFirst as IsFirstOf, first_below}
-use Rattle.cg_task.specs.Intervals.{IsAsked, last_tried}
+use Rattle.cg_intervals.specs.Intervals.{IsAsked, last_tried}
 use Rattle.cg_bound_all.specs.declared.reason.Kind.{Kind}
 use Rattle.cg_bound_all.specs.declared.reason.Kind.TheVariants as kinds
 use Rattle.cg_bound_all.specs.declared.reason.Reason.{Reason}

@@ -5,18 +5,18 @@ use Rattle.std.specs.Global.{Vec}
 use Rattle.std.proofs.lemmas.Bool.{cases_lt}
 use Rattle.std.proofs.lemmas.List.{length-replicate, length-map, get_or-replicate, nil_from_length}
 use Rattle.std.proofs.lemmas.List.Elements.{All-nil, All-cons}
-use Rattle.cg_task.proofs.Answers.{held}
+use Rattle.cg_intervals.proofs.Answers.{held}
 use Rattle.cg_model.specs.Kernel.{Kernel, IsKernel, size}
 use Rattle.cg_model.specs.declared.kernel.Node.{Node}
 use Rattle.cg_model.specs.Array.{Arch, IsArch}
 use Rattle.cg_model.specs.declared.mapping.Place.{Place}
 use Rattle.cg_model.specs.declared.mapping.Route.{Route}
 use Rattle.cg_model.specs.Mapping.{Mapping, End, IsLegal, positions, end_of, ends_from}
-use Rattle.cg_task.specs.Intervals.{IsAsked, last_tried}
-use Rattle.cg_task.proofs.Intervals.{last_positive}
-use Rattle.cg_task.specs.declared.answering.FoundBy.TheVariants.{Moves}
-use Rattle.cg_task.specs.declared.answering.Answer.{Answer}
-use Rattle.cg_task.specs.declared.answering.Answer.TheVariants.{Impossible, Mapped, Spent}
+use Rattle.cg_intervals.specs.Intervals.{IsAsked, last_tried}
+use Rattle.cg_intervals.proofs.Intervals.{last_positive}
+use Rattle.cg_intervals.specs.declared.answering.FoundBy.TheVariants.{Moves}
+use Rattle.cg_intervals.specs.declared.answering.Answer.{Answer}
+use Rattle.cg_intervals.specs.declared.answering.Answer.TheVariants.{Impossible, Mapped, Spent}
 use Rattle.cg_search_respond.specs.Faults.{faults_of}
 use Rattle.cg_search_respond.specs.Responded.{IsMissed}
 use Rattle.cg_search_respond.proofs.Weighed.{faults_some}

@@ -2,7 +2,7 @@
 use Rattle.std.specs.Prelude.{ℕ, ◌+◌, ◌<◌, ◌≤◌, Option, Some, None}
 use Rattle.cg_model.specs.Kernel.{Kernel}
 use Rattle.cg_model.specs.Array.{Arch}
-use Rattle.cg_task.specs.Intervals.{last_tried}
+use Rattle.cg_intervals.specs.Intervals.{last_tried}
 use Rattle.cg_bound_all.specs.declared.numbers.HopTables.{HopTables}
 use Rattle.cg_bound_all.specs.Why.{AreAllNumbers, hops_at, Shows, IsImpossible}
 use Rattle.cg_search.specs.declared.begin.Exclusion.{Exclusion}

@@ -3,8 +3,8 @@ use Rattle.std.specs.Prelude.{◌≡◌, ℕ, ◌+◌, ◌<◌, ◌≤◌, lengt
 use Rattle.cg_model.specs.Kernel.{Kernel}
 use Rattle.cg_model.specs.Array.{Arch}
 use Rattle.cg_bound.specs.Bound.{IsOpen}
-use Rattle.cg_task.specs.Intervals.{IsAsked, last_tried}
-use Rattle.cg_task.specs.declared.answering.FoundBy.TheVariants as found_by
+use Rattle.cg_intervals.specs.Intervals.{IsAsked, last_tried}
+use Rattle.cg_intervals.specs.declared.answering.FoundBy.TheVariants as found_by
 use Rattle.cg_search_respond.specs.declared.responding.Responded.{Responded}
 use Rattle.cg_search_respond.specs.declared.responding.Responded.TheVariants as responded
 use Rattle.cg_search_respond.specs.Faults.{faults_of}

@@ -6,11 +6,11 @@ use Rattle.cg_model.specs.Mapping.{Mapping, IsLegal}
 use Rattle.cg_check.specs.Legal.{Mapped as MappedValue}
 use Rattle.cg_bound.specs.Bound.{IsOpen, Shows}
 use Rattle.cg_hub.specs.Hub.{HubEnough, hub_map}
-use Rattle.cg_task.specs.Intervals.{last_tried}
-use Rattle.cg_task.specs.declared.answering.FoundBy.{FoundBy}
-use Rattle.cg_task.specs.declared.answering.FoundBy.TheVariants.{Hub, Moves}
-use Rattle.cg_task.specs.declared.answering.Answer.{Answer}
-use Rattle.cg_task.specs.declared.answering.Answer.TheVariants.{Impossible, Mapped, Spent}
+use Rattle.cg_intervals.specs.Intervals.{last_tried}
+use Rattle.cg_intervals.specs.declared.answering.FoundBy.{FoundBy}
+use Rattle.cg_intervals.specs.declared.answering.FoundBy.TheVariants.{Hub, Moves}
+use Rattle.cg_intervals.specs.declared.answering.Answer.{Answer}
+use Rattle.cg_intervals.specs.declared.answering.Answer.TheVariants.{Impossible, Mapped, Spent}
 use Rattle.cg_search_respond.specs.Faults.{faults_of}
 use Rattle.cg_search_respond.specs.Responded.{IsMissed}
 use Rattle.cg_search.specs.declared.begin.Exclusion.{Exclusion}

@@ -3,12 +3,12 @@
 ghost use Rattle.std.specs.Prelude.{◌≡◌, ◌+◌, ◌≤◌, [], None, IfOk, length};
 ghost use Rattle.cg_model.specs.Limits.{most_moves};
 ghost use Rattle.cg_bound.specs.Bound.{IsOpen};
-ghost use Rattle.cg_task.specs.Intervals as spec;
-ghost use Rattle.cg_task.specs.Intervals.{IsAsked};
+ghost use Rattle.cg_intervals.specs.Intervals as spec;
+ghost use Rattle.cg_intervals.specs.Intervals.{IsAsked};
 ghost use Rattle.cg_search.specs.Begin.{IsBegin, ExcludesAt};
 ghost use Rattle.cg_search.specs.Course.{IsPosed, AreMisses};
 ghost use Rattle.cg_search.specs.Search.{IsAnswer, IsTried, AreMissedBy, IsExcludedBy};
-ghost use Rattle.cg_task.specs.declared.answering.Answer.TheVariants as answer;
+ghost use Rattle.cg_intervals.specs.declared.answering.Answer.TheVariants as answer;
 
 use crate::begin::{Begin, Exclusion, find_begin};
 use crate::misses::Misses;
@@ -18,9 +18,9 @@ use cg_arch::Arch;
 use cg_bound::{Certificate, IntervalVerdict, verdict};
 use cg_diagnostics::Aside;
 use cg_hub::{hub_enough, hub_mapping};
+use cg_intervals::{Answer, FoundBy, last_tried};
 use cg_model::{Kernel, Mapping, Request};
 use cg_search_respond::Wiring;
-use cg_task::{Answer, FoundBy, last_tried};
 use std::alloc::{AllocError, Global};
 
 /// An answer, with the mappings and the exclusion found on the way to it.

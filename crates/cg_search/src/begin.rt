@@ -1,6 +1,6 @@
 //! Where a search begins.
 ghost use Rattle.std.specs.Prelude.{ℕ, ◌≤◌, IfOk, Some, None};
-ghost use Rattle.cg_task.specs.Intervals.{IsAsked};
+ghost use Rattle.cg_intervals.specs.Intervals.{IsAsked};
 ghost use Rattle.cg_bound_all.specs.Why.{AreAllNumbers, IsImpossible};
 ghost use Rattle.cg_search.specs.Begin.{Begins};
 

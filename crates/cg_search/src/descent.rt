@@ -1,7 +1,7 @@
 //! Long searches, downwards from a mapping.
 ghost use Rattle.std.specs.Prelude.{◌≤◌, IfOk, IfSome};
 ghost use Rattle.cg_model.specs.Limits.{most_moves};
-ghost use Rattle.cg_task.specs.Intervals.{last_tried};
+ghost use Rattle.cg_intervals.specs.Intervals.{last_tried};
 ghost use Rattle.cg_search.specs.Course.{IsPosed, IsLegalFound};
 
 use crate::trying::{Call, Found, search_long};

@@ -7,8 +7,8 @@ use crate::misses::{add, nothing};
 use crate::plan::probe;
 use crate::trying::{Call, Found, Outcome, search_at};
 use cg_diagnostics::Aside;
+use cg_intervals::last_tried;
 use cg_search_respond::Responded;
-use cg_task::last_tried;
 use std::alloc::{AllocError, Global};
 
 /// Probes at the intervals of `call` from the first one upwards, until a mapping is found or the last interval is done.

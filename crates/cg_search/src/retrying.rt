@@ -1,7 +1,7 @@
 //! Long searches at the intervals nearest to a mapping.
 ghost use Rattle.std.specs.Prelude.{◌≡◌, ◌+◌, ◌<◌, ◌≤◌, ◌^◌, IfOk, IfSome, length};
 ghost use Rattle.cg_model.specs.Limits.{most_moves};
-ghost use Rattle.cg_task.specs.Intervals.{last_tried};
+ghost use Rattle.cg_intervals.specs.Intervals.{last_tried};
 ghost use Rattle.cg_search.specs.Course.{IsPosed, AreMisses, Comes};
 
 use crate::misses::{Misses, lessen};

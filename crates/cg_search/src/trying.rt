@@ -1,16 +1,17 @@
 //! A search at one interval, and the result of several.
 ghost use Rattle.std.specs.Prelude.{◌≤◌, IfOk};
 ghost use Rattle.cg_model.specs.Limits.{most_moves};
-ghost use Rattle.cg_task.specs.Intervals.{last_tried};
+ghost use Rattle.cg_intervals.specs.Intervals.{last_tried};
 ghost use Rattle.cg_search.specs.Course.{IsPosed, IsSearched};
 
 use crate::misses::Misses;
 use crate::plan::long;
 use cg_arch::Arch;
 use cg_diagnostics::Aside;
+use cg_intervals::LegalMapping;
 use cg_model::{Kernel, Request};
+use cg_place::Task;
 use cg_search_respond::{Effort, Responded, Wiring, respond};
-use cg_task::{LegalMapping, Task};
 use std::alloc::{AllocError, Global};
 
 /// The data that the searches of a call share.

@@ -7,8 +7,8 @@ use Rattle.cg_model.specs.Array.{Arch}
 use Rattle.cg_model.specs.Kernel.{Kernel}
 use Rattle.cg_model.specs.Mapping.{Mapping, IsShaped}
 use Rattle.cg_inputs.specs.Sources.{Pair}
-use Rattle.cg_task.specs.declared.answering.Answer.{Answer}
-use Rattle.cg_task.specs.declared.answering.Answer.TheVariants.{Spent}
+use Rattle.cg_intervals.specs.declared.answering.Answer.{Answer}
+use Rattle.cg_intervals.specs.declared.answering.Answer.TheVariants.{Spent}
 use Rattle.cg_search.specs.declared.begin.Exclusion.{Exclusion}
 use Rattle.cg_search.specs.Search.{AreMissed, AreMissedBy, IsExcludedFrom, IsExcludedBy}
 use Rattle.cg_search.proofs.Missed.{missed_at, missed_all}

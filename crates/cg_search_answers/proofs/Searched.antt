@@ -5,9 +5,9 @@ use Rattle.cg_effects.specs.declared.outcome.Status.TheVariants.{Done, Impossibl
 use Rattle.cg_effects.specs.Outcome.{Name, Bytes, File, Outcome}
 use Rattle.cg_effects.specs.Ends.{Moment, Completed}
 use Rattle.cg_files.specs.Held.{Holds}
-use Rattle.cg_task.specs.declared.answering.Answer.{Answer}
-use Rattle.cg_task.specs.declared.answering.Answer.TheVariants as answer
-use Rattle.cg_task.proofs.Answers.{IsCertified}
+use Rattle.cg_intervals.specs.declared.answering.Answer.{Answer}
+use Rattle.cg_intervals.specs.declared.answering.Answer.TheVariants as answer
+use Rattle.cg_intervals.proofs.Answers.{IsCertified}
 use Rattle.cg_model.specs.Mapping.{Mapping}
 use Rattle.cg_bound_text.specs.Text.{excluded_line}
 use Rattle.cg_search.specs.declared.begin.Exclusion.{Exclusion}

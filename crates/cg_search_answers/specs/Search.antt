@@ -9,9 +9,9 @@ use Rattle.cg_model.specs.Mapping.{Mapping}
 use Rattle.cg_check.specs.Legal.{Mapped}
 use Rattle.cg_violations.specs.Faults.{fault_lines}
 use Rattle.cg_hub.specs.Hub.{HubEnough}
-use Rattle.cg_task.specs.declared.answering.FoundBy.{FoundBy}
-use Rattle.cg_task.specs.declared.answering.Answer.{Answer}
-use Rattle.cg_task.specs.Intervals.{last_tried}
+use Rattle.cg_intervals.specs.declared.answering.FoundBy.{FoundBy}
+use Rattle.cg_intervals.specs.declared.answering.Answer.{Answer}
+use Rattle.cg_intervals.specs.Intervals.{last_tried}
 use Rattle.cg_bound_text.specs.Text.{excluded_line}
 use Rattle.cg_search.specs.declared.begin.Exclusion.{Exclusion}
 use Rattle.cg_search.specs.Begin.{IsBegin, ExcludesAt}

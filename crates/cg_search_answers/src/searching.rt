@@ -13,7 +13,7 @@ use cg_effects::{File, Outcome, Stop};
 use cg_inputs::{arch_in, kernel_in};
 use cg_model::{Kernel, Request};
 use cg_search::{Conclusion, search_answer};
-use cg_task::Answer;
+use cg_intervals::Answer;
 use cg_task_answers::{above, asks_above, found, impossible};
 use std::alloc::{AllocError, Global};
 

@@ -8,9 +8,9 @@ use crate::places::Places;
 use crate::times::ideal;
 use cg_arch::Arch;
 use cg_model::{Kernel, Node, Operand, OrderEdge};
+use cg_place::Task;
 use cg_recur::latency;
 use cg_search_costs::Wiring;
-use cg_task::Task;
 use std::alloc::{AllocError, Global};
 
 /// The number of intervals from time 0 to the origin, from which the times of an opening are counted: a node may move

@@ -12,10 +12,10 @@ use crate::sweeps::attempt;
 use cg_check::{CheckVerdict, LegalMapping, check};
 use cg_diagnostics::Aside;
 use cg_model::Mapping;
+use cg_place::Task;
 use cg_search_costs::Wiring;
 use cg_search_problem::Problem;
 use cg_search_state::State;
-use cg_task::Task;
 use std::alloc::{AllocError, Global};
 
 /// How a search ends.

@@ -14,8 +14,8 @@ use Rattle.cg_bound.specs.declared.interval.Certificate.{Certificate}
 use Rattle.cg_bound.specs.Bound.{Shows}
 use Rattle.cg_bound.proofs.Intervals.{certifies}
 use Rattle.cg_bound.proofs.Legal.{excluded}
-use Rattle.cg_task.specs.Intervals.{last_tried}
-use Rattle.cg_task.proofs.Intervals.{shown_forbids}
+use Rattle.cg_intervals.specs.Intervals.{last_tried}
+use Rattle.cg_intervals.proofs.Intervals.{shown_forbids}
 use Rattle.cg_model.specs.declared.request.Request.{Request}
 use Rattle.cg_inputs.specs.Sources.{Pair, GivesPair, HoldPair}
 use Rattle.cg_inputs.proofs.Wholes.{one_write}

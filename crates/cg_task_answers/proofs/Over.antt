@@ -8,7 +8,7 @@ use Rattle.cg_effects.specs.declared.outcome.Status.{Status}
 use Rattle.cg_effects.specs.declared.outcome.Status.TheVariants.{Done, Malformed}
 use Rattle.cg_effects.specs.Outcome.{Name, File, Outcome}
 use Rattle.cg_effects.specs.Ends.{Moment, Completed}
-use Rattle.cg_task.specs.Intervals.{IsAsked}
+use Rattle.cg_intervals.specs.Intervals.{IsAsked}
 use Rattle.cg_model.specs.declared.request.Request.{Request}
 use Rattle.cg_model.specs.Request.{IsInRange}
 use Rattle.cg_effects.specs.declared.read.Stop.{Stop}

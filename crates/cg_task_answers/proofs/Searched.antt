@@ -15,12 +15,12 @@ use Rattle.cg_check.specs.Legal.{Mapped, config_of}
 use Rattle.cg_bound.specs.declared.interval.Certificate.{Certificate}
 use Rattle.cg_bound.specs.Bound.{IsForbidden, IsOpen, Shows}
 use Rattle.cg_hub.specs.Hub.{HubEnough}
-use Rattle.cg_task.specs.declared.answering.FoundBy.{FoundBy}
-use Rattle.cg_task.specs.declared.answering.Answer.{Answer}
-use Rattle.cg_task.specs.declared.answering.Answer.TheVariants as answer
-use Rattle.cg_task.specs.Intervals.{IsAsked, last_tried}
-use Rattle.cg_task.specs.Answers.{IsMapping}
-use Rattle.cg_task.proofs.Intervals.{last_positive, not_both}
+use Rattle.cg_intervals.specs.declared.answering.FoundBy.{FoundBy}
+use Rattle.cg_intervals.specs.declared.answering.Answer.{Answer}
+use Rattle.cg_intervals.specs.declared.answering.Answer.TheVariants as answer
+use Rattle.cg_intervals.specs.Intervals.{IsAsked, last_tried}
+use Rattle.cg_intervals.specs.Answers.{IsMapping}
+use Rattle.cg_intervals.proofs.Intervals.{last_positive, not_both}
 use Rattle.cg_model.specs.declared.request.Request.{Request}
 use Rattle.cg_model.specs.Request.{IsInRange}
 use Rattle.cg_inputs.specs.Sources.{Pair, GivesPair}

@@ -4,10 +4,10 @@ use Rattle.cg_effects.specs.declared.outcome.Status.TheVariants as status
 use Rattle.cg_effects.specs.Outcome.{Name, Bytes, Outcome, line_of}
 use Rattle.cg_effects.specs.Refusals.{reports}
 use Rattle.cg_check.specs.Legal.{Mapped as MappedValue}
-use Rattle.cg_task.specs.declared.answering.FoundBy.{FoundBy}
-use Rattle.cg_task.specs.declared.answering.FoundBy.TheVariants.{Hub, Moves}
-use Rattle.cg_task.specs.declared.answering.Answer.{Answer}
-use Rattle.cg_task.specs.declared.answering.Answer.TheVariants.{Impossible, Mapped, Spent}
+use Rattle.cg_intervals.specs.declared.answering.FoundBy.{FoundBy}
+use Rattle.cg_intervals.specs.declared.answering.FoundBy.TheVariants.{Hub, Moves}
+use Rattle.cg_intervals.specs.declared.answering.Answer.{Answer}
+use Rattle.cg_intervals.specs.declared.answering.Answer.TheVariants.{Impossible, Mapped, Spent}
 use Rattle.cg_model.specs.declared.request.Request.{Request}
 use Rattle.cg_inputs.specs.Sources.{Pair}
 use Rattle.cg_mapping_answers.specs.Emit.{emit_report}

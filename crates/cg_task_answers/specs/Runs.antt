@@ -8,8 +8,8 @@ use Rattle.cg_effects.specs.Ends.{Moment, IsPut, Wrote}
 use Rattle.cg_check.specs.Legal.{Mapped}
 use Rattle.cg_bound.specs.Bound.{IsOpen}
 use Rattle.cg_hub.specs.Hub.{HubEnough}
-use Rattle.cg_task.specs.declared.answering.FoundBy.{FoundBy}
-use Rattle.cg_task.specs.Intervals.{last_tried}
+use Rattle.cg_intervals.specs.declared.answering.FoundBy.{FoundBy}
+use Rattle.cg_intervals.specs.Intervals.{last_tried}
 use Rattle.cg_model.specs.declared.request.Request.{Request}
 use Rattle.cg_inputs.specs.Sources.{Pair, HoldPair}
 use Rattle.cg_mapping.specs.Answer as mappings

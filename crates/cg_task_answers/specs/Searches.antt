@@ -15,7 +15,7 @@ use Rattle.cg_check.specs.Legal.{Mapped, config_of}
 use Rattle.cg_bound.specs.declared.interval.Certificate.{Certificate}
 use Rattle.cg_bound.specs.Bound.{IsForbidden, Certifies, Shows}
 use Rattle.cg_bound.specs.Text.{certificate_text}
-use Rattle.cg_task.specs.Intervals.{last_tried}
+use Rattle.cg_intervals.specs.Intervals.{last_tried}
 use Rattle.cg_model.specs.declared.request.Request.{Request}
 use Rattle.cg_model.specs.Request.{IsInRange}
 use Rattle.cg_inputs.specs.Sources.{Pair, ArePaired, GivesPair, HoldPair}

@@ -8,7 +8,7 @@ use crate::writing::written;
 use cg_check::LegalMapping;
 use cg_effects::Outcome;
 use cg_mapping_answers::emit_report;
-use cg_task::FoundBy;
+use cg_intervals::FoundBy;
 use std::alloc::{AllocError, Global};
 
 /// Returns the outcome for `mapping`, which was found over the hub, or by the search that the word `by` names.

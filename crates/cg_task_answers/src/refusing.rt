@@ -9,7 +9,7 @@ use cg_arch::Arch;
 use cg_bound::{Certificate, certificate_text};
 use cg_effects::{Outcome, Status, malformed};
 use cg_model::{Kernel, Request};
-use cg_task::last_tried;
+use cg_intervals::last_tried;
 use std::alloc::{AllocError, Global};
 
 /// Checks whether the interval `asked` has more cycles than `arch` has contexts.

@@ -9,9 +9,8 @@ use crate::walk::{WEIGHT, Walk};
 use cg_congestion::laws::PlainUsage;
 use cg_diagnostics::Silent;
 use cg_model::Request;
-use cg_place::Move;
 use cg_place::laws::PlainPlacement;
-use cg_task::Task;
+use cg_place::{Move, Task};
 use std::alloc::{AllocError, Global};
 
 /// Makes the walk that `search` makes, and counts the cost of each state anew, from all its places and all its routes.

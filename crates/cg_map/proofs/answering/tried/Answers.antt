@@ -1,10 +1,10 @@
 use Rattle.std.proofs.Common.{◌≡◌, ◌+◌, ◌∷◌, ◌++◌, [], length, sym, subst, refl, arith}
 use Rattle.std.proofs.Math.ListN.{length-append}
-use Rattle.cg_task.specs.Posed.{Posed}
-use Rattle.cg_task.specs.Intervals.{last_tried}
+use Rattle.cg_place.specs.Posed.{Posed}
+use Rattle.cg_intervals.specs.Intervals.{last_tried}
 use Rattle.cg_map.specs.Tried.{IsAttempt, AreLeft}
 use Rattle.cg_map.specs.declared.trying.Attempt.TheVariants as at
-use Rattle.cg_task.proofs.Intervals.{offered, first_within}
+use Rattle.cg_intervals.proofs.Intervals.{offered, first_within}
 use Rattle.cg_map.proofs.Attempts.{left_more}
 use Rattle.cg_map.proofs.answering.tried.Goals as goal
 

@@ -1,5 +1,5 @@
 use Rattle.std.proofs.Common.{◌∙◌, ◌+◌, ◌<◌, ◌^◌, length, subst, sym}
-use Rattle.cg_task.specs.declared.answering.Answer.TheVariants.{Spent}
+use Rattle.cg_intervals.specs.declared.answering.Answer.TheVariants.{Spent}
 use Rattle.cg_map_answers.specs.Map.{word, IsCostReport, IsAnswerOf, IsOnlyMapping, AreCosts}
 use Rattle.cg_task_answers.proofs.Searched.{spent_few}
 use Rattle.cg_map_answers.proofs.Searched.{searcher}

@@ -2,9 +2,9 @@ use Rattle.std.proofs.Common.{rules, ◌≡◌, ◌<◌, ◌≤◌, refl, sym, s
 use Rattle.std.proofs.lemmas.Bool.{cases_lt}
 use Rattle.cg_model.specs.Mapping.{IsLegal}
 use Rattle.cg_hub.specs.Hub.{HubEnough, hub_map}
-use Rattle.cg_task.specs.Intervals.{last_tried}
+use Rattle.cg_intervals.specs.Intervals.{last_tried}
 use Rattle.cg_hub.proofs.Hubs.{hub_interval}
-use Rattle.cg_task.specs.declared.answering.FoundBy.TheVariants.{Hub}
+use Rattle.cg_intervals.specs.declared.answering.FoundBy.TheVariants.{Hub}
 use Rattle.cg_search.specs.Search.{HasNoHub, IsFound}
 use Rattle.cg_search.proofs.answering.over_hub.Goals as goal
 

@@ -1,5 +1,5 @@
 use Rattle.std.proofs.Common.{◌≡◌, ◌+◌, length}
-use Rattle.cg_task.specs.Intervals.{last_tried}
+use Rattle.cg_intervals.specs.Intervals.{last_tried}
 use Rattle.cg_search.specs.Course.{AreMisses}
 use Rattle.cg_search.proofs.retrying.retry.Given as goal
 

@@ -1,6 +1,6 @@
 use Rattle.std.proofs.Common.{arith}
-use Rattle.cg_task.specs.Intervals.{last_tried}
-use Rattle.cg_task.proofs.Intervals.{offered}
+use Rattle.cg_intervals.specs.Intervals.{last_tried}
+use Rattle.cg_intervals.proofs.Intervals.{offered}
 use Rattle.cg_search.proofs.Begins.{posed_within, free_from}
 use Rattle.cg_search.proofs.trying.search_at.Goals as goal
 

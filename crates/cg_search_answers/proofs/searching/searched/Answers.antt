@@ -2,7 +2,7 @@ use Rattle.std.proofs.Common.{map, string_bytes, ◌∙◌, subst, sym}
 use Rattle.std.proofs.lemmas.Result.{IfOk-weaker}
 use Rattle.cg_effects.specs.Outcome.{outcome_of}
 use Rattle.cg_inputs.specs.Sources.{Pair}
-use Rattle.cg_task.specs.declared.answering.Answer.TheVariants as answer
+use Rattle.cg_intervals.specs.declared.answering.Answer.TheVariants as answer
 use Rattle.cg_task_answers.specs.Searches.{IsWithin}
 use Rattle.cg_search_answers.specs.Search.{word, IsLeftReport, IsAnswerOf, IsSearched, IsFoundWithin, AreFaults}
 use Rattle.cg_task_answers.proofs.Searched.{spent_few}

@@ -3,7 +3,7 @@ use Rattle.cg_model.specs.Kernel.{IsKernel}
 use Rattle.cg_walk_spec.specs.declared.edge.EdgeOperand.{EdgeOperand}
 use Rattle.cg_walk_spec.specs.Walk.{unrouted_start}
 use Rattle.cg_walk_spec.proofs.Small.{edges_few}
-use Rattle.cg_task.specs.Posed.{Posed, IsTask}
+use Rattle.cg_place.specs.Posed.{Posed, IsTask}
 use Rattle.cg_anneal.proofs.Ready.{ready, posed}
 use Rattle.cg_anneal.proofs.Keeping as keeping
 use Rattle.cg_anneal.proofs.walk.Walk.start.Goals as goal

@@ -1,8 +1,8 @@
 use Rattle.std.proofs.Common.{None, subst}
 use Rattle.cg_bound.specs.Bound.{IsBoundBy}
-use Rattle.cg_task.specs.Intervals.{last_tried}
-use Rattle.cg_task.proofs.Intervals.{never_unbounded}
-use Rattle.cg_task.proofs.tried.first_tried.Goals as goal
+use Rattle.cg_intervals.specs.Intervals.{last_tried}
+use Rattle.cg_intervals.proofs.Intervals.{never_unbounded}
+use Rattle.cg_intervals.proofs.tried.first_tried.Goals as goal
 
 pub unreachable-requires : goal.unreachable-requires
 unreachable-requires c =

@@ -13,7 +13,7 @@ use Rattle.cg_bound.specs.Bound.{IsForbidden, IsOpen, AllOffered, IsBoundBy, Cer
 use Rattle.cg_bound.proofs.Intervals.{one_mii, exactly_below, certifies}
 use Rattle.cg_bound.proofs.Offers.{unit_for, never_open}
 use Rattle.cg_place.specs.Placed.{IsOffered}
-use Rattle.cg_task.specs.Intervals.{IsAsked, last_tried, IsFirst}
+use Rattle.cg_intervals.specs.Intervals.{IsAsked, last_tried, IsFirst}
 
 -- nothing forbids an open interval
 pub not_both : (A : Arch) (K : Kernel) (ii : ℕ) → IsOpen A K ii → IsForbidden A K ii → ⊥

@@ -17,7 +17,7 @@ pub struct Task<'a> {
 }
 
 impl<'a> Model for Task<'a> {
-    ghost use Rattle.cg_task.specs.Posed.{Posed, IsTask};
+    ghost use Rattle.cg_place.specs.Posed.{Posed, IsTask};
 
     ghost Value = { Posed };
 
@@ -30,7 +30,7 @@ impl<'a> Task<'a> {
     ghost use Rattle.std.specs.Prelude.{◌≡◌, ◌<◌, ◌≤◌, IfOk};
     ghost use Rattle.cg_recur.specs.Recurrences.{HasNoRecurrence};
     ghost use Rattle.cg_place.specs.Placed.{IsOffered};
-    ghost use Rattle.cg_task.specs.Posed.{IsTask};
+    ghost use Rattle.cg_place.specs.Posed.{IsTask};
 
     /// Returns the task of `kernel` on `arch`, at the interval `ii`.
     pub fn new(

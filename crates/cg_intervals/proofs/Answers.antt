@@ -9,11 +9,11 @@ use Rattle.cg_bound.specs.declared.interval.IntervalVerdict.{IntervalVerdict}
 use Rattle.cg_bound.specs.declared.interval.IntervalVerdict.TheVariants as verdict
 use Rattle.cg_bound.specs.Bound.{IsOpen, IsVerdict, IsBoundBy, Shows}
 use Rattle.cg_bound.proofs.Always.{some_bound, some_verdict}
-use Rattle.cg_task.specs.declared.answering.Answer.{Answer}
-use Rattle.cg_task.specs.declared.answering.Answer.TheVariants.{Impossible, Mapped, Spent}
-use Rattle.cg_task.specs.Intervals.{last_tried, IsFirst}
-use Rattle.cg_task.specs.Answers.{IsSearched, IsAnswer}
-use Rattle.cg_task.proofs.Intervals.{never_unbounded, not_both, shown_forbids}
+use Rattle.cg_intervals.specs.declared.answering.Answer.{Answer}
+use Rattle.cg_intervals.specs.declared.answering.Answer.TheVariants.{Impossible, Mapped, Spent}
+use Rattle.cg_intervals.specs.Intervals.{last_tried, IsFirst}
+use Rattle.cg_intervals.specs.Answers.{IsSearched, IsAnswer}
+use Rattle.cg_intervals.proofs.Intervals.{never_unbounded, not_both, shown_forbids}
 
 -- a list as a value of the program: where it would stand in memory is no matter of what is said of it
 abbrev pub held : (left : List ℕ) → length left < 2 ^ 60 → Vec ℕ

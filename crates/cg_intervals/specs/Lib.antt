@@ -1,3 +1,2 @@
-pub mod Posed
 pub mod Intervals
 pub mod Answers

@@ -3,9 +3,9 @@ use Rattle.std.specs.Prelude.{ℕ, Option}
 use Rattle.cg_model.specs.Kernel.{Kernel}
 use Rattle.cg_model.specs.Array.{Arch}
 use Rattle.cg_bound.specs.Bound.{IsOpen, Shows}
-use Rattle.cg_task.specs.declared.answering.Answer.{Answer}
-use Rattle.cg_task.specs.declared.answering.Answer.TheVariants.{Impossible, Mapped, Spent}
-use Rattle.cg_task.specs.Intervals.{last_tried, IsFirst}
+use Rattle.cg_intervals.specs.declared.answering.Answer.{Answer}
+use Rattle.cg_intervals.specs.declared.answering.Answer.TheVariants.{Impossible, Mapped, Spent}
+use Rattle.cg_intervals.specs.Intervals.{last_tried, IsFirst}
 
 -- the answer is a mapping
 abbrev pub IsMapping : Answer → Type 0

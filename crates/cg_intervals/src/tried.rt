@@ -1,8 +1,8 @@
 //! The intervals that a search tries.
 ghost use Rattle.std.specs.Prelude.{◌≡◌, IfOk};
 ghost use Rattle.cg_bound.specs.Bound.{IsOpen};
-ghost use Rattle.cg_task.specs.Intervals as spec;
-ghost use Rattle.cg_task.specs.Intervals.{IsFirst};
+ghost use Rattle.cg_intervals.specs.Intervals as spec;
+ghost use Rattle.cg_intervals.specs.Intervals.{IsFirst};
 
 use cg_arch::Arch;
 use cg_bound::bound;
