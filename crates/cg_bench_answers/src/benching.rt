@@ -3,7 +3,7 @@ ghost use Rattle.std.specs.Prelude.{◌≡◌, ◌<◌, ◌≤◌, ℕ, IfOk, If
 ghost use Rattle.cg_model.specs.Canonical.{IsCanonical};
 ghost use Rattle.cg_model.specs.Limits.{most_turns};
 ghost use Rattle.cg_model.specs.Machine.{cycles, machine_left};
-ghost use Rattle.cg_effects.specs.Allowed.{Allows};
+ghost use Rattle.cg_cause.specs.Allowed.{Allows};
 ghost use Rattle.cg_effects.specs.Outcome.{file_of};
 ghost use Rattle.cg_pad.specs.Bytes as images;
 ghost use Rattle.cg_pad.specs.Bytes.{IsStorable};
@@ -11,7 +11,8 @@ ghost use Rattle.cg_run_answers.specs.Run.{array_by_image, run_report};
 ghost use Rattle.cg_bench_answers.specs.Bench.{IsBench, benched};
 
 use cg_arch::Arch;
-use cg_effects::{File, Outcome, Status, Stop};
+use cg_cause::Stop;
+use cg_effects::{File, Outcome, Status};
 use cg_inputs::{arch_in, config_in, image_in};
 use cg_pad::Image;
 use cg_run_answers::too_large;

@@ -1,10 +1,10 @@
 -- From what the file gives to what `verilog` allows.
 use Rattle.std.proofs.Common.{◌≡◌, Ok, Err}
 use Rattle.cg_model.specs.Array.{Arch}
-use Rattle.cg_effects.specs.declared.read.Stop.{Stop}
-use Rattle.cg_effects.specs.Allowed.{EndsBy}
+use Rattle.cg_cause.specs.declared.stop.Stop.{Stop}
+use Rattle.cg_cause.specs.Allowed.{EndsBy}
 use Rattle.cg_effects.specs.Outcome.{Name, File, Outcome}
-use Rattle.cg_effects.proofs.Allowed.{ends_weaker}
+use Rattle.cg_cause.proofs.Allowed.{ends_weaker}
 use Rattle.cg_tiles.specs.Answer.{AreValidBytes}
 use Rattle.cg_inputs.specs.Refused.{RefusesArch}
 use Rattle.cg_commands.specs.Verilog.{IsVerilog, netlisted}

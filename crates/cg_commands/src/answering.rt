@@ -1,14 +1,15 @@
 //! The answer of a planned command.
 ghost use Rattle.std.specs.Prelude.{length, map, string_bytes};
-ghost use Rattle.cg_effects.specs.Allowed.{Allows};
+ghost use Rattle.cg_cause.specs.Allowed.{Allows};
 ghost use Rattle.cg_effects.specs.Outcome.{file_of};
 ghost use Rattle.cg_command.specs.Words.{HasShape};
 ghost use Rattle.cg_commands.specs.Commands.{IsAnswer};
 
 use crate::shaped;
+use cg_cause::Stop;
 use cg_command::{Command, Plan};
 use cg_diagnostics::Aside;
-use cg_effects::{File, Outcome, Stop};
+use cg_effects::{File, Outcome};
 use std::alloc::Global;
 
 /// Returns the outcome of the command of `plan` for `files`, its input files in the order of reading. `aside` receives

@@ -1,11 +1,12 @@
 //! `depend KERNEL OUT`.
 ghost use Rattle.std.specs.Prelude.{◌≡◌, IfOk};
-ghost use Rattle.cg_effects.specs.Allowed.{Allows};
+ghost use Rattle.cg_cause.specs.Allowed.{Allows};
 ghost use Rattle.cg_effects.specs.Outcome.{file_of};
 ghost use Rattle.cg_commands.specs.Depend.{IsDependOf, DependOf, written_of, depend_report};
 
-use cg_depend::{DependDone, DependFault, depend as depend_on, depend_fault_text};
-use cg_effects::{File, Outcome, Status, Stop, refusal};
+use cg_cause::{Cause, Stop};
+use cg_depend::{DependDone, DependFault, depend as depend_on};
+use cg_effects::{File, Outcome, Status};
 use cg_inputs::kernel_in;
 use cg_kernel_text::print_kernel;
 use cg_model::Kernel;
@@ -27,10 +28,7 @@ fn depended(alloc: Global, file: &File, kernel: &Kernel, out: &str) -> Result<Ou
     match depend_on(alloc, kernel) {
         Ok(done) => written(alloc, &done, out),
         Err(DependFault::Memory) => Err(Stop::Memory),
-        Err(fault) => {
-            let text = depend_fault_text(alloc, fault)?;
-            Err(refusal(alloc, file, text.as_str()))
-        }
+        Err(fault) => Err(Stop::refused(alloc, file, Cause::Depend(fault))),
     }
 }
 

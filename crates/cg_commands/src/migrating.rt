@@ -1,15 +1,16 @@
 //! `migrate ARCH BITS OUT`.
 ghost use Rattle.std.specs.Prelude.{◌≡◌, IfOk};
 ghost use Rattle.cg_model.specs.Canonical.{IsCanonical};
-ghost use Rattle.cg_effects.specs.Allowed.{Allows};
+ghost use Rattle.cg_cause.specs.Allowed.{Allows};
 ghost use Rattle.cg_effects.specs.Outcome.{file_of};
 ghost use Rattle.cg_bits.specs.Answers.{answer_in};
 ghost use Rattle.cg_bits.specs.Format.{cgb1};
 ghost use Rattle.cg_commands.specs.Migrate.{IsMigrate, IsRewritten, MigrateBits, migrate_report};
 
 use cg_arch::Arch;
-use cg_bits::{BitsFault, Config, Contexts, first_fault_text, read_bits_1, write_bits};
-use cg_effects::{File, Outcome, Status, Stop, refusal};
+use cg_bits::{BitsFault, Config, Contexts, read_bits_1, write_bits};
+use cg_cause::{Cause, Stop};
+use cg_effects::{File, Outcome, Status};
 use cg_inputs::arch_in;
 use std::alloc::{AllocError, Global};
 
@@ -30,10 +31,7 @@ fn migrated(alloc: Global, array: &Arch, file: &File, out: &str) -> Result<Outco
     match read_bits_1(alloc, array, file.bytes.as_slice()) {
         Ok(config) => rewritten(alloc, array, &config, out),
         Err(BitsFault::Memory) => Err(Stop::Memory),
-        Err(fault) => {
-            let text = first_fault_text(alloc, fault)?;
-            Err(refusal(alloc, file, text.as_str()))
-        }
+        Err(fault) => Err(Stop::refused(alloc, file, Cause::FirstBits(fault))),
     }
 }
 

@@ -1,11 +1,12 @@
 //! `verilog ARCH OUT`.
 ghost use Rattle.std.specs.Prelude.{◌≡◌, IfOk};
-ghost use Rattle.cg_effects.specs.Allowed.{Allows};
+ghost use Rattle.cg_cause.specs.Allowed.{Allows};
 ghost use Rattle.cg_effects.specs.Outcome.{file_of};
 ghost use Rattle.cg_commands.specs.Verilog.{IsVerilog, netlisted, verilog_report};
 
 use cg_arch::Arch;
-use cg_effects::{File, Outcome, Status, Stop};
+use cg_cause::Stop;
+use cg_effects::{File, Outcome, Status};
 use cg_inputs::arch_in;
 use cg_netlist::{NetGraph, netlist, verilog as text_of};
 use std::alloc::{AllocError, Global};

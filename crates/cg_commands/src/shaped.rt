@@ -1,14 +1,15 @@
 //! The commands, each with the files and the names that its shape requires.
 ghost use Rattle.std.specs.Prelude.{length, map, string_bytes};
-ghost use Rattle.cg_effects.specs.Allowed.{Allows};
+ghost use Rattle.cg_cause.specs.Allowed.{Allows};
 ghost use Rattle.cg_effects.specs.Outcome.{file_of};
 ghost use Rattle.cg_command.specs.Words.{HasShape};
 ghost use Rattle.cg_commands.specs.Commands.{IsAnswer};
 
 use crate::{depending, migrating, netlisting};
+use cg_cause::Stop;
 use cg_command::Command;
 use cg_diagnostics::Aside;
-use cg_effects::{File, Outcome, Status, Stop};
+use cg_effects::{File, Outcome, Status};
 use cg_model::Request;
 use std::alloc::Global;
 

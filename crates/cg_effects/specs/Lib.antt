@@ -3,4 +3,3 @@ pub mod Outcome
 pub mod Reads
 pub mod Status
 pub mod Refusals
-pub mod Allowed

@@ -2,8 +2,8 @@
 use Rattle.std.specs.Prelude.{◌≡◌, ◌<◌, ◌≤◌, ◌++◌, ◌∷◌, [], ◌⊎◌, ℕ, List, map, length, All, codes, slice_index}
 use Rattle.cg_files.specs.Held.{Held, Holds, IsMissing, IsLonger}
 use Rattle.cg_effects.specs.declared.outcome.Status.TheVariants.{ReadFault, Malformed}
-use Rattle.cg_effects.specs.declared.read.Stop.{Stop}
-use Rattle.cg_effects.specs.declared.read.Stop.TheVariants.{Ended, Memory}
+use Rattle.cg_effects.specs.declared.read.Unread.{Unread}
+use Rattle.cg_effects.specs.declared.read.Unread.TheVariants.{Ended, Memory}
 use Rattle.cg_effects.specs.Outcome.{Name, File, Outcome, outcome_of, line_of}
 
 -- the greatest number of bytes of an input file
@@ -50,6 +50,6 @@ pub record StopsAt (held : Held) (rose : Type 0) (names : List Name) (outcome : 
       ⊎ ((outcome ≡ too_long_of name) × IsLonger held name read_limit)
 
 -- the reading ended before all files were read: with an outcome, or because memory ran out
-abbrev pub IsStop : Held → Type 0 → List Name → Stop → Type 0
-IsStop held rose names (Ended outcome) = StopsAt held rose names (outcome_of outcome)
-IsStop held rose names Memory = Unit {0}
+abbrev pub IsUnread : Held → Type 0 → List Name → Unread → Type 0
+IsUnread held rose names (Ended outcome) = StopsAt held rose names (outcome_of outcome)
+IsUnread held rose names Memory = Unit {0}

@@ -8,5 +8,5 @@ mod refusals;
 
 pub use finishing::finish;
 pub use outcome::{File, Outcome, Status};
-pub use read::{READ_LIMIT, Stop, read_all};
-pub use refusals::{malformed, refusal, usage};
+pub use read::{READ_LIMIT, Unread, read_all};
+pub use refusals::{malformed, usage};

@@ -3,7 +3,7 @@ ghost use Rattle.std.specs.Prelude.{◌≡◌, ◌<◌, ◌≤◌, ℕ, All, IfO
 ghost use Rattle.cg_files.specs.Asked.{NotesAll, NotesPart};
 ghost use Rattle.cg_files.specs.Causes.{Rose};
 ghost use Rattle.cg_effects.specs.Outcome.{file_of, outcome_of};
-ghost use Rattle.cg_effects.specs.Reads.{AreRead, HoldsBytes, IsStop, read_fault_of, too_long_of};
+ghost use Rattle.cg_effects.specs.Reads.{AreRead, HoldsBytes, IsUnread, read_fault_of, too_long_of};
 
 use crate::outcome::{File, Outcome, Status};
 use cg_files::{Store, StoreFail};
@@ -14,42 +14,46 @@ pub const READ_LIMIT: u64 = 16_777_216;
 
 /// Why the reading of a command's inputs ended before all were read.
 #[derive(Drop)]
-pub enum Stop {
+pub enum Unread {
     /// A file couldn't be read, or is too long: the call ends with this outcome.
     Ended(Outcome),
     /// Memory ran out.
     Memory,
 }
 
-impl From<AllocError> for Stop {
+impl From<AllocError> for Unread {
     ghost use Rattle.std.specs.Prelude.{◌≡◌};
-    ghost use Rattle.cg_effects.specs.declared.read.Stop.TheVariants.{Memory};
+    ghost use Rattle.cg_effects.specs.declared.read.Unread.TheVariants.{Memory};
 
     ghost from_gives = { λ _ e. e ≡ Memory };
 
-    fn from(_error: AllocError) -> Stop {
-        Stop::Memory
+    fn from(_error: AllocError) -> Unread {
+        Unread::Memory
     }
 }
 
-impl<T: Drop> From<AllocFailed<T>> for Stop {
+impl<T: Drop> From<AllocFailed<T>> for Unread {
     ghost use Rattle.std.specs.Prelude.{◌≡◌};
-    ghost use Rattle.cg_effects.specs.declared.read.Stop.TheVariants.{Memory};
+    ghost use Rattle.cg_effects.specs.declared.read.Unread.TheVariants.{Memory};
 
     ghost from_gives = { λ _ e. e ≡ Memory };
 
-    fn from(_error: AllocFailed<T>) -> Stop {
-        Stop::Memory
+    fn from(_error: AllocFailed<T>) -> Unread {
+        Unread::Memory
     }
 }
 
 /// Reads the files `names` from `store` in order, up to the first that can't be read or is too long.
-pub fn read_all<S: Store>(alloc: Global, names: &[String], store: &mut S) -> Result<Vec<File>, Stop>
+pub fn read_all<S: Store>(
+    alloc: Global,
+    names: &[String],
+    store: &mut S,
+) -> Result<Vec<File>, Unread>
     ensures ok { IfOk result (λ files.
         AreRead (S.held store.old) (map string_bytes names.now) (map file_of files.items)) }
     // This holds even where the store doesn't reveal what it holds.
     ensures bytes { IfOk result (λ files. All HoldsBytes (map file_of files.items)) }
-    ensures stopped { IfErr result (IsStop (S.held store.old)
+    ensures stopped { IfErr result (IsUnread (S.held store.old)
         (Rose (S.read_faults store.old) (S.read_faults store.new)) (map string_bytes names.now)) }
     // Each name was asked for once, in order, up to the one at which the reading ended.
     ensures asked { NotesPart (S.asked store.old) (map string_bytes names.now) (S.asked store.new) }
@@ -68,9 +72,12 @@ pub fn read_all<S: Store>(alloc: Global, names: &[String], store: &mut S) -> Res
                 let name = String::from_str(alloc, name.as_str())?;
                 files.push(File { name, bytes })?;
             }
-            Err(StoreFail::Failed) => return Err(Stop::Ended(read_fault(alloc, name.as_str())?)),
-            Err(StoreFail::TooLong(_)) => return Err(Stop::Ended(too_long(alloc, name.as_str())?)),
-            Err(StoreFail::Memory) => return Err(Stop::Memory),
+            Err(StoreFail::Failed) => return Err(Unread::Ended(read_fault(alloc, name.as_str())?)),
+            Err(StoreFail::TooLong(_)) => return Err(Unread::Ended(too_long(
+                alloc,
+                name.as_str(),
+            )?)),
+            Err(StoreFail::Memory) => return Err(Unread::Memory),
         }
     }
     Ok(files)

@@ -1,11 +1,9 @@
 //! The outcomes of refusals that are not specific to one command.
 ghost use Rattle.std.specs.Prelude.{◌≡◌, [], IfOk};
-ghost use Rattle.cg_effects.specs.Outcome.{file_of, outcome_of};
-ghost use Rattle.cg_effects.specs.Allowed.{EndsBy};
+ghost use Rattle.cg_effects.specs.Outcome.{outcome_of};
 ghost use Rattle.cg_effects.specs.Refusals.{malformed_of, usage_outcome};
 
-use crate::outcome::{File, Outcome, Status};
-use crate::read::Stop;
+use crate::outcome::{Outcome, Status};
 use std::alloc::{AllocError, Global};
 
 /// Returns the outcome where the arguments fit no command.
@@ -24,14 +22,4 @@ pub fn malformed(alloc: Global, file: &str, fault: &str) -> Result<Outcome, Allo
 {
     let report = format!(in alloc; "malformed {file}: {fault}\n")?;
     Ok(Outcome::new(alloc, Status::Malformed, report.into_bytes()))
-}
-
-/// Returns the stop that ends a call where a reader refuses `file` with the fault `fault`.
-pub fn refusal(alloc: Global, file: &File, fault: &str) -> Stop
-    ensures { EndsBy (λ o. o ≡ malformed_of (file_of file.now).name fault.now) result }
-{
-    match malformed(alloc, file.name.as_str(), fault) {
-        Ok(outcome) => Stop::Ended(outcome),
-        Err(AllocError) => Stop::Memory,
-    }
 }

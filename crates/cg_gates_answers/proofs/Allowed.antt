@@ -4,10 +4,10 @@ use Rattle.std.proofs.lemmas.Bool.{lt-ltb, le-ltb}
 use Rattle.cg_model.specs.Array.{Arch}
 use Rattle.cg_model.specs.Config.{Config}
 use Rattle.cg_model.specs.Work.{Image}
-use Rattle.cg_effects.specs.declared.read.Stop.{Stop}
-use Rattle.cg_effects.specs.Allowed.{EndsBy}
+use Rattle.cg_cause.specs.declared.stop.Stop.{Stop}
+use Rattle.cg_cause.specs.Allowed.{EndsBy}
 use Rattle.cg_effects.specs.Outcome.{Name, File, Outcome}
-use Rattle.cg_effects.proofs.Allowed.{ends_weaker}
+use Rattle.cg_cause.proofs.Allowed.{ends_weaker}
 use Rattle.cg_tiles.specs.Answer.{AreValidBytes}
 use Rattle.cg_pad.specs.Bytes as images
 use Rattle.cg_bits.specs.Answers as bits

@@ -1,17 +1,18 @@
 //! Reads the file of a netlist. A file without a valid netlist ends the call with the outcome that refuses it.
 ghost use Rattle.std.specs.Prelude.{◌≡◌, IfOk, IfErr, OnOk, Ok};
-ghost use Rattle.cg_effects.specs.Allowed.{EndsBy};
+ghost use Rattle.cg_cause.specs.Allowed.{EndsBy};
 ghost use Rattle.cg_effects.specs.Outcome.{file_of};
 ghost use Rattle.cg_netlist_reader.specs.Reading as netlists;
 ghost use Rattle.cg_gates.specs.Accepts.{IsAccepted};
 ghost use Rattle.cg_gates_answers.specs.Refused.{RefusesNetlist, RefusesGates};
 
 use cg_arch::Arch;
-use cg_effects::{File, Stop, refusal};
-use cg_gates::{GateFault, gate_fault_text};
+use cg_cause::{Cause, Stop};
+use cg_effects::File;
+use cg_gates::GateFault;
 use cg_gates_run::Gates;
 use cg_netlist::NetGraph;
-use cg_netlist_reader::{VerilogFault, read_verilog, verilog_fault_text};
+use cg_netlist_reader::{VerilogFault, read_verilog};
 use std::alloc::Global;
 
 /// Reads the netlist in `file`. A fault in it ends the call with status 3.
@@ -22,10 +23,7 @@ pub(crate) fn netlist_in(alloc: Global, file: &File) -> Result<NetGraph, Stop>
     match read_verilog(alloc, file.bytes.as_slice()) {
         Ok(graph) => Ok(graph),
         Err(VerilogFault::Memory) => Err(Stop::Memory),
-        Err(fault) => {
-            let text = verilog_fault_text(alloc, &fault)?;
-            Err(refusal(alloc, file, text.as_str()))
-        }
+        Err(fault) => Err(Stop::refused(alloc, file, Cause::Netlist(fault))),
     }
 }
 
@@ -43,9 +41,6 @@ pub(crate) fn gates_in<'a>(
     match Gates::build(alloc, arch, graph) {
         Ok(gates) => Ok(gates),
         Err(GateFault::Memory) => Err(Stop::Memory),
-        Err(fault) => {
-            let text = gate_fault_text(alloc, &fault)?;
-            Err(refusal(alloc, file, text.as_str()))
-        }
+        Err(fault) => Err(Stop::refused(alloc, file, Cause::Gates(fault))),
     }
 }

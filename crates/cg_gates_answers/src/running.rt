@@ -2,14 +2,15 @@
 ghost use Rattle.std.specs.Prelude.{◌≡◌, ◌≤◌};
 ghost use Rattle.cg_model.specs.Canonical.{IsCanonical};
 ghost use Rattle.cg_model.specs.Limits.{most_turns};
-ghost use Rattle.cg_effects.specs.Allowed.{Allows};
+ghost use Rattle.cg_cause.specs.Allowed.{Allows};
 ghost use Rattle.cg_effects.specs.Outcome.{file_of};
 ghost use Rattle.cg_pad.specs.Bytes as images;
 ghost use Rattle.cg_gates_answers.specs.Netlist.{IsNetlistRun, OfImage, OfNetlistFile, OfGates, gates_ran, run_by_size};
 
 use crate::reading::{gates_in, netlist_in};
 use cg_arch::Arch;
-use cg_effects::{File, Outcome, Stop};
+use cg_cause::Stop;
+use cg_effects::{File, Outcome};
 use cg_gates_run::{GateRun, Gates};
 use cg_inputs::{arch_in, config_in, image_in};
 use cg_netlist::NetGraph;

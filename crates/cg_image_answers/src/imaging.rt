@@ -3,12 +3,13 @@ ghost use Rattle.std.specs.Prelude.{◌≡◌, ◌<◌, ◌++◌, IfOk, OnOk};
 ghost use Rattle.cg_list_laws.specs.Below.{lists_below};
 ghost use Rattle.cg_model.specs.Limits.{port_count};
 ghost use Rattle.cg_pad.specs.Bytes.{IsStorable};
-ghost use Rattle.cg_effects.specs.Allowed.{Allows};
+ghost use Rattle.cg_cause.specs.Allowed.{Allows};
 ghost use Rattle.cg_effects.specs.Outcome.{file_of};
 ghost use Rattle.cg_image_answers.specs.Image.{image_of, image_report, image_written, stream_line};
 
-use cg_effects::{File, Outcome, Status, Stop, refusal};
-use cg_image_text::{TextFault, read_text, text_fault_text};
+use cg_cause::{Cause, Stop};
+use cg_effects::{File, Outcome, Status};
+use cg_image_text::{TextFault, read_text};
 use cg_pad::{Image, PORTS, write_image};
 use std::alloc::{AllocError, Global};
 
@@ -19,10 +20,7 @@ pub fn image(alloc: Global, file: &File, out: &str) -> Result<Outcome, Stop>
     match read_text(alloc, file.bytes.as_slice()) {
         Ok(image) => written(alloc, &image, out),
         Err(TextFault::Memory) => Err(Stop::Memory),
-        Err(fault) => {
-            let text = text_fault_text(alloc, fault)?;
-            Err(refusal(alloc, file, text.as_str()))
-        }
+        Err(fault) => Err(Stop::refused(alloc, file, Cause::ImageText(fault))),
     }
 }
 

@@ -4,5 +4,4 @@ pub mod Refusals
 pub mod Arrays
 pub mod Paired
 pub mod Mapped
-pub mod Refused
 pub mod Read

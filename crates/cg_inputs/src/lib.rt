@@ -1,12 +1,13 @@
 //! What the input files of a command contain: an architecture, a kernel, a mapping, an image or a configuration, or
-//! else the outcome that refuses the file.
+//! else the cause for which the file is refused.
 #![tactic(auto)]
 
 mod readers;
 
 pub use cg_arch::Arch;
+pub use cg_cause::Stop;
 pub use cg_check::LegalMapping;
-pub use cg_effects::{File, Outcome, Stop};
+pub use cg_effects::{File, Outcome};
 pub use cg_model::{Kernel, Mapping};
 pub use cg_pad::Image;
 pub use cg_view::ConfigView;

@@ -1,11 +1,11 @@
-//! Readers of input files. A file that can't be parsed ends the call with the outcome that refuses it.
+//! Readers of input files. A file that can't be parsed ends the command, with the fault that its reader found.
 ghost use Rattle.std.specs.Prelude.{◌≡◌, ◌≤◌, Ok, IfOk, IfErr, length};
 ghost use Rattle.cg_model.specs.Array.{IsArch};
 ghost use Rattle.cg_model.specs.Canonical.{IsCanonical};
 ghost use Rattle.cg_model.specs.Kernel.{IsKernel};
 ghost use Rattle.cg_model.specs.Limits.{most_memory};
 ghost use Rattle.cg_model.specs.Mapping.{IsShaped};
-ghost use Rattle.cg_effects.specs.Allowed.{EndsBy};
+ghost use Rattle.cg_cause.specs.Allowed.{EndsBy};
 ghost use Rattle.cg_effects.specs.Outcome.{file_of};
 ghost use Rattle.cg_tiles.specs.Answer.{AreValidBytes};
 ghost use Rattle.cg_kernel.specs.Answer as kernels;
@@ -15,13 +15,14 @@ ghost use Rattle.cg_bits.specs.Answers as bits;
 ghost use Rattle.cg_inputs.specs.Refused.{RefusesArch, RefusesBits, RefusesImage, RefusesKernel, RefusesMapping};
 
 use cg_arch::Arch;
-use cg_effects::{File, Stop, refusal};
-use cg_kernel::{KernelFault, kernel_fault_text, read_kernel};
-use cg_mapping::{MappingFault, mapping_fault_text, read_mapping};
+use cg_cause::{Cause, Stop};
+use cg_effects::File;
+use cg_kernel::{KernelFault, read_kernel};
+use cg_mapping::{MappingFault, read_mapping};
 use cg_model::{Kernel, Mapping};
-use cg_pad::{Image, ImageFault, image_fault_text, read_image};
-use cg_tiles::{TilesFault, read_arch, tiles_fault_text};
-use cg_view::{BitsFault, ConfigView, bits_fault_text};
+use cg_pad::{Image, ImageFault, read_image};
+use cg_tiles::{TilesFault, read_arch};
+use cg_view::{BitsFault, ConfigView};
 use std::alloc::Global;
 
 /// Reads the architecture in `file`. A fault in it ends the call with status 3.
@@ -33,10 +34,7 @@ pub fn arch_in(alloc: Global, file: &File) -> Result<Arch, Stop>
     match read_arch(alloc, file.bytes.as_slice()) {
         Ok(arch) => Ok(arch),
         Err(TilesFault::Memory) => Err(Stop::Memory),
-        Err(fault) => {
-            let text = tiles_fault_text(alloc, &fault)?;
-            Err(refusal(alloc, file, text.as_str()))
-        }
+        Err(fault) => Err(Stop::refused(alloc, file, Cause::Arch(fault))),
     }
 }
 
@@ -49,10 +47,7 @@ pub fn kernel_in(alloc: Global, file: &File) -> Result<Kernel, Stop>
     match read_kernel(alloc, file.bytes.as_slice()) {
         Ok(kernel) => Ok(kernel),
         Err(KernelFault::Memory) => Err(Stop::Memory),
-        Err(fault) => {
-            let text = kernel_fault_text(alloc, &fault)?;
-            Err(refusal(alloc, file, text.as_str()))
-        }
+        Err(fault) => Err(Stop::refused(alloc, file, Cause::Kernel(fault))),
     }
 }
 
@@ -66,10 +61,7 @@ pub fn mapping_in(alloc: Global, arch: &Arch, kernel: &Kernel, file: &File) -> R
     match read_mapping(alloc, arch, kernel, file.bytes.as_slice()) {
         Ok(mapping) => Ok(mapping),
         Err(MappingFault::Memory) => Err(Stop::Memory),
-        Err(fault) => {
-            let text = mapping_fault_text(alloc, &fault)?;
-            Err(refusal(alloc, file, text.as_str()))
-        }
+        Err(fault) => Err(Stop::refused(alloc, file, Cause::Mapping(fault))),
     }
 }
 
@@ -82,10 +74,7 @@ pub fn image_in(alloc: Global, file: &File) -> Result<Image, Stop>
     match read_image(alloc, file.bytes.as_slice()) {
         Ok(image) => Ok(image),
         Err(ImageFault::Memory) => Err(Stop::Memory),
-        Err(fault) => {
-            let text = image_fault_text(alloc, fault)?;
-            Err(refusal(alloc, file, text.as_str()))
-        }
+        Err(fault) => Err(Stop::refused(alloc, file, Cause::Image(fault))),
     }
 }
 
@@ -99,9 +88,6 @@ pub fn config_in<'a>(alloc: Global, arch: &'a Arch, file: &'a File) -> Result<Co
     match ConfigView::of(arch, file.bytes.as_slice()) {
         Ok(config) => Ok(config),
         Err(BitsFault::Memory) => Err(Stop::Memory),
-        Err(fault) => {
-            let text = bits_fault_text(alloc, fault)?;
-            Err(refusal(alloc, file, text.as_str()))
-        }
+        Err(fault) => Err(Stop::refused(alloc, file, Cause::Bits(fault))),
     }
 }

@@ -1,15 +1,16 @@
 //! `loop SOURCE OUT`.
 ghost use Rattle.std.specs.Prelude.{◌≡◌, IfOk};
-ghost use Rattle.cg_effects.specs.Allowed.{Allows};
+ghost use Rattle.cg_cause.specs.Allowed.{Allows};
 ghost use Rattle.cg_effects.specs.Outcome.{file_of};
 ghost use Rattle.cg_loop_syntax.specs.Body.{body_of};
 ghost use Rattle.cg_loop_laws.specs.Translate.{loop_kernel_of};
 ghost use Rattle.cg_loop_answers.specs.Loop.{IsLoopOf, kernel_outcome, kernel_written, loop_report};
 
 use crate::reading::body_in;
-use cg_effects::{File, Outcome, Status, Stop, refusal};
+use cg_cause::{Cause, Stop};
+use cg_effects::{File, Outcome, Status};
 use cg_kernel_text::print_kernel;
-use cg_loop::{LoopBody, LoopFault, loop_fault_text, loop_kernel};
+use cg_loop::{LoopBody, LoopFault, loop_kernel};
 use cg_model::Kernel;
 use std::alloc::{AllocError, Global};
 
@@ -28,10 +29,7 @@ fn translated(alloc: Global, file: &File, body: &LoopBody, out: &str) -> Result<
     match loop_kernel(alloc, body) {
         Ok(kernel) => written(alloc, &kernel, out),
         Err(LoopFault::Memory) => Err(Stop::Memory),
-        Err(fault) => {
-            let text = loop_fault_text(alloc, &fault)?;
-            Err(refusal(alloc, file, text.as_str()))
-        }
+        Err(fault) => Err(Stop::refused(alloc, file, Cause::Loop(fault))),
     }
 }
 

@@ -1,13 +1,14 @@
 //! `bound ARCH KERNEL`.
 ghost use Rattle.std.specs.Prelude.{◌≡◌, ◌∷◌, ◌++◌, [], IfOk};
-ghost use Rattle.cg_effects.specs.Allowed.{Allows};
+ghost use Rattle.cg_cause.specs.Allowed.{Allows};
 ghost use Rattle.cg_effects.specs.Outcome.{file_of, line_of};
 ghost use Rattle.cg_mapping_answers.specs.Bound as spec;
 ghost use Rattle.cg_mapping_answers.specs.Bound.{IsBoundOf, IsBounded, bound_report, first_line};
 
 use cg_arch::Arch;
 use cg_bound::{LeastInterval, bound as least_interval, certificate_text};
-use cg_effects::{File, Outcome, Status, Stop};
+use cg_cause::Stop;
+use cg_effects::{File, Outcome, Status};
 use cg_inputs::{arch_in, kernel_in};
 use cg_model::Kernel;
 use std::alloc::{AllocError, Global};

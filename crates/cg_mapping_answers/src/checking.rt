@@ -1,15 +1,16 @@
 //! `check ARCH KERNEL MAPPING`.
 ghost use Rattle.std.specs.Prelude.{◌≡◌};
 ghost use Rattle.cg_model.specs.Mapping.{IsShaped};
-ghost use Rattle.cg_effects.specs.Allowed.{Allows};
+ghost use Rattle.cg_cause.specs.Allowed.{Allows};
 ghost use Rattle.cg_effects.specs.Outcome.{file_of};
 ghost use Rattle.cg_effects.specs.Refusals.{reports};
 ghost use Rattle.cg_effects.specs.declared.outcome.Status.TheVariants.{Done, No};
 ghost use Rattle.cg_check.specs.Rules.{violation};
 ghost use Rattle.cg_mapping_answers.specs.Check.{IsCheck, checked_by, illegal_report, legal_report};
 
+use cg_cause::Stop;
 use cg_check::{Arch, CheckVerdict, Kernel, Mapping, Rule, RulePlace, check as judge, rule_text};
-use cg_effects::{File, Outcome, Status, Stop};
+use cg_effects::{File, Outcome, Status};
 use cg_inputs::{arch_in, kernel_in, mapping_in};
 use std::alloc::Global;
 

@@ -1,14 +1,15 @@
 //! `emit ARCH KERNEL MAPPING OUT`.
 ghost use Rattle.std.specs.Prelude.{◌≡◌, IfOk};
 ghost use Rattle.cg_model.specs.Mapping.{IsShaped};
-ghost use Rattle.cg_effects.specs.Allowed.{Allows};
+ghost use Rattle.cg_cause.specs.Allowed.{Allows};
 ghost use Rattle.cg_effects.specs.Outcome.{file_of};
 ghost use Rattle.cg_check.specs.Rules.{violation};
 ghost use Rattle.cg_mapping_answers.specs.Emit.{IsEmit, IsEmitted, IsEmittedBy, emit_report};
 
 use crate::checking::illegal;
+use cg_cause::Stop;
 use cg_check::{Arch, CheckVerdict, Kernel, LegalMapping, Mapping, check as judge};
-use cg_effects::{File, Outcome, Status, Stop};
+use cg_effects::{File, Outcome, Status};
 use cg_emit::{emit as emit_bits, stages};
 use cg_inputs::{arch_in, kernel_in, mapping_in};
 use std::alloc::{AllocError, Global};

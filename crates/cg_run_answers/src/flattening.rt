@@ -2,12 +2,13 @@
 ghost use Rattle.std.specs.Prelude.{◌≡◌, ◌≤◌, IfOk};
 ghost use Rattle.cg_model.specs.Limits.{most_links};
 ghost use Rattle.cg_model.specs.Array.{links};
-ghost use Rattle.cg_effects.specs.Allowed.{Allows};
+ghost use Rattle.cg_cause.specs.Allowed.{Allows};
 ghost use Rattle.cg_effects.specs.Outcome.{file_of};
 ghost use Rattle.cg_run_answers.specs.Flat.{IsFlat, flat_report, flattened};
 
 use cg_arch::{Arch, Resource, flat_text};
-use cg_effects::{File, Outcome, Status, Stop};
+use cg_cause::Stop;
+use cg_effects::{File, Outcome, Status};
 use cg_inputs::arch_in;
 use std::alloc::{AllocError, Global};
 

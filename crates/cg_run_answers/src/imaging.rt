@@ -2,12 +2,13 @@
 ghost use Rattle.std.specs.Prelude.{◌≡◌, ◌<◌, ◌≤◌, Some, IfOk, IfSome, length, string_bytes};
 ghost use Rattle.cg_model.specs.Kernel.{size, node as node_of};
 ghost use Rattle.cg_model.specs.Limits.{most_memory, most_turns};
-ghost use Rattle.cg_effects.specs.Allowed.{Allows};
+ghost use Rattle.cg_cause.specs.Allowed.{Allows};
 ghost use Rattle.cg_effects.specs.Outcome.{file_of};
 ghost use Rattle.cg_run_answers.specs.TurnsOnImage.{IsImaged, IsTurnsOnImage, image_report, pair_status};
 
 use crate::running::run;
-use cg_effects::{File, Outcome, Status, Stop};
+use cg_cause::Stop;
+use cg_effects::{File, Outcome, Status};
 use cg_inputs::{image_in, kernel_in};
 use cg_model::Kernel;
 use cg_pad::{Image, write_image};

@@ -2,7 +2,7 @@
 ghost use Rattle.std.specs.Prelude.{◌≡◌, ◌≤◌, ℕ, IfOk};
 ghost use Rattle.cg_model.specs.Limits.{most_turns};
 ghost use Rattle.cg_model.specs.Canonical.{IsCanonical};
-ghost use Rattle.cg_effects.specs.Allowed.{Allows, EndsBy};
+ghost use Rattle.cg_cause.specs.Allowed.{Allows, EndsBy};
 ghost use Rattle.cg_effects.specs.Outcome.{file_of};
 ghost use Rattle.cg_effects.specs.Refusals.{malformed_of};
 ghost use Rattle.cg_pad.specs.Bytes as images;
@@ -10,10 +10,11 @@ ghost use Rattle.cg_datapath.specs.Texts.{sim_fault_text};
 ghost use Rattle.cg_run_answers.specs.Run.{IsRun, array_by_image, left_outcome, ran, run_report};
 
 use cg_arch::Arch;
-use cg_effects::{File, Outcome, Status, Stop, refusal};
+use cg_cause::{Cause, Stop};
+use cg_effects::{File, Outcome, Status};
 use cg_inputs::{arch_in, config_in, image_in};
 use cg_pad::{Image, write_image};
-use cg_sim::{Sim, SimFault, sim_fault_text};
+use cg_sim::{Sim, SimFault};
 use cg_view::ConfigView;
 use std::alloc::{AllocError, Global};
 
@@ -66,10 +67,7 @@ pub fn too_large(alloc: Global, fault: SimFault, input: &File) -> Stop
     match fault {
         SimFault::Memory => Stop::Memory,
         SimFault::TooManyTurns(_) => unreachable!(),
-        SimFault::ImageTooLarge(_) => match sim_fault_text(alloc, fault) {
-            Ok(text) => refusal(alloc, input, text.as_str()),
-            Err(AllocError) => Stop::Memory,
-        },
+        SimFault::ImageTooLarge(_) => Stop::refused(alloc, input, Cause::Run(fault)),
     }
 }
 

@@ -1,13 +1,14 @@
 //! `turns KERNEL TURNS`.
 ghost use Rattle.std.specs.Prelude.{◌≡◌, ◌≤◌};
 ghost use Rattle.cg_model.specs.Limits.{most_turns};
-ghost use Rattle.cg_effects.specs.Allowed.{Allows};
+ghost use Rattle.cg_cause.specs.Allowed.{Allows};
 ghost use Rattle.cg_effects.specs.Outcome.{file_of};
 ghost use Rattle.cg_run_answers.specs.Turns.{turned, turns_of};
 
 use crate::running::run;
 use crate::streams::streams_report;
-use cg_effects::{File, Outcome, Status, Stop};
+use cg_cause::Stop;
+use cg_effects::{File, Outcome, Status};
 use cg_inputs::kernel_in;
 use cg_model::Kernel;
 use cg_pad::Image;

@@ -2,10 +2,10 @@
 use Rattle.std.proofs.Common.{◌≡◌, List, Ok, Err, refl}
 use Rattle.cg_model.specs.Array.{Arch}
 use Rattle.cg_model.specs.Kernel.{Kernel}
-use Rattle.cg_effects.specs.declared.read.Stop.{Stop}
-use Rattle.cg_effects.specs.Allowed.{EndsBy}
+use Rattle.cg_cause.specs.declared.stop.Stop.{Stop}
+use Rattle.cg_cause.specs.Allowed.{EndsBy}
 use Rattle.cg_effects.specs.Outcome.{Name, File, Outcome}
-use Rattle.cg_effects.proofs.Allowed.{ends_weaker}
+use Rattle.cg_cause.proofs.Allowed.{ends_weaker}
 use Rattle.cg_tiles.specs.Answer.{AreValidBytes}
 use Rattle.cg_kernel.specs.Answer as kernels
 use Rattle.cg_mapping.specs.Answer as mappings

@@ -2,13 +2,14 @@
 ghost use Rattle.std.specs.Prelude.{map, string_bytes, length, ◌≡◌, ◌≤◌, IfOk};
 ghost use Rattle.cg_model.specs.Mapping.{IsShaped};
 ghost use Rattle.cg_effects.specs.declared.outcome.Status.TheVariants.{Done};
-ghost use Rattle.cg_effects.specs.Allowed.{Allows};
+ghost use Rattle.cg_cause.specs.Allowed.{Allows};
 ghost use Rattle.cg_effects.specs.Outcome.{file_of, outcome_of};
 ghost use Rattle.cg_check.specs.Rules.{violation};
 ghost use Rattle.cg_show_answers.specs.Show.{IsShow, IsShown, IsShownBy, show_report, show_writes};
 
+use cg_cause::Stop;
 use cg_check::{Arch, CheckVerdict, Kernel, LegalMapping, Mapping, check as judge};
-use cg_effects::{File, Outcome, Status, Stop};
+use cg_effects::{File, Outcome, Status};
 use cg_inputs::{arch_in, kernel_in, mapping_in};
 use cg_mapping_answers::illegal;
 use cg_occupancy::Marks;

@@ -1,22 +1,13 @@
 -- What a planned command answers.
 use Rattle.std.proofs.Common.{inl, inr}
 use Rattle.cg_files.specs.Held.{Held}
-use Rattle.cg_effects.specs.declared.read.Stop.{Stop}
-use Rattle.cg_effects.specs.declared.read.Stop.TheVariants.{Ended, Memory}
 use Rattle.cg_files.specs.Causes.{Rose}
 use Rattle.cg_effects.specs.declared.outcome.Status.{Status}
-use Rattle.cg_effects.specs.Allowed.{EndsBy}
 use Rattle.cg_effects.specs.Ends.{Moment}
 use Rattle.cg_effects.specs.Outcome.{Name, Outcome}
-use Rattle.cg_effects.specs.Reads.{IsStop}
 use Rattle.std.specs.Prelude.{Option, Some, None, List}
 use Rattle.cg_command.specs.Words.{Plan, plan_of}
 use Rattle.cg_top.specs.TopCall.{IsPlanned, IsPlannedBytes, IsOutcome, CarriedOut}
-
--- an input file that isn't read
-pub not_read : (held : Held) (rose : Type 0) (plan : Plan) (s : Stop) → IsStop held rose plan.inputs s → EndsBy (IsPlannedBytes held rose (Some plan)) s
-not_read held rose plan (Ended o) h = inr h
-not_read held rose plan Memory h = tt
 
 -- that files are bytes may be left away
 pub planned : (held : Held) (rose : Type 0) (plan : Option Plan) (o : Outcome) → IsPlannedBytes held rose plan o → IsPlanned held rose plan o

@@ -3,19 +3,20 @@
 
 ghost use Rattle.std.specs.Prelude.{◌≡◌, ◌≤◌, [], None, Some, IfOk, length, map, string_bytes};
 ghost use Rattle.cg_files.specs.Causes.{Rose};
-ghost use Rattle.cg_effects.specs.Allowed.{Allows};
-ghost use Rattle.cg_effects.specs.Outcome.{outcome_of};
+ghost use Rattle.cg_effects.specs.Outcome.{file_of, outcome_of};
 ghost use Rattle.cg_effects.specs.Ends.{moment};
 ghost use Rattle.cg_command.specs.Words.{HasShape, plan_of, planned};
+ghost use Rattle.cg_commands.specs.Commands.{IsAnswer};
 ghost use Rattle.cg_top.specs.TopCall.{IsPlannedBytes, Ends, IsCall, Asks, MakesCalls};
 
 mod laws;
 
+use cg_cause::conclude;
 pub use cg_command::{Command, Plan, plan_words};
 use cg_commands::answer;
 use cg_diagnostics::{Aside, Silent};
 pub use cg_effects::Status;
-use cg_effects::{File, Outcome, Stop, finish, read_all, usage};
+use cg_effects::{File, Outcome, Unread, finish, read_all, usage};
 use cg_files::{Sink, Store};
 use cg_help::note_words;
 use cg_notes_calls::{note_call, note_files};
@@ -126,10 +127,7 @@ fn outcome<S: Store>(
         let _ = note_words(alloc, words, aside);
         return usage(alloc);
     };
-    match answered(alloc, &plan, store, aside) {
-        Ok(outcome) | Err(Stop::Ended(outcome)) => Ok(outcome),
-        Err(Stop::Memory) => Err(AllocError),
-    }
+    answered(alloc, &plan, store, aside)
 }
 
 /// Returns the outcome of the planned command for the files in `store`, and notes what is wrong with the files.
@@ -138,35 +136,51 @@ fn answered<S: Store>(
     plan: &Plan,
     store: &mut S,
     aside: &mut dyn Aside,
-) -> Result<Outcome, Stop>
+) -> Result<Outcome, AllocError>
     requires { HasShape plan.now.command (length plan.now.inputs.items) (length plan.now.outputs.items) }
-    ensures planned { Allows (IsPlannedBytes (S.held store.old) (Rose (S.read_faults store.old) (S.read_faults store.new))
-        (Some (planned plan.now))) result }
+    ensures planned { IfOk result (λ o. IsPlannedBytes (S.held store.old) (Rose (S.read_faults store.old) (S.read_faults store.new))
+        (Some (planned plan.now)) (outcome_of o)) }
     ensures asks { Asks (Some (planned plan.now)) (S.asked store.old) (S.asked store.new) }
     ensures wrote { S.wrote store.new ≡ S.wrote store.old }
     ensures held { S.held store.new ≡ S.held store.old }
     ensures reads { S.read_faults store.old ≤ S.read_faults store.new }
     ensures writes { S.write_faults store.new ≡ S.write_faults store.old }
 {
-    let files = read_all(alloc, plan.inputs.as_slice(), store)?;
-    let ended = answer(alloc, plan, files.as_slice(), aside);
-    aside.end_progress();
-    noted(alloc, plan.command, ended, files.as_slice(), aside)
+    match read_all(alloc, plan.inputs.as_slice(), store) {
+        Ok(files) => answer_to(alloc, plan, files.as_slice(), aside),
+        Err(Unread::Ended(outcome)) => Ok(outcome),
+        Err(Unread::Memory) => Err(AllocError),
+    }
 }
 
-/// Returns `ended`, the end of `command` for `files`, and gives notes on it for the user.
+/// Returns the outcome of the planned command for `files`, its input files in the order of reading, and notes what is
+/// wrong with them.
+fn answer_to(
+    alloc: Global,
+    plan: &Plan,
+    files: &[File],
+    aside: &mut dyn Aside,
+) -> Result<Outcome, AllocError>
+    requires { HasShape plan.now.command (length files.now) (length plan.now.outputs.items) }
+    ensures { IfOk result (λ o. IsAnswer plan.now.command (map file_of files.now) (map string_bytes plan.now.outputs.items) (outcome_of o)) }
+{
+    let ended = answer(alloc, plan, files, aside);
+    aside.end_progress();
+    let outcome = conclude(alloc, ended)?;
+    Ok(noted(alloc, plan.command, outcome, files, aside))
+}
+
+/// Returns `outcome`, the outcome of `command` for `files`, and gives notes on it for the user.
 fn noted(
     alloc: Global,
     command: Command,
-    ended: Result<Outcome, Stop>,
+    outcome: Outcome,
     files: &[File],
     aside: &mut dyn Aside,
-) -> Result<Outcome, Stop>
-    ensures { result ≡ ended }
+) -> Outcome
+    ensures { result ≡ outcome }
 {
-    if let Ok(outcome) | Err(Stop::Ended(outcome)) = &ended {
-        // Where memory for the notes runs out, the outcome is the same.
-        let _ = note_call(alloc, command, outcome, files, aside);
-    }
-    ended
+    // Where memory for the notes runs out, the outcome is the same.
+    let _ = note_call(alloc, command, &outcome, files, aside);
+    outcome
 }

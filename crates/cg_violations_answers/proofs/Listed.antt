@@ -3,11 +3,11 @@ use Rattle.std.proofs.Common.{◌≡◌, List, [], ◌∷◌, Result, Ok, Err, r
 use Rattle.cg_model.specs.Array.{Arch}
 use Rattle.cg_model.specs.Kernel.{Kernel}
 use Rattle.cg_effects.specs.declared.outcome.Status.TheVariants.{Done, Malformed, No}
-use Rattle.cg_effects.specs.declared.read.Stop.{Stop}
-use Rattle.cg_effects.specs.Allowed.{EndsBy}
+use Rattle.cg_cause.specs.declared.stop.Stop.{Stop}
+use Rattle.cg_cause.specs.Allowed.{EndsBy}
 use Rattle.cg_effects.specs.Outcome.{Name, File, Outcome}
 use Rattle.cg_effects.specs.Ends.{Moment, Completed, Wrote, IsPut}
-use Rattle.cg_effects.proofs.Allowed.{ends_weaker}
+use Rattle.cg_cause.proofs.Allowed.{ends_weaker}
 use Rattle.cg_files.specs.Held.{Holds, Appends}
 use Rattle.cg_tiles.specs.Answer.{AreValidBytes}
 use Rattle.cg_kernel.specs.Answer as kernels

@@ -1,7 +1,7 @@
 //! `violations ARCH KERNEL MAPPING`.
 ghost use Rattle.std.specs.Prelude.{◌≡◌};
 ghost use Rattle.cg_model.specs.Mapping.{IsShaped};
-ghost use Rattle.cg_effects.specs.Allowed.{Allows};
+ghost use Rattle.cg_cause.specs.Allowed.{Allows};
 ghost use Rattle.cg_effects.specs.Outcome.{file_of};
 ghost use Rattle.cg_effects.specs.Refusals.{reports};
 ghost use Rattle.cg_effects.specs.declared.outcome.Status.TheVariants.{Done, No};
@@ -9,8 +9,9 @@ ghost use Rattle.cg_mapping_answers.specs.Check.{legal_report};
 ghost use Rattle.cg_violations.specs.Violations.{violations_of};
 ghost use Rattle.cg_violations_answers.specs.Violations.{IsViolations, listed_by, violations_report};
 
+use cg_cause::Stop;
 use cg_check::{Arch, Kernel, Mapping, Violation};
-use cg_effects::{File, Outcome, Status, Stop};
+use cg_effects::{File, Outcome, Status};
 use cg_inputs::{arch_in, kernel_in, mapping_in};
 use cg_violations::{fault_lines, violations as all_violations};
 use std::alloc::Global;

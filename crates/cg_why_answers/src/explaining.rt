@@ -1,12 +1,13 @@
 //! `why ARCH KERNEL`.
-ghost use Rattle.cg_effects.specs.Allowed.{Allows};
+ghost use Rattle.cg_cause.specs.Allowed.{Allows};
 ghost use Rattle.cg_effects.specs.Outcome.{file_of};
 ghost use Rattle.cg_why_answers.specs.Why.{IsWhyOf, IsExplained};
 
 use cg_arch::Arch;
 use cg_bound_all::explain;
 use cg_bound_text::why_report;
-use cg_effects::{File, Outcome, Status, Stop};
+use cg_cause::Stop;
+use cg_effects::{File, Outcome, Status};
 use cg_inputs::{arch_in, kernel_in};
 use cg_model::Kernel;
 use std::alloc::Global;

@@ -1,6 +1,6 @@
 use Rattle.std.proofs.Common.{◌≡◌}
 use Rattle.cg_effects.specs.Outcome.{file_of}
-use Rattle.cg_effects.proofs.Allowed.{allows_weaker, stopped}
+use Rattle.cg_cause.proofs.Allowed.{allows_weaker, stopped}
 use Rattle.cg_pad.specs.Bytes as images
 use Rattle.cg_run_answers.specs.Run.{array_by_image}
 use Rattle.cg_bench_answers.specs.Bench.{IsBench, benched}

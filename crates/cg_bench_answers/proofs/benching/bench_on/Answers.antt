@@ -1,7 +1,7 @@
 use Rattle.std.proofs.Common.{◌≡◌, ◌<◌, ℕ, length, ap, ◌∙◌, arith}
 use Rattle.cg_effects.specs.Outcome.{file_of}
 use Rattle.cg_effects.specs.Refusals.{malformed_of}
-use Rattle.cg_effects.proofs.Allowed.{allows_weaker, ends_weaker, stopped}
+use Rattle.cg_cause.proofs.Allowed.{allows_weaker, ends_weaker, stopped}
 use Rattle.cg_pad.specs.Bytes as images
 use Rattle.cg_datapath.specs.Texts.{sim_fault_text}
 use Rattle.cg_datapath.specs.declared.fault.SimFault.{SimFault}

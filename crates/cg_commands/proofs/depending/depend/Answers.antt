@@ -1,5 +1,5 @@
 use Rattle.cg_effects.specs.Outcome.{file_of}
-use Rattle.cg_effects.proofs.Allowed.{allows_weaker, ends_weaker, stopped}
+use Rattle.cg_cause.proofs.Allowed.{allows_weaker, ends_weaker, stopped}
 use Rattle.cg_inputs.specs.Refused.{RefusesKernel}
 use Rattle.cg_commands.specs.Depend.{IsDependOf, DependOf}
 use Rattle.cg_commands.proofs.Depended.{depend_given, depend_refused}

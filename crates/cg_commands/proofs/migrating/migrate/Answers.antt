@@ -1,5 +1,5 @@
 use Rattle.cg_effects.specs.Outcome.{file_of}
-use Rattle.cg_effects.proofs.Allowed.{allows_weaker, ends_weaker, stopped}
+use Rattle.cg_cause.proofs.Allowed.{allows_weaker, ends_weaker, stopped}
 use Rattle.cg_bits.specs.Answers.{answer_in}
 use Rattle.cg_bits.specs.Format.{cgb1}
 use Rattle.cg_inputs.specs.Refused.{RefusesArch}

@@ -1,6 +1,6 @@
 use Rattle.std.proofs.Common.{◌≡◌}
 use Rattle.cg_effects.specs.Outcome.{file_of}
-use Rattle.cg_effects.proofs.Allowed.{allows_weaker, stopped}
+use Rattle.cg_cause.proofs.Allowed.{allows_weaker, stopped}
 use Rattle.cg_commands.specs.Verilog.{IsVerilog, netlisted}
 use Rattle.cg_commands.proofs.Allowed.{verilog_given, verilog_refused}
 use Rattle.cg_commands.proofs.netlisting.verilog.Goals as goal

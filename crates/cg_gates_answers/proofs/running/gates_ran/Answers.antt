@@ -1,6 +1,6 @@
 use Rattle.std.proofs.Common.{◌≡◌, ap, ◌∙◌, arith}
 use Rattle.cg_model.specs.Work.{Left}
-use Rattle.cg_effects.proofs.Allowed.{allows_weaker}
+use Rattle.cg_cause.proofs.Allowed.{allows_weaker}
 use Rattle.cg_gates.specs.Gates.{gates_left}
 use Rattle.cg_gates_run.specs.Run.{Run, state, all_cycles}
 use Rattle.cg_run_answers.specs.Run.{left_outcome}

@@ -1,5 +1,5 @@
 use Rattle.cg_effects.specs.Outcome.{file_of}
-use Rattle.cg_effects.proofs.Allowed.{allows_weaker, stopped}
+use Rattle.cg_cause.proofs.Allowed.{allows_weaker, stopped}
 use Rattle.cg_gates_answers.specs.Netlist.{OfNetlistFile, OfGates}
 use Rattle.cg_gates_answers.proofs.Allowed.{netlist_refused, netlist_given}
 use Rattle.cg_gates_answers.proofs.running.run_from.Goals as goal

@@ -1,9 +1,9 @@
 use Rattle.std.proofs.Common.{◌≡◌, ◌<◌, ◌≤◌, ℕ, length, Err, ap, ◌∙◌, arith, ⊎_elim, refl, subst}
 use Rattle.std.proofs.lemmas.Bool.{cases_lt}
 use Rattle.cg_effects.specs.Outcome.{file_of}
-use Rattle.cg_effects.specs.Allowed.{Allows}
+use Rattle.cg_cause.specs.Allowed.{Allows}
 use Rattle.cg_effects.specs.Refusals.{malformed_of}
-use Rattle.cg_effects.proofs.Allowed.{allows_weaker, ends_weaker}
+use Rattle.cg_cause.proofs.Allowed.{allows_weaker, ends_weaker}
 use Rattle.cg_datapath.specs.Texts.{sim_fault_text}
 use Rattle.cg_datapath.specs.declared.fault.SimFault.{SimFault}
 use Rattle.cg_datapath.specs.declared.fault.SimFault.TheVariants.{ImageTooLarge}

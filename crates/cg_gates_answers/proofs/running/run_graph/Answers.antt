@@ -1,7 +1,7 @@
 use Rattle.std.proofs.Common.{◌≡◌, subst}
-use Rattle.cg_effects.specs.Allowed.{Allows}
+use Rattle.cg_cause.specs.Allowed.{Allows}
 use Rattle.cg_effects.specs.Outcome.{file_of}
-use Rattle.cg_effects.proofs.Allowed.{allows_weaker, stopped}
+use Rattle.cg_cause.proofs.Allowed.{allows_weaker, stopped}
 use Rattle.cg_gates.specs.Gated.{Gated}
 use Rattle.cg_gates_answers.specs.Netlist.{OfGates, run_by_size}
 use Rattle.cg_gates_answers.proofs.Allowed.{gates_refused, gates_given}

@@ -1,5 +1,5 @@
 use Rattle.cg_effects.specs.Outcome.{file_of}
-use Rattle.cg_effects.proofs.Allowed.{allows_weaker, stopped}
+use Rattle.cg_cause.proofs.Allowed.{allows_weaker, stopped}
 use Rattle.cg_pad.specs.Bytes as images
 use Rattle.cg_gates_answers.specs.Netlist.{IsNetlistRun, OfImage}
 use Rattle.cg_gates_answers.proofs.Allowed.{arch_refused, bits_refused, bits_given}

@@ -1,6 +1,6 @@
 use Rattle.std.proofs.Common.{◌≡◌}
 use Rattle.cg_effects.specs.Outcome.{file_of}
-use Rattle.cg_effects.proofs.Allowed.{allows_weaker, ends_weaker, stopped}
+use Rattle.cg_cause.proofs.Allowed.{allows_weaker, ends_weaker, stopped}
 use Rattle.cg_loop_syntax.specs.Body.{body_of}
 use Rattle.cg_loop_laws.specs.Translate.{loop_kernel_of}
 use Rattle.cg_loop_answers.specs.Loop.{IsLoopOf, RefusesLoop, kernel_outcome}

@@ -1,5 +1,5 @@
 use Rattle.cg_effects.specs.Outcome.{file_of}
-use Rattle.cg_effects.proofs.Allowed.{allows_weaker, stopped}
+use Rattle.cg_cause.proofs.Allowed.{allows_weaker, stopped}
 use Rattle.cg_mapping_answers.specs.Bound.{IsBoundOf, IsBounded}
 use Rattle.cg_mapping_answers.proofs.Allowed.{bound_given, bound_without_arch, bound_without_kernel}
 use Rattle.cg_mapping_answers.proofs.bounding.bound.Goals as goal

@@ -1,5 +1,5 @@
 use Rattle.cg_effects.specs.Outcome.{file_of}
-use Rattle.cg_effects.proofs.Allowed.{allows_weaker, stopped}
+use Rattle.cg_cause.proofs.Allowed.{allows_weaker, stopped}
 use Rattle.std.proofs.Common.{◌≡◌}
 use Rattle.cg_check.specs.Legal.{Mapped}
 use Rattle.cg_check.specs.Rules.{violation}

@@ -1,6 +1,6 @@
 use Rattle.std.proofs.Common.{Ok}
 use Rattle.cg_effects.specs.Outcome.{file_of}
-use Rattle.cg_effects.proofs.Allowed.{allows_weaker, stopped}
+use Rattle.cg_cause.proofs.Allowed.{allows_weaker, stopped}
 use Rattle.cg_run_answers.specs.TurnsOnImage.{IsImaged, IsTurnsOnImage}
 use Rattle.cg_run_answers.proofs.Allowed.{image_refused, kernel_refused, on_image_given}
 use Rattle.cg_run_answers.proofs.imaging.turns_on_image.Goals as goal

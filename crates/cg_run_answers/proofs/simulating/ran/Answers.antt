@@ -1,7 +1,7 @@
 use Rattle.std.proofs.Common.{◌≡◌, ap, ◌∙◌, arith}
 use Rattle.cg_model.specs.Work.{Left}
 use Rattle.cg_model.specs.Machine.{machine_left}
-use Rattle.cg_effects.proofs.Allowed.{allows_weaker}
+use Rattle.cg_cause.proofs.Allowed.{allows_weaker}
 use Rattle.cg_sim.specs.Run.{Run, state, all_cycles}
 use Rattle.cg_run_answers.specs.Run.{left_outcome, ran}
 use Rattle.cg_run_answers.proofs.simulating.ran.Goals as goal

@@ -1,6 +1,6 @@
 use Rattle.std.proofs.Common.{◌≡◌}
 use Rattle.cg_effects.specs.Outcome.{file_of}
-use Rattle.cg_effects.proofs.Allowed.{allows_weaker, stopped}
+use Rattle.cg_cause.proofs.Allowed.{allows_weaker, stopped}
 use Rattle.cg_pad.specs.Bytes as images
 use Rattle.cg_run_answers.specs.Run.{IsRun, array_by_image, ran}
 use Rattle.cg_run_answers.proofs.Allowed.{array_arch_refused, array_bits_refused, array_given}

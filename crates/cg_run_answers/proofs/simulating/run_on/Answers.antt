@@ -1,9 +1,9 @@
 use Rattle.std.proofs.Common.{◌≡◌, ◌<◌, ◌≤◌, ℕ, length, Err, ap, ◌∙◌, arith, ⊎_elim, refl, subst}
 use Rattle.std.proofs.lemmas.Bool.{cases_lt}
 use Rattle.cg_effects.specs.Outcome.{file_of}
-use Rattle.cg_effects.specs.Allowed.{Allows}
+use Rattle.cg_cause.specs.Allowed.{Allows}
 use Rattle.cg_effects.specs.Refusals.{malformed_of}
-use Rattle.cg_effects.proofs.Allowed.{allows_weaker, ends_weaker, stopped}
+use Rattle.cg_cause.proofs.Allowed.{allows_weaker, ends_weaker, stopped}
 use Rattle.cg_pad.specs.Bytes as images
 use Rattle.cg_sim.specs.Run.{Run}
 use Rattle.cg_datapath.specs.Texts.{sim_fault_text}

@@ -1,6 +1,6 @@
 use Rattle.std.proofs.Common.{◌≡◌, ◌∙◌}
 use Rattle.cg_effects.specs.Outcome.{file_of}
-use Rattle.cg_effects.proofs.Allowed.{allows_weaker, stopped}
+use Rattle.cg_cause.proofs.Allowed.{allows_weaker, stopped}
 use Rattle.cg_run_answers.specs.Turns.{turned, turns_of}
 use Rattle.cg_run_answers.proofs.Allowed.{turns_given, turns_refused}
 use Rattle.cg_run_answers.proofs.turning.turns.Goals as goal

@@ -1,5 +1,5 @@
 use Rattle.cg_effects.specs.Outcome.{file_of}
-use Rattle.cg_effects.proofs.Allowed.{allows_weaker, stopped}
+use Rattle.cg_cause.proofs.Allowed.{allows_weaker, stopped}
 use Rattle.cg_why_answers.specs.Why.{IsWhyOf, IsExplained}
 use Rattle.cg_why_answers.proofs.Allowed.{why_given, why_without_arch, why_without_kernel}
 use Rattle.cg_why_answers.proofs.explaining.why.Goals as goal
