@@ -4,4 +4,5 @@ pub mod Uses
 pub mod Walk
 pub mod Parts
 pub mod Judged
-pub mod Shaped
+pub mod Maps
+pub mod Ranged

@@ -1,14 +1,12 @@
--- The plan that the words of a command line ask for.
-use Rattle.std.specs.Prelude.{◌≡◌, ◌≤◌, ◌==◌, ◌⊎◌, ℕ, Bool, true, false, not, List, [], ◌∷◌, ◌++◌, take, drop, find, map, Option, Some, None, option_map, option_and_then, if◌then◌else◌, codes, string_bytes}
+-- The command that the words of a command line ask for.
+use Rattle.std.specs.Prelude.{◌==◌, ℕ, Bool, true, false, not, List, [], ◌∷◌, ◌++◌, take, drop, find, map, Option, Some, None, option_map, option_and_then, if◌then◌else◌, codes}
 use Rattle.std.specs.List.{list_all, list_any, before_first, after_first}
 use Rattle.std.specs.Str.{bytes_eq}
-use Rattle.cg_model.specs.Limits.{most_turns}
-use Rattle.cg_model.specs.Request.{IsInRange}
 pub use Rattle.cg_command.specs.Numbers.{Text, is_number, number_up_to, positive, turns_of, interval_of, seed_of, moves_of, usual_seed, usual_moves, usual_responses}
-use Rattle.cg_command.specs.declared.plans.Command.{Command}
-use Rattle.cg_command.specs.declared.plans.Command.TheVariants.{Turns, TurnsOnImage, Flat, Run, Bound, Check, Emit, Map, Search, Show, Trial, Verilog, Loop, Depend, Migrate, Bench, Image, Words, Violations, Why}
+use Rattle.cg_command.specs.declared.command.MapperCall.{MapperCall}
+use Rattle.cg_command.specs.declared.command.Command.{Command}
+use Rattle.cg_command.specs.declared.command.Command.TheVariants.{Turns, TurnsOnImage, Flat, Run, Bound, Check, Emit, Map, Search, Show, Trial, Verilog, Loop, Depend, Migrate, Bench, Image, Words, Violations, Why}
 use Rattle.cg_model.specs.declared.request.Request.{Request}
-use Rattle.cg_command.specs.declared.plans.Plan.{Plan as PlanValue}
 use Rattle.cg_command.specs.declared.arguments.Arguments.{Arguments as ArgumentsValue}
 use Rattle.cg_command.specs.declared.arguments.Given.{Given as GivenValue}
 
@@ -129,75 +127,45 @@ arguments_of words = option_map arguments_by (parts_of None words)
 
 -- ---- commands
 
--- a command with its numbers, and the names of its files: inputs in the order of reading, outputs in that of writing
-pub record Plan : Type 0 where
-  pub command : Command
-  pub inputs : List Text
-  pub outputs : List Text
+-- made of one word, of two, of three or of four
+abbrev pub of_one : {T : Type 0} → (Text → T) → List Text → Option T
+of_one make (a ∷ []) = Some (make a)
+of_one make _ = None
 
--- the plan that a value of the program denotes
-abbrev pub planned : PlanValue → Plan
-planned p = record { command = p.command; inputs = map string_bytes p.inputs.items; outputs = map string_bytes p.outputs.items }
+abbrev pub of_two : {T : Type 0} → (Text → Text → T) → List Text → Option T
+of_two make (a ∷ b ∷ []) = Some (make a b)
+of_two make _ = None
 
--- a command with the names of its files
-abbrev pub plan_with : Command → List Text → List Text → Plan
-plan_with command inputs outputs = record { command = command; inputs = inputs; outputs = outputs }
+abbrev pub of_three : {T : Type 0} → (Text → Text → Text → T) → List Text → Option T
+of_three make (a ∷ b ∷ c ∷ []) = Some (make a b c)
+of_three make _ = None
 
 -- turns KERNEL TURNS, and turns KERNEL TURNS IN OUT
-abbrev pub turns_plan : List Text → Option Plan
-turns_plan (kernel ∷ turns ∷ []) =
-    option_map (λ n. record { command = Turns n; inputs = kernel ∷ []; outputs = [] }) (turns_of turns)
-turns_plan (kernel ∷ turns ∷ input ∷ output ∷ []) =
-    option_map (λ n. record { command = TurnsOnImage n; inputs = kernel ∷ input ∷ []; outputs = output ∷ [] }) (turns_of turns)
-turns_plan _ = None
-
--- flat ARCH OUT, verilog ARCH OUT, loop SOURCE OUT, depend KERNEL OUT and image TEXT OUT: a command that reads one file
--- and writes one
-abbrev pub file_plan : Command → List Text → Option Plan
-file_plan command (input ∷ output ∷ []) = Some (record { command = command; inputs = input ∷ []; outputs = output ∷ [] })
-file_plan command _ = None
-
--- bound ARCH KERNEL and why ARCH KERNEL
-abbrev pub pair_plan : Command → List Text → Option Plan
-pair_plan command (arch ∷ kernel ∷ []) = Some (record { command = command; inputs = arch ∷ kernel ∷ []; outputs = [] })
-pair_plan command _ = None
-
--- check ARCH KERNEL MAPPING and violations ARCH KERNEL MAPPING
-abbrev pub mapping_plan : Command → List Text → Option Plan
-mapping_plan command (arch ∷ kernel ∷ mapping ∷ []) = Some (record { command = command; inputs = arch ∷ kernel ∷ mapping ∷ []; outputs = [] })
-mapping_plan command _ = None
+abbrev pub turns_command : List Text → Option (Command Text Text)
+turns_command (kernel ∷ turns ∷ []) = option_map (λ n. Turns kernel n) (turns_of turns)
+turns_command (kernel ∷ turns ∷ image ∷ out ∷ []) = option_map (λ n. TurnsOnImage kernel n image out) (turns_of turns)
+turns_command _ = None
 
 -- emit ARCH KERNEL MAPPING OUT
-abbrev pub emit_plan : List Text → Option Plan
-emit_plan (arch ∷ kernel ∷ mapping ∷ out ∷ []) = Some (record { command = Emit; inputs = arch ∷ kernel ∷ mapping ∷ []; outputs = out ∷ [] })
-emit_plan _ = None
+abbrev pub emit_command : List Text → Option (Command Text Text)
+emit_command (arch ∷ kernel ∷ mapping ∷ out ∷ []) = Some (Emit arch kernel mapping out)
+emit_command _ = None
 
 -- show ARCH KERNEL MAPPING [OUT]
-abbrev pub show_plan : List Text → Option Plan
-show_plan (arch ∷ kernel ∷ mapping ∷ []) = Some (record { command = Show; inputs = arch ∷ kernel ∷ mapping ∷ []; outputs = [] })
-show_plan (arch ∷ kernel ∷ mapping ∷ out ∷ []) = Some (record { command = Show; inputs = arch ∷ kernel ∷ mapping ∷ []; outputs = out ∷ [] })
-show_plan _ = None
+abbrev pub show_command : List Text → Option (Command Text Text)
+show_command (arch ∷ kernel ∷ mapping ∷ []) = Some (Show arch kernel mapping None)
+show_command (arch ∷ kernel ∷ mapping ∷ out ∷ []) = Some (Show arch kernel mapping (Some out))
+show_command _ = None
 
 -- trial SEED
-abbrev pub trial_plan : List Text → Option Plan
-trial_plan (seed ∷ []) = option_map (λ n. record { command = Trial n; inputs = []; outputs = [] }) (seed_of seed)
-trial_plan _ = None
-
--- migrate ARCH BITS OUT
-abbrev pub migrate_plan : List Text → Option Plan
-migrate_plan (arch ∷ bits ∷ out ∷ []) = Some (record { command = Migrate; inputs = arch ∷ bits ∷ []; outputs = out ∷ [] })
-migrate_plan _ = None
-
--- words IMAGE
-abbrev pub words_plan : List Text → Option Plan
-words_plan (image ∷ []) = Some (record { command = Words; inputs = image ∷ []; outputs = [] })
-words_plan _ = None
+abbrev pub trial_command : List Text → Option (Command Text Text)
+trial_command (seed ∷ []) = option_map (λ n. Trial n) (seed_of seed)
+trial_command _ = None
 
 -- bench ARCH BITS TURNS IN OUT
-abbrev pub bench_plan : List Text → Option Plan
-bench_plan (arch ∷ bits ∷ turns ∷ input ∷ out ∷ []) =
-    option_map (λ n. record { command = Bench n; inputs = arch ∷ bits ∷ input ∷ []; outputs = out ∷ [] }) (turns_of turns)
-bench_plan _ = None
+abbrev pub bench_command : List Text → Option (Command Text Text)
+bench_command (arch ∷ bits ∷ turns ∷ image ∷ out ∷ []) = option_map (λ n. Bench arch bits n image out) (turns_of turns)
+bench_command _ = None
 
 -- the values of an option among those given, in order
 abbrev pub values_said : Text → List Given → List Text
@@ -216,8 +184,12 @@ abbrev pub asked_interval : Text → Option (Option ℕ)
 asked_interval value = option_map Some (interval_of value)
 
 -- the file that a value of `--mapping` or `--netlist` names
-abbrev pub named_file : Text → Option (List Text)
-named_file value = Some (value ∷ [])
+abbrev pub named_file : Text → Option (Option Text)
+named_file value = Some (Some value)
+
+-- the file that the option of this name names, if it is given
+abbrev pub file_said : Text → Arguments → Option (Option Text)
+file_said name said = said_once None named_file (values_said name said.options)
 
 -- the request in the options of a search, with `usual` moves where none are given; without `--ii` no interval is asked
 -- for
@@ -227,34 +199,6 @@ request_of usual given =
     (said_once usual moves_of (values_said (codes "moves") given)))
     (said_once usual_seed seed_of (values_said (codes "seed") given)))
     (said_once None asked_interval (values_said (codes "ii") given))
-
--- the plan of a search that writes the bitstream, and possibly the mapping
-abbrev pub written_plan : List Text → Command → List Text → Option Plan
-written_plan (arch ∷ kernel ∷ out ∷ []) command mapping =
-    Some (record { command = command; inputs = arch ∷ kernel ∷ []; outputs = out ∷ mapping })
-written_plan _ command mapping = None
-
--- the plan of a search with these arguments
-abbrev pub searching_plan : Command → Arguments → Option Plan
-searching_plan command said = option_and_then (written_plan said.words command) (said_once [] named_file (values_said (codes "mapping") said.options))
-
--- map ARCH KERNEL OUT [--ii N] [--seed N] [--moves N] [--mapping FILE]
-abbrev pub map_plan : Arguments → Option Plan
-map_plan said = option_and_then (λ request. searching_plan (Map request) said) (request_of usual_moves said.options)
-
--- search ARCH KERNEL OUT [--ii N] [--seed N] [--moves N] [--mapping FILE]
-abbrev pub search_plan : Arguments → Option Plan
-search_plan said = option_and_then (λ request. searching_plan (Search request) said) (request_of usual_responses said.options)
-
--- the plan of a run of an array, or of the netlist that the last file has
-abbrev pub array_plan : List Text → List Text → Option Plan
-array_plan (arch ∷ bits ∷ turns ∷ input ∷ output ∷ []) netlist =
-    option_map (λ n. record { command = Run n; inputs = arch ∷ bits ∷ input ∷ netlist; outputs = output ∷ [] }) (turns_of turns)
-array_plan _ netlist = None
-
--- run ARCH BITS TURNS IN OUT [--netlist FILE]
-abbrev pub run_plan : Arguments → Option Plan
-run_plan said = option_and_then (array_plan said.words) (said_once [] named_file (values_said (codes "netlist") said.options))
 
 -- the options that a search takes, and those that a run takes
 abbrev pub search_options : List Text
@@ -267,72 +211,71 @@ run_options = codes "netlist" ∷ []
 abbrev pub takes : List Text → List Given → Bool
 takes names given = list_all (λ (g : Given). list_any (bytes_eq g.name) names) given
 
--- the plan of a command that takes these options
-abbrev pub with_options : List Text → (Arguments → Option Plan) → Arguments → Option Plan
-with_options names plan said = if takes names said.options then plan said else None
-
 -- no option was given
 abbrev pub is_empty : List Given → Bool
 is_empty [] = true
 is_empty (g ∷ gs) = false
 
--- the plan of a command that takes no option
-abbrev pub without_options : (List Text → Option Plan) → Arguments → Option Plan
-without_options plan said = if is_empty said.options then plan said.words else None
+-- a search with these words, which writes the bitstream, and possibly the mapping
+abbrev pub written_call : List Text → Option Text → Request → Option (MapperCall Text Text)
+written_call (arch ∷ kernel ∷ out ∷ []) mapping request =
+    Some (record { arch = arch; kernel = kernel; out = out; mapping = mapping; request = request })
+written_call _ mapping request = None
 
--- the plan of the command of this name, for the commands that `command_plan` leaves to it
-abbrev pub further_plan : Text → Arguments → Option Plan
-further_plan name said =
-    if bytes_eq name (codes "trial") then without_options trial_plan said
-    else (if bytes_eq name (codes "verilog") then without_options (file_plan Verilog) said
-    else (if bytes_eq name (codes "loop") then without_options (file_plan Loop) said
-    else (if bytes_eq name (codes "depend") then without_options (file_plan Depend) said
-    else (if bytes_eq name (codes "migrate") then without_options migrate_plan said
-    else (if bytes_eq name (codes "bench") then without_options bench_plan said
-    else (if bytes_eq name (codes "image") then without_options (file_plan Image) said
-    else (if bytes_eq name (codes "words") then without_options words_plan said
-    else (if bytes_eq name (codes "why") then without_options (pair_plan Why) said
-    else None))))))))
+-- ARCH KERNEL OUT [--ii N] [--seed N] [--moves N] [--mapping FILE], with `usual` moves where none are given
+abbrev pub mapper_call : ℕ → Arguments → Option (MapperCall Text Text)
+mapper_call usual said =
+    if takes search_options said.options then
+    option_and_then (λ request. option_and_then (λ mapping. written_call said.words mapping request) (file_said (codes "mapping") said))
+    (request_of usual said.options)
+    else None
 
--- the plan of the command of this name
-abbrev pub command_plan : Text → Arguments → Option Plan
-command_plan name said =
-    if bytes_eq name (codes "turns") then without_options turns_plan said
-    else (if bytes_eq name (codes "flat") then without_options (file_plan Flat) said
-    else (if bytes_eq name (codes "run") then with_options run_options run_plan said
-    else (if bytes_eq name (codes "bound") then without_options (pair_plan Bound) said
-    else (if bytes_eq name (codes "check") then without_options (mapping_plan Check) said
-    else (if bytes_eq name (codes "violations") then without_options (mapping_plan Violations) said
-    else (if bytes_eq name (codes "emit") then without_options emit_plan said
-    else (if bytes_eq name (codes "map") then with_options search_options map_plan said
-    else (if bytes_eq name (codes "search") then with_options search_options search_plan said
-    else (if bytes_eq name (codes "show") then without_options show_plan said
-    else further_plan name said)))))))))
+-- a run of an array, or of the netlist in a file
+abbrev pub array_command : List Text → Option Text → Option (Command Text Text)
+array_command (arch ∷ bits ∷ turns ∷ image ∷ out ∷ []) netlist = option_map (λ n. Run arch bits n image out netlist) (turns_of turns)
+array_command _ netlist = None
 
--- the plan that the words ask for; None where they fit no command
-unfoldable pub plan_of : List Text → Option Plan
+-- run ARCH BITS TURNS IN OUT [--netlist FILE]
+abbrev pub run_command : Arguments → Option (Command Text Text)
+run_command said =
+    if takes run_options said.options then option_and_then (array_command said.words) (file_said (codes "netlist") said) else None
+
+-- the command of this name, by its plain words, for the commands that take no option and that `plain_command` leaves to
+-- it
+abbrev pub further_command : Text → List Text → Option (Command Text Text)
+further_command name words =
+    if bytes_eq name (codes "trial") then trial_command words
+    else (if bytes_eq name (codes "verilog") then of_two Verilog words
+    else (if bytes_eq name (codes "loop") then of_two Loop words
+    else (if bytes_eq name (codes "depend") then of_two Depend words
+    else (if bytes_eq name (codes "migrate") then of_three Migrate words
+    else (if bytes_eq name (codes "bench") then bench_command words
+    else (if bytes_eq name (codes "image") then of_two Image words
+    else (if bytes_eq name (codes "words") then of_one Words words
+    else None)))))))
+
+-- the command of this name, by its plain words, for the commands that take no option
+abbrev pub plain_command : Text → List Text → Option (Command Text Text)
+plain_command name words =
+    if bytes_eq name (codes "turns") then turns_command words
+    else (if bytes_eq name (codes "flat") then of_two Flat words
+    else (if bytes_eq name (codes "bound") then of_two Bound words
+    else (if bytes_eq name (codes "why") then of_two Why words
+    else (if bytes_eq name (codes "check") then of_three Check words
+    else (if bytes_eq name (codes "violations") then of_three Violations words
+    else (if bytes_eq name (codes "emit") then emit_command words
+    else (if bytes_eq name (codes "show") then show_command words
+    else further_command name words)))))))
+
+-- the command of this name
+abbrev pub command_of : Text → Arguments → Option (Command Text Text)
+command_of name said =
+    if bytes_eq name (codes "run") then run_command said
+    else (if bytes_eq name (codes "map") then option_map Map (mapper_call usual_moves said)
+    else (if bytes_eq name (codes "search") then option_map Search (mapper_call usual_responses said)
+    else (if is_empty said.options then plain_command name said.words else None)))
+
+-- the command that the words ask for, with the names of its files; None where they fit no command
+unfoldable pub plan_of : List Text → Option (Command Text Text)
 plan_of [] = None
-plan_of (name ∷ words) = option_and_then (command_plan name) (arguments_of words)
-
--- the number of files that a command reads and writes, and the ranges of its numbers
-abbrev pub HasShape : Command → ℕ → ℕ → Type 0
-HasShape (Turns turns) inputs outputs = (inputs ≡ 1) × (outputs ≡ 0) × (turns ≤ most_turns)
-HasShape (TurnsOnImage turns) inputs outputs = (inputs ≡ 2) × (outputs ≡ 1) × (turns ≤ most_turns)
-HasShape Flat inputs outputs = (inputs ≡ 1) × (outputs ≡ 1)
-HasShape (Run turns) inputs outputs = ((inputs ≡ 3) ⊎ (inputs ≡ 4)) × (outputs ≡ 1) × (turns ≤ most_turns)
-HasShape Bound inputs outputs = (inputs ≡ 2) × (outputs ≡ 0)
-HasShape Check inputs outputs = (inputs ≡ 3) × (outputs ≡ 0)
-HasShape Emit inputs outputs = (inputs ≡ 3) × (outputs ≡ 1)
-HasShape (Map request) inputs outputs = (inputs ≡ 2) × ((outputs ≡ 1) ⊎ (outputs ≡ 2)) × IsInRange request
-HasShape (Search request) inputs outputs = (inputs ≡ 2) × ((outputs ≡ 1) ⊎ (outputs ≡ 2)) × IsInRange request
-HasShape Show inputs outputs = (inputs ≡ 3) × ((outputs ≡ 0) ⊎ (outputs ≡ 1))
-HasShape (Trial seed) inputs outputs = (inputs ≡ 0) × (outputs ≡ 0)
-HasShape Verilog inputs outputs = (inputs ≡ 1) × (outputs ≡ 1)
-HasShape Loop inputs outputs = (inputs ≡ 1) × (outputs ≡ 1)
-HasShape Depend inputs outputs = (inputs ≡ 1) × (outputs ≡ 1)
-HasShape Migrate inputs outputs = (inputs ≡ 2) × (outputs ≡ 1)
-HasShape (Bench turns) inputs outputs = (inputs ≡ 3) × (outputs ≡ 1) × (turns ≤ most_turns)
-HasShape Image inputs outputs = (inputs ≡ 1) × (outputs ≡ 1)
-HasShape Words inputs outputs = (inputs ≡ 1) × (outputs ≡ 0)
-HasShape Violations inputs outputs = (inputs ≡ 3) × (outputs ≡ 0)
-HasShape Why inputs outputs = (inputs ≡ 2) × (outputs ≡ 0)
+plan_of (name ∷ words) = option_and_then (command_of name) (arguments_of words)

@@ -1,120 +1,45 @@
-//! The words of `map` and `search`: their files, and the options of the search.
-ghost use Rattle.std.specs.Prelude.{◌≡◌, ◌≤◌, [], ◌∷◌, None, IfOk, IfSome, map, option_and_then, option_map, vec_len};
+//! The options of commands: files, and what is asked of a search.
+ghost use Rattle.std.specs.Prelude.{◌≡◌, ◌≤◌, None, IfOk, IfSome, map, option_map};
 ghost use Rattle.cg_model.specs.Limits.{most_moves};
 ghost use Rattle.cg_command.specs.Words as spec;
 ghost use Rattle.cg_model.specs.Request.{IsInRange};
-ghost use Rattle.cg_command.specs.Words.{HasShape, heard_option, said_once};
+ghost use Rattle.cg_command.specs.Words.{heard_option, said_once};
 
 use crate::arguments::{Arguments, Given};
 use crate::numbers::{USUAL_MOVES, USUAL_RESPONSES, USUAL_SEED, interval_of, moves_of, seed_of};
-use crate::plans::{Command, Plan, plan_with};
 use cg_model::Request;
 use std::alloc::{AllocError, Global};
 
-/// Returns the plan of `map ARCH KERNEL OUT [--ii N] [--seed N] [--moves N] [--mapping FILE]`, whose arguments are
-/// `said`.
-pub(crate) fn map_plan(alloc: Global, said: &Arguments) -> Result<Option<Plan>, AllocError>
-    ensures plan { IfOk result
-        (λ p. option_map spec.planned p ≡ spec.map_plan (spec.heard said.now)) }
-    ensures shape { IfOk result (λ p. IfSome p
-        (λ plan. HasShape plan.command (vec_len plan.inputs) (vec_len plan.outputs))) }
-{
-    match request_of(alloc, USUAL_MOVES, said.options.as_slice())? {
-        Some(request) => searching_plan(alloc, Command::Map(request), said),
-        None => Ok(None),
-    }
-}
-
-/// Returns the plan of `search ARCH KERNEL OUT [--ii N] [--seed N] [--moves N] [--mapping FILE]`, whose arguments are
-/// `said`.
-pub(crate) fn search_plan(alloc: Global, said: &Arguments) -> Result<Option<Plan>, AllocError>
-    ensures plan { IfOk result
-        (λ p. option_map spec.planned p ≡ spec.search_plan (spec.heard said.now)) }
-    ensures shape { IfOk result (λ p. IfSome p
-        (λ plan. HasShape plan.command (vec_len plan.inputs) (vec_len plan.outputs))) }
-{
-    match request_of(alloc, USUAL_RESPONSES, said.options.as_slice())? {
-        Some(request) => searching_plan(alloc, Command::Search(request), said),
-        None => Ok(None),
-    }
-}
-
-/// Returns the plan of `command`, a search, with the files in `said`.
-fn searching_plan(
+/// Returns the file that the option `name` in `said` names, if it is given; None where it is given more than once.
+pub(crate) fn file_said<'a>(
     alloc: Global,
-    command: Command,
-    said: &Arguments,
-) -> Result<Option<Plan>, AllocError>
-    requires one { HasShape command 2 1 }
-    requires two { HasShape command 2 2 }
-    ensures plan { IfOk result
-        (λ p. option_map spec.planned p ≡ spec.searching_plan command (spec.heard said.now)) }
-    ensures shape { IfOk result (λ p. IfSome p
-        (λ plan. HasShape plan.command (vec_len plan.inputs) (vec_len plan.outputs))) }
+    name: &str,
+    said: &Arguments<'a>,
+) -> Result<Option<Option<&'a str>>, AllocError>
+    ensures { IfOk result (λ file. option_map (λ f. option_map (λ name. name.now) f) file ≡ spec.file_said name.now (spec.heard said.now)) }
 {
-    let files = values_said(alloc, said.options.as_slice(), "mapping")?;
-    plan_with_files(alloc, said.words.as_slice(), command, files.as_slice())
+    let files = values_said(alloc, said.options.as_slice(), name)?;
+    Ok(one_file(files.as_slice()))
 }
 
-/// Returns the plan of `command` with the plain words `words`, where `files` are the values of `--mapping`, at most
-/// one.
-fn plan_with_files(
-    alloc: Global,
-    words: &[&str],
-    command: Command,
-    files: &[&str],
-) -> Result<Option<Plan>, AllocError>
-    requires one { HasShape command 2 1 }
-    requires two { HasShape command 2 2 }
-    ensures plan { IfOk result
-        (λ p. option_map spec.planned p ≡ option_and_then (spec.written_plan (map (λ word. word.now) words.now) command)
-        (said_once [] spec.named_file (map (λ file. file.now) files.now))) }
-    ensures shape { IfOk result (λ p. IfSome p
-        (λ plan. HasShape plan.command (vec_len plan.inputs) (vec_len plan.outputs))) }
+/// Returns the one of `files`, if there is one; None where there are more.
+fn one_file<'a>(files: &[&'a str]) -> Option<Option<&'a str>>
+    ensures { option_map (λ f. option_map (λ name. name.now) f) result ≡ said_once None spec.named_file (map (λ file. file.now) files.now) }
 {
     match files {
-        [] => written_plan(alloc, words, command),
-        [file] => plan_with_mapping(alloc, words, command, file),
-        _ => Ok(None),
-    }
-}
-
-/// Returns the plan of `command`, a search that writes only the bitstream; `words` are its files.
-fn written_plan(alloc: Global, words: &[&str], command: Command) -> Result<Option<Plan>, AllocError>
-    requires { HasShape command 2 1 }
-    ensures plan { IfOk result
-        (λ p. option_map spec.planned p ≡ spec.written_plan (map (λ word. word.now) words.now) command []) }
-    ensures shape { IfOk result (λ p. IfSome p
-        (λ plan. HasShape plan.command (vec_len plan.inputs) (vec_len plan.outputs))) }
-{
-    match words {
-        [arch, kernel, out] => plan_with(alloc, command, &[*arch, *kernel], &[*out]),
-        _ => Ok(None),
-    }
-}
-
-/// Returns the plan of `command`, a search that writes the bitstream, and the mapping under the name `mapping`.
-fn plan_with_mapping(
-    alloc: Global,
-    words: &[&str],
-    command: Command,
-    mapping: &str,
-) -> Result<Option<Plan>, AllocError>
-    requires { HasShape command 2 2 }
-    ensures plan { IfOk result
-        (λ p. option_map spec.planned p ≡ spec.written_plan (map (λ word. word.now) words.now) command (mapping.now ∷ [])) }
-    ensures shape { IfOk result (λ p. IfSome p
-        (λ plan. HasShape plan.command (vec_len plan.inputs) (vec_len plan.outputs))) }
-{
-    match words {
-        [arch, kernel, out] => plan_with(alloc, command, &[*arch, *kernel], &[*out, mapping]),
-        _ => Ok(None),
+        [] => Some(None),
+        [file] => Some(Some(*file)),
+        _ => None,
     }
 }
 
 /// Returns the request in the `options` of a search, with `usual` as the number of moves where none is given; None
 /// where they can't be read.
-fn request_of(alloc: Global, usual: u32, options: &[Given]) -> Result<Option<Request>, AllocError>
+pub(crate) fn request_of(
+    alloc: Global,
+    usual: u32,
+    options: &[Given],
+) -> Result<Option<Request>, AllocError>
     requires { usual ≤ most_moves }
     ensures value { IfOk result (λ s. s ≡ spec.request_of usual (map heard_option options.now)) }
     ensures range { IfOk result (λ s. IfSome s IsInRange) }
@@ -132,7 +57,7 @@ fn request_of(alloc: Global, usual: u32, options: &[Given]) -> Result<Option<Req
 }
 
 /// Returns the values of the option `name` among `options`, in order.
-pub(crate) fn values_said<'a>(
+fn values_said<'a>(
     alloc: Global,
     options: &[Given<'a>],
     name: &str,

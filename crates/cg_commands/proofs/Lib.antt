@@ -1,4 +1,4 @@
-pub mod Shapes
+pub mod Reads
 pub mod Trialed
 pub mod Netlisted
 pub mod Depended

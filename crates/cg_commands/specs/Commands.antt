@@ -1,13 +1,14 @@
--- The answer of each command for its input files. Each definition has a case for each command.
-use Rattle.std.specs.Prelude.{◌≡◌, ℕ, Bool, true, false, List, [], ◌∷◌, Ok}
+-- The answer of each command for its files. Each definition has a case for each command.
+use Rattle.std.specs.Prelude.{◌≡◌, ℕ, Bool, true, false, List, [], ◌∷◌, Some, None, Ok}
 use Rattle.cg_model.specs.Kernel.{Kernel}
 use Rattle.cg_effects.specs.declared.outcome.Status.{Status}
 use Rattle.cg_effects.specs.declared.outcome.Status.TheVariants.{Done, Usage, Impossible, BudgetSpent, No}
 use Rattle.cg_effects.specs.Outcome.{Name, File, Outcome}
 use Rattle.cg_effects.specs.Ends.{Moment}
 use Rattle.cg_kernel.specs.Answer.{answer_of}
-use Rattle.cg_command.specs.declared.plans.Command.{Command}
-use Rattle.cg_command.specs.declared.plans.Command.TheVariants.{Turns, TurnsOnImage, Flat, Run, Bound, Check, Emit, Map, Search, Show, Trial, Verilog, Loop, Depend, Migrate, Bench, Image, Words, Violations, Why}
+use Rattle.cg_command.specs.declared.command.Command.{Command}
+use Rattle.cg_command.specs.declared.command.Command.TheVariants.{Turns, TurnsOnImage, Flat, Run, Bound, Check, Emit, Map, Search, Show, Trial, Verilog, Loop, Depend, Migrate, Bench, Image, Words, Violations, Why}
+use Rattle.cg_command.specs.Command.{listed}
 use Rattle.cg_pad.specs.Bytes as images
 use Rattle.cg_model.specs.Work as works
 use Rattle.cg_model.specs.Array.{Arch}
@@ -38,34 +39,33 @@ use Rattle.cg_commands.specs.Depend.{IsDependOf, IsDependable, IsDepended}
 use Rattle.cg_commands.specs.Migrate.{IsMigrate, IsMigratable, IsMigrated}
 
 -- the outcomes that the command allows
-abbrev pub IsAnswer : Command → List File → List Name → Outcome → Type 0
-IsAnswer (Turns n) (file ∷ []) [] o = o ≡ turns_of n file
-IsAnswer (TurnsOnImage n) (file ∷ input ∷ []) (out ∷ []) o = IsTurnsOnImage n file input out o
-IsAnswer Flat (file ∷ []) (out ∷ []) o = IsFlat file out o
-IsAnswer (Run n) (arch ∷ file ∷ input ∷ []) (out ∷ []) o = IsRun n arch file input out o
-IsAnswer (Run n) (arch ∷ file ∷ input ∷ netlist ∷ []) (out ∷ []) o = IsNetlistRun n arch file input netlist out o
-IsAnswer Bound (arch ∷ kernel ∷ []) [] o = IsBoundOf arch kernel o
-IsAnswer Check (arch ∷ kernel ∷ mapping ∷ []) [] o = IsCheck arch kernel mapping o
-IsAnswer Emit (arch ∷ kernel ∷ mapping ∷ []) (out ∷ []) o = IsEmit arch kernel mapping out o
-IsAnswer (Map s) (arch ∷ kernel ∷ []) outs o = IsMap s arch kernel outs o
-IsAnswer (Search s) (arch ∷ kernel ∷ []) outs o = IsSearch s arch kernel outs o
-IsAnswer Show (arch ∷ kernel ∷ mapping ∷ []) outs o = IsShow arch kernel mapping outs o
-IsAnswer (Trial seed) [] [] o = IsTrialOf seed o
-IsAnswer Verilog (file ∷ []) (out ∷ []) o = IsVerilog file out o
-IsAnswer Loop (file ∷ []) (out ∷ []) o = IsLoopOf file out o
-IsAnswer Depend (file ∷ []) (out ∷ []) o = IsDependOf file out o
-IsAnswer Migrate (arch ∷ file ∷ []) (out ∷ []) o = IsMigrate arch file out o
-IsAnswer (Bench n) (arch ∷ file ∷ input ∷ []) (out ∷ []) o = IsBench n arch file input out o
-IsAnswer Image (file ∷ []) (out ∷ []) o = o ≡ image_of file out
-IsAnswer Words (file ∷ []) [] o = o ≡ words_of file
-IsAnswer Violations (arch ∷ kernel ∷ mapping ∷ []) [] o = IsViolations arch kernel mapping o
-IsAnswer Why (arch ∷ kernel ∷ []) [] o = IsWhyOf arch kernel o
-IsAnswer _ _ _ o = ⊥
+abbrev pub IsAnswer : Command File Name → Outcome → Type 0
+IsAnswer (Turns file n) o = o ≡ turns_of n file
+IsAnswer (TurnsOnImage file n input out) o = IsTurnsOnImage n file input out o
+IsAnswer (Flat file out) o = IsFlat file out o
+IsAnswer (Run arch file n input out None) o = IsRun n arch file input out o
+IsAnswer (Run arch file n input out (Some netlist)) o = IsNetlistRun n arch file input netlist out o
+IsAnswer (Bound arch kernel) o = IsBoundOf arch kernel o
+IsAnswer (Check arch kernel mapping) o = IsCheck arch kernel mapping o
+IsAnswer (Emit arch kernel mapping out) o = IsEmit arch kernel mapping out o
+IsAnswer (Map call) o = IsMap call.request call.arch call.kernel (call.out ∷ listed call.mapping) o
+IsAnswer (Search call) o = IsSearch call.request call.arch call.kernel (call.out ∷ listed call.mapping) o
+IsAnswer (Show arch kernel mapping out) o = IsShow arch kernel mapping (listed out) o
+IsAnswer (Trial seed) o = IsTrialOf seed o
+IsAnswer (Verilog file out) o = IsVerilog file out o
+IsAnswer (Loop file out) o = IsLoopOf file out o
+IsAnswer (Depend file out) o = IsDependOf file out o
+IsAnswer (Migrate arch file out) o = IsMigrate arch file out o
+IsAnswer (Bench arch file n input out) o = IsBench n arch file input out o
+IsAnswer (Image file out) o = o ≡ image_of file out
+IsAnswer (Words file) o = o ≡ words_of file
+IsAnswer (Violations arch kernel mapping) o = IsViolations arch kernel mapping o
+IsAnswer (Why arch kernel) o = IsWhyOf arch kernel o
 
 -- how the statuses of two outcomes that the command allows for the same files agree: they are equal, except that
 -- whether `search` finds a mapping is left open
-abbrev pub AgreeIn : Command → Status → Status → Type 0
-AgreeIn (Search s) a b = AreAgreed a b
+abbrev pub AgreeIn : {F N : Type 0} → Command F N → Status → Status → Type 0
+AgreeIn (Search call) a b = AreAgreed a b
 AgreeIn _ a b = a ≡ b
 
 -- the bytes describe a kernel
@@ -84,107 +84,104 @@ pub record IsUnaliasedRun (n : ℕ) (file input : File) : Type 0 where
 abbrev pub GivesArch : File → Type 0
 GivesArch file = (A : Arch) × AreValidBytes file.bytes A
 
--- the input files for which the command completes
-abbrev pub Accepts : Command → List File → Type 0
-Accepts (Turns n) (file ∷ []) = SpellsKernel file
-Accepts (TurnsOnImage n) (file ∷ input ∷ []) = IsUnaliasedRun n file input
-Accepts Flat (file ∷ []) = GivesArch file
-Accepts (Run n) (arch ∷ file ∷ input ∷ []) = IsRunnable arch file input
-Accepts (Run n) (arch ∷ file ∷ input ∷ netlist ∷ []) = IsNetlistRunnable arch file input netlist
-Accepts Bound (arch ∷ kernel ∷ []) = IsPairInput arch kernel
-Accepts Check (arch ∷ kernel ∷ mapping ∷ []) = IsLegalInput arch kernel mapping
-Accepts Emit (arch ∷ kernel ∷ mapping ∷ []) = IsLegalInput arch kernel mapping
-Accepts (Map s) (arch ∷ kernel ∷ []) = IsMappable s arch kernel
-Accepts (Search s) (arch ∷ kernel ∷ []) = IsSearchable s arch kernel
-Accepts Show (arch ∷ kernel ∷ mapping ∷ []) = IsLegalInput arch kernel mapping
-Accepts (Trial seed) [] = Unit {0}
-Accepts Verilog (file ∷ []) = GivesArch file
-Accepts Loop (file ∷ []) = IsTranslatable file
-Accepts Depend (file ∷ []) = IsDependable file
-Accepts Migrate (arch ∷ file ∷ []) = IsMigratable arch file
-Accepts (Bench n) (arch ∷ file ∷ input ∷ []) = IsRunnable arch file input
-Accepts Image (file ∷ []) = IsImageText file
-Accepts Words (file ∷ []) = IsImageFile file
-Accepts Violations (arch ∷ kernel ∷ mapping ∷ []) = IsLegalInput arch kernel mapping
-Accepts Why (arch ∷ kernel ∷ []) = IsPairInput arch kernel
-Accepts _ _ = ⊥
+-- the input files are such that the command completes
+abbrev pub Accepts : Command File Name → Type 0
+Accepts (Turns file n) = SpellsKernel file
+Accepts (TurnsOnImage file n input out) = IsUnaliasedRun n file input
+Accepts (Flat file out) = GivesArch file
+Accepts (Run arch file n input out None) = IsRunnable arch file input
+Accepts (Run arch file n input out (Some netlist)) = IsNetlistRunnable arch file input netlist
+Accepts (Bound arch kernel) = IsPairInput arch kernel
+Accepts (Check arch kernel mapping) = IsLegalInput arch kernel mapping
+Accepts (Emit arch kernel mapping out) = IsLegalInput arch kernel mapping
+Accepts (Map call) = IsMappable call.request call.arch call.kernel
+Accepts (Search call) = IsSearchable call.request call.arch call.kernel
+Accepts (Show arch kernel mapping out) = IsLegalInput arch kernel mapping
+Accepts (Trial seed) = Unit {0}
+Accepts (Verilog file out) = GivesArch file
+Accepts (Loop file out) = IsTranslatable file
+Accepts (Depend file out) = IsDependable file
+Accepts (Migrate arch file out) = IsMigratable arch file
+Accepts (Bench arch file n input out) = IsRunnable arch file input
+Accepts (Image file out) = IsImageText file
+Accepts (Words file) = IsImageFile file
+Accepts (Violations arch kernel mapping) = IsLegalInput arch kernel mapping
+Accepts (Why arch kernel) = IsPairInput arch kernel
 
--- the input files for which the command reports that an interval is impossible
-abbrev pub Forbids : Command → List File → Type 0
-Forbids (Map s) (arch ∷ kernel ∷ []) = IsForbiddenInput s arch kernel
-Forbids (Search s) (arch ∷ kernel ∷ []) = IsForbiddenInput s arch kernel
-Forbids _ _ = ⊥
+-- the input files are such that the command reports that an interval is impossible
+abbrev pub Forbids : Command File Name → Type 0
+Forbids (Map call) = IsForbiddenInput call.request call.arch call.kernel
+Forbids (Search call) = IsForbiddenInput call.request call.arch call.kernel
+Forbids _ = ⊥
 
 -- the first of the files that `map`, `search` and `emit` write runs a mapping of what was read under these names;
 -- whether it was written, and how the call ended, is stated separately
-abbrev pub RunWrites : List File → Command → List Name → Moment → Type 0
-RunWrites [] command inputs before = Unit {0}
-RunWrites (file ∷ files) (Map s) (arch ∷ kernel ∷ []) before = RunsOfPair arch kernel before file.bytes
-RunWrites (file ∷ files) (Search s) (arch ∷ kernel ∷ []) before = RunsOfPair arch kernel before file.bytes
-RunWrites (file ∷ files) Emit (arch ∷ kernel ∷ mapping ∷ []) before = RunsRead arch kernel mapping before file.bytes
-RunWrites (file ∷ files) _ _ before = Unit {0}
+abbrev pub RunWrites : List File → Command Name Name → Moment → Type 0
+RunWrites [] command before = Unit {0}
+RunWrites (file ∷ files) (Map call) before = RunsOfPair call.arch call.kernel before file.bytes
+RunWrites (file ∷ files) (Search call) before = RunsOfPair call.arch call.kernel before file.bytes
+RunWrites (file ∷ files) (Emit arch kernel mapping out) before = RunsRead arch kernel mapping before file.bytes
+RunWrites (file ∷ files) _ before = Unit {0}
 
--- what a command whose input and output files have these names leaves where it ends with Done: what is held, and what
--- was reported
-abbrev pub LeavesDone : Command → List Name → List Name → Moment → Moment → Type 0
-LeavesDone (Turns n) (file ∷ []) [] before after = IsTurned n file before after
-LeavesDone (TurnsOnImage n) (file ∷ input ∷ []) (out ∷ []) before after = IsOrderedRun n file input out before after
-LeavesDone Flat (file ∷ []) (out ∷ []) before after = IsFlattened file out before after
-LeavesDone (Run n) (arch ∷ file ∷ input ∷ []) (out ∷ []) before after = IsArrayRun n arch file input out before after
-LeavesDone (Run n) (arch ∷ file ∷ input ∷ netlist ∷ []) (out ∷ []) before after = IsGatesRun n arch file input netlist out before after
-LeavesDone Bound (arch ∷ kernel ∷ []) [] before after = IsBoundRun arch kernel before after
-LeavesDone Check (arch ∷ kernel ∷ mapping ∷ []) [] before after = IsLegalCheck arch kernel mapping before after
-LeavesDone Emit (arch ∷ kernel ∷ mapping ∷ []) (out ∷ []) before after = IsEmittedRun arch kernel mapping out before after
-LeavesDone (Map s) (arch ∷ kernel ∷ []) outs before after = IsMapRun s arch kernel outs before after
-LeavesDone (Search s) (arch ∷ kernel ∷ []) outs before after = IsSearchRun s arch kernel outs before after
-LeavesDone Show (arch ∷ kernel ∷ mapping ∷ []) outs before after = IsShownRun arch kernel mapping outs before after
-LeavesDone (Trial seed) [] [] before after = IsTrialRun seed before after
-LeavesDone Verilog (file ∷ []) (out ∷ []) before after = IsNetlisted file out before after
-LeavesDone Loop (file ∷ []) (out ∷ []) before after = IsLooped file out before after
-LeavesDone Depend (file ∷ []) (out ∷ []) before after = IsDepended file out before after
-LeavesDone Migrate (arch ∷ file ∷ []) (out ∷ []) before after = IsMigrated arch file out before after
-LeavesDone (Bench n) (arch ∷ file ∷ input ∷ []) (out ∷ []) before after = IsBenchRun n arch file input out before after
-LeavesDone Image (file ∷ []) (out ∷ []) before after = IsImaged file out before after
-LeavesDone Words (file ∷ []) [] before after = IsWorded file before after
-LeavesDone Violations (arch ∷ kernel ∷ mapping ∷ []) [] before after = IsLegalCheck arch kernel mapping before after
-LeavesDone Why (arch ∷ kernel ∷ []) [] before after = IsWhyRun arch kernel before after
-LeavesDone _ _ _ before after = ⊥
+-- what a command on files of these names leaves where it ends with Done: what is held, and what was reported
+abbrev pub LeavesDone : Command Name Name → Moment → Moment → Type 0
+LeavesDone (Turns file n) before after = IsTurned n file before after
+LeavesDone (TurnsOnImage file n input out) before after = IsOrderedRun n file input out before after
+LeavesDone (Flat file out) before after = IsFlattened file out before after
+LeavesDone (Run arch file n input out None) before after = IsArrayRun n arch file input out before after
+LeavesDone (Run arch file n input out (Some netlist)) before after = IsGatesRun n arch file input netlist out before after
+LeavesDone (Bound arch kernel) before after = IsBoundRun arch kernel before after
+LeavesDone (Check arch kernel mapping) before after = IsLegalCheck arch kernel mapping before after
+LeavesDone (Emit arch kernel mapping out) before after = IsEmittedRun arch kernel mapping out before after
+LeavesDone (Map call) before after = IsMapRun call.request call.arch call.kernel (call.out ∷ listed call.mapping) before after
+LeavesDone (Search call) before after = IsSearchRun call.request call.arch call.kernel (call.out ∷ listed call.mapping) before after
+LeavesDone (Show arch kernel mapping out) before after = IsShownRun arch kernel mapping (listed out) before after
+LeavesDone (Trial seed) before after = IsTrialRun seed before after
+LeavesDone (Verilog file out) before after = IsNetlisted file out before after
+LeavesDone (Loop file out) before after = IsLooped file out before after
+LeavesDone (Depend file out) before after = IsDepended file out before after
+LeavesDone (Migrate arch file out) before after = IsMigrated arch file out before after
+LeavesDone (Bench arch file n input out) before after = IsBenchRun n arch file input out before after
+LeavesDone (Image file out) before after = IsImaged file out before after
+LeavesDone (Words file) before after = IsWorded file before after
+LeavesDone (Violations arch kernel mapping) before after = IsLegalCheck arch kernel mapping before after
+LeavesDone (Why arch kernel) before after = IsWhyRun arch kernel before after
 
 -- the commands that judge a mapping before they write: where they end with No, they write nothing
-abbrev pub judges : Command → Bool
-judges Check = true
-judges Emit = true
-judges Show = true
-judges Violations = true
+abbrev pub judges : {F N : Type 0} → Command F N → Bool
+judges (Check arch kernel mapping) = true
+judges (Emit arch kernel mapping out) = true
+judges (Show arch kernel mapping out) = true
+judges (Violations arch kernel mapping) = true
 judges _ = false
 
 -- what the command leaves where it ends with No
-abbrev pub LeavesNo : Command → List Name → List Name → Moment → Moment → Type 0
-LeavesNo (TurnsOnImage n) (file ∷ input ∷ []) (out ∷ []) before after = IsUnorderedRun n file input out before after
-LeavesNo Check (arch ∷ kernel ∷ mapping ∷ []) [] before after = IsIllegalCheck arch kernel mapping before after
-LeavesNo Emit (arch ∷ kernel ∷ mapping ∷ []) (out ∷ []) before after = IsIllegalCheck arch kernel mapping before after
-LeavesNo Show (arch ∷ kernel ∷ mapping ∷ []) outs before after = IsIllegalCheck arch kernel mapping before after
-LeavesNo Violations (arch ∷ kernel ∷ mapping ∷ []) [] before after = IsViolatedRun arch kernel mapping before after
-LeavesNo _ _ _ before after = ⊥
+abbrev pub LeavesNo : Command Name Name → Moment → Moment → Type 0
+LeavesNo (TurnsOnImage file n input out) before after = IsUnorderedRun n file input out before after
+LeavesNo (Check arch kernel mapping) before after = IsIllegalCheck arch kernel mapping before after
+LeavesNo (Emit arch kernel mapping out) before after = IsIllegalCheck arch kernel mapping before after
+LeavesNo (Show arch kernel mapping out) before after = IsIllegalCheck arch kernel mapping before after
+LeavesNo (Violations arch kernel mapping) before after = IsViolatedRun arch kernel mapping before after
+LeavesNo _ before after = ⊥
 
 -- what the command leaves where it ends with Impossible
-abbrev pub LeavesImpossible : Command → List Name → Moment → Moment → Type 0
-LeavesImpossible (Map s) (arch ∷ kernel ∷ []) before after = IsImpossibleRun s arch kernel before after
-LeavesImpossible (Search s) (arch ∷ kernel ∷ []) before after = IsImpossibleRun s arch kernel before after
-LeavesImpossible _ _ before after = ⊥
+abbrev pub LeavesImpossible : Command Name Name → Moment → Moment → Type 0
+LeavesImpossible (Map call) before after = IsImpossibleRun call.request call.arch call.kernel before after
+LeavesImpossible (Search call) before after = IsImpossibleRun call.request call.arch call.kernel before after
+LeavesImpossible _ before after = ⊥
 
 -- what the command leaves where it ends with BudgetSpent
-abbrev pub LeavesSpent : Command → List Name → Moment → Moment → Type 0
-LeavesSpent (Map s) (arch ∷ kernel ∷ []) before after = IsSpentRun s arch kernel before after
-LeavesSpent (Search s) (arch ∷ kernel ∷ []) before after = IsSearchSpentRun s arch kernel before after
-LeavesSpent _ _ before after = ⊥
+abbrev pub LeavesSpent : Command Name Name → Moment → Moment → Type 0
+LeavesSpent (Map call) before after = IsSpentRun call.request call.arch call.kernel before after
+LeavesSpent (Search call) before after = IsSearchSpentRun call.request call.arch call.kernel before after
+LeavesSpent _ before after = ⊥
 
 -- what the command leaves, by its status; nothing where it can't end with the status. Faults, running out of memory and
 -- the refusal of a file are covered by the table of statuses
-abbrev pub Leaves : Command → List Name → List Name → Status → Moment → Moment → Type 0
-Leaves command inputs outputs Done before after = LeavesDone command inputs outputs before after
-Leaves command inputs outputs No before after = LeavesNo command inputs outputs before after
-Leaves command inputs outputs Impossible before after = LeavesImpossible command inputs before after
-Leaves command inputs outputs BudgetSpent before after = LeavesSpent command inputs before after
-Leaves command inputs outputs Usage before after = ⊥
-Leaves command inputs outputs _ before after = Unit {0}
+abbrev pub Leaves : Command Name Name → Status → Moment → Moment → Type 0
+Leaves command Done before after = LeavesDone command before after
+Leaves command No before after = LeavesNo command before after
+Leaves command Impossible before after = LeavesImpossible command before after
+Leaves command BudgetSpent before after = LeavesSpent command before after
+Leaves command Usage before after = ⊥
+Leaves command _ before after = Unit {0}

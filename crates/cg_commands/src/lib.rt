@@ -1,5 +1,5 @@
-//! The answers of all commands: from a plan and the bytes of its input files to an outcome, independent of any store or
-//! sink.
+//! The answers of all commands: from a command with the contents of its input files to an outcome, independent of any
+//! store or sink.
 #![tactic(auto)]
 
 mod answering;
@@ -7,7 +7,6 @@ mod depending;
 mod laws;
 mod migrating;
 mod netlisting;
-mod shaped;
 
 pub use answering::answer;
 pub use laws::calls_compose;

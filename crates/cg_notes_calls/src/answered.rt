@@ -8,29 +8,49 @@ use cg_notes_runs::{array_notes, image_notes, turns_notes, unordered_notes};
 use cg_notes_texts::MOST_PARSED;
 use std::alloc::{AllocError, Global};
 
-/// Adds to `notes` the notes for the user on `command`, which did its work over `files` and gave `report`.
+/// Adds to `notes` the notes for the user on `command`, which did its work and gave `report`.
 pub(crate) fn add_done(
     alloc: Global,
-    command: Command,
+    command: &Command<&File, &str>,
     report: &[u8],
-    files: &[File],
     notes: &mut Vec<String>,
 ) -> Result<(), AllocError> {
-    match command {
-        Command::Turns { .. } => match files {
-            [kernel] if is_short(kernel) => turns_notes(alloc, kernel.bytes.as_slice(), notes),
-            _ => Ok(()),
-        },
-        Command::TurnsOnImage { turns } => add_turns(alloc, turns, report, files, notes),
-        Command::Run { turns } | Command::Bench { turns } => {
-            add_run(alloc, turns, report, files, notes)
+    match *command {
+        Command::Turns { kernel, .. } if is_short(kernel) => {
+            turns_notes(alloc, kernel.bytes.as_slice(), notes)
         }
-        Command::Emit | Command::Map(_) | Command::Search(_) => match files {
-            [_, kernel, ..] if is_short(kernel) => {
-                unordered_notes(alloc, kernel.bytes.as_slice(), notes)
-            }
-            _ => Ok(()),
-        },
+        Command::TurnsOnImage {
+            kernel,
+            turns,
+            image,
+            ..
+        } => add_turns(alloc, kernel, turns, image, report, notes),
+        Command::Run {
+            arch,
+            bits,
+            turns,
+            image,
+            netlist,
+            ..
+        } => {
+            let outside = netlist.is_none() && reaches_outside(report);
+            add_run(alloc, [arch, bits, image], turns, outside, notes)
+        }
+        Command::Bench {
+            arch,
+            bits,
+            turns,
+            image,
+            ..
+        } => add_run(
+            alloc,
+            [arch, bits, image],
+            turns,
+            reaches_outside(report),
+            notes,
+        ),
+        Command::Emit { kernel, .. } => add_unordered(alloc, kernel, notes),
+        Command::Map(call) | Command::Search(call) => add_unordered(alloc, call.kernel, notes),
         _ => Ok(()),
     }
 }
@@ -38,92 +58,122 @@ pub(crate) fn add_done(
 /// Adds to `notes` the notes for the user on `command`, which answered no over `files` with `report`.
 pub(crate) fn add_no(
     alloc: Global,
-    command: Command,
+    command: &Command<&File, &str>,
     report: &[u8],
     files: &[File],
     notes: &mut Vec<String>,
 ) -> Result<(), AllocError> {
-    match command {
-        Command::TurnsOnImage { turns } => {
+    match *command {
+        Command::TurnsOnImage {
+            kernel,
+            turns,
+            image,
+            ..
+        } => {
             report_notes(alloc, report, files, notes)?;
-            add_turns(alloc, turns, report, files, notes)
+            add_turns(alloc, kernel, turns, image, report, notes)
         }
-        Command::Check | Command::Emit | Command::Show | Command::Violations => {
-            add_violations(alloc, files, notes)
+        Command::Check {
+            arch,
+            kernel,
+            mapping,
         }
+        | Command::Violations {
+            arch,
+            kernel,
+            mapping,
+        }
+        | Command::Emit {
+            arch,
+            kernel,
+            mapping,
+            ..
+        }
+        | Command::Show {
+            arch,
+            kernel,
+            mapping,
+            ..
+        } => add_violations(alloc, arch, kernel, mapping, notes),
         _ => report_notes(alloc, report, files, notes),
     }
 }
 
-/// Adds to `notes` what a run of `turns` iterations of a kernel from an image, the `files`, left out.
+/// Adds to `notes` what a run of `turns` iterations of `kernel` from `image`, with that `report`, left out.
 fn add_turns(
     alloc: Global,
+    kernel: &File,
     turns: u32,
+    image: &File,
     report: &[u8],
-    files: &[File],
     notes: &mut Vec<String>,
 ) -> Result<(), AllocError> {
-    match files {
-        [kernel, image] if is_short(kernel) => image_notes(
-            alloc,
-            kernel.bytes.as_slice(),
-            image.bytes.as_slice(),
-            turns,
-            reaches_outside(report),
-            notes,
-        ),
-        _ => Ok(()),
+    if !is_short(kernel) {
+        return Ok(());
     }
+    image_notes(
+        alloc,
+        kernel.bytes.as_slice(),
+        image.bytes.as_slice(),
+        turns,
+        reaches_outside(report),
+        notes,
+    )
 }
 
-/// Adds to `notes` what a run of `turns` iterations of an architecture, configured by bits, from an image, the first of
-/// `files`, left out. For a run of a netlist, whose file is the fourth, the notes don't say where it reached outside
-/// the memory.
+/// Adds to `notes` what a run of `turns` iterations left out: `files` are the architecture, the bits that configure it
+/// and the image. Where it reached `outside` of the memory the notes say where; for a run of a netlist they don't.
 fn add_run(
     alloc: Global,
+    files: [&File; 3],
     turns: u32,
-    report: &[u8],
-    files: &[File],
+    outside: bool,
     notes: &mut Vec<String>,
 ) -> Result<(), AllocError> {
-    match files {
-        [arch, bits, image, netlists @ ..] if is_short(arch) => array_notes(
-            alloc,
-            arch.bytes.as_slice(),
-            bits.bytes.as_slice(),
-            image.bytes.as_slice(),
-            turns,
-            netlists.is_empty() && reaches_outside(report),
-            notes,
-        ),
-        _ => Ok(()),
+    let [arch, bits, image] = files;
+    if !is_short(arch) {
+        return Ok(());
     }
+    array_notes(
+        alloc,
+        arch.bytes.as_slice(),
+        bits.bytes.as_slice(),
+        image.bytes.as_slice(),
+        turns,
+        outside,
+        notes,
+    )
 }
 
-/// Adds to `notes` the rules that a mapping violates: `files` are its architecture, its kernel and itself. Adds nothing
-/// if a line feed in the mapping's name would break the lines.
+/// Adds to `notes` the accesses of `kernel` that aren't ordered.
+fn add_unordered(alloc: Global, kernel: &File, notes: &mut Vec<String>) -> Result<(), AllocError> {
+    if !is_short(kernel) {
+        return Ok(());
+    }
+    unordered_notes(alloc, kernel.bytes.as_slice(), notes)
+}
+
+/// Adds to `notes` the rules that `mapping`, of `kernel` to `arch`, violates. Adds nothing if a line feed in its name
+/// would break the lines.
 fn add_violations(
     alloc: Global,
-    files: &[File],
+    arch: &File,
+    kernel: &File,
+    mapping: &File,
     notes: &mut Vec<String>,
 ) -> Result<(), AllocError> {
-    match files {
-        [arch, kernel, mapping] if is_short(arch) && is_short(kernel) && is_short(mapping) => {
-            let name = mapping.name.as_str();
-            if name.contains('\n') {
-                return Ok(());
-            }
-            rule_notes(
-                alloc,
-                arch.bytes.as_slice(),
-                kernel.bytes.as_slice(),
-                name,
-                mapping.bytes.as_slice(),
-                notes,
-            )
-        }
-        _ => Ok(()),
+    let name = mapping.name.as_str();
+    if name.contains('\n') || !(is_short(arch) && is_short(kernel) && is_short(mapping)) {
+        return Ok(());
     }
+    rule_notes(
+        alloc,
+        arch.bytes.as_slice(),
+        kernel.bytes.as_slice(),
+        name,
+        mapping.bytes.as_slice(),
+        notes,
+    )
 }
 
 /// Checks whether `file` is short enough to be read again for a note.

@@ -12,7 +12,7 @@ use std::alloc::{AllocError, Global};
 /// fault lies, what an answer means, or what a run left out.
 pub fn note_call(
     alloc: Global,
-    command: Command,
+    command: &Command<&File, &str>,
     outcome: &Outcome,
     files: &[File],
     aside: &mut dyn Aside,
@@ -28,14 +28,14 @@ pub fn note_call(
 /// Adds to `notes` the notes for the user on `outcome`.
 fn add_notes(
     alloc: Global,
-    command: Command,
+    command: &Command<&File, &str>,
     outcome: &Outcome,
     files: &[File],
     notes: &mut Vec<String>,
 ) -> Result<(), AllocError> {
     let report = outcome.report.as_slice();
     match outcome.status {
-        Status::Done => add_done(alloc, command, report, files, notes),
+        Status::Done => add_done(alloc, command, report, notes),
         Status::Malformed => add_refused(alloc, report, files, notes),
         Status::No => add_no(alloc, command, report, files, notes),
         _ => report_notes(alloc, report, files, notes),

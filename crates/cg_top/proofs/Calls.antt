@@ -7,10 +7,13 @@ use Rattle.cg_files.specs.Held.{Held, IsMissing, IsLonger}
 use Rattle.cg_effects.specs.declared.outcome.Status.{Status}
 use Rattle.cg_effects.specs.declared.outcome.Status.TheVariants.{Memory, WriteFault, No}
 use Rattle.cg_effects.specs.Ends.{Moment, moment, Finished, Wrote, WrotePart, FailedAt, IsPut}
-use Rattle.cg_effects.specs.Outcome.{Name, Bytes, Outcome, names_of}
+use Rattle.cg_effects.specs.Outcome.{Name, Bytes, File, Outcome, names_of}
 use Rattle.cg_effects.specs.Reads.{read_fault_of, too_long_of}
 use Rattle.cg_effects.specs.Status.{leaves_all}
-use Rattle.cg_command.specs.Words.{Plan, plan_of}
+use Rattle.cg_command.specs.declared.command.Command.{Command}
+use Rattle.cg_command.specs.Command.{inputs_of, outputs_of}
+use Rattle.cg_command.proofs.Maps.{outputs_kept}
+use Rattle.cg_command.specs.Words.{plan_of}
 use Rattle.cg_commands.proofs.Commands.{named}
 use Rattle.cg_top.specs.TopCall.{IsPlanned, IsPlannedBytes, IsOutcome, Asks, Writes, MakesCalls, is_answer}
 use Rattle.cg_top.proofs.Planned.{planned}
@@ -34,26 +37,26 @@ nothing None (Some new) part = absurd part
 nothing None None part = refl
 
 -- where no call was made
-pub none_asked : (plan : Option Plan) (old : Names) → Asks plan old old
+pub none_asked : (plan : Option (Command Name Name)) (old : Names) → Asks plan old old
 none_asked None old = refl
-none_asked (Some plan) old = none_noted old plan.inputs
+none_asked (Some plan) old = none_noted old (inputs_of plan)
 
-pub none_written : (plan : Option Plan) (old : Names) → Writes plan old old
+pub none_written : (plan : Option (Command Name Name)) (old : Names) → Writes plan old old
 none_written None old = refl
-none_written (Some plan) old = none_noted old plan.outputs
+none_written (Some plan) old = none_noted old (outputs_of plan)
 
 -- what an outcome's writes are for the words
-pub written : (held : Held) (rose : Type 0) (plan : Option Plan) (o : Outcome) (old new : Names) → IsPlanned held rose plan o → NotesPart old (names_of o.writes) new
+pub written : (held : Held) (rose : Type 0) (plan : Option (Command Name Name)) (o : Outcome) (old new : Names) → IsPlanned held rose plan o → NotesPart old (names_of o.writes) new
     → Writes plan old new
 written held rose None o old new is part = nothing old new (subst (λ x. NotesPart old (names_of x.writes) new) is part)
-written held rose (Some plan) o old new (inl a) part = elim (named plan.command a.files plan.outputs o a.answer) [
-  | inl same ↦ subst (λ names. NotesPart old names new) same part
-  | inr none ↦ subst (λ after. NotesPart old plan.outputs after) (sym (nothing old new (subst (λ files. NotesPart old (names_of files) new) none part)))
-      (none_noted old plan.outputs)
+written held rose (Some plan) o old new (inl a) part = elim (named a.command o a.answer) [
+  | inl same ↦ subst (λ names. NotesPart old names new) (same ∙ sym (outputs_kept (λ (file : File). file.name) a.command) ∙ ap outputs_of a.named) part
+  | inr none ↦ subst (λ after. NotesPart old (outputs_of plan) after) (sym (nothing old new (subst (λ files. NotesPart old (names_of files) new) none part)))
+      (none_noted old (outputs_of plan))
 ]
 written held rose (Some plan) o old new (inr s) part =
-    subst (λ after. NotesPart old plan.outputs after) (sym (nothing old new (subst (λ files. NotesPart old (names_of files) new) (stopped s.cause) part)))
-    (none_noted old plan.outputs)
+    subst (λ after. NotesPart old (outputs_of plan) after) (sym (nothing old new (subst (λ files. NotesPart old (names_of files) new) (stopped s.cause) part)))
+    (none_noted old (outputs_of plan))
   where
     stopped : ((o ≡ read_fault_of s.name) × (rose ⊎ IsMissing held s.name)) ⊎ ((o ≡ too_long_of s.name) × IsLonger held s.name 16777216) → o.writes ≡ []
     stopped (inl p) = ap (λ x. x.writes) p.0

@@ -3,12 +3,14 @@ use Rattle.std.proofs.Common.{◌≡◌, ◌⊎◌, true, List, [], Some, refl, 
 use Rattle.cg_files.specs.Causes.{Rose}
 use Rattle.cg_effects.specs.declared.outcome.Status.{Status}
 use Rattle.cg_effects.specs.declared.outcome.Status.TheVariants.{Memory, Malformed, ReadFault, WriteFault, No}
-use Rattle.cg_effects.specs.Outcome.{Name, Outcome}
+use Rattle.cg_effects.specs.Outcome.{Name, File, Outcome}
 use Rattle.cg_effects.specs.Ends.{Moment, Finished, IsPut}
 use Rattle.cg_effects.specs.Status.{leaves_all}
-use Rattle.cg_command.specs.Words.{Plan, plan_of}
+use Rattle.cg_command.specs.declared.command.Command.{Command}
+use Rattle.cg_command.specs.Command.{inputs_of}
+use Rattle.cg_command.specs.Words.{plan_of}
 use Rattle.cg_commands.specs.Commands.{judges, RunWrites}
-use Rattle.cg_commands.proofs.Judged.{judged}
+use Rattle.cg_commands.proofs.Judged.{judged, judges_kept}
 use Rattle.cg_commands.proofs.Written.{writes_run}
 use Rattle.cg_top.proofs.Planned.{is_outcome}
 use Rattle.cg_top.specs.TopCall.{IsPlanned, IsOutcome, WritesRun, Ends, Halted, Unput, Begun, IsEffect, is_answer}
@@ -56,10 +58,11 @@ faulty words before after status e failed ends = record {
 }
 
 -- an outcome that is No, of a command that judges a mapping, writes nothing
-pub unwritten : (words : List Name) (before after : Moment) (o : Outcome) (plan : Plan) → plan_of words ≡ Some plan → judges plan.command ≡ true → o.status ≡ No
+pub unwritten : (words : List Name) (before after : Moment) (o : Outcome) (plan : Command Name Name) → plan_of words ≡ Some plan → judges plan ≡ true → o.status ≡ No
     → IsPlanned before.held (Rose before.read_faults after.read_faults) (Some plan) o → o.writes ≡ []
-unwritten words before after o plan p j said (inl a) = judged plan.command a.files plan.outputs o j a.answer said
-unwritten words before after o plan p j said (inr s) = absurd (elim (stop_status before.held (Rose before.read_faults after.read_faults) plan.inputs o s) [
+unwritten words before after o plan p j said (inl a) =
+    judged a.command o (sym (judges_kept (λ (file : File). file.name) (λ (name : Name). name) a.command) ∙ ap judges a.named ∙ j) a.answer said
+unwritten words before after o plan p j said (inr s) = absurd (elim (stop_status before.held (Rose before.read_faults after.read_faults) (inputs_of plan) o s) [
   | inl r ↦ let z : ReadFault ≡ No = sym r ∙ said in cc
   | inr m ↦ let z : Malformed ≡ No = sym m ∙ said in cc
 ])
@@ -68,11 +71,11 @@ unwritten words before after o plan p j said (inr s) = absurd (elim (stop_status
 runs_of : (words : List Name) (before after : Moment) (o : Outcome) → IsOutcome words before.held (Rose before.read_faults after.read_faults) o → WritesRun words before o
 runs_of words before after o is plan p = by (rw p at is)
   where
-    by : IsPlanned before.held (Rose before.read_faults after.read_faults) (Some plan) o → RunWrites o.writes plan.command plan.inputs before
-    by (inl a) = writes_run plan.command plan.inputs plan.outputs a.files o before a.read a.answer
+    by : IsPlanned before.held (Rose before.read_faults after.read_faults) (Some plan) o → RunWrites o.writes plan before
+    by (inl a) = subst (λ c. RunWrites o.writes c before) a.named (writes_run a.command o before a.read a.answer)
     by (inr s) =
         let none : o.writes ≡ [] = elim s.cause [ inl c ↦ ap (λ x. x.writes) c.0 | inr c ↦ ap (λ x. x.writes) c.0 ] in
-        subst (λ ws. RunWrites ws plan.command plan.inputs before) (sym none) tt
+        subst (λ ws. RunWrites ws plan before) (sym none) tt
 
 pub effect : (words : List Name) (before after : Moment) (status : Status) → Ends words before after status → IsEffect words before after status
 effect words before after status (inr g) = wanting words before after status g.status_is g.put (inr g.held) (inr g)

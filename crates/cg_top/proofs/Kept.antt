@@ -6,15 +6,17 @@ use Rattle.cg_effects.specs.declared.outcome.Status.{Status}
 use Rattle.cg_effects.specs.Outcome.{Name, File, Outcome}
 use Rattle.cg_effects.specs.Reads.{read_fault_of, too_long_of}
 use Rattle.cg_effects.specs.Ends.{Moment, Finished, Wrote}
-use Rattle.cg_command.specs.Words.{Plan, plan_of}
-use Rattle.cg_commands.specs.Commands.{IsAnswer}
+use Rattle.cg_command.specs.declared.command.Command.{Command}
+use Rattle.cg_command.specs.Command.{outputs_of}
+use Rattle.cg_command.proofs.Maps.{outputs_kept}
+use Rattle.cg_command.specs.Words.{plan_of}
 use Rattle.cg_top.proofs.Planned.{is_outcome}
 use Rattle.cg_top.specs.TopCall.{IsPlanned, Ends, WritesNothing}
 use Rattle.cg_commands.proofs.Commands.{quiet}
 
-quiet_plan : (held : Held) (rose : Type 0) (plan : Option Plan) (o : Outcome) → WritesNothing plan → IsPlanned held rose plan o → o.writes ≡ []
+quiet_plan : (held : Held) (rose : Type 0) (plan : Option (Command Name Name)) (o : Outcome) → WritesNothing plan → IsPlanned held rose plan o → o.writes ≡ []
 quiet_plan held rose None o w p = ap (λ x. x.writes) p
-quiet_plan held rose (Some plan) o w (inl a) = quiet plan.command a.files o (subst (λ names. IsAnswer plan.command a.files names o) w a.answer)
+quiet_plan held rose (Some plan) o w (inl a) = quiet a.command o (sym (outputs_kept (λ (file : File). file.name) a.command) ∙ ap outputs_of a.named ∙ w) a.answer
 quiet_plan held rose (Some plan) o w (inr s) = stopped s.cause
   where
     stopped : ((o ≡ read_fault_of s.name) × (rose ⊎ IsMissing held s.name)) ⊎ ((o ≡ too_long_of s.name) × IsLonger held s.name 16777216) → o.writes ≡ []

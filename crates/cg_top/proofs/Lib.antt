@@ -1,3 +1,4 @@
+pub mod Contents
 pub mod Planned
 pub mod Exact
 pub mod Kept

@@ -6,11 +6,12 @@ use Rattle.cg_effects.specs.declared.outcome.Status.{Status}
 use Rattle.cg_effects.specs.Ends.{Moment}
 use Rattle.cg_effects.specs.Outcome.{Name, Outcome}
 use Rattle.std.specs.Prelude.{Option, Some, None, List}
-use Rattle.cg_command.specs.Words.{Plan, plan_of}
+use Rattle.cg_command.specs.declared.command.Command.{Command}
+use Rattle.cg_command.specs.Words.{plan_of}
 use Rattle.cg_top.specs.TopCall.{IsPlanned, IsPlannedBytes, IsOutcome, CarriedOut}
 
 -- that files are bytes may be left away
-pub planned : (held : Held) (rose : Type 0) (plan : Option Plan) (o : Outcome) → IsPlannedBytes held rose plan o → IsPlanned held rose plan o
+pub planned : (held : Held) (rose : Type 0) (plan : Option (Command Name Name)) (o : Outcome) → IsPlannedBytes held rose plan o → IsPlanned held rose plan o
 planned held rose None o is = is
 planned held rose (Some plan) o (inl a) = inl a.answers
 planned held rose (Some plan) o (inr s) = inr s

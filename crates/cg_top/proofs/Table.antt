@@ -10,7 +10,9 @@ use Rattle.cg_effects.specs.Outcome.{Name, Outcome}
 use Rattle.cg_effects.specs.Reads.{StopsAt, read_fault_of, too_long_of}
 use Rattle.cg_effects.specs.Ends.{Moment, Finished}
 use Rattle.cg_effects.specs.Status.{leaves_all}
-use Rattle.cg_command.specs.Words.{Plan, plan_of}
+use Rattle.cg_command.specs.declared.command.Command.{Command}
+use Rattle.cg_command.specs.Command.{inputs_of}
+use Rattle.cg_command.specs.Words.{plan_of}
 use Rattle.cg_effects.specs.Refusals.{usage_outcome}
 use Rattle.cg_top.proofs.Planned.{is_outcome}
 use Rattle.cg_top.specs.TopCall.{IsPlanned, Ends, IsAnswered, IsStopped, IsByTable}
@@ -24,7 +26,7 @@ use Rattle.cg_inputs.proofs.Sound.{never}
 abbrev Origin : List Name → Held → Type 0 → Outcome → Type 0
 Origin words held rose o = (o ≡ usage_outcome) ⊎ (IsAnswered words held o.status ⊎ IsStopped words held rose o.status)
 
-origin : (words : List Name) (held : Held) (rose : Type 0) (o : Outcome) (p : Option Plan) → plan_of words ≡ p → IsPlanned held rose p o → Origin words held rose o
+origin : (words : List Name) (held : Held) (rose : Type 0) (o : Outcome) (p : Option (Command Name Name)) → plan_of words ≡ p → IsPlanned held rose p o → Origin words held rose o
 origin words held rose o None e h = inl h
 origin words held rose o (Some plan) e (inl a) = inr (inl (record { plan = plan; planned = e; outcome = o; answers = a; status_is = refl }))
 origin words held rose o (Some plan) e (inr s) = inr (inr (record { plan = plan; planned = e; outcome = o; stops = s; status_is = refl }))
@@ -46,7 +48,7 @@ not_alone s t a b e = cc
 answered : (words : List Name) (held : Held) (rose : Type 0) (o : Outcome) (s : Status) → answer_alone s ≡ true → s ≡ o.status → Origin words held rose o → IsAnswered words held s
 answered words held rose o s t e (inl u) = absurd (not_alone s Usage t refl (e ∙ ap (λ x. x.status) u))
 answered words held rose o s t e (inr (inl a)) = subst (λ z. IsAnswered words held z) (sym e) a
-answered words held rose o s t e (inr (inr a)) = absurd (elim (stop_status held rose a.plan.inputs a.outcome a.stops) [
+answered words held rose o s t e (inr (inr a)) = absurd (elim (stop_status held rose (inputs_of a.plan) a.outcome a.stops) [
   | inl r ↦ not_alone s ReadFault t refl (e ∙ sym a.status_is ∙ r)
   | inr m ↦ not_alone s Malformed t refl (e ∙ sym a.status_is ∙ m)
 ])
@@ -59,7 +61,7 @@ refused words held rose o s m e (inr (inr a)) = inr (subst (λ z. IsStopped word
 -- a command's answer is never a read fault
 halted : (words : List Name) (held : Held) (rose : Type 0) (o : Outcome) (s : Status) → s ≡ ReadFault → s ≡ o.status → Origin words held rose o → IsStopped words held rose ReadFault
 halted words held rose o s r e (inl u) = absurd (let z : Usage ≡ ReadFault = sym (ap (λ x. x.status) u) ∙ sym e ∙ r in cc)
-halted words held rose o s r e (inr (inl a)) = absurd (never (owns_of a.plan.command) ReadFault a.outcome (sound a.plan.command a.answers.files a.plan.outputs a.outcome a.answers.answer) refl (a.status_is ∙ sym e ∙ r))
+halted words held rose o s r e (inr (inl a)) = absurd (never (owns_of a.answers.command) ReadFault a.outcome (sound a.answers.command a.outcome a.answers.answer) refl (a.status_is ∙ sym e ∙ r))
 halted words held rose o s r e (inr (inr a)) = subst (λ z. IsStopped words held rose z) (sym e ∙ r) a
 
 -- what is known of an outcome by its status
@@ -67,7 +69,7 @@ pub record Known (words : List Name) (before after : Moment) (o : Outcome) : Typ
   pub usage : o.status ≡ Usage → plan_of words ≡ None
   pub unfit : plan_of words ≡ None → o ≡ usage_outcome
   pub read_fault : o.status ≡ ReadFault → Rose before.read_faults after.read_faults
-      ⊎ ((plan : Plan) × (plan_of words ≡ Some plan) × (name : Name) × Contains plan.inputs name × IsMissing before.held name)
+      ⊎ ((plan : Command Name Name) × (plan_of words ≡ Some plan) × (name : Name) × Contains (inputs_of plan) name × IsMissing before.held name)
   pub no_fault : o.status ≡ WriteFault → ⊥
   pub no_memory : o.status ≡ Memory → ⊥
   pub quiet : leaves_all o.status ≡ true → o.writes ≡ []
@@ -75,11 +77,11 @@ pub record Known (words : List Name) (before after : Moment) (o : Outcome) : Typ
 there : (xs : List Name) (x : Name) (ys all : List Name) → all ≡ xs ++ x ∷ ys → Contains all x
 there xs x ys all e = rw e (length xs, grind (arith, common_steps), get_or-append_seam xs x ys x)
 
-one_plan : (p : Option Plan) (plan : Plan) → p ≡ Some plan → p ≡ None → ⊥
+one_plan : (p : Option (Command Name Name)) (plan : Command Name Name) → p ≡ Some plan → p ≡ None → ⊥
 one_plan p plan a b = cc
 
-from_stop : (words : List Name) (before after : Moment) (o : Outcome) (plan : Plan) → plan_of words ≡ Some plan
-    → StopsAt before.held (Rose before.read_faults after.read_faults) plan.inputs o → Known words before after o
+from_stop : (words : List Name) (before after : Moment) (o : Outcome) (plan : Command Name Name) → plan_of words ≡ Some plan
+    → StopsAt before.held (Rose before.read_faults after.read_faults) (inputs_of plan) o → Known words before after o
 from_stop words before after o plan e s = by_cause s.cause
   where
     by_cause : ((o ≡ read_fault_of s.name) × (Rose before.read_faults after.read_faults ⊎ IsMissing before.held s.name))
@@ -103,9 +105,9 @@ from_stop words before after o plan e s = by_cause s.cause
         differ_memory u = cc
 
         caused : Rose before.read_faults after.read_faults ⊎ IsMissing before.held s.name → Rose before.read_faults after.read_faults
-            ⊎ ((p : Plan) × (plan_of words ≡ Some p) × (name : Name) × Contains p.inputs name × IsMissing before.held name)
+            ⊎ ((p : Command Name Name) × (plan_of words ≡ Some p) × (name : Name) × Contains (inputs_of p) name × IsMissing before.held name)
         caused (inl r) = inl r
-        caused (inr m) = inr (plan, e, s.name, there _ s.name s.rest plan.inputs s.names_are, m)
+        caused (inr m) = inr (plan, e, s.name, there _ s.name s.rest (inputs_of plan) s.names_are, m)
     by_cause (inr (q, l)) = rw q (record {
       usage = λ u. absurd (differ u);
       unfit = λ n. absurd (one_plan _ plan e n);
@@ -127,7 +129,7 @@ from_stop words before after o plan e s = by_cause s.cause
         differ_memory : Malformed ≡ Memory → ⊥
         differ_memory u = cc
 
-pub known : (words : List Name) (before after : Moment) (o : Outcome) (p : Option Plan) → plan_of words ≡ p
+pub known : (words : List Name) (before after : Moment) (o : Outcome) (p : Option (Command Name Name)) → plan_of words ≡ p
     → IsPlanned before.held (Rose before.read_faults after.read_faults) p o → Known words before after o
 known words before after o None e h = rw h (record {
   usage = λ _. e;
@@ -146,12 +148,12 @@ known words before after o None e h = rw h (record {
 
     differ_memory : Usage ≡ Memory → ⊥
     differ_memory u = cc
-known words before after o (Some plan) e (inl a) = let s = sound plan.command a.files plan.outputs o a.answer in record {
-  usage = λ u. absurd (never (owns_of plan.command) Usage o s refl u);
+known words before after o (Some plan) e (inl a) = let s = sound a.command o a.answer in record {
+  usage = λ u. absurd (never (owns_of a.command) Usage o s refl u);
   unfit = λ n. absurd (one_plan _ plan e n);
-  read_fault = λ u. absurd (never (owns_of plan.command) ReadFault o s refl u);
-  no_fault = λ u. never (owns_of plan.command) WriteFault o s refl u;
-  no_memory = λ u. never (owns_of plan.command) Memory o s refl u;
+  read_fault = λ u. absurd (never (owns_of a.command) ReadFault o s refl u);
+  no_fault = λ u. never (owns_of a.command) WriteFault o s refl u;
+  no_memory = λ u. never (owns_of a.command) Memory o s refl u;
   quiet = s.quiet;
 }
 known words before after o (Some plan) e (inr a) = from_stop words before after o plan e a

@@ -7,33 +7,37 @@ use Rattle.cg_effects.specs.declared.outcome.Status.{Status}
 use Rattle.cg_effects.specs.declared.outcome.Status.TheVariants.{Done, Memory, Usage, Malformed, Impossible, ReadFault, WriteFault, BudgetSpent, No}
 use Rattle.cg_effects.specs.Status.{leaves_all}
 use Rattle.cg_effects.specs.Outcome.{Name, Bytes, File, Outcome, names_of}
-use Rattle.cg_effects.specs.Reads.{AreRead, HoldsBytes, StopsAt}
+use Rattle.cg_effects.specs.Reads.{IsRead, HoldsBytes, StopsAt}
 use Rattle.cg_effects.specs.Ends.{Moment, Finished, Wrote, WrotePart, FailedAt, IsPut}
-use Rattle.cg_command.specs.Words.{Plan, plan_of}
+use Rattle.cg_command.specs.declared.command.Command.{Command}
+use Rattle.cg_command.specs.Command.{inputs_of, outputs_of}
+use Rattle.cg_command.specs.Files.{names_only}
+use Rattle.cg_command.specs.Words.{plan_of}
 use Rattle.cg_effects.specs.Refusals.{usage_outcome}
 use Rattle.cg_commands.specs.Commands.{IsAnswer, Accepts, Forbids, AgreeIn, RunWrites, Leaves, judges}
 
 -- ---- what words and files define
 
--- all input files were read, and the command allows the outcome
-pub record Answers (held : Held) (plan : Plan) (o : Outcome) : Type 0 where
-  pub files : List File
-  pub read : AreRead held plan.inputs files
-  pub answer : IsAnswer plan.command files plan.outputs o
+-- all input files were read, and the command with their contents allows the outcome
+pub record Answers (held : Held) (plan : Command Name Name) (o : Outcome) : Type 0 where
+  pub command : Command File Name
+  pub named : names_only command ≡ plan
+  pub read : All (IsRead held) (inputs_of command)
+  pub answer : IsAnswer command o
 
 -- all input files were read, each of them a list of bytes, and the command allows the outcome. What is read from a
 -- store is bytes even where it isn't known what the store holds
-pub record AnswersBytes (held : Held) (plan : Plan) (o : Outcome) : Type 0 where
+pub record AnswersBytes (held : Held) (plan : Command Name Name) (o : Outcome) : Type 0 where
   pub answers : Answers held plan o
-  pub bytes : All HoldsBytes answers.files
+  pub bytes : All HoldsBytes (inputs_of answers.command)
 
-abbrev pub IsPlanned : Held → Type 0 → Option Plan → Outcome → Type 0
+abbrev pub IsPlanned : Held → Type 0 → Option (Command Name Name) → Outcome → Type 0
 IsPlanned held rose None o = o ≡ usage_outcome
-IsPlanned held rose (Some plan) o = Answers held plan o ⊎ StopsAt held rose plan.inputs o
+IsPlanned held rose (Some plan) o = Answers held plan o ⊎ StopsAt held rose (inputs_of plan) o
 
-abbrev pub IsPlannedBytes : Held → Type 0 → Option Plan → Outcome → Type 0
+abbrev pub IsPlannedBytes : Held → Type 0 → Option (Command Name Name) → Outcome → Type 0
 IsPlannedBytes held rose None o = o ≡ usage_outcome
-IsPlannedBytes held rose (Some plan) o = AnswersBytes held plan o ⊎ StopsAt held rose plan.inputs o
+IsPlannedBytes held rose (Some plan) o = AnswersBytes held plan o ⊎ StopsAt held rose (inputs_of plan) o
 
 -- an outcome for these words, over what is held, where `rose` states that a read failed
 abbrev pub IsOutcome : List Name → Held → Type 0 → Outcome → Type 0
@@ -64,9 +68,9 @@ Ends words before after status = CarriedOut words before after status ⊎ NeverS
 
 -- how a status agrees with that of an outcome that is defined for the words: they are equal, except where the command
 -- may choose
-abbrev pub Agrees : Option Plan → Status → Status → Type 0
+abbrev pub Agrees : Option (Command Name Name) → Status → Status → Type 0
 Agrees None a b = a ≡ b
-Agrees (Some plan) a b = AgreeIn plan.command a b
+Agrees (Some plan) a b = AgreeIn plan a b
 
 -- the status is the defined one, except for running out of memory and for faults, which show in their counts
 abbrev pub IsExact : List Name → Moment → Moment → Status → Type 0
@@ -77,7 +81,7 @@ IsExact words before after status = (files : Name → Option Bytes) (o : Outcome
 
 -- a command was requested, all its input files were read, and its answer has this status
 pub record IsAnswered (words : List Name) (held : Held) (status : Status) : Type 0 where
-  pub plan : Plan
+  pub plan : Command Name Name
   pub planned : plan_of words ≡ Some plan
   pub outcome : Outcome
   pub answers : Answers held plan outcome
@@ -85,10 +89,10 @@ pub record IsAnswered (words : List Name) (held : Held) (status : Status) : Type
 
 -- a command was requested, and its input files were read up to one of them, for which the call ended with this status
 pub record IsStopped (words : List Name) (held : Held) (rose : Type 0) (status : Status) : Type 0 where
-  pub plan : Plan
+  pub plan : Command Name Name
   pub planned : plan_of words ≡ Some plan
   pub outcome : Outcome
-  pub stops : StopsAt held rose plan.inputs outcome
+  pub stops : StopsAt held rose (inputs_of plan) outcome
   pub status_is : outcome.status ≡ status
 
 -- the causes of a status, by row
@@ -105,7 +109,7 @@ pub record IsByTable (words : List Name) (before after : Moment) (status : Statu
   -- 5: the input files before the one that is reported were read
   pub stopped : status ≡ ReadFault → IsStopped words before.held (Rose before.read_faults after.read_faults) ReadFault
   pub read_fault : status ≡ ReadFault → Rose before.read_faults after.read_faults
-      ⊎ ((plan : Plan) × (plan_of words ≡ Some plan) × (name : Name) × Contains plan.inputs name × IsMissing before.held name)
+      ⊎ ((plan : Command Name Name) × (plan_of words ≡ Some plan) × (name : Name) × Contains (inputs_of plan) name × IsMissing before.held name)
   -- 6
   pub write_fault : status ≡ WriteFault → Rose before.write_faults after.write_faults ⊎ Rose before.faults after.faults
 
@@ -129,7 +133,7 @@ pub record Came (words : List Name) (before after : Moment) (status : Status) : 
 
 -- the bytes that an outcome writes as bits run a mapping of what was read
 abbrev pub WritesRun : List Name → Moment → Outcome → Type 0
-WritesRun words before o = (plan : Plan) → plan_of words ≡ Some plan → RunWrites o.writes plan.command plan.inputs before
+WritesRun words before o = (plan : Command Name Name) → plan_of words ≡ Some plan → RunWrites o.writes plan before
 
 -- one of an outcome's writes failed: those before it were made, what is held under its name is left open, and nothing
 -- was put
@@ -163,9 +167,9 @@ abbrev pub KeepsAll : Moment → Moment → Type 0
 KeepsAll before after = Wrote before.held [] after.held × (after.write_faults ≡ before.write_faults)
 
 -- the words name no output file
-abbrev pub WritesNothing : Option Plan → Type 0
+abbrev pub WritesNothing : Option (Command Name Name) → Type 0
 WritesNothing None = Unit {0}
-WritesNothing (Some plan) = plan.outputs ≡ []
+WritesNothing (Some plan) = outputs_of plan ≡ []
 
 -- the effects of a call, by its status
 pub record IsEffect (words : List Name) (before after : Moment) (status : Status) : Type 0 where
@@ -179,22 +183,22 @@ pub record IsEffect (words : List Name) (before after : Moment) (status : Status
   -- after 2, 3, 4, 5 and 7 all is held as before, and no write call was made
   pub kept : leaves_all status ≡ true → KeepsAll before after
   -- nor after 8 of a command that judges a mapping
-  pub judged : status ≡ No → (plan : Plan) → plan_of words ≡ Some plan → judges plan.command ≡ true → KeepsAll before after
+  pub judged : status ≡ No → (plan : Command Name Name) → plan_of words ≡ Some plan → judges plan ≡ true → KeepsAll before after
   -- where the words name no output file all is held as before, however the call ends
   pub nothing_asked : WritesNothing (plan_of words) → Wrote before.held [] after.held
 
 -- where words, files and counts give no cause to refuse, the command ends with Done or memory ran out
 abbrev pub IsComplete : List Name → Moment → Moment → Status → Type 0
-IsComplete words before after status = (files : Name → Option Bytes) (plan : Plan) (inputs : List File)
-    → before.held ≡ Some files → plan_of words ≡ Some plan → AreRead (Some files) plan.inputs inputs → Accepts plan.command inputs
+IsComplete words before after status = (files : Name → Option Bytes) (command : Command File Name)
+    → before.held ≡ Some files → plan_of words ≡ Some (names_only command) → All (IsRead (Some files)) (inputs_of command) → Accepts command
     → (Rose before.read_faults after.read_faults → ⊥) → (Rose before.write_faults after.write_faults → ⊥) → (Rose before.faults after.faults → ⊥)
     → (status ≡ Done) ⊎ (status ≡ Memory)
 
 -- where words and files request an interval that a recurrence or an overfull set forbids, and no read fails, the
 -- command reports that it is impossible, or memory ran out
 abbrev pub IsImpossible : List Name → Moment → Moment → Status → Type 0
-IsImpossible words before after status = (files : Name → Option Bytes) (plan : Plan) (inputs : List File)
-    → before.held ≡ Some files → plan_of words ≡ Some plan → AreRead (Some files) plan.inputs inputs → Forbids plan.command inputs
+IsImpossible words before after status = (files : Name → Option Bytes) (command : Command File Name)
+    → before.held ≡ Some files → plan_of words ≡ Some (names_only command) → All (IsRead (Some files)) (inputs_of command) → Forbids command
     → (Rose before.read_faults after.read_faults → ⊥)
     → (status ≡ Impossible) ⊎ (status ≡ Memory)
 
@@ -206,7 +210,7 @@ pub record KeepsCounts (before after : Moment) : Type 0 where
 
 -- what the command that was requested leaves
 abbrev pub IsLeft : List Name → Moment → Moment → Status → Type 0
-IsLeft words before after status = (plan : Plan) → plan_of words ≡ Some plan → Leaves plan.command plan.inputs plan.outputs status before after
+IsLeft words before after status = (plan : Command Name Name) → plan_of words ≡ Some plan → Leaves plan status before after
 
 -- ---- a call of the program with these words, between these moments, that ends with this status
 
@@ -223,14 +227,14 @@ pub record IsCall (words : List Name) (before after : Moment) (status : Status) 
 -- ---- the calls of the store
 
 -- the input files were read, each once and in order, possibly only a first part of them
-abbrev pub Asks : Option Plan → Names → Names → Type 0
+abbrev pub Asks : Option (Command Name Name) → Names → Names → Type 0
 Asks None before after = after ≡ before
-Asks (Some plan) before after = NotesPart before plan.inputs after
+Asks (Some plan) before after = NotesPart before (inputs_of plan) after
 
 -- the output files were written, each once and in order, possibly only a first part of them
-abbrev pub Writes : Option Plan → Names → Names → Type 0
+abbrev pub Writes : Option (Command Name Name) → Names → Names → Type 0
 Writes None before after = after ≡ before
-Writes (Some plan) before after = NotesPart before plan.outputs after
+Writes (Some plan) before after = NotesPart before (outputs_of plan) after
 
 -- an outcome was carried out, and each of its files was written, once and in order: none is left out because its bytes
 -- are held already
@@ -248,4 +252,4 @@ pub record MakesCalls (words : List Name) (before after : Moment) (status : Stat
   -- at 2, 3, 4, 5 and 7 no write was asked for
   pub none : leaves_all status ≡ true → wrote_after ≡ wrote_before
   -- nor at 8 of a command that judges a mapping
-  pub judged : status ≡ No → (plan : Plan) → plan_of words ≡ Some plan → judges plan.command ≡ true → wrote_after ≡ wrote_before
+  pub judged : status ≡ No → (plan : Command Name Name) → plan_of words ≡ Some plan → judges plan ≡ true → wrote_after ≡ wrote_before

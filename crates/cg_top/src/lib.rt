@@ -1,18 +1,21 @@
 //! The top call: from the words of a command line to what the store holds, what the sink receives, and the status.
 #![tactic(auto)]
 
-ghost use Rattle.std.specs.Prelude.{◌≡◌, ◌≤◌, [], None, Some, IfOk, length, map, string_bytes};
+ghost use Rattle.std.specs.Prelude.{◌≡◌, ◌≤◌, [], None, Some, IfOk, map, string_bytes};
 ghost use Rattle.cg_files.specs.Causes.{Rose};
-ghost use Rattle.cg_effects.specs.Outcome.{file_of, outcome_of};
+ghost use Rattle.cg_effects.specs.Outcome.{outcome_of};
 ghost use Rattle.cg_effects.specs.Ends.{moment};
-ghost use Rattle.cg_command.specs.Words.{HasShape, plan_of, planned};
+ghost use Rattle.cg_command.specs.Command.{IsRanged, denoted};
+ghost use Rattle.cg_command.specs.Files.{filled};
+ghost use Rattle.cg_command.specs.Words.{plan_of};
 ghost use Rattle.cg_commands.specs.Commands.{IsAnswer};
 ghost use Rattle.cg_top.specs.TopCall.{IsPlannedBytes, Ends, IsCall, Asks, MakesCalls};
 
 mod laws;
 
 use cg_cause::conclude;
-pub use cg_command::{Command, Plan, plan_words};
+pub use cg_command::{Command, MapperCall, plan_words};
+use cg_command::{fill, inputs};
 use cg_commands::answer;
 use cg_diagnostics::{Aside, Silent};
 pub use cg_effects::Status;
@@ -122,58 +125,63 @@ fn outcome<S: Store>(
     ensures reads { S.read_faults store.old ≤ S.read_faults store.new }
     ensures writes { S.write_faults store.new ≡ S.write_faults store.old }
 {
-    let Some(plan) = plan_words(alloc, words)? else {
-        // Where memory for the notes runs out, the outcome is the same.
-        let _ = note_words(alloc, words, aside);
-        return usage(alloc);
-    };
-    answered(alloc, &plan, store, aside)
+    match plan_words(alloc, words)? {
+        Some(command) => answered(alloc, &command, store, aside),
+        None => {
+            // Where memory for the notes runs out, the outcome is the same.
+            let _ = note_words(alloc, words, aside);
+            usage(alloc)
+        }
+    }
 }
 
-/// Returns the outcome of the planned command for the files in `store`, and notes what is wrong with the files.
+/// Returns the outcome of `command` for the files in `store`, and notes what is wrong with them.
 fn answered<S: Store>(
     alloc: Global,
-    plan: &Plan,
+    command: &Command<&str, &str>,
     store: &mut S,
     aside: &mut dyn Aside,
 ) -> Result<Outcome, AllocError>
-    requires { HasShape plan.now.command (length plan.now.inputs.items) (length plan.now.outputs.items) }
+    requires { IsRanged command.now }
     ensures planned { IfOk result (λ o. IsPlannedBytes (S.held store.old) (Rose (S.read_faults store.old) (S.read_faults store.new))
-        (Some (planned plan.now)) (outcome_of o)) }
-    ensures asks { Asks (Some (planned plan.now)) (S.asked store.old) (S.asked store.new) }
+        (Some (denoted command.now)) (outcome_of o)) }
+    ensures asks { Asks (Some (denoted command.now)) (S.asked store.old) (S.asked store.new) }
     ensures wrote { S.wrote store.new ≡ S.wrote store.old }
     ensures held { S.held store.new ≡ S.held store.old }
     ensures reads { S.read_faults store.old ≤ S.read_faults store.new }
     ensures writes { S.write_faults store.new ≡ S.write_faults store.old }
 {
-    match read_all(alloc, plan.inputs.as_slice(), store) {
-        Ok(files) => answer_to(alloc, plan, files.as_slice(), aside),
+    let names = inputs(alloc, command)?;
+    match read_all(alloc, names.as_slice(), store) {
+        Ok(files) => {
+            let files = files.as_slice();
+            answer_to(alloc, &fill(command, files), files, aside)
+        }
         Err(Unread::Ended(outcome)) => Ok(outcome),
         Err(Unread::Memory) => Err(AllocError),
     }
 }
 
-/// Returns the outcome of the planned command for `files`, its input files in the order of reading, and notes what is
-/// wrong with them.
+/// Returns the outcome of `command`, and notes what is wrong with `files`, its input files in the order of reading.
 fn answer_to(
     alloc: Global,
-    plan: &Plan,
+    command: &Command<&File, &str>,
     files: &[File],
     aside: &mut dyn Aside,
 ) -> Result<Outcome, AllocError>
-    requires { HasShape plan.now.command (length files.now) (length plan.now.outputs.items) }
-    ensures { IfOk result (λ o. IsAnswer plan.now.command (map file_of files.now) (map string_bytes plan.now.outputs.items) (outcome_of o)) }
+    requires { IsRanged command.now }
+    ensures { IfOk result (λ o. IsAnswer (filled command.now) (outcome_of o)) }
 {
-    let ended = answer(alloc, plan, files, aside);
+    let ended = answer(alloc, command, aside);
     aside.end_progress();
     let outcome = conclude(alloc, ended)?;
-    Ok(noted(alloc, plan.command, outcome, files, aside))
+    Ok(noted(alloc, command, outcome, files, aside))
 }
 
 /// Returns `outcome`, the outcome of `command` for `files`, and gives notes on it for the user.
 fn noted(
     alloc: Global,
-    command: Command,
+    command: &Command<&File, &str>,
     outcome: Outcome,
     files: &[File],
     aside: &mut dyn Aside,
