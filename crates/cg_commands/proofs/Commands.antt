@@ -20,9 +20,9 @@ use Rattle.cg_why_answers.proofs.Explained.{same_why, sound_why, accepted_why, q
 use Rattle.cg_mapping_answers.proofs.Bounded.{same_bound, sound_bound, accepted_bound, quiet_bound}
 use Rattle.cg_mapping_answers.proofs.Checked.{same_check, sound_check, accepted_check, quiet_check}
 use Rattle.cg_mapping_answers.proofs.Bitstream.{same_emit, sound_emit, accepted_emit, named_emit}
-use Rattle.cg_map_answers.proofs.Searched.{same_map, sound_map, accepted_map, forbidden_map, quiet_map, named_map}
-use Rattle.cg_search_answers.proofs.Searched.{agree_search, sound_search, accepted_search, forbidden_search, quiet_search, named_search}
-use Rattle.cg_show_answers.proofs.Shown.{same_show, sound_show, accepted_show, quiet_show, named_show}
+use Rattle.cg_map_answers.proofs.Searched.{same_map, sound_map, accepted_map, forbidden_map, named_map}
+use Rattle.cg_search_answers.proofs.Searched.{agree_search, sound_search, accepted_search, forbidden_search, named_search}
+use Rattle.cg_show_answers.proofs.Shown.{same_show, sound_show, accepted_show, named_show}
 use Rattle.cg_loop_answers.proofs.Looped.{same_loop, sound_loop, accepted_loop, named_loop}
 use Rattle.cg_commands.specs.Commands.{IsAnswer, Accepts, Forbids, AgreeIn}
 use Rattle.cg_commands.proofs.Trialed.{same_trial, sound_trial, accepted_trial, quiet_trial}

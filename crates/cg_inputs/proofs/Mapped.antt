@@ -11,6 +11,7 @@ use Rattle.cg_mapping.proofs.Answered.{answered-shaped}
 use Rattle.cg_check.specs.Legal.{Mapped}
 use Rattle.cg_inputs.specs.Sources.{Pair, mapped_by, mapped_of, AreMapped, ArePaired, GivesPair, AreGiven}
 use Rattle.cg_inputs.proofs.Arrays.{valid_array}
+use Rattle.cg_inputs.proofs.Answered.{IsReading}
 use Rattle.cg_inputs.proofs.Refusals.{AreRefused, IsAlike, equal, refusals}
 use Rattle.cg_inputs.proofs.Paired as paired
 use Rattle.cg_inputs.proofs.Paired.{refused_pair, given_pair, pair_is, some_paired}
@@ -77,3 +78,7 @@ alike_by mapping x y a b (refusals o p e h) d f = refusals o p (d ∙ ap (mapped
 -- they give the same, or are refused alike
 pub alike : (arch kernel mapping : File) (a b : Result Mapped Outcome) → AreMapped arch kernel mapping a → AreMapped arch kernel mapping b → IsAlike a b
 alike arch kernel mapping a b p q = alike_by mapping p.pair q.pair a b (paired.alike arch kernel p.pair q.pair p.given q.given) p.mapped_is q.mapped_is
+
+-- three files can be read
+pub mapped_reading : (arch kernel mapping : File) → IsReading (AreMapped arch kernel mapping)
+mapped_reading arch kernel mapping = record { refused = refused_given arch kernel mapping; alike = alike arch kernel mapping; some = some_mapped arch kernel mapping }

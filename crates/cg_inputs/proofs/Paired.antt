@@ -14,6 +14,7 @@ use Rattle.cg_kernel.specs.Answer as kernels
 use Rattle.cg_kernel.proofs.Spelled.{spelled_valid}
 use Rattle.cg_inputs.specs.Sources.{Pair, pair_by, pair_of, ArePaired, GivesPair}
 use Rattle.cg_inputs.proofs.Arrays.{same_array, valid_array}
+use Rattle.cg_inputs.proofs.Answered.{IsReading}
 use Rattle.cg_inputs.proofs.Refusals.{AreRefused, IsAlike, equal, refusals}
 
 refused_by : (A : Arch) (kernel : Name) (r : Result Kernel KernelFault) → AreRefused (pair_by A kernel r)
@@ -68,3 +69,7 @@ alike arch kernel a b p q = alike_by arch kernel a b p.given q.given p.is_given 
 -- the architecture and the kernel are valid
 pub valid_pair : (arch kernel : Bytes) (p : Pair) → GivesPair arch kernel p → IsArch p.arch × IsKernel p.kernel
 valid_pair arch kernel p g = (valid_array arch p.arch g.arch_is, spelled_valid kernel p.kernel g.kernel_is)
+
+-- two files can be read
+pub pair_reading : (arch kernel : File) → IsReading (ArePaired arch kernel)
+pair_reading arch kernel = record { refused = refused_pair arch kernel; alike = alike arch kernel; some = some_paired arch kernel }

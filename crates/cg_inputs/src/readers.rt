@@ -1,5 +1,5 @@
 //! Readers of input files. A file that can't be parsed ends the command, with the fault that its reader found.
-ghost use Rattle.std.specs.Prelude.{◌≡◌, ◌≤◌, Ok, IfOk, IfErr, length};
+ghost use Rattle.std.specs.Prelude.{◌≡◌, ◌≤◌, Ok, Err, IfOk, IfErr, length};
 ghost use Rattle.cg_model.specs.Array.{IsArch};
 ghost use Rattle.cg_model.specs.Canonical.{IsCanonical};
 ghost use Rattle.cg_model.specs.Kernel.{IsKernel};
@@ -12,6 +12,7 @@ ghost use Rattle.cg_kernel.specs.Answer as kernels;
 ghost use Rattle.cg_mapping.specs.Answer as mappings;
 ghost use Rattle.cg_pad.specs.Bytes as images;
 ghost use Rattle.cg_bits.specs.Answers as bits;
+ghost use Rattle.cg_inputs.specs.Sources.{AreMapped, ArePaired};
 ghost use Rattle.cg_inputs.specs.Refused.{RefusesArch, RefusesBits, RefusesImage, RefusesKernel, RefusesMapping};
 
 use cg_arch::Arch;
@@ -90,4 +91,55 @@ pub fn config_in<'a>(alloc: Global, arch: &'a Arch, file: &'a File) -> Result<Co
         Err(BitsFault::Memory) => Err(Stop::Memory),
         Err(fault) => Err(Stop::refused(alloc, file, Cause::Bits(fault))),
     }
+}
+
+/// An architecture and a kernel.
+#[derive(Drop)]
+pub struct Instance {
+    pub arch: Arch,
+    pub kernel: Kernel,
+}
+
+/// Reads the architecture in the file `arch` and the kernel in `kernel`. A fault in one ends the command with status 3.
+pub fn instance_in(alloc: Global, arch: &File, kernel: &File) -> Result<Instance, Stop>
+    ensures given { IfOk result (λ i. ArePaired (file_of arch.now) (file_of kernel.now) (Ok (record { arch = i.arch; kernel = i.kernel }))) }
+    ensures refused { IfErr result (EndsBy (λ o. ArePaired (file_of arch.now) (file_of kernel.now) (Err o))) }
+{
+    let array = arch_in(alloc, arch)?;
+    let graph = kernel_in(alloc, kernel)?;
+    Ok(Instance {
+        arch: array,
+        kernel: graph,
+    })
+}
+
+/// A mapping with its architecture and its kernel.
+#[derive(Drop)]
+pub struct Sources {
+    pub arch: Arch,
+    pub kernel: Kernel,
+    pub mapping: Mapping,
+}
+
+/// Reads the architecture in the file `arch`, the kernel in `kernel` and the mapping in `mapping`. A fault in one ends
+/// the command with status 3.
+pub fn sources_in(
+    alloc: Global,
+    arch: &File,
+    kernel: &File,
+    mapping: &File,
+) -> Result<Sources, Stop>
+    ensures given { IfOk result (λ s. AreMapped (file_of arch.now) (file_of kernel.now) (file_of mapping.now)
+        (Ok (record { arch = s.arch; kernel = s.kernel; mapping = s.mapping }))) }
+    ensures refused { IfErr result (EndsBy (λ o. AreMapped (file_of arch.now) (file_of kernel.now) (file_of mapping.now) (Err o))) }
+    ensures shaped { IfOk result (λ s. IsShaped s.kernel s.mapping) }
+{
+    let instance = instance_in(alloc, arch, kernel)?;
+    let placed = mapping_in(alloc, &instance.arch, &instance.kernel, mapping)?;
+    let Instance { arch, kernel } = instance;
+    Ok(Sources {
+        arch,
+        kernel,
+        mapping: placed,
+    })
 }

@@ -1,5 +1,5 @@
 -- What `emit` answers, and what its bytes do.
-use Rattle.std.proofs.Common.{◌≡◌, ℕ, List, [], ◌∷◌, Option, Some, None, Result, Ok, Err, refl, sym, ◌∙◌, ap, subst, inl, inr, ⊎_elim}
+use Rattle.std.proofs.Common.{◌≡◌, ℕ, List, [], ◌∷◌, Option, Some, None, Ok, refl, sym, ◌∙◌, ap, subst, inl, inr, ⊎_elim}
 use Rattle.cg_model.specs.Array.{Arch, IsArch}
 use Rattle.cg_model.specs.Kernel.{Kernel, IsKernel}
 use Rattle.cg_model.specs.Configured.{configuration_of}
@@ -7,7 +7,7 @@ use Rattle.cg_model.specs.Mapping.{Mapping, IsShaped, IsLegal}
 use Rattle.cg_overlap.proofs.Single.{carries_one}
 use Rattle.cg_overlap.proofs.Canonical.{canonical}
 use Rattle.cg_overlap.proofs.Overlap.{follows, leaves_the_same, begins_only, unaliased_without}
-use Rattle.cg_effects.specs.declared.outcome.Status.TheVariants.{Done, Malformed, No}
+use Rattle.cg_effects.specs.declared.outcome.Status.TheVariants.{Done, No}
 use Rattle.cg_effects.specs.Outcome.{Name, File, Outcome, names_of}
 use Rattle.cg_effects.specs.Ends.{Moment, Completed, Wrote}
 use Rattle.cg_effects.specs.Refusals.{reports}
@@ -25,8 +25,8 @@ use Rattle.cg_mapping_answers.specs.Emit.{IsEmit, IsEmittedBy, IsEmission, RunsM
 use Rattle.cg_inputs.proofs.Sound.{IsSound, judging, IsNamed}
 use Rattle.cg_inputs.proofs.Wholes.{whole, one_write}
 use Rattle.cg_inputs.proofs.Arrays.{sized}
-use Rattle.cg_inputs.proofs.Refusals.{IsRefusal, AreRefused, IsAlike, equal, refusals, sound_refusal}
-use Rattle.cg_inputs.proofs.Mapped.{refused_given, given_of, valid_given, IsValid, some_mapped, alike}
+use Rattle.cg_inputs.proofs.Answered.{sound_answer, named_answer, unwritten_answer, same_answer, done_answer, some_answer, left_answer, writes_answer, not_done, not_no}
+use Rattle.cg_inputs.proofs.Mapped.{given_of, valid_given, IsValid, mapped_reading}
 use Rattle.cg_mapping_answers.proofs.Checked.{given_legal, no_violation, legal_without, hold_mapped, illegal_by}
 
 -- ---- what the bytes do
@@ -56,44 +56,34 @@ sound_by : (out : Name) (m : Mapped) (v : Option Violation) (o : Outcome) → Is
 sound_by out m None o p = subst (IsSound judging) (sym p.outcome) (record { own = refl; quiet = λ h. cc })
 sound_by out m (Some v) o p = subst (IsSound judging) (sym p) (record { own = refl; quiet = λ h. refl })
 
-sound_emission : (out : Name) (mapped : Result Mapped Outcome) (o : Outcome) → AreRefused mapped → IsEmission out mapped o → IsSound judging o
-sound_emission out (Ok m) o r p = sound_by out m (violation m.arch m.kernel m.mapping) o p
-sound_emission out (Err e) o r p = subst (IsSound judging) (sym p) (sound_refusal judging e refl r)
-
 pub sound_emit : (arch kernel mapping : File) (out : Name) (o : Outcome) → IsEmit arch kernel mapping out o → IsSound judging o
-sound_emit arch kernel mapping out o p = sound_emission out p.mapped o (refused_given arch kernel mapping p.mapped p.given) p.emission
+sound_emit arch kernel mapping out o p =
+    sound_answer (AreMapped arch kernel mapping) (IsEmission out) (mapped_reading arch kernel mapping) judging refl (λ m o e. sound_by out m (violation m.arch m.kernel m.mapping) o e) o p
 
 named_by : (out : Name) (m : Mapped) (v : Option Violation) (o : Outcome) → IsEmittedBy out m v o → IsNamed (out ∷ []) o
 named_by out m None o p = inl (ap (λ x. names_of x.writes) p.outcome)
 named_by out m (Some v) o p = inr (ap (λ x. x.writes) p)
 
-named_emission : (out : Name) (mapped : Result Mapped Outcome) (o : Outcome) → AreRefused mapped → IsEmission out mapped o → IsNamed (out ∷ []) o
-named_emission out (Ok m) o r p = named_by out m (violation m.arch m.kernel m.mapping) o p
-named_emission out (Err e) o r p = inr (ap (λ x. x.writes) p ∙ r.quiet)
-
 pub named_emit : (arch kernel mapping : File) (out : Name) (o : Outcome) → IsEmit arch kernel mapping out o → IsNamed (out ∷ []) o
-named_emit arch kernel mapping out o p = named_emission out p.mapped o (refused_given arch kernel mapping p.mapped p.given) p.emission
+named_emit arch kernel mapping out o p =
+    named_answer (AreMapped arch kernel mapping) (IsEmission out) (mapped_reading arch kernel mapping) (out ∷ []) (λ m o e. named_by out m (violation m.arch m.kernel m.mapping) o e) o p
+
+-- where the answer is No nothing is written
+unwritten_by : (out : Name) (m : Mapped) (v : Option Violation) (o : Outcome) → IsEmittedBy out m v o → o.status ≡ No → o.writes ≡ []
+unwritten_by out m None o is said = absurd (let z : Done ≡ No = sym (ap (λ x. x.status) is.outcome) ∙ said in cc)
+unwritten_by out m (Some v) o is said = ap (λ x. x.writes) is
+
+pub unwritten_emit : (arch kernel mapping : File) (out : Name) (o : Outcome) → IsEmit arch kernel mapping out o → o.status ≡ No → o.writes ≡ []
+unwritten_emit arch kernel mapping out o p said =
+    unwritten_answer (AreMapped arch kernel mapping) (IsEmission out) (mapped_reading arch kernel mapping) (λ m o e no. unwritten_by out m (violation m.arch m.kernel m.mapping) o e no) o p said
 
 same_written : (out : Name) (m : Mapped) (v : Option Violation) (a b : Outcome) → IsEmittedBy out m v a → IsEmittedBy out m v b → a.status ≡ b.status
 same_written out m None a b p q = ap (λ x. x.status) p.outcome ∙ sym (ap (λ x. x.status) q.outcome)
 same_written out m (Some v) a b p q = ap (λ x. x.status) p ∙ sym (ap (λ x. x.status) q)
 
-same_emission : (out : Name) (mapped : Result Mapped Outcome) (a b : Outcome) → IsEmission out mapped a → IsEmission out mapped b → a.status ≡ b.status
-same_emission out (Ok m) a b p q = same_written out m (violation m.arch m.kernel m.mapping) a b p q
-same_emission out (Err e) a b p q = ap (λ x. x.status) (p ∙ sym q)
-
-same_by : (out : Name) (x y : Result Mapped Outcome) (a b : Outcome) → AreRefused x → AreRefused y → IsAlike x y → IsEmission out x a → IsEmission out y b → a.status ≡ b.status
-same_by out x y a b r q (equal e) p s = same_emission out y a b (subst (λ z. IsEmission out z a) e p) s
-same_by out x y a b r q (refusals o t d e) p s =
-    let first : IsRefusal o = subst AreRefused d r in
-    let second : IsRefusal t = subst AreRefused e q in
-    let mine : a ≡ o = subst (λ z. IsEmission out z a) d p in
-    let other : b ≡ t = subst (λ z. IsEmission out z b) e s in
-    ap (λ z. z.status) mine ∙ first.status ∙ sym second.status ∙ sym (ap (λ z. z.status) other)
-
 pub same_emit : (arch kernel mapping : File) (out : Name) (a b : Outcome) → IsEmit arch kernel mapping out a → IsEmit arch kernel mapping out b → a.status ≡ b.status
 same_emit arch kernel mapping out a b p q =
-    same_by out p.mapped q.mapped a b (refused_given arch kernel mapping p.mapped p.given) (refused_given arch kernel mapping q.mapped q.given) (alike arch kernel mapping p.mapped q.mapped p.given q.given) p.emission q.emission
+    same_answer (AreMapped arch kernel mapping) (IsEmission out) (mapped_reading arch kernel mapping) (λ m a b x y. same_written out m (violation m.arch m.kernel m.mapping) a b x y) a b p q
 
 -- ---- what is accepted
 
@@ -103,7 +93,8 @@ accepted_by out m (Some v) o e p = absurd (cc)
 
 pub accepted_emit : (arch kernel mapping : File) (out : Name) (o : Outcome) → IsLegalInput arch kernel mapping → IsEmit arch kernel mapping out o → o.status ≡ Done
 accepted_emit arch kernel mapping out o a p =
-    accepted_by out a.mapped (violation a.mapped.arch a.mapped.kernel a.mapped.mapping) o (no_violation a.mapped (valid_given arch.bytes kernel.bytes mapping.bytes a.mapped a.given) a.legal) (subst (λ z. IsEmission out z o) (given_legal arch kernel mapping a p.mapped p.given) p.emission)
+    accepted_by out a.mapped (violation a.mapped.arch a.mapped.kernel a.mapped.mapping) o (no_violation a.mapped (valid_given arch.bytes kernel.bytes mapping.bytes a.mapped a.given) a.legal)
+    (done_answer (AreMapped arch kernel mapping) (IsEmission out) (mapped_reading arch kernel mapping) a.mapped (given_legal arch kernel mapping a) o p)
 
 -- ---- what there is
 
@@ -114,15 +105,10 @@ some_by out m None e valid =
     (record { status = Done; report = emit_report m; writes = record { name = out; bytes = spelled.0 } ∷ [] }, record { bytes = spelled.0; spelled = spelled.1; outcome = refl })
 some_by out m (Some v) e valid = (reports No (illegal_report m.arch m.kernel v), refl)
 
-some_emission : (arch kernel mapping : File) (out : Name) (mapped : Result Mapped Outcome) → AreMapped arch kernel mapping mapped → (o : Outcome) × IsEmission out mapped o
-some_emission arch kernel mapping out (Ok m) given = some_by out m (violation m.arch m.kernel m.mapping) refl (valid_given arch.bytes kernel.bytes mapping.bytes m (given_of arch kernel mapping m given))
-some_emission arch kernel mapping out (Err e) given = (e, refl)
-
 pub some_emit : (arch kernel mapping : File) (out : Name) → (o : Outcome) × IsEmit arch kernel mapping out o
 some_emit arch kernel mapping out =
-    let a = some_mapped arch kernel mapping in
-    let e = some_emission arch kernel mapping out a.0 a.1 in
-    (e.0, record { mapped = a.0; given = a.1; emission = e.1 })
+    some_answer (AreMapped arch kernel mapping) (IsEmission out) (mapped_reading arch kernel mapping)
+    (λ m given. some_by out m (violation m.arch m.kernel m.mapping) refl (valid_given arch.bytes kernel.bytes mapping.bytes m (given_of arch kernel mapping m given)))
 
 -- ---- what is left
 
@@ -145,14 +131,6 @@ module _ (arch kernel mapping out : Name) (f g h : File) (before after : Moment)
   unemitted_by m None o e given is refused c = absurd (let z : Done ≡ No = sym (ap (λ x. x.status) is.outcome) ∙ refused in cc)
   unemitted_by m (Some v) o e given is refused c = illegal_by arch kernel mapping f g h before after arch_held kernel_held mapping_held m v o e given is c
 
-  emitted_given : (mapped : Result Mapped Outcome) (o : Outcome) → AreMapped f g h mapped → IsEmission out mapped o → o.status ≡ Done → Completed o before after Done → IsEmittedRun arch kernel mapping out before after
-  emitted_given (Ok m) o given is done c = emitted_by m (violation m.arch m.kernel m.mapping) o refl (given_of f g h m given) is done c
-  emitted_given (Err e) o given is done c = absurd (let r = refused_given f g h (Err e) given in let z : Malformed ≡ Done = sym r.status ∙ sym (ap (λ x. x.status) is) ∙ done in cc)
-
-  unemitted_given : (mapped : Result Mapped Outcome) (o : Outcome) → AreMapped f g h mapped → IsEmission out mapped o → o.status ≡ No → Completed o before after No → IsIllegalCheck arch kernel mapping before after
-  unemitted_given (Ok m) o given is refused c = unemitted_by m (violation m.arch m.kernel m.mapping) o refl (given_of f g h m given) is refused c
-  unemitted_given (Err e) o given is refused c = absurd (let r = refused_given f g h (Err e) given in let z : Malformed ≡ No = sym r.status ∙ sym (ap (λ x. x.status) is) ∙ refused in cc)
-
   made_by : (m : Mapped) (v : Option Violation) (o : Outcome) → violation m.arch m.kernel m.mapping ≡ v → AreGiven f.bytes g.bytes h.bytes m → IsEmittedBy out m v o → FirstRunsRead arch kernel mapping before o.writes
   made_by m None o e given is =
       let valid = valid_given f.bytes g.bytes h.bytes m given in
@@ -161,15 +139,17 @@ module _ (arch kernel mapping out : Name) (f g h : File) (before after : Moment)
       (record { mapped = m; read = hold_mapped arch kernel mapping f g h before after arch_held kernel_held mapping_held m given; runs = runs m is.bytes valid.arch valid.kernel legal is.spelled })
   made_by m (Some v) o e given is = subst (FirstRunsRead arch kernel mapping before) (sym (ap (λ x. x.writes) is)) tt
 
-  made_given : (mapped : Result Mapped Outcome) (o : Outcome) → AreMapped f g h mapped → IsEmission out mapped o → FirstRunsRead arch kernel mapping before o.writes
-  made_given (Ok m) o given is = made_by m (violation m.arch m.kernel m.mapping) o refl (given_of f g h m given) is
-  made_given (Err e) o given is = let r = refused_given f g h (Err e) given in subst (FirstRunsRead arch kernel mapping before) (sym (ap (λ x. x.writes) is ∙ r.quiet)) tt
-
   pub emit_writes_run : (o : Outcome) → IsEmit f g h out o → FirstRunsRead arch kernel mapping before o.writes
-  emit_writes_run o p = made_given p.mapped o p.given p.emission
+  emit_writes_run o p =
+      writes_answer (AreMapped f g h) (IsEmission out) (mapped_reading f g h) (FirstRunsRead arch kernel mapping before) tt o
+      (λ m given is. made_by m (violation m.arch m.kernel m.mapping) o refl (given_of f g h m given) is) p
 
   pub emitted_left : (o : Outcome) → IsEmit f g h out o → o.status ≡ Done → Completed o before after Done → IsEmittedRun arch kernel mapping out before after
-  emitted_left o p done c = emitted_given p.mapped o p.given p.emission done c
+  emitted_left o p done c =
+      left_answer (AreMapped f g h) (IsEmission out) (mapped_reading f g h) (IsEmittedRun arch kernel mapping out before after) o
+      (λ m given is. emitted_by m (violation m.arch m.kernel m.mapping) o refl (given_of f g h m given) is done c) p (not_done o done)
 
   pub unemitted_left : (o : Outcome) → IsEmit f g h out o → o.status ≡ No → Completed o before after No → IsIllegalCheck arch kernel mapping before after
-  unemitted_left o p refused c = unemitted_given p.mapped o p.given p.emission refused c
+  unemitted_left o p refused c =
+      left_answer (AreMapped f g h) (IsEmission out) (mapped_reading f g h) (IsIllegalCheck arch kernel mapping before after) o
+      (λ m given is. unemitted_by m (violation m.arch m.kernel m.mapping) o refl (given_of f g h m given) is refused c) p (not_no o refused)

@@ -1,4 +1,3 @@
 pub mod Checked
 pub mod Bitstream
 pub mod Bounded
-pub mod Allowed

@@ -1,5 +1,5 @@
 -- `bound ARCH KERNEL`.
-use Rattle.std.specs.Prelude.{◌≡◌, ℕ, ◌-◌, ◌<◌, ◌≤◌, ⊤, [], ◌∷◌, ◌++◌, Option, Some, None, Result, Ok, Err, codes, decimal, option_map}
+use Rattle.std.specs.Prelude.{◌≡◌, ℕ, ◌-◌, ◌<◌, ◌≤◌, ⊤, [], ◌∷◌, ◌++◌, Option, Some, None, codes, decimal, option_map}
 use Rattle.cg_model.specs.Mapping.{Mapping, IsLegal}
 use Rattle.cg_effects.specs.declared.outcome.Status.TheVariants.{Done}
 use Rattle.cg_files.specs.Held.{Appends}
@@ -10,6 +10,7 @@ use Rattle.cg_bound.specs.declared.interval.Certificate.{Certificate}
 use Rattle.cg_bound.specs.declared.interval.LeastInterval.{LeastInterval}
 use Rattle.cg_bound.specs.Bound.{IsBound}
 use Rattle.cg_bound.specs.Text.{certificate_text}
+use Rattle.cg_inputs.specs.Answered.{ReadThen}
 use Rattle.cg_inputs.specs.Sources.{Pair, ArePaired, GivesPair, HoldPair}
 
 -- the least interval, if there is one
@@ -35,15 +36,8 @@ pub record IsBounded (p : Pair) (o : Outcome) : Type 0 where
   pub is_least : IsBound p.arch p.kernel least
   pub outcome : o ≡ reports Done (bound_report p least)
 
--- given the result of parsing the files
-abbrev pub IsBounding : Result Pair Outcome → Outcome → Type 0
-IsBounding (Ok p) o = IsBounded p o
-IsBounding (Err refused) o = o ≡ refused
-
-pub record IsBoundOf (arch kernel : File) (o : Outcome) : Type 0 where
-  pub pair : Result Pair Outcome
-  pub given : ArePaired arch kernel pair
-  pub bounding : IsBounding pair o
+abbrev pub IsBoundOf : File → File → Outcome → Type 0
+IsBoundOf arch kernel o = ReadThen (ArePaired arch kernel) IsBounded o
 
 -- the files contain an architecture and a kernel
 pub record IsPairInput (arch kernel : File) : Type 0 where

@@ -1,5 +1,5 @@
 -- `check ARCH KERNEL MAPPING`.
-use Rattle.std.specs.Prelude.{◌≡◌, [], ◌∷◌, Option, Some, None, Result, Ok, Err, codes}
+use Rattle.std.specs.Prelude.{◌≡◌, [], ◌∷◌, Option, Some, None, codes}
 use Rattle.cg_model.specs.Array.{Arch}
 use Rattle.cg_model.specs.Kernel.{Kernel}
 use Rattle.cg_model.specs.Mapping.{IsLegal}
@@ -12,6 +12,7 @@ use Rattle.cg_check.specs.Legal.{Mapped}
 use Rattle.cg_check.specs.declared.rule.Violation.{Violation}
 use Rattle.cg_check.specs.Rules.{violation}
 use Rattle.cg_check.specs.Texts.{rule_text}
+use Rattle.cg_inputs.specs.Answered.{ReadThen}
 use Rattle.cg_inputs.specs.Sources.{AreGiven, AreMapped, HoldMapped}
 
 -- the mapping is legal
@@ -27,15 +28,11 @@ abbrev pub checked_by : Mapped → Option Violation → Outcome
 checked_by m None = reports Done legal_report
 checked_by m (Some v) = reports No (illegal_report m.arch m.kernel v)
 
--- given the result of parsing the files
-abbrev pub checked : Result Mapped Outcome → Outcome
-checked (Ok m) = checked_by m (violation m.arch m.kernel m.mapping)
-checked (Err refused) = refused
+abbrev pub IsChecked : Mapped → Outcome → Type 0
+IsChecked m o = o ≡ checked_by m (violation m.arch m.kernel m.mapping)
 
-pub record IsCheck (arch kernel mapping : File) (o : Outcome) : Type 0 where
-  pub mapped : Result Mapped Outcome
-  pub given : AreMapped arch kernel mapping mapped
-  pub outcome : o ≡ checked mapped
+abbrev pub IsCheck : File → File → File → Outcome → Type 0
+IsCheck arch kernel mapping o = ReadThen (AreMapped arch kernel mapping) IsChecked o
 
 -- the files contain an architecture, a kernel and a legal mapping
 pub record IsLegalInput (arch kernel mapping : File) : Type 0 where

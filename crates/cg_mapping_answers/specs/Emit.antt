@@ -1,5 +1,5 @@
 -- `emit ARCH KERNEL MAPPING OUT`.
-use Rattle.std.specs.Prelude.{◌≡◌, List, [], ◌∷◌, Option, Some, None, Result, Ok, Err, codes, decimal}
+use Rattle.std.specs.Prelude.{◌≡◌, List, [], ◌∷◌, Option, Some, None, codes, decimal}
 use Rattle.cg_model.specs.Mapping.{IsLegal}
 use Rattle.cg_model.specs.Overlap.{CarriesOne}
 use Rattle.cg_effects.specs.declared.outcome.Status.TheVariants.{Done, No}
@@ -12,6 +12,7 @@ use Rattle.cg_check.specs.Legal.{Mapped, config_of}
 use Rattle.cg_check.specs.declared.rule.Violation.{Violation}
 use Rattle.cg_check.specs.Rules.{violation}
 use Rattle.cg_emit.specs.Emitted.{RunLikeTurns}
+use Rattle.cg_inputs.specs.Answered.{ReadThen}
 use Rattle.cg_inputs.specs.Sources.{AreMapped, HoldMapped}
 use Rattle.cg_mapping_answers.specs.Check.{illegal_report}
 
@@ -31,15 +32,11 @@ abbrev pub IsEmittedBy : Name → Mapped → Option Violation → Outcome → Ty
 IsEmittedBy out m None o = IsEmitted out m o
 IsEmittedBy out m (Some v) o = o ≡ reports No (illegal_report m.arch m.kernel v)
 
--- given the result of parsing the files
-abbrev pub IsEmission : Name → Result Mapped Outcome → Outcome → Type 0
-IsEmission out (Ok m) o = IsEmittedBy out m (violation m.arch m.kernel m.mapping) o
-IsEmission out (Err refused) o = o ≡ refused
+abbrev pub IsEmission : Name → Mapped → Outcome → Type 0
+IsEmission out m o = IsEmittedBy out m (violation m.arch m.kernel m.mapping) o
 
-pub record IsEmit (arch kernel mapping : File) (out : Name) (o : Outcome) : Type 0 where
-  pub mapped : Result Mapped Outcome
-  pub given : AreMapped arch kernel mapping mapped
-  pub emission : IsEmission out mapped o
+abbrev pub IsEmit : File → File → File → Name → Outcome → Type 0
+IsEmit arch kernel mapping out o = ReadThen (AreMapped arch kernel mapping) (IsEmission out) o
 
 -- the bytes run a mapping: it is legal, and they are the bits of its configuration. In no cycle does a resource carry
 -- the values of two iterations, or a unit begin two operations; and an array that runs these bytes does what the

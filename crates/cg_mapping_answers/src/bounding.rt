@@ -9,7 +9,7 @@ use cg_arch::Arch;
 use cg_bound::{LeastInterval, bound as least_interval, certificate_text};
 use cg_cause::Stop;
 use cg_effects::{File, Outcome, Status};
-use cg_inputs::{arch_in, kernel_in};
+use cg_inputs::instance_in;
 use cg_model::Kernel;
 use std::alloc::{AllocError, Global};
 
@@ -17,9 +17,8 @@ use std::alloc::{AllocError, Global};
 pub fn bound(alloc: Global, arch: &File, kernel: &File) -> Result<Outcome, Stop>
     ensures { Allows (IsBoundOf (file_of arch.now) (file_of kernel.now)) result }
 {
-    let array = arch_in(alloc, arch)?;
-    let graph = kernel_in(alloc, kernel)?;
-    bounded(alloc, &array, &graph)
+    let instance = instance_in(alloc, arch, kernel)?;
+    bounded(alloc, &instance.arch, &instance.kernel)
 }
 
 /// Returns the outcome for `kernel` on `array`: the report on the least interval.

@@ -11,7 +11,7 @@ ghost use Rattle.cg_mapping_answers.specs.Check.{IsCheck, checked_by, illegal_re
 use cg_cause::Stop;
 use cg_check::{Arch, CheckVerdict, Kernel, Mapping, Rule, RulePlace, check as judge, rule_text};
 use cg_effects::{File, Outcome, Status};
-use cg_inputs::{arch_in, kernel_in, mapping_in};
+use cg_inputs::{Sources, sources_in};
 use std::alloc::Global;
 
 /// Returns the outcome of `check`: whether the mapping in the file `mapping` is legal for the kernel in `kernel` on the
@@ -19,10 +19,13 @@ use std::alloc::Global;
 pub fn check(alloc: Global, arch: &File, kernel: &File, mapping: &File) -> Result<Outcome, Stop>
     ensures { Allows (IsCheck (file_of arch.now) (file_of kernel.now) (file_of mapping.now)) result }
 {
-    let array = arch_in(alloc, arch)?;
-    let graph = kernel_in(alloc, kernel)?;
-    let placed = mapping_in(alloc, &array, &graph, mapping)?;
-    checked(alloc, &array, &graph, placed)
+    let sources = sources_in(alloc, arch, kernel, mapping)?;
+    let Sources {
+        arch,
+        kernel,
+        mapping,
+    } = sources;
+    checked(alloc, &arch, &kernel, mapping)
 }
 
 /// Checks whether `mapping` is legal for `kernel` on `array`, and returns the outcome.

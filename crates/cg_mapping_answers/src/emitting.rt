@@ -11,7 +11,7 @@ use cg_cause::Stop;
 use cg_check::{Arch, CheckVerdict, Kernel, LegalMapping, Mapping, check as judge};
 use cg_effects::{File, Outcome, Status};
 use cg_emit::{emit as emit_bits, stages};
-use cg_inputs::{arch_in, kernel_in, mapping_in};
+use cg_inputs::{Sources, sources_in};
 use std::alloc::{AllocError, Global};
 
 /// Returns the outcome of `emit`: the bits of the mapping in the file `mapping`, of the kernel in `kernel` to the
@@ -25,10 +25,13 @@ pub fn emit(
 ) -> Result<Outcome, Stop>
     ensures { Allows (IsEmit (file_of arch.now) (file_of kernel.now) (file_of mapping.now) out.now) result }
 {
-    let array = arch_in(alloc, arch)?;
-    let graph = kernel_in(alloc, kernel)?;
-    let placed = mapping_in(alloc, &array, &graph, mapping)?;
-    emitted(alloc, &array, &graph, placed, out)
+    let sources = sources_in(alloc, arch, kernel, mapping)?;
+    let Sources {
+        arch,
+        kernel,
+        mapping,
+    } = sources;
+    emitted(alloc, &arch, &kernel, mapping, out)
 }
 
 /// Returns the outcome for `mapping`: its bits where it is legal, and otherwise the rule that it violates.

@@ -1,3 +1,2 @@
 pub mod Margins
 pub mod Shown
-pub mod Allowed

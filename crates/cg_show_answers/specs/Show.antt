@@ -1,5 +1,5 @@
 -- `show ARCH KERNEL MAPPING [OUT]`.
-use Rattle.std.specs.Prelude.{◌≡◌, List, [], ◌∷◌, Option, Some, None, Result, Ok, Err}
+use Rattle.std.specs.Prelude.{◌≡◌, List, [], ◌∷◌, Option, Some, None}
 use Rattle.cg_model.specs.Mapping.{IsLegal}
 use Rattle.cg_effects.specs.declared.outcome.Status.TheVariants.{Done, No}
 use Rattle.cg_files.specs.Held.{Held, Holds, Appends}
@@ -9,6 +9,7 @@ use Rattle.cg_effects.specs.Refusals.{reports}
 use Rattle.cg_check.specs.Legal.{Mapped}
 use Rattle.cg_check.specs.declared.rule.Violation.{Violation}
 use Rattle.cg_check.specs.Rules.{violation}
+use Rattle.cg_inputs.specs.Answered.{ReadThen}
 use Rattle.cg_inputs.specs.Sources.{AreMapped, HoldMapped}
 use Rattle.cg_mapping_answers.specs.Check.{illegal_report}
 use Rattle.cg_occupancy.specs.Marks.{AreExact}
@@ -40,15 +41,11 @@ abbrev pub IsShownBy : List Name → Mapped → Option Violation → Outcome →
 IsShownBy outs m None o = IsShown outs m o
 IsShownBy outs m (Some v) o = o ≡ reports No (illegal_report m.arch m.kernel v)
 
--- given the result of parsing the files
-abbrev pub IsShowing : List Name → Result Mapped Outcome → Outcome → Type 0
-IsShowing outs (Ok m) o = IsShownBy outs m (violation m.arch m.kernel m.mapping) o
-IsShowing outs (Err refused) o = o ≡ refused
+abbrev pub IsShowing : List Name → Mapped → Outcome → Type 0
+IsShowing outs m o = IsShownBy outs m (violation m.arch m.kernel m.mapping) o
 
-pub record IsShow (arch kernel mapping : File) (outs : List Name) (o : Outcome) : Type 0 where
-  pub mapped : Result Mapped Outcome
-  pub given : AreMapped arch kernel mapping mapped
-  pub showing : IsShowing outs mapped o
+abbrev pub IsShow : File → File → File → List Name → Outcome → Type 0
+IsShow arch kernel mapping outs o = ReadThen (AreMapped arch kernel mapping) (IsShowing outs) o
 
 -- the picture is held under the name, if there is one
 abbrev pub HoldPicture : Held → List Name → Bytes → Type 0

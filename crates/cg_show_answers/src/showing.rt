@@ -10,7 +10,7 @@ ghost use Rattle.cg_show_answers.specs.Show.{IsShow, IsShown, IsShownBy, show_re
 use cg_cause::Stop;
 use cg_check::{Arch, CheckVerdict, Kernel, LegalMapping, Mapping, check as judge};
 use cg_effects::{File, Outcome, Status};
-use cg_inputs::{arch_in, kernel_in, mapping_in};
+use cg_inputs::{Sources, sources_in};
 use cg_mapping_answers::illegal;
 use cg_occupancy::Marks;
 use cg_show::picture;
@@ -29,10 +29,13 @@ pub fn show(
     requires { length outputs.now ≤ 1 }
     ensures { Allows (IsShow (file_of arch.now) (file_of kernel.now) (file_of mapping.now) (map string_bytes outputs.now)) result }
 {
-    let array = arch_in(alloc, arch)?;
-    let graph = kernel_in(alloc, kernel)?;
-    let placed = mapping_in(alloc, &array, &graph, mapping)?;
-    judged(alloc, &array, &graph, placed, outputs)
+    let sources = sources_in(alloc, arch, kernel, mapping)?;
+    let Sources {
+        arch,
+        kernel,
+        mapping,
+    } = sources;
+    judged(alloc, &arch, &kernel, mapping, outputs)
 }
 
 /// Returns the outcome for `mapping`: the report and the picture where it is legal, and otherwise the rule that it

@@ -1,5 +1,5 @@
 -- `violations ARCH KERNEL MAPPING`.
-use Rattle.std.specs.Prelude.{◌≡◌, ℕ, List, [], ◌∷◌, Result, Ok, Err}
+use Rattle.std.specs.Prelude.{◌≡◌, ℕ, List, [], ◌∷◌}
 use Rattle.cg_model.specs.Mapping.{IsLegal}
 use Rattle.cg_effects.specs.declared.outcome.Status.TheVariants.{Done, No}
 use Rattle.cg_effects.specs.Outcome.{Name, Bytes, File, Outcome}
@@ -7,6 +7,7 @@ use Rattle.cg_effects.specs.Ends.{Moment, IsPut, Wrote}
 use Rattle.cg_effects.specs.Refusals.{reports}
 use Rattle.cg_check.specs.Legal.{Mapped}
 use Rattle.cg_check.specs.declared.rule.Violation.{Violation}
+use Rattle.cg_inputs.specs.Answered.{ReadThen}
 use Rattle.cg_inputs.specs.Sources.{AreMapped, HoldMapped}
 use Rattle.cg_mapping_answers.specs.Check.{legal_report}
 use Rattle.cg_violations.specs.Violations.{violations_of, AreAll}
@@ -25,15 +26,11 @@ abbrev pub listed_by : Mapped → List Violation → Outcome
 listed_by m [] = reports Done legal_report
 listed_by m (v ∷ vs) = reports No (violations_report m)
 
--- given the result of parsing the files
-abbrev pub listed : Result Mapped Outcome → Outcome
-listed (Ok m) = listed_by m (violations_of m.arch m.kernel m.mapping)
-listed (Err refused) = refused
+abbrev pub IsListed : Mapped → Outcome → Type 0
+IsListed m o = o ≡ listed_by m (violations_of m.arch m.kernel m.mapping)
 
-pub record IsViolations (arch kernel mapping : File) (o : Outcome) : Type 0 where
-  pub mapped : Result Mapped Outcome
-  pub given : AreMapped arch kernel mapping mapped
-  pub outcome : o ≡ listed mapped
+abbrev pub IsViolations : File → File → File → Outcome → Type 0
+IsViolations arch kernel mapping o = ReadThen (AreMapped arch kernel mapping) IsListed o
 
 -- No: the mapping that was read isn't legal. Its violations were reported, only the first 1,000 if there are more, and
 -- in part if the put call failed. Nothing was written

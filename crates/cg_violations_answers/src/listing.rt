@@ -12,7 +12,7 @@ ghost use Rattle.cg_violations_answers.specs.Violations.{IsViolations, listed_by
 use cg_cause::Stop;
 use cg_check::{Arch, Kernel, Mapping, Violation};
 use cg_effects::{File, Outcome, Status};
-use cg_inputs::{arch_in, kernel_in, mapping_in};
+use cg_inputs::sources_in;
 use cg_violations::{fault_lines, violations as all_violations};
 use std::alloc::Global;
 
@@ -29,10 +29,8 @@ pub fn violations(
 ) -> Result<Outcome, Stop>
     ensures { Allows (IsViolations (file_of arch.now) (file_of kernel.now) (file_of mapping.now)) result }
 {
-    let array = arch_in(alloc, arch)?;
-    let graph = kernel_in(alloc, kernel)?;
-    let placed = mapping_in(alloc, &array, &graph, mapping)?;
-    listed(alloc, &array, &graph, &placed)
+    let sources = sources_in(alloc, arch, kernel, mapping)?;
+    listed(alloc, &sources.arch, &sources.kernel, &sources.mapping)
 }
 
 /// Returns the outcome for `mapping`, of `kernel` to `array`.

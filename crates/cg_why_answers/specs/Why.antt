@@ -1,11 +1,12 @@
 -- `why ARCH KERNEL`.
-use Rattle.std.specs.Prelude.{◌≡◌, Result, Ok, Err}
+use Rattle.std.specs.Prelude.{◌≡◌}
 use Rattle.cg_model.specs.Mapping.{Mapping, IsLegal}
 use Rattle.cg_effects.specs.declared.outcome.Status.TheVariants.{Done}
 use Rattle.cg_files.specs.Held.{Appends}
 use Rattle.cg_effects.specs.Outcome.{Name, File, Outcome}
 use Rattle.cg_effects.specs.Ends.{Moment}
 use Rattle.cg_effects.specs.Refusals.{reports}
+use Rattle.cg_inputs.specs.Answered.{ReadThen}
 use Rattle.cg_inputs.specs.Sources.{Pair, ArePaired, HoldPair}
 use Rattle.cg_mapping_answers.specs.Bound.{IsBelow}
 use Rattle.cg_bound_all.specs.declared.why.Why.{Why}
@@ -19,15 +20,8 @@ pub record IsExplained (p : Pair) (o : Outcome) : Type 0 where
   pub is_why : IsWhy p.arch p.kernel why
   pub outcome : o ≡ reports Done (why_text p.arch p.kernel why)
 
--- given the result of parsing the files
-abbrev pub IsExplaining : Result Pair Outcome → Outcome → Type 0
-IsExplaining (Ok p) o = IsExplained p o
-IsExplaining (Err refused) o = o ≡ refused
-
-pub record IsWhyOf (arch kernel : File) (o : Outcome) : Type 0 where
-  pub pair : Result Pair Outcome
-  pub given : ArePaired arch kernel pair
-  pub explaining : IsExplaining pair o
+abbrev pub IsWhyOf : File → File → Outcome → Type 0
+IsWhyOf arch kernel o = ReadThen (ArePaired arch kernel) IsExplained o
 
 -- Done: an architecture and a kernel were read; the least interval that no reason excludes was reported, and what
 -- excludes those below it. No mapping of a lower interval is legal, and where there is no such interval no mapping is

@@ -8,7 +8,7 @@ use cg_bound_all::explain;
 use cg_bound_text::why_report;
 use cg_cause::Stop;
 use cg_effects::{File, Outcome, Status};
-use cg_inputs::{arch_in, kernel_in};
+use cg_inputs::instance_in;
 use cg_model::Kernel;
 use std::alloc::Global;
 
@@ -17,9 +17,8 @@ use std::alloc::Global;
 pub fn why(alloc: Global, arch: &File, kernel: &File) -> Result<Outcome, Stop>
     ensures { Allows (IsWhyOf (file_of arch.now) (file_of kernel.now)) result }
 {
-    let array = arch_in(alloc, arch)?;
-    let graph = kernel_in(alloc, kernel)?;
-    explained(alloc, &array, &graph)
+    let instance = instance_in(alloc, arch, kernel)?;
+    explained(alloc, &instance.arch, &instance.kernel)
 }
 
 /// Returns the outcome for `kernel` on `array`: the report on what excludes its intervals.

@@ -1,26 +1,19 @@
 use Rattle.cg_effects.specs.Outcome.{file_of}
-use Rattle.cg_cause.proofs.Allowed.{allows_weaker, stopped}
+use Rattle.cg_cause.proofs.Allowed.{stopped}
+use Rattle.cg_inputs.specs.Sources.{ArePaired}
+use Rattle.cg_inputs.proofs.Answered.{refused_answer, given_answer}
 use Rattle.cg_mapping_answers.specs.Bound.{IsBoundOf, IsBounded}
-use Rattle.cg_mapping_answers.proofs.Allowed.{bound_given, bound_without_arch, bound_without_kernel}
 use Rattle.cg_mapping_answers.proofs.bounding.bound.Goals as goal
 
-pub returns-in_err-array : goal.returns-in_err-array
-returns-in_err-array c =
+pub returns-in_err-instance : goal.returns-in_err-instance
+returns-in_err-instance c =
     let arch = file_of c.args.arch.now in
     let kernel = file_of c.args.kernel.now in
-    stopped (IsBoundOf arch kernel) c.in_err-array.field-0.0 _ c.from_residual.ensures.1
-    (bound_without_arch arch kernel _ c.in_err-array.ensures.refused)
-
-pub returns-in_err-graph : goal.returns-in_err-graph
-returns-in_err-graph c =
-    let arch = file_of c.args.arch.now in
-    let kernel = file_of c.args.kernel.now in
-    stopped (IsBoundOf arch kernel) c.in_err-graph.field-0.0 _ c.from_residual-in_err-graph.ensures.1
-    (bound_without_kernel arch kernel c.in_ok-array.array _ c.in_ok-array.ensures.given c.in_err-graph.ensures.refused)
+    stopped (IsBoundOf arch kernel) c.in_err-instance.field-0.0 _ c.from_residual.ensures.1
+    (refused_answer (ArePaired arch kernel) IsBounded _ c.in_err-instance.ensures.refused)
 
 pub returns : goal.returns
 returns c =
-    let arch = file_of c.args.arch.now in
-    let kernel = file_of c.args.kernel.now in
-    allows_weaker (IsBounded (record { arch = c.in_ok-array.array; kernel = c.in_ok-graph.graph })) (IsBoundOf arch kernel) c.bounded.result
-    (λ o b. bound_given arch kernel c.in_ok-array.array c.in_ok-graph.graph o c.in_ok-array.ensures.given c.in_ok-graph.ensures.given b) c.bounded.ensures
+    let i = c.in_ok-instance.instance in
+    given_answer (ArePaired (file_of c.args.arch.now) (file_of c.args.kernel.now)) IsBounded (record { arch = i.arch; kernel = i.kernel }) c.bounded.result
+    c.in_ok-instance.ensures.given c.bounded.ensures

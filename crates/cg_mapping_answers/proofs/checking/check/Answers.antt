@@ -1,41 +1,22 @@
 use Rattle.cg_effects.specs.Outcome.{file_of}
-use Rattle.cg_cause.proofs.Allowed.{allows_weaker, stopped}
-use Rattle.std.proofs.Common.{◌≡◌}
+use Rattle.cg_cause.proofs.Allowed.{stopped}
 use Rattle.cg_check.specs.Legal.{Mapped}
-use Rattle.cg_check.specs.Rules.{violation}
-use Rattle.cg_mapping_answers.specs.Check.{IsCheck, checked_by}
-use Rattle.cg_mapping_answers.proofs.Allowed.{check_given, check_without_arch, check_without_kernel, check_without_mapping}
+use Rattle.cg_inputs.specs.Sources.{AreMapped}
+use Rattle.cg_inputs.proofs.Answered.{refused_answer, given_answer}
+use Rattle.cg_mapping_answers.specs.Check.{IsCheck, IsChecked}
 use Rattle.cg_mapping_answers.proofs.checking.check.Goals as goal
 
-pub returns-in_err-array : goal.returns-in_err-array
-returns-in_err-array c =
+pub returns-in_err-sources : goal.returns-in_err-sources
+returns-in_err-sources c =
     let arch = file_of c.args.arch.now in
     let kernel = file_of c.args.kernel.now in
     let mapping = file_of c.args.mapping.now in
-    stopped (IsCheck arch kernel mapping) c.in_err-array.field-0.0 _ c.from_residual.ensures.1
-    (check_without_arch arch kernel mapping _ c.in_err-array.ensures.refused)
-
-pub returns-in_err-graph : goal.returns-in_err-graph
-returns-in_err-graph c =
-    let arch = file_of c.args.arch.now in
-    let kernel = file_of c.args.kernel.now in
-    let mapping = file_of c.args.mapping.now in
-    stopped (IsCheck arch kernel mapping) c.in_err-graph.field-0.0 _ c.from_residual-in_err-graph.ensures.1
-    (check_without_kernel arch kernel mapping c.in_ok-array.array _ c.in_ok-array.ensures.given c.in_err-graph.ensures.refused)
-
-pub returns-in_err-placed : goal.returns-in_err-placed
-returns-in_err-placed c =
-    let arch = file_of c.args.arch.now in
-    let kernel = file_of c.args.kernel.now in
-    let mapping = file_of c.args.mapping.now in
-    stopped (IsCheck arch kernel mapping) c.in_err-placed.field-0.0 _ c.from_residual-in_err-placed.ensures.1
-    (check_without_mapping arch kernel mapping c.in_ok-array.array c.in_ok-graph.graph _ c.in_ok-array.ensures.given c.in_ok-graph.ensures.given c.in_err-placed.ensures.refused)
+    stopped (IsCheck arch kernel mapping) c.in_err-sources.field-0.0 _ c.from_residual.ensures.1
+    (refused_answer (AreMapped arch kernel mapping) (IsChecked) _ c.in_err-sources.ensures.refused)
 
 pub returns : goal.returns
 returns c =
-    let arch = file_of c.args.arch.now in
-    let kernel = file_of c.args.kernel.now in
-    let mapping = file_of c.args.mapping.now in
-    let m : Mapped = record { arch = c.in_ok-array.array; kernel = c.in_ok-graph.graph; mapping = c.in_ok-placed.placed } in
-    allows_weaker (λ o. o ≡ checked_by m (violation m.arch m.kernel m.mapping)) (IsCheck arch kernel mapping) c.checked.result
-    (λ o e. check_given arch kernel mapping m o c.in_ok-array.ensures.given c.in_ok-graph.ensures.given c.in_ok-placed.ensures.given e) c.checked.ensures
+    let s = c.in_ok-sources.sources in
+    let m : Mapped = record { arch = s.arch; kernel = s.kernel; mapping = s.mapping } in
+    given_answer (AreMapped (file_of c.args.arch.now) (file_of c.args.kernel.now) (file_of c.args.mapping.now)) (IsChecked) m c.checked.result
+    c.in_ok-sources.ensures.given c.checked.ensures

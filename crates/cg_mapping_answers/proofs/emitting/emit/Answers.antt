@@ -1,40 +1,22 @@
 use Rattle.cg_effects.specs.Outcome.{file_of}
-use Rattle.cg_cause.proofs.Allowed.{allows_weaker, stopped}
+use Rattle.cg_cause.proofs.Allowed.{stopped}
 use Rattle.cg_check.specs.Legal.{Mapped}
-use Rattle.cg_check.specs.Rules.{violation}
-use Rattle.cg_mapping_answers.specs.Emit.{IsEmit, IsEmittedBy}
-use Rattle.cg_mapping_answers.proofs.Allowed.{emit_given, emit_without_arch, emit_without_kernel, emit_without_mapping}
+use Rattle.cg_inputs.specs.Sources.{AreMapped}
+use Rattle.cg_inputs.proofs.Answered.{refused_answer, given_answer}
+use Rattle.cg_mapping_answers.specs.Emit.{IsEmit, IsEmission}
 use Rattle.cg_mapping_answers.proofs.emitting.emit.Goals as goal
 
-pub returns-in_err-array : goal.returns-in_err-array
-returns-in_err-array c =
+pub returns-in_err-sources : goal.returns-in_err-sources
+returns-in_err-sources c =
     let arch = file_of c.args.arch.now in
     let kernel = file_of c.args.kernel.now in
     let mapping = file_of c.args.mapping.now in
-    stopped (IsEmit arch kernel mapping c.args.out.now) c.in_err-array.field-0.0 _ c.from_residual.ensures.1
-    (emit_without_arch arch kernel mapping c.args.out.now _ c.in_err-array.ensures.refused)
-
-pub returns-in_err-graph : goal.returns-in_err-graph
-returns-in_err-graph c =
-    let arch = file_of c.args.arch.now in
-    let kernel = file_of c.args.kernel.now in
-    let mapping = file_of c.args.mapping.now in
-    stopped (IsEmit arch kernel mapping c.args.out.now) c.in_err-graph.field-0.0 _ c.from_residual-in_err-graph.ensures.1
-    (emit_without_kernel arch kernel mapping c.args.out.now c.in_ok-array.array _ c.in_ok-array.ensures.given c.in_err-graph.ensures.refused)
-
-pub returns-in_err-placed : goal.returns-in_err-placed
-returns-in_err-placed c =
-    let arch = file_of c.args.arch.now in
-    let kernel = file_of c.args.kernel.now in
-    let mapping = file_of c.args.mapping.now in
-    stopped (IsEmit arch kernel mapping c.args.out.now) c.in_err-placed.field-0.0 _ c.from_residual-in_err-placed.ensures.1
-    (emit_without_mapping arch kernel mapping c.args.out.now c.in_ok-array.array c.in_ok-graph.graph _ c.in_ok-array.ensures.given c.in_ok-graph.ensures.given c.in_err-placed.ensures.refused)
+    stopped (IsEmit arch kernel mapping c.args.out.now) c.in_err-sources.field-0.0 _ c.from_residual.ensures.1
+    (refused_answer (AreMapped arch kernel mapping) (IsEmission c.args.out.now) _ c.in_err-sources.ensures.refused)
 
 pub returns : goal.returns
 returns c =
-    let arch = file_of c.args.arch.now in
-    let kernel = file_of c.args.kernel.now in
-    let mapping = file_of c.args.mapping.now in
-    let m : Mapped = record { arch = c.in_ok-array.array; kernel = c.in_ok-graph.graph; mapping = c.in_ok-placed.placed } in
-    allows_weaker (IsEmittedBy c.args.out.now m (violation m.arch m.kernel m.mapping)) (IsEmit arch kernel mapping c.args.out.now) c.emitted.result
-    (λ o e. emit_given arch kernel mapping c.args.out.now m o c.in_ok-array.ensures.given c.in_ok-graph.ensures.given c.in_ok-placed.ensures.given e) c.emitted.ensures
+    let s = c.in_ok-sources.sources in
+    let m : Mapped = record { arch = s.arch; kernel = s.kernel; mapping = s.mapping } in
+    given_answer (AreMapped (file_of c.args.arch.now) (file_of c.args.kernel.now) (file_of c.args.mapping.now)) (IsEmission c.args.out.now) m c.emitted.result
+    c.in_ok-sources.ensures.given c.emitted.ensures

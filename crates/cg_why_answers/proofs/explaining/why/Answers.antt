@@ -1,26 +1,19 @@
 use Rattle.cg_effects.specs.Outcome.{file_of}
-use Rattle.cg_cause.proofs.Allowed.{allows_weaker, stopped}
+use Rattle.cg_cause.proofs.Allowed.{stopped}
+use Rattle.cg_inputs.specs.Sources.{ArePaired}
+use Rattle.cg_inputs.proofs.Answered.{refused_answer, given_answer}
 use Rattle.cg_why_answers.specs.Why.{IsWhyOf, IsExplained}
-use Rattle.cg_why_answers.proofs.Allowed.{why_given, why_without_arch, why_without_kernel}
 use Rattle.cg_why_answers.proofs.explaining.why.Goals as goal
 
-pub returns-in_err-array : goal.returns-in_err-array
-returns-in_err-array c =
+pub returns-in_err-instance : goal.returns-in_err-instance
+returns-in_err-instance c =
     let arch = file_of c.args.arch.now in
     let kernel = file_of c.args.kernel.now in
-    stopped (IsWhyOf arch kernel) c.in_err-array.field-0.0 _ c.from_residual.ensures.1
-    (why_without_arch arch kernel _ c.in_err-array.ensures.refused)
-
-pub returns-in_err-graph : goal.returns-in_err-graph
-returns-in_err-graph c =
-    let arch = file_of c.args.arch.now in
-    let kernel = file_of c.args.kernel.now in
-    stopped (IsWhyOf arch kernel) c.in_err-graph.field-0.0 _ c.from_residual-in_err-graph.ensures.1
-    (why_without_kernel arch kernel c.in_ok-array.array _ c.in_ok-array.ensures.given c.in_err-graph.ensures.refused)
+    stopped (IsWhyOf arch kernel) c.in_err-instance.field-0.0 _ c.from_residual.ensures.1
+    (refused_answer (ArePaired arch kernel) IsExplained _ c.in_err-instance.ensures.refused)
 
 pub returns : goal.returns
 returns c =
-    let arch = file_of c.args.arch.now in
-    let kernel = file_of c.args.kernel.now in
-    allows_weaker (IsExplained (record { arch = c.in_ok-array.array; kernel = c.in_ok-graph.graph })) (IsWhyOf arch kernel) c.explained.result
-    (λ o e. why_given arch kernel c.in_ok-array.array c.in_ok-graph.graph o c.in_ok-array.ensures.given c.in_ok-graph.ensures.given e) c.explained.ensures
+    let i = c.in_ok-instance.instance in
+    given_answer (ArePaired (file_of c.args.arch.now) (file_of c.args.kernel.now)) IsExplained (record { arch = i.arch; kernel = i.kernel }) c.explained.result
+    c.in_ok-instance.ensures.given c.explained.ensures
