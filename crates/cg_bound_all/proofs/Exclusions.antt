@@ -10,7 +10,7 @@ use Rattle.cg_recur.proofs.Decided.{recurrence_or_none, shown_short}
 use Rattle.cg_class.proofs.Subsets.{overfull_or_none}
 use Rattle.cg_bound_routes.specs.declared.missing.Missing.{Missing}
 use Rattle.cg_bound_registers.specs.Sums.{table}
-use Rattle.cg_bound_flow_laws.proofs.Always.{IsDecided, decided}
+use Rattle.cg_bound_all.proofs.Decided.{IsDecided, decided}
 use Rattle.cg_bound_recurrence.proofs.Decided.{way_cycle_or_none}
 use Rattle.cg_bound_all.specs.declared.reason.Kind.{Kind}
 use Rattle.cg_bound_all.specs.declared.reason.Kind.TheVariants as kinds

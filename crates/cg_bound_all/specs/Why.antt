@@ -28,7 +28,7 @@ use Rattle.cg_bound_all.specs.declared.why.Why.{Why}
 
 -- ---- the registers on ways
 
--- far gives for each data edge the least number of registers on its ways at interval ii, and 0 if there is no way
+-- hops gives for each data edge the least number of registers on its ways at interval ii, and 0 if there is no way
 abbrev pub AreHops : Arch → Kernel → ℕ → (ℕ → ℕ → ℕ) → Type 0
 AreHops A K ii hops =
     (v p u d : ℕ) (init : List ℕ) → HasOperand K v p (Edge u d init) → (o : Option ℕ) × AreLeastHops A K ii v p o × (hops v p ≡ unwrap_or o 0)

@@ -13,7 +13,7 @@ mod why;
 
 pub use bounds::Bound;
 pub use cg_recur::{Arch, EdgeId, Kernel};
-pub use laws::{always_explained, excludes};
+pub use laws::{always_decided, always_explained, excludes};
 pub use least::{Least, find_exclusion};
 pub use numbers::{HopTables, Numbers, find_hops};
 pub use reason::{Kind, Reason};

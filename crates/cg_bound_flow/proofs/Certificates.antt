@@ -1,5 +1,5 @@
 -- The lists of a certificate, edge by edge.
-use Rattle.std.proofs.Common.{◌≡◌, ℕ, ◌+◌, ◌*◌, ◌^◌, ◌<◌, ◌≤◌, length, add-one, List, [], ◌∷◌, ◌++◌, Option, Some, None, refl, sym, ap, ◌∙◌, subst, arith}
+use Rattle.std.proofs.Common.{◌≡◌, ℕ, suc, ◌+◌, ◌*◌, ◌^◌, ◌<◌, ◌≤◌, length, add-one, List, [], ◌∷◌, ◌++◌, Option, Some, None, refl, sym, ap, ◌∙◌, subst, arith}
 use Rattle.std.specs.Prelude.{slice_index}
 use Rattle.cg_bound_registers.specs.declared.dependence.Dependence.{Dependence}
 use Rattle.cg_bound_registers.specs.declared.certificate.Stay.{Stay as StayEdge}
@@ -60,11 +60,11 @@ tie_added K f xs xs' part k w e q =
     ∙ ap (λ z. weigh (λ (x : TieEdge). x.weight) (λ x. order_edge K x.edge) f xs + w * on_tie K f z) (sym q)
 
 module _ (links : List Link) (flow : List ℕ) (k : ℕ) (f : Part → ℕ) where
+  pub next_suc : (s s' : ℕ) → s ≡ taken links flow k f → s' ≡ s + slice_index flow k * f (link links k).part → s' ≡ taken links flow (suc k) f
+  next_suc s s' a b = b ∙ ap (λ z. z + slice_index flow k * f (link links k).part) a
+
   pub next : (s s' : ℕ) → s ≡ taken links flow k f → s' ≡ s + slice_index flow k * f (link links k).part → s' ≡ taken links flow (k + 1) f
-  next s s' a b = b ∙ ap (λ z. z + slice_index flow k * f (link links k).part) a ∙ sym (taken_next)
-    where
-      taken_next : taken links flow (k + 1) f ≡ taken links flow k f + slice_index flow k * f (link links k).part
-      taken_next = rw add-one refl
+  next s s' a b = rw add-one (next_suc s s' a b)
 
   pub whole : (s : ℕ) → k ≡ length links → s ≡ taken links flow k f → s ≡ taken links flow (length links) f
   whole s e a = a ∙ ap (λ j. taken links flow j f) e

@@ -21,7 +21,20 @@ other_none a b ne = ⊎_elim (λ t. absurd (ne (eqb-true a b t))) (λ f. cond-fa
 pub alike : (a b c d : ℕ) → (a ≡ b → c ≡ d) → (c ≡ d → a ≡ b) → one_if (eqb a b) ≡ one_if (eqb c d)
 alike a b c d f g = ⊎_elim (λ e. equal_one a b e ∙ sym (equal_one c d (f e))) (λ ne. other_none a b ne ∙ sym (other_none c d (λ e. ne (g e)))) (cases_eq a b)
 
-module _ (n : ℕ) (links : List Link) (flow at flow' at' : List ℕ) (u : ℕ) (routed : List Bool) (inside : u < n) (marks : length routed ≡ n) (fresh : slice_index_or routed u false ≡ false) (one : IsRouted links flow at (n + u) (n + n + u) flow' at') where
+-- node u is marked too
+module _ (n u : ℕ) (routed : List Bool) (inside : u < n) (marks : length routed ≡ n) where
+  pub here : slice_index_or (set routed u true) u false ≡ true
+  here = get_or-set_same routed u true false (omega arith)
+
+  pub still : (w : ℕ) → slice_index_or routed w false ≡ true → slice_index_or (set routed u true) w false ≡ true
+  still w h = ⊎_elim (λ (e : w ≡ u). ap (λ j. slice_index_or (set routed u true) j false) e ∙ here) (λ ne. get_or-set_other routed u w true false ne ∙ h) (cases_eq w u)
+
+  pub of_marked : (P : ℕ → Type 0) → P u → ((w : ℕ) → slice_index_or routed w false ≡ true → P w) → (w : ℕ) → slice_index_or (set routed u true) w false ≡ true → P w
+  of_marked P now old w h = ⊎_elim (λ (e : w ≡ u). subst P (sym e) now) (λ ne. old w (sym (get_or-set_other routed u w true false ne) ∙ h)) (cases_eq w u)
+
+-- its value is sent from where it leaves to its last use
+module _ (n : ℕ) (links : List Link) (flow flow' : List ℕ) (u : ℕ) (routed : List Bool) (inside : u < n) (marks : length routed ≡ n) (fresh : slice_index_or routed u false ≡ false)
+    (balanced : (x : ℕ) → into links flow' x + out_of links flow x + one_if (eqb (n + u) x) ≡ into links flow x + out_of links flow' x + one_if (eqb (n + n + u) x)) where
   marked : (w : ℕ) → one_if (slice_index_or (set routed u true) w false) ≡ one_if (slice_index_or routed w false) + one_if (eqb u w)
   marked w =
       ⊎_elim
@@ -41,26 +54,9 @@ module _ (n : ℕ) (links : List Link) (flow at flow' at' : List ℕ) (u : ℕ) 
   pub circulates_more : IsCirculation n links flow routed → IsCirculation n links flow' (set routed u true)
   circulates_more old =
       record {
-        times = λ w l. let h = one.balanced w in let a = other_none (n + u) w (λ q. omega arith) in let b = other_none (n + n + u) w (λ q. omega arith) in let o = old.times w l in omega arith;
-        leaves = λ w l. let h = one.balanced (n + w) in let a = alike (n + u) (n + w) u w (λ q. omega arith) (λ q. omega arith) in let b = other_none (n + n + u) (n + w) (λ q. omega arith) in let o = old.leaves w l in let m = marked w in omega arith;
-        ends = λ w l. let h = one.balanced (n + n + w) in let a = other_none (n + u) (n + n + w) (λ q. omega arith) in let b = alike (n + n + u) (n + n + w) u w (λ q. omega arith) (λ q. omega arith) in let o = old.ends w l in let m = marked w in omega arith;
-      }
-
-  pub routed_too : (count : ℕ) → IsSpan n links u → IsRouting n links count flow at routed → IsRoutedToo n links count u flow' at' routed (set routed u true)
-  routed_too count span r =
-      record {
-        routing = record {
-          kept = one.kept;
-          each = one.each ∙ r.each;
-          flows = one.flows ∙ r.flows;
-          marks = length-set routed u true ∙ marks;
-          near = λ x. let h = one.near (2 ^ 59 + count * 2 ^ 45) r.near x in omega arith;
-          small = λ k. let h = one.small k in let s = r.small k in omega arith;
-          circulation = circulates_more r.circulation;
-          spans = λ w h. ⊎_elim (λ (e : w ≡ u). subst (IsSpan n links) (sym e) span) (λ ne. r.spans w (sym (get_or-set_other routed u w true false ne) ∙ h)) (cases_eq w u);
-        };
-        here = get_or-set_same routed u true false (omega arith);
-        still = λ w h. ⊎_elim (λ (e : w ≡ u). ap (λ j. slice_index_or (set routed u true) j false) e ∙ get_or-set_same routed u true false (omega arith)) (λ ne. get_or-set_other routed u w true false ne ∙ h) (cases_eq w u);
+        times = λ w l. let h = balanced w in let a = other_none (n + u) w (λ q. omega arith) in let b = other_none (n + n + u) w (λ q. omega arith) in let o = old.times w l in omega arith;
+        leaves = λ w l. let h = balanced (n + w) in let a = alike (n + u) (n + w) u w (λ q. omega arith) (λ q. omega arith) in let b = other_none (n + n + u) (n + w) (λ q. omega arith) in let o = old.leaves w l in let m = marked w in omega arith;
+        ends = λ w l. let h = balanced (n + n + w) in let a = other_none (n + u) (n + n + w) (λ q. omega arith) in let b = alike (n + n + u) (n + n + w) u w (λ q. omega arith) (λ q. omega arith) in let o = old.ends w l in let m = marked w in omega arith;
       }
 
 pub routing_more : (n : ℕ) (links : List Link) (count : ℕ) (flow at : List ℕ) (routed : List Bool) → IsRouting n links count flow at routed → IsRouting n links (count + 1) flow at routed
@@ -74,6 +70,25 @@ routing_more n links count flow at routed r =
       small = λ k. let h = r.small k in omega arith;
       circulation = r.circulation;
       spans = r.spans;
+    }
+
+-- a value more is routed
+pub routed_too : (n : ℕ) (links : List Link) (count u : ℕ) (flow at flow' at' : List ℕ) (routed : List Bool) → slice_index_or routed u false ≡ false → IsRouted links flow at (n + u) (n + n + u) flow' at' → IsSpan n links u →
+    IsRouting n links count flow at routed → IsRoutedToo n links count u flow' at' routed (set routed u true)
+routed_too n links count u flow at flow' at' routed fresh one span r =
+    record {
+      routing = record {
+        kept = one.kept;
+        each = one.each ∙ r.each;
+        flows = one.flows ∙ r.flows;
+        marks = length-set routed u true ∙ r.marks;
+        near = λ x. let h = one.near (2 ^ 59 + count * 2 ^ 45) r.near x in omega arith;
+        small = λ k. let h = one.small k in let s = r.small k in omega arith;
+        circulation = circulates_more n links flow flow' u routed span.0 r.marks fresh (λ x. let h = one.balanced x in omega arith) r.circulation;
+        spans = of_marked n u routed span.0 r.marks (IsSpan n links) span r.spans;
+      };
+      here = here n u routed span.0 r.marks;
+      still = still n u routed span.0 r.marks;
     }
 
 -- a value that is routed before

@@ -50,14 +50,14 @@ least_most op (u ∷ us) =
     omega arith)
     (cases_Bool (among u.ops op))
 
-module _ (A : Arch) (K : Kernel) (far : ℕ → ℕ → ℕ) (ii : ℕ) (good : IsKernel K) where
+module _ (A : Arch) (K : Kernel) (hops : ℕ → ℕ → ℕ) (ii : ℕ) (good : IsKernel K) where
   pub known_data : (v p : ℕ) (a : Dependence) → data_edge K v p ≡ Some a → (a.source < size K) × (a.target < size K)
   known_data v p a is = known_end A K good v p (slice_get (node K v).operands p) refl a is
 
   pub known_tie : (e : ℕ) (a : Dependence) → order_edge K e ≡ Some a → (a.source < size K) × (a.target < size K)
   known_tie e a is = known_order A K good e (slice_get K.order e) refl a is
 
-  pub to_time : (w : ℕ) → w < size K → (l : Link) (p : Part) → Stands A K far ii l p → one_if (eqb l.to w) ≡ on_pull K (into w) p + on_tie K (into w) p + on_most w p
+  pub to_time : (w : ℕ) → w < size K → (l : Link) (p : Part) → Stands A K hops ii l p → one_if (eqb l.to w) ≡ on_pull K (into w) p + on_tie K (into w) p + on_most w p
   to_time w b l (Least x) (lx, f, t, g, d) = let z = other_none l.to w (λ q. omega arith) in omega arith
   to_time w b l (Most x) (lx, f, t, g, d) = let z = ap (λ y. one_if (eqb y w)) t in omega arith
   to_time w b l (Pull v q) (a, is, f, t, g, d) =
@@ -66,7 +66,7 @@ module _ (A : Arch) (K : Kernel) (far : ℕ → ℕ → ℕ) (ii : ℕ) (good : 
   to_time w b l (Tie e) (a, is, f, t, g, d) =
       let z = ap (λ y. one_if (eqb y w)) t in let h : on_edge (into w) (order_edge K e) ≡ one_if (eqb a.target w) = ap (on_edge (into w)) is in omega arith
 
-  pub from_time : (w : ℕ) → w < size K → (l : Link) (p : Part) → Stands A K far ii l p → one_if (eqb l.from w) ≡ on_stay K (into w) p + on_tie K (from w) p + on_least w p
+  pub from_time : (w : ℕ) → w < size K → (l : Link) (p : Part) → Stands A K hops ii l p → one_if (eqb l.from w) ≡ on_stay K (into w) p + on_tie K (from w) p + on_least w p
   from_time w b l (Least x) (lx, f, t, g, d) = let z = ap (λ y. one_if (eqb y w)) f in omega arith
   from_time w b l (Most x) (lx, f, t, g, d) = let z = other_none l.from w (λ q. omega arith) in omega arith
   from_time w b l (Pull v q) (a, is, f, t, g, d) = let z = other_none l.from w (λ q. omega arith) in omega arith
@@ -75,14 +75,14 @@ module _ (A : Arch) (K : Kernel) (far : ℕ → ℕ → ℕ) (ii : ℕ) (good : 
   from_time w b l (Tie e) (a, is, f, t, g, d) =
       let z = ap (λ y. one_if (eqb y w)) f in let h : on_edge (from w) (order_edge K e) ≡ one_if (eqb a.source w) = ap (on_edge (from w)) is in omega arith
 
-  pub to_leaves : (w : ℕ) → w < size K → (l : Link) (p : Part) → Stands A K far ii l p → one_if (eqb l.to (size K + w)) ≡ on_least w p
+  pub to_leaves : (w : ℕ) → w < size K → (l : Link) (p : Part) → Stands A K hops ii l p → one_if (eqb l.to (size K + w)) ≡ on_least w p
   to_leaves w b l (Least x) (lx, f, t, g, d) = alike l.to (size K + w) x w (λ q. omega arith) (λ q. omega arith)
   to_leaves w b l (Most x) (lx, f, t, g, d) = other_none l.to (size K + w) (λ q. omega arith)
   to_leaves w b l (Pull v q) (a, is, f, t, g, d) = let (ks, kt) = known_data v q a is in other_none l.to (size K + w) (λ q. omega arith)
   to_leaves w b l (Stay v q) (a, is, f, t, g, d) = other_none l.to (size K + w) (λ q. omega arith)
   to_leaves w b l (Tie e) (a, is, f, t, g, d) = let (ks, kt) = known_tie e a is in other_none l.to (size K + w) (λ q. omega arith)
 
-  pub from_leaves : (w : ℕ) → w < size K → (l : Link) (p : Part) → Stands A K far ii l p → one_if (eqb l.from (size K + w)) ≡ on_pull K (from w) p + on_most w p
+  pub from_leaves : (w : ℕ) → w < size K → (l : Link) (p : Part) → Stands A K hops ii l p → one_if (eqb l.from (size K + w)) ≡ on_pull K (from w) p + on_most w p
   from_leaves w b l (Least x) (lx, f, t, g, d) = let z = other_none l.from (size K + w) (λ q. omega arith) in omega arith
   from_leaves w b l (Most x) (lx, f, t, g, d) = let z = alike l.from (size K + w) x w (λ q. omega arith) (λ q. omega arith) in omega arith
   from_leaves w b l (Pull v q) (a, is, f, t, g, d) =
@@ -92,7 +92,7 @@ module _ (A : Arch) (K : Kernel) (far : ℕ → ℕ → ℕ) (ii : ℕ) (good : 
   from_leaves w b l (Stay v q) (a, is, f, t, g, d) = let (ks, kt) = known_data v q a is in let z = other_none l.from (size K + w) (λ q. omega arith) in omega arith
   from_leaves w b l (Tie e) (a, is, f, t, g, d) = let (ks, kt) = known_tie e a is in let z = other_none l.from (size K + w) (λ q. omega arith) in omega arith
 
-  pub to_ends : (w : ℕ) → w < size K → (l : Link) (p : Part) → Stands A K far ii l p → one_if (eqb l.to (size K + size K + w)) ≡ on_stay K (from w) p
+  pub to_ends : (w : ℕ) → w < size K → (l : Link) (p : Part) → Stands A K hops ii l p → one_if (eqb l.to (size K + size K + w)) ≡ on_stay K (from w) p
   to_ends w b l (Least x) (lx, f, t, g, d) = other_none l.to (size K + size K + w) (λ q. omega arith)
   to_ends w b l (Most x) (lx, f, t, g, d) = other_none l.to (size K + size K + w) (λ q. omega arith)
   to_ends w b l (Pull v q) (a, is, f, t, g, d) = let (ks, kt) = known_data v q a is in other_none l.to (size K + size K + w) (λ q. omega arith)
@@ -102,7 +102,7 @@ module _ (A : Arch) (K : Kernel) (far : ℕ → ℕ → ℕ) (ii : ℕ) (good : 
       omega arith
   to_ends w b l (Tie e) (a, is, f, t, g, d) = let (ks, kt) = known_tie e a is in other_none l.to (size K + size K + w) (λ q. omega arith)
 
-  pub from_ends : (w : ℕ) → w < size K → (l : Link) (p : Part) → Stands A K far ii l p → one_if (eqb l.from (size K + size K + w)) ≡ 0
+  pub from_ends : (w : ℕ) → w < size K → (l : Link) (p : Part) → Stands A K hops ii l p → one_if (eqb l.from (size K + size K + w)) ≡ 0
   from_ends w b l (Least x) (lx, f, t, g, d) = other_none l.from (size K + size K + w) (λ q. omega arith)
   from_ends w b l (Most x) (lx, f, t, g, d) = other_none l.from (size K + size K + w) (λ q. omega arith)
   from_ends w b l (Pull v q) (a, is, f, t, g, d) = let (ks, kt) = known_data v q a is in other_none l.from (size K + size K + w) (λ q. omega arith)
@@ -115,17 +115,17 @@ module _ (A : Arch) (K : Kernel) (far : ℕ → ℕ → ℕ) (ii : ℕ) (good : 
   abbrev pub most_loss : Part → ℕ
   most_loss p = total (size K) (λ w. most_latency (node K w).op A.units * on_most w p)
 
-  pub gains : (l : Link) (p : Part) → Stands A K far ii l p → l.gain ≡ on_pull K (λ a. far a.target a.arg) p + on_stay K (λ a. ii * a.distance) p + on_tie K (λ a. 1) p + least_gain p
+  pub gains : (l : Link) (p : Part) → Stands A K hops ii l p → l.gain ≡ on_pull K (λ a. hops a.target a.arg) p + on_stay K (λ a. ii * a.distance) p + on_tie K (λ a. 1) p + least_gain p
   gains l (Least x) (lx, f, t, g, d) = let z = pick (size K) (λ w. latency A (node K w).op) x lx in omega arith
   gains l (Most x) (lx, f, t, g, d) = let z = none (size K) (λ w. latency A (node K w).op) in omega arith
   gains l (Pull v q) (a, is, f, t, g, d) =
-      let z = none (size K) (λ w. latency A (node K w).op) in let h : on_edge (λ a. far a.target a.arg) (data_edge K v q) ≡ far a.target a.arg = ap (on_edge (λ a. far a.target a.arg)) is in omega arith
+      let z = none (size K) (λ w. latency A (node K w).op) in let h : on_edge (λ a. hops a.target a.arg) (data_edge K v q) ≡ hops a.target a.arg = ap (on_edge (λ a. hops a.target a.arg)) is in omega arith
   gains l (Stay v q) (a, is, f, t, g, d) =
       let z = none (size K) (λ w. latency A (node K w).op) in let h : on_edge (λ a. ii * a.distance) (data_edge K v q) ≡ ii * a.distance = ap (on_edge (λ a. ii * a.distance)) is in omega arith
   gains l (Tie e) (a, is, f, t, g, d) =
       let z = none (size K) (λ w. latency A (node K w).op) in let h : on_edge (λ a. 1) (order_edge K e) ≡ 1 = ap (on_edge (λ a. 1)) is in omega arith
 
-  pub losses : (l : Link) (p : Part) → Stands A K far ii l p → l.loss ≡ on_pull K (λ a. ii * a.distance) p + on_tie K (λ a. ii * a.distance) p + most_loss p
+  pub losses : (l : Link) (p : Part) → Stands A K hops ii l p → l.loss ≡ on_pull K (λ a. ii * a.distance) p + on_tie K (λ a. ii * a.distance) p + most_loss p
   losses l (Least x) (lx, f, t, g, d) = let z = none (size K) (λ w. most_latency (node K w).op A.units) in omega arith
   losses l (Most x) (lx, f, t, g, d) = let z = pick (size K) (λ w. most_latency (node K w).op A.units) x lx in omega arith
   losses l (Pull v q) (a, is, f, t, g, d) =

@@ -59,7 +59,7 @@ tie_near K good e a is = by_option (slice_get K.order e) refl is
         let s : record { source = o.from; target = o.to; arg = 0; distance = o.distance } ≡ a = cc in
         subst (λ (z : Dependence). z.distance ≤ 255) s (omega arith)
 
-some_same : (a b : Dependence) → Some a ≡ Some b → a ≡ b
+pub some_same : (a b : Dependence) → Some a ≡ Some b → a ≡ b
 some_same a b e = cc
 
 -- latencies are small
@@ -73,39 +73,45 @@ most_small op (u ∷ us) h =
     (λ t. let e = cond-false (among u.ops op) (max u.latency (most_latency op us)) (most_latency op us) t in omega arith)
     (cases_Bool (among u.ops op))
 
-module _ (A : Arch) (K : Kernel) (far : ℕ → ℕ → ℕ) (ii : ℕ) (good : IsKernel K) (links : List Link) (net : IsNetwork A K far ii links) where
+module _ (A : Arch) (K : Kernel) (hops : ℕ → ℕ → ℕ) (ii : ℕ) (good : IsKernel K) (links : List Link) (net : IsNetwork A K hops ii links) where
   abbrev n : ℕ
   n = size K
 
-  stands : (k : ℕ) → k < length links → (p : Part) → (link links k).part ≡ p → Stands A K far ii (link links k) p
-  stands k l p e = subst (Stands A K far ii (link links k)) e (net.right k l)
+  pub stands : (k : ℕ) → k < length links → (p : Part) → (link links k).part ≡ p → Stands A K hops ii (link links k) p
+  stands k l p e = subst (Stands A K hops ii (link links k)) e (net.right k l)
 
-  pub graph : ((op : Op) → latency A op ≤ 4) → ((op : Op) → most_latency op A.units ≤ 4) → ((v p : ℕ) → far v p ≤ 2 ^ 32) → ii ≤ 64 → IsGraph (n + n + n) links
+  -- gains and losses are at most c, if the numbers of registers are
+  pub bounded : (c : ℕ) → 2 ^ 15 ≤ c → ((op : Op) → latency A op ≤ 4) → ((op : Op) → most_latency op A.units ≤ 4) → ((v p : ℕ) → hops v p ≤ c) → ii ≤ 64 → (k : ℕ) → k < length links →
+      ((link links k).from < n + n + n) × ((link links k).to < n + n + n) × ((link links k).gain ≤ c) × ((link links k).loss ≤ c)
+  bounded c room least most near small k l = all (link links k).part (net.right k l)
+    where
+      turns : (d : ℕ) → d ≤ 255 → ii * d ≤ 2 ^ 15
+      turns d h = let a = mul-le-mul_left {m = d} {n = 255} ii h in omega (arith, small)
+
+      all : (p : Part) → Stands A K hops ii (link links k) p → ((link links k).from < n + n + n) × ((link links k).to < n + n + n) × ((link links k).gain ≤ c) × ((link links k).loss ≤ c)
+      all (Least x) (lx, f, t, g, d) = let h = least (node K x).op in (omega (arith, room), omega (arith, room), omega (arith, room), omega (arith, room))
+      all (Most x) (lx, f, t, g, d) = let h = most (node K x).op in (omega (arith, room), omega (arith, room), omega (arith, room), omega (arith, room))
+      all (Pull v q) (a, is, f, t, g, d) = let (ks, kt) = known_data A K hops ii good v q a is in let h = near a.target a.arg in let m = turns a.distance (data_near K good v q a is) in (omega arith, omega arith, omega arith, omega (arith, room))
+      all (Stay v q) (a, is, f, t, g, d) = let (ks, kt) = known_data A K hops ii good v q a is in let m = turns a.distance (data_near K good v q a is) in (omega arith, omega arith, omega (arith, room), omega (arith, room))
+      all (Tie e) (a, is, f, t, g, d) = let (ks, kt) = known_tie A K hops ii good e a is in let m = turns a.distance (tie_near K good e a is) in (omega arith, omega arith, omega (arith, room), omega (arith, room))
+
+  pub graph : ((op : Op) → latency A op ≤ 4) → ((op : Op) → most_latency op A.units ≤ 4) → ((v p : ℕ) → hops v p ≤ 2 ^ 32) → ii ≤ 64 → IsGraph (n + n + n) links
   graph least most near small =
+      let all = bounded (2 ^ 32) (omega arith) least most near small in
       record {
         few = (let a = good.few in omega arith);
         short = (let a = good.few in let b = good.order.few in let c = net.few in omega arith);
-        from = λ k l. (all k l (link links k).part (net.right k l)).0;
-        to = λ k l. (all k l (link links k).part (net.right k l)).1;
-        gains = λ k l. (all k l (link links k).part (net.right k l)).2;
-        losses = λ k l. (all k l (link links k).part (net.right k l)).3;
+        from = λ k l. (all k l).0;
+        to = λ k l. (all k l).1;
+        gains = λ k l. (all k l).2;
+        losses = λ k l. (all k l).3;
       }
-    where
-      turns : (d : ℕ) → d ≤ 255 → ii * d ≤ 2 ^ 32
-      turns d h = let a = mul-le-mul_left {m = d} {n = 255} ii h in omega (arith, small)
-
-      all : (k : ℕ) → k < length links → (p : Part) → Stands A K far ii (link links k) p → ((link links k).from < n + n + n) × ((link links k).to < n + n + n) × ((link links k).gain ≤ 2 ^ 32) × ((link links k).loss ≤ 2 ^ 32)
-      all k l (Least x) (lx, f, t, g, d) = let h = least (node K x).op in (omega arith, omega arith, omega arith, omega arith)
-      all k l (Most x) (lx, f, t, g, d) = let h = most (node K x).op in (omega arith, omega arith, omega arith, omega arith)
-      all k l (Pull v q) (a, is, f, t, g, d) = let (ks, kt) = known_data A K far ii good v q a is in let h = near a.target a.arg in let m = turns a.distance (data_near K good v q a is) in (omega arith, omega arith, omega arith, omega arith)
-      all k l (Stay v q) (a, is, f, t, g, d) = let (ks, kt) = known_data A K far ii good v q a is in let m = turns a.distance (data_near K good v q a is) in (omega arith, omega arith, omega arith, omega arith)
-      all k l (Tie e) (a, is, f, t, g, d) = let (ks, kt) = known_tie A K far ii good e a is in let m = turns a.distance (tie_near K good e a is) in (omega arith, omega arith, omega arith, omega arith)
 
   -- values leave before their last uses
   pub spans : HasSpans n links
   spans k v p l e =
       let (a, is, f, t, g, d) = stands k l (Stay v p) e in
-      let (ks, kt) = known_data A K far ii good v p a is in
+      let (ks, kt) = known_data A K hops ii good v p a is in
       let q : (link links k).to - (n + n) ≡ a.source = omega arith in
       (omega arith, (omega arith, λ flow at kept. span k l v p a is f t g d q flow at kept))
     where
@@ -130,20 +136,21 @@ module _ (A : Arch) (K : Kernel) (far : ℕ → ℕ → ℕ) (ii : ℕ) (good : 
 
   -- ---- routed values
 
-  module _ (flow at : List ℕ) (routed : List Bool) (routing : IsRouting n links (length links) flow at routed) (all : AreRouted n links (length links) routed) (bounds : IsGraph (n + n + n) links) where
+  module _ (flow at : List ℕ) (routed : List Bool) (kept : AreKept links (length links) flow at) (circulation : IsCirculation n links flow routed) (covered : (w : ℕ) → slice_index_or routed w false ≡ true → IsSpan n links w)
+      (all : AreRouted n links (length links) routed) (bounds : IsGraph (n + n + n) links) where
     -- the stay of a value by its places
     stayed : (w : ℕ) → slice_index at (n + w) * one_if (slice_index_or routed w false) + stay_of n at routed w ≤ slice_index at (n + n + w) * one_if (slice_index_or routed w false)
     stayed w = by_mark (slice_index_or routed w false) refl
       where
         by_mark : (b : Bool) → slice_index_or routed w false ≡ b → slice_index at (n + w) * one_if b + (if b then slice_index at (n + n + w) - slice_index at (n + w) else 0) ≤ slice_index at (n + n + w) * one_if b
-        by_mark true e = let h = (routing.spans w e).1 flow at routing.kept in omega arith
+        by_mark true e = let h = (covered w e).1 flow at kept in omega arith
         by_mark false e = omega arith
 
     pub excess : ii * registers A < total n (stay_of n at routed) → ii * registers A + gather links flow (λ l. l.loss) < gather links flow (λ l. l.gain)
     excess h =
-        let v = value n links flow at routed bounds.from bounds.to routing.circulation (λ k. 0) (stay_of n at routed)
+        let v = value n links flow at routed bounds.from bounds.to circulation (λ k. 0) (stay_of n at routed)
         (λ k l. ⊎_elim
-        (λ (p : 0 < slice_index flow k). let t = (routing.kept k l).1 p in let q = ap (λ z. slice_index flow k * z) t in omega arith)
+        (λ (p : 0 < slice_index flow k). let t = (kept k l).1 p in let q = ap (λ z. slice_index flow k * z) t in omega arith)
         (λ (p : slice_index flow k ≤ 0). let z : slice_index flow k ≡ 0 = omega arith in let a = ap (λ y. y * (slice_index at (link links k).to + (link links k).loss)) z in omega arith)
         (cases_lt 0 (slice_index flow k)))
         (λ w l. stayed w)
@@ -151,45 +158,45 @@ module _ (A : Arch) (K : Kernel) (far : ℕ → ℕ → ℕ) (ii : ℕ) (good : 
         let z = total_zero (length links) (λ k. 0) (λ k l. refl) in
         omega arith
 
-    pub loose : (t : Times) → IsSchedule n at routed t → total n (longest t) ≤ ii * registers A → AreLoose A K far ii t
+    pub loose : (t : Times) → IsSchedule n at routed t → total n (longest t) ≤ ii * registers A → AreLoose A K hops ii t
     loose t s few =
         record {
           latencies = λ w l.
               let (k, m, e) = (net.nodes w l).0 in
               let (lx, f, to, g, d) = stands k m (Least w) e in
-              let h = (routing.kept k m).0 in
+              let h = (kept k m).0 in
               let f' = ap (slice_index at) f in
               let t' = ap (slice_index at) to in
               let (k2, m2, e2) = (net.nodes w l).1 in
               let (lx2, f2, to2, g2, d2) = stands k2 m2 (Most w) e2 in
-              let h2 = (routing.kept k2 m2).0 in
+              let h2 = (kept k2 m2).0 in
               let f2' = ap (slice_index at) f2 in
               let t2' = ap (slice_index at) to2 in
               let q = s.last w l in
               (omega arith, omega arith);
           edges = λ v p a is.
-              let (ks, kt) = known_data A K far ii good v p a is in
+              let (ks, kt) = known_data A K hops ii good v p a is in
               let (k, m, e) = (net.uses v p a is).0 in
               let (b, js, f, to, g, d) = stands k m (Pull v p) e in
               let same : b ≡ a = some_same b a (sym js ∙ is) in
-              let h = (routing.kept k m).0 in
+              let h = (kept k m).0 in
               let f' = ap (slice_index at) f in
               let t' = ap (slice_index at) to in
               let s1 = ap (λ (z : Dependence). slice_index at (size K + z.source)) same in
               let s2 = ap (λ (z : Dependence). slice_index at z.target) same in
               let s3 = ap (λ (z : Dependence). ii * z.distance) same in
-              let s4 = ap (λ (z : Dependence). far z.target z.arg) same in
+              let s4 = ap (λ (z : Dependence). hops z.target z.arg) same in
               let x = s.time a.source ks in
               let y = s.time a.target kt in
               let z = s.last a.source ks in
               let up = rises a.source ks in
               omega arith;
           order = λ e a is.
-              let (ks, kt) = known_tie A K far ii good e a is in
+              let (ks, kt) = known_tie A K hops ii good e a is in
               let (k, m, q) = net.order e a is in
               let (b, js, f, to, g, d) = stands k m (Tie e) q in
               let same : b ≡ a = some_same b a (sym js ∙ is) in
-              let h = (routing.kept k m).0 in
+              let h = (kept k m).0 in
               let f' = ap (slice_index at) f in
               let t' = ap (slice_index at) to in
               let s1 = ap (λ (z : Dependence). slice_index at z.source) same in
@@ -199,11 +206,11 @@ module _ (A : Arch) (K : Kernel) (far : ℕ → ℕ → ℕ) (ii : ℕ) (good : 
               let y = s.time a.target kt in
               omega arith;
           stays = λ v p a is.
-              let (ks, kt) = known_data A K far ii good v p a is in
+              let (ks, kt) = known_data A K hops ii good v p a is in
               let (k, m, e) = (net.uses v p a is).1 in
               let (b, js, f, to, g, d) = stands k m (Stay v p) e in
               let same : b ≡ a = some_same b a (sym js ∙ is) in
-              let h = (routing.kept k m).0 in
+              let h = (kept k m).0 in
               let f' = ap (slice_index at) f in
               let t' = ap (slice_index at) to in
               let s1 = ap (λ (z : Dependence). slice_index at (size K + size K + z.source)) same in
@@ -226,7 +233,7 @@ module _ (A : Arch) (K : Kernel) (far : ℕ → ℕ → ℕ) (ii : ℕ) (good : 
         rises w l =
             let (k, m, e) = (net.nodes w l).0 in
             let (lx, f, to, g, d) = stands k m (Least w) e in
-            let h = (routing.kept k m).0 in
+            let h = (kept k m).0 in
             let f' = ap (slice_index at) f in
             let t' = ap (slice_index at) to in
             omega arith
@@ -305,6 +312,20 @@ pub all_zeros : {X : Type 0} (n k : ℕ) (a : X) → get_or (replicate n a) k a 
 all_zeros n k a =
     ⊎_elim (λ (l : k < n). get_or-replicate n k a a l) (λ (l : n ≤ k). get_or_past (replicate n a) k a (let h = length-replicate n a in omega arith)) (cases_lt k n)
 
+pub idle_circulates : (n : ℕ) (links : List Link) (flow : List ℕ) (routed : List Bool) → ((k : ℕ) → slice_index flow k ≡ 0) → ((w : ℕ) → slice_index_or routed w false ≡ false) → IsCirculation n links flow routed
+idle_circulates n links flow routed idle none =
+    record {
+      times = λ w l. let a = idle_at w in omega arith;
+      leaves = λ w l. let a = idle_at (n + w) in let b = ap one_if (none w) in omega arith;
+      ends = λ w l. let a = idle_at (n + n + w) in let b = ap one_if (none w) in omega arith;
+    }
+  where
+    zero_sum : (f : Link → ℕ) → gather links flow f ≡ 0
+    zero_sum f = total_zero (length links) (λ k. slice_index flow k * f (link links k)) (λ k l. let z = ap (λ y. y * f (link links k)) (idle k) in omega arith)
+
+    idle_at : (x : ℕ) → (into links flow x ≡ 0) × (out_of links flow x ≡ 0)
+    idle_at x = (zero_sum (λ l. one_if (eqb l.to x)), zero_sum (λ l. one_if (eqb l.from x)))
+
 pub routing_begins : (n m : ℕ) (links : List Link) (flow at : List ℕ) (routed : List Bool) → IsSettling links flow m (length links) at → m ≡ n + n + n → length links ≤ 2 ^ 14 → length flow ≡ length links → ((k : ℕ) → slice_index flow k ≡ 0) →
     length routed ≡ n → ((w : ℕ) → slice_index_or routed w false ≡ false) → IsRouting n links 0 flow at routed
 routing_begins n m links flow at routed s e short each idle marks none =
@@ -315,16 +336,6 @@ routing_begins n m links flow at routed s e short each idle marks none =
       marks = marks;
       near = λ x. let h = s.near x in omega (arith, short);
       small = λ k. let z = idle k in omega arith;
-      circulation = record {
-        times = λ w l. let a = idle_at w in omega arith;
-        leaves = λ w l. let a = idle_at (n + w) in let b = ap one_if (none w) in omega arith;
-        ends = λ w l. let a = idle_at (n + n + w) in let b = ap one_if (none w) in omega arith;
-      };
+      circulation = idle_circulates n links flow routed idle none;
       spans = λ w h. let z : false ≡ true = sym (none w) ∙ h in absurd (cc);
     }
-  where
-    zero_sum : (f : Link → ℕ) → gather links flow f ≡ 0
-    zero_sum f = total_zero (length links) (λ k. slice_index flow k * f (link links k)) (λ k l. let z = ap (λ y. y * f (link links k)) (idle k) in omega arith)
-
-    idle_at : (x : ℕ) → (into links flow x ≡ 0) × (out_of links flow x ≡ 0)
-    idle_at x = (zero_sum (λ l. one_if (eqb l.to x)), zero_sum (λ l. one_if (eqb l.from x)))

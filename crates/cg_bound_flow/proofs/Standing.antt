@@ -45,18 +45,18 @@ order_within os e a is = by_option (slice_get os e) refl is
     by_option None q r = let bad : None ≡ Some a = r in absurd (cc)
     by_option (Some x) q r = slice_get_within os e x q
 
-module _ (A : Arch) (K : Kernel) (far : ℕ → ℕ → ℕ) (ii : ℕ) where
-  pub added : (links : List Link) (l : Link) (links' : List Link) → AllStand A K far ii links → Stands A K far ii l l.part → links' ≡ links ++ (l ∷ []) → IsGrown A K far ii links links'
+module _ (A : Arch) (K : Kernel) (hops : ℕ → ℕ → ℕ) (ii : ℕ) where
+  pub added : (links : List Link) (l : Link) (links' : List Link) → AllStand A K hops ii links → Stands A K hops ii l l.part → links' ≡ links ++ (l ∷ []) → IsGrown A K hops ii links links'
   added links l links' right stands e =
-      subst (IsGrown A K far ii links) (sym e)
+      subst (IsGrown A K hops ii links) (sym e)
       (record {
         right = λ k m.
             ⊎_elim
-            (λ (b : k < length links). subst (λ (z : Link). Stands A K far ii z z.part) (sym (get_or-append links (l ∷ []) no_link k b)) (right k b))
+            (λ (b : k < length links). subst (λ (z : Link). Stands A K hops ii z z.part) (sym (get_or-append links (l ∷ []) no_link k b)) (right k b))
             (λ (b : length links ≤ k).
             let q : length links ≡ k = omega (arith, length-one links l) in
-            subst (λ j. Stands A K far ii (link (links ++ (l ∷ [])) j) (link (links ++ (l ∷ [])) j).part) q
-            (subst (λ (z : Link). Stands A K far ii z z.part) (sym (get_or-append_seam links l [] no_link)) stands))
+            subst (λ j. Stands A K hops ii (link (links ++ (l ∷ [])) j) (link (links ++ (l ∷ [])) j).part) q
+            (subst (λ (z : Link). Stands A K hops ii z z.part) (sym (get_or-append_seam links l [] no_link)) stands))
             (cases_lt k (length links));
         kept = λ part (k, m, q). (k, omega (arith, length-one links l), ap (λ (z : Link). z.part) (get_or-append links (l ∷ []) no_link k m) ∙ q);
       })
@@ -68,30 +68,30 @@ module _ (A : Arch) (K : Kernel) (far : ℕ → ℕ → ℕ) (ii : ℕ) where
   pub longer : (links : List Link) (l : Link) (links' : List Link) → links' ≡ links ++ (l ∷ []) → length links' ≡ length links + 1
   longer links l links' e = ap (λ (z : List Link). length z) e ∙ length-one links l
 
-  pub grown_same : (links : List Link) → AllStand A K far ii links → IsGrown A K far ii links links
+  pub grown_same : (links : List Link) → AllStand A K hops ii links → IsGrown A K hops ii links links
   grown_same links right = record { right = right; kept = λ part h. h }
 
-  pub grown_twice : (a b c : List Link) → IsGrown A K far ii a b → IsGrown A K far ii b c → IsGrown A K far ii a c
+  pub grown_twice : (a b c : List Link) → IsGrown A K hops ii a b → IsGrown A K hops ii b c → IsGrown A K hops ii a c
   grown_twice a b c f g = record { right = g.right; kept = λ part h. g.kept part (f.kept part h) }
 
-  pub node_kept : (a b : List Link) (w : ℕ) → IsGrown A K far ii a b → HasNode a w → HasNode b w
+  pub node_kept : (a b : List Link) (w : ℕ) → IsGrown A K hops ii a b → HasNode a w → HasNode b w
   node_kept a b w g (x, y) = (g.kept _ x, g.kept _ y)
 
-  pub data_kept : (a b : List Link) (v p : ℕ) → IsGrown A K far ii a b → HasData K a v p → HasData K b v p
+  pub data_kept : (a b : List Link) (v p : ℕ) → IsGrown A K hops ii a b → HasData K a v p → HasData K b v p
   data_kept a b v p g h = λ e is. let (x, y) = h e is in (g.kept _ x, g.kept _ y)
 
-  pub order_kept : (a b : List Link) (e : ℕ) → IsGrown A K far ii a b → HasOrder K a e → HasOrder K b e
+  pub order_kept : (a b : List Link) (e : ℕ) → IsGrown A K hops ii a b → HasOrder K a e → HasOrder K b e
   order_kept a b e g h = λ d is. g.kept _ (h d is)
 
   -- the links of the first nodes
   pub record IsBegun (w : ℕ) (links : List Link) : Type 0 where
     pub few : length links ≤ 8 * w
-    pub right : AllStand A K far ii links
+    pub right : AllStand A K hops ii links
     pub nodes : (x : ℕ) → x < w → HasNode links x
     pub uses : (x p : ℕ) → x < w → p < 3 → HasData K links x p
 
-  pub begun_more : (w : ℕ) (a b c d e : List Link) → IsBegun w a → IsGrown A K far ii a b → HasNode b w → length b ≤ length a + 2 → IsGrown A K far ii b c → HasData K c w 0 → length c ≤ length b + 2 →
-      IsGrown A K far ii c d → HasData K d w 1 → length d ≤ length c + 2 → IsGrown A K far ii d e → HasData K e w 2 → length e ≤ length d + 2 → IsBegun (w + 1) e
+  pub begun_more : (w : ℕ) (a b c d e : List Link) → IsBegun w a → IsGrown A K hops ii a b → HasNode b w → length b ≤ length a + 2 → IsGrown A K hops ii b c → HasData K c w 0 → length c ≤ length b + 2 →
+      IsGrown A K hops ii c d → HasData K d w 1 → length d ≤ length c + 2 → IsGrown A K hops ii d e → HasData K e w 2 → length e ≤ length d + 2 → IsBegun (w + 1) e
   begun_more w a b c d e begun g1 h1 l1 g2 h2 l2 g3 h3 l3 g4 h4 l4 =
       let ce = grown_twice c d e g3 g4 in
       let be = grown_twice b c e g2 ce in
@@ -114,7 +114,7 @@ module _ (A : Arch) (K : Kernel) (far : ℕ → ℕ → ℕ) (ii : ℕ) where
 
   pub record IsOrdered (k : ℕ) (links : List Link) : Type 0 where
     pub few : length links ≤ 8 * size K + k
-    pub right : AllStand A K far ii links
+    pub right : AllStand A K hops ii links
     pub nodes : (w : ℕ) → w < size K → HasNode links w
     pub uses : (v p : ℕ) → HasData K links v p
     pub order : (e : ℕ) → e < k → HasOrder K links e
@@ -129,7 +129,7 @@ module _ (A : Arch) (K : Kernel) (far : ℕ → ℕ → ℕ) (ii : ℕ) where
         order = λ e l. absurd (omega arith);
       }
 
-  pub ordered_more : (k : ℕ) (a b : List Link) → IsOrdered k a → IsGrown A K far ii a b → HasOrder K b k → length b ≤ length a + 1 → IsOrdered (k + 1) b
+  pub ordered_more : (k : ℕ) (a b : List Link) → IsOrdered k a → IsGrown A K hops ii a b → HasOrder K b k → length b ≤ length a + 1 → IsOrdered (k + 1) b
   ordered_more k a b o g h l =
       record {
         few = (let f = o.few in omega arith);
@@ -139,7 +139,7 @@ module _ (A : Arch) (K : Kernel) (far : ℕ → ℕ → ℕ) (ii : ℕ) where
         order = λ e m. ⊎_elim (λ (q : e ≡ k). subst (HasOrder K b) (sym q) h) (λ ne. order_kept a b e g (o.order e (omega (arith, ne)))) (cases_eq e k);
       }
 
-  pub finished : (good : IsKernel K) (k : ℕ) (links : List Link) → k ≡ length K.order → IsOrdered k links → IsNetwork A K far ii links
+  pub finished : (good : IsKernel K) (k : ℕ) (links : List Link) → k ≡ length K.order → IsOrdered k links → IsNetwork A K hops ii links
   finished good k links q o =
       record {
         few = (let f = o.few in omega arith);

@@ -121,7 +121,7 @@ module _ (n : ℕ) (links : List Link) (flow at : List ℕ) (routed : List Bool)
 
 -- ---- the certificate of a circulation
 
-module _ (A : Arch) (K : Kernel) (far : ℕ → ℕ → ℕ) (ii : ℕ) (good : IsKernel K) (links : List Link) (flow : List ℕ) (routed : List Bool) (right : AllStand A K far ii links) (circulation : IsCirculation (size K) links flow routed) where
+module _ (A : Arch) (K : Kernel) (hops : ℕ → ℕ → ℕ) (ii : ℕ) (good : IsKernel K) (links : List Link) (flow : List ℕ) (routed : List Bool) (right : AllStand A K hops ii links) (circulation : IsCirculation (size K) links flow routed) where
   abbrev part : ℕ → Part
   part k = (link links k).part
 
@@ -144,8 +144,8 @@ module _ (A : Arch) (K : Kernel) (far : ℕ → ℕ → ℕ) (ii : ℕ) (good : 
   -- what stays from node w
   into_end : (w : ℕ) → w < size K → total N (λ k. F k * on_stay K (from w) (part k)) ≡ one_if (slice_index_or routed w false)
   into_end w l =
-      let a = total_same N (λ k. F k * one_if (eqb (link links k).to (size K + size K + w))) (λ k. F k * on_stay K (from w) (part k)) (λ k m. ap (λ z. F k * z) (to_ends A K far ii good w l (link links k) (part k) (right k m))) in
-      let b = total_zero N (λ k. F k * one_if (eqb (link links k).from (size K + size K + w))) (λ k m. let z = ap (λ z. F k * z) (from_ends A K far ii good w l (link links k) (part k) (right k m)) in omega arith) in
+      let a = total_same N (λ k. F k * one_if (eqb (link links k).to (size K + size K + w))) (λ k. F k * on_stay K (from w) (part k)) (λ k m. ap (λ z. F k * z) (to_ends A K hops ii good w l (link links k) (part k) (right k m))) in
+      let b = total_zero N (λ k. F k * one_if (eqb (link links k).from (size K + size K + w))) (λ k m. let z = ap (λ z. F k * z) (from_ends A K hops ii good w l (link links k) (part k) (right k m)) in omega arith) in
       let c = circulation.ends w l in
       omega arith
 
@@ -154,8 +154,8 @@ module _ (A : Arch) (K : Kernel) (far : ℕ → ℕ → ℕ) (ii : ℕ) (good : 
   stay_small k v p e =
       ⊎_elim
       (λ (l : k < N).
-      let (a, is, f, t, g, d) = subst (Stands A K far ii (link links k)) e (right k l) in
-      let (ks, kt) = known_data A K far ii good v p a is in
+      let (a, is, f, t, g, d) = subst (Stands A K hops ii (link links k)) e (right k l) in
+      let (ks, kt) = known_data A K hops ii good v p a is in
       let one : on_stay K (from a.source) (part k) ≡ 1 = ap (on_stay K (from a.source)) e ∙ ap (on_edge (from a.source)) is ∙ equal_one a.source a.source refl in
       let b = term_le N (λ j. F j * on_stay K (from a.source) (part j)) k l in
       let c = into_end a.source ks in
@@ -169,8 +169,8 @@ module _ (A : Arch) (K : Kernel) (far : ℕ → ℕ → ℕ) (ii : ℕ) (good : 
     -- at the places of node w
     pub at_time : (w : ℕ) → w < size K → pulls K P (into w) + ties K P (into w) + mosts w ≡ stays K P (into w) + ties K P (from w) + leasts w
     at_time w l =
-        let a = sum_three N F (λ k. one_if (eqb (link links k).to w)) (λ k. on_pull K (into w) (part k)) (λ k. on_tie K (into w) (part k)) (λ k. on_most w (part k)) (λ k m. to_time A K far ii good w l (link links k) (part k) (right k m)) in
-        let b = sum_three N F (λ k. one_if (eqb (link links k).from w)) (λ k. on_stay K (into w) (part k)) (λ k. on_tie K (from w) (part k)) (λ k. on_least w (part k)) (λ k m. from_time A K far ii good w l (link links k) (part k) (right k m)) in
+        let a = sum_three N F (λ k. one_if (eqb (link links k).to w)) (λ k. on_pull K (into w) (part k)) (λ k. on_tie K (into w) (part k)) (λ k. on_most w (part k)) (λ k m. to_time A K hops ii good w l (link links k) (part k) (right k m)) in
+        let b = sum_three N F (λ k. one_if (eqb (link links k).from w)) (λ k. on_stay K (into w) (part k)) (λ k. on_tie K (from w) (part k)) (λ k. on_least w (part k)) (λ k m. from_time A K hops ii good w l (link links k) (part k) (right k m)) in
         let c = circulation.times w l in
         let d = is.on_pulls (into w) in
         let e = is.on_ties (into w) in
@@ -180,8 +180,8 @@ module _ (A : Arch) (K : Kernel) (far : ℕ → ℕ → ℕ) (ii : ℕ) (good : 
 
     pub at_leaving : (w : ℕ) → w < size K → leasts w + one_if (slice_index_or routed w false) ≡ pulls K P (from w) + mosts w
     at_leaving w l =
-        let a = total_same N (λ k. F k * one_if (eqb (link links k).to (size K + w))) (λ k. F k * on_least w (part k)) (λ k m. ap (λ z. F k * z) (to_leaves A K far ii good w l (link links k) (part k) (right k m))) in
-        let b = sum_two N F (λ k. one_if (eqb (link links k).from (size K + w))) (λ k. on_pull K (from w) (part k)) (λ k. on_most w (part k)) (λ k m. from_leaves A K far ii good w l (link links k) (part k) (right k m)) in
+        let a = total_same N (λ k. F k * one_if (eqb (link links k).to (size K + w))) (λ k. F k * on_least w (part k)) (λ k m. ap (λ z. F k * z) (to_leaves A K hops ii good w l (link links k) (part k) (right k m))) in
+        let b = sum_two N F (λ k. one_if (eqb (link links k).from (size K + w))) (λ k. on_pull K (from w) (part k)) (λ k. on_most w (part k)) (λ k m. from_leaves A K hops ii good w l (link links k) (part k) (right k m)) in
         let c = circulation.leaves w l in
         let d = is.on_pulls (from w) in
         omega arith
@@ -226,16 +226,16 @@ module _ (A : Arch) (K : Kernel) (far : ℕ → ℕ → ℕ) (ii : ℕ) (good : 
             omega arith)
             (cases_lt y z)
 
-    pub excess : ii * registers A + gather links flow (λ l. l.loss) < gather links flow (λ l. l.gain) → IsExcess A K far ii P
+    pub excess : ii * registers A + gather links flow (λ l. l.loss) < gather links flow (λ l. l.gain) → IsExcess A K hops ii P
     excess h =
-        let a = sum_four N F (λ k. (link links k).gain) (λ k. on_pull K (λ a. far a.target a.arg) (part k)) (λ k. on_stay K (λ a. ii * a.distance) (part k)) (λ k. on_tie K (λ a. 1) (part k)) (λ k. least_gain A K far ii good (part k))
-        (λ k m. gains A K far ii good (link links k) (part k) (right k m)) in
-        let b = sum_three N F (λ k. (link links k).loss) (λ k. on_pull K (λ a. ii * a.distance) (part k)) (λ k. on_tie K (λ a. ii * a.distance) (part k)) (λ k. most_loss A K far ii good (part k))
-        (λ k m. losses A K far ii good (link links k) (part k) (right k m)) in
+        let a = sum_four N F (λ k. (link links k).gain) (λ k. on_pull K (λ a. hops a.target a.arg) (part k)) (λ k. on_stay K (λ a. ii * a.distance) (part k)) (λ k. on_tie K (λ a. 1) (part k)) (λ k. least_gain A K hops ii good (part k))
+        (λ k m. gains A K hops ii good (link links k) (part k) (right k m)) in
+        let b = sum_three N F (λ k. (link links k).loss) (λ k. on_pull K (λ a. ii * a.distance) (part k)) (λ k. on_tie K (λ a. ii * a.distance) (part k)) (λ k. most_loss A K hops ii good (part k))
+        (λ k m. losses A K hops ii good (link links k) (part k) (right k m)) in
         let c = swap N (size K) F (λ w. latency A (node K w).op) (λ w k. on_least w (part k)) in
         let d = swap N (size K) F (λ w. most_latency (node K w).op A.units) (λ w k. on_most w (part k)) in
         let e = latencies in
-        let f = is.on_pulls (λ a. far a.target a.arg) in
+        let f = is.on_pulls (λ a. hops a.target a.arg) in
         let g = is.on_stays (λ a. ii * a.distance) in
         let i = is.on_ties (λ a. 1) in
         let j = is.on_pulls (λ a. ii * a.distance) in
@@ -245,5 +245,5 @@ module _ (A : Arch) (K : Kernel) (far : ℕ → ℕ → ℕ) (ii : ℕ) (good : 
         let k' = weigh_times (λ (x : TieEdge). x.weight) (λ x. order_edge K x.edge) (λ a. a.distance) ii P.ties.items in
         omega arith
 
-    pub certifies : ii * registers A + gather links flow (λ l. l.loss) < gather links flow (λ l. l.gain) → IsPressure A K far ii P
+    pub certifies : ii * registers A + gather links flow (λ l. l.loss) < gather links flow (λ l. l.gain) → IsPressure A K hops ii P
     certifies h = record { balanced = balanced; excess = excess h }

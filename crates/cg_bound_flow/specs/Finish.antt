@@ -22,9 +22,9 @@ pub record IsSchedule (n : ℕ) (at : List ℕ) (routed : List Bool) (t : Times)
 
 -- a certificate whose lists are short
 abbrev pub IsFound : Arch → Kernel → (ℕ → ℕ → ℕ) → ℕ → Pressure → Type 0
-IsFound A K far ii P = IsPressure A K far ii P × IsShort P
+IsFound A K hops ii P = IsPressure A K hops ii P × IsShort P
 
 -- a certificate, or times that rule out each certificate
 abbrev pub IsSound : Arch → Kernel → (ℕ → ℕ → ℕ) → ℕ → Outcome → Type 0
-IsSound A K far ii (Excluded P) = IsFound A K far ii P
-IsSound A K far ii (Open t) = AreLoose A K far ii t
+IsSound A K hops ii (Excluded P) = IsFound A K hops ii P
+IsSound A K hops ii (Open t) = AreLoose A K hops ii t

@@ -37,7 +37,7 @@ fn recurrence(
     alloc: Global,
     arch: &Arch,
     kernel: &Kernel,
-    far: &[u32],
+    hops: &[u32],
     ii: u32,
     links: &[Link],
     flow: &mut Vec<u32>,
@@ -45,12 +45,12 @@ fn recurrence(
     blocked: &Blocked,
 ) -> Result<Pressure, AllocError>
     requires interval { ii ≤ 64 }
-    requires network { IsNetwork arch.now kernel.now (table far.now) ii links.now }
+    requires network { IsNetwork arch.now kernel.now (table hops.now) ii links.now }
     requires graph { IsGraph (size kernel.now + size kernel.now + size kernel.now) links.now }
     requires flows { length flow.old.items ≡ length links.now }
     requires idle { (k : ℕ) → slice_index flow.old.items k ≡ 0 }
     requires blocked { IsSettled links.now flow.old.items (size kernel.now + size kernel.now + size kernel.now) at.now (Some blocked.now) }
-    ensures { IfOk result (IsFound arch.now kernel.now (table far.now) ii) }
+    ensures { IfOk result (IsFound arch.now kernel.now (table hops.now) ii) }
 {
     let _nodes = kernel.nodes();
     let by = ii * count_registers(arch) as u32 + 1;
@@ -95,18 +95,18 @@ fn decide(
     alloc: Global,
     arch: &Arch,
     kernel: &Kernel,
-    far: &[u32],
+    hops: &[u32],
     ii: u32,
     links: &[Link],
     flow: &[u32],
     at: &[u64],
     routed: &[bool],
 ) -> Result<Outcome, AllocError>
-    requires network { IsNetwork arch.now kernel.now (table far.now) ii links.now }
+    requires network { IsNetwork arch.now kernel.now (table hops.now) ii links.now }
     requires graph { IsGraph (size kernel.now + size kernel.now + size kernel.now) links.now }
     requires routing { IsRouting (size kernel.now) links.now (length links.now) flow.now at.now routed.now }
     requires all { AreRouted (size kernel.now) links.now (length links.now) routed.now }
-    ensures { IfOk result (IsSound arch.now kernel.now (table far.now) ii) }
+    ensures { IfOk result (IsSound arch.now kernel.now (table hops.now) ii) }
 {
     let n = kernel.nodes().len();
     let times = schedule(alloc, n, at, routed)?;
@@ -121,48 +121,48 @@ fn whole_network(
     alloc: Global,
     arch: &Arch,
     kernel: &Kernel,
-    far: &[u32],
+    hops: &[u32],
     ii: u32,
 ) -> Result<Vec<Link>, AllocError>
     requires { ii ≤ 64 }
-    ensures network { IfOk result (λ v. IsNetwork arch.now kernel.now (table far.now) ii v.items) }
+    ensures network { IfOk result (λ v. IsNetwork arch.now kernel.now (table hops.now) ii v.items) }
     ensures graph { IfOk result (λ v. IsGraph (size kernel.now + size kernel.now + size kernel.now) v.items) }
     ensures spans { IfOk result (λ v. HasSpans (size kernel.now) v.items) }
 {
     latencies_are_small(arch);
     let _units = arch.units();
     let _nodes = kernel.nodes();
-    let links = network(alloc, arch, kernel, far, ii)?;
+    let links = network(alloc, arch, kernel, hops, ii)?;
     Ok(links)
 }
 
 /// Returns a certificate that no legal mapping has interval `ii`, or times that show that no certificate excludes it.
-/// `far` has three numbers per node: for each operand the least number of registers that a value crosses on its way
+/// `hops` has three numbers per node: for each operand the least number of registers that a value crosses on its way
 /// there.
 pub fn find_pressure(
     alloc: Global,
     arch: &Arch,
     kernel: &Kernel,
-    far: &[u32],
+    hops: &[u32],
     ii: u32,
 ) -> Result<Outcome, AllocError>
     requires interval { ii ≤ arch.now.contexts }
-    ensures { IfOk result (IsSound arch.now kernel.now (table far.now) ii) }
+    ensures { IfOk result (IsSound arch.now kernel.now (table hops.now) ii) }
 {
     let _contexts = arch.contexts();
     let n = kernel.nodes().len();
-    let list = whole_network(alloc, arch, kernel, far, ii)?;
+    let list = whole_network(alloc, arch, kernel, hops, ii)?;
     let links = list.as_slice();
     let incidence = incidence_of(alloc, links, n + n + n)?;
     let mut at = vec![in alloc; 0u64; n + n + n]?;
     let mut flow = vec![in alloc; 0u32; links.len()]?;
     if let Some(blocked) = keep_all(alloc, links, &incidence, &flow, &mut at)? {
         let found = recurrence(
-            alloc, arch, kernel, far, ii, links, &mut flow, &at, &blocked,
+            alloc, arch, kernel, hops, ii, links, &mut flow, &at, &blocked,
         )?;
         return Ok(Outcome::Excluded(found));
     }
     let mut routed = vec![in alloc; false; n]?;
     route_all(alloc, links, &incidence, n, &mut flow, &mut at, &mut routed)?;
-    decide(alloc, arch, kernel, far, ii, links, &flow, &at, &routed)
+    decide(alloc, arch, kernel, hops, ii, links, &flow, &at, &routed)
 }

@@ -13,3 +13,4 @@ mod settle;
 
 pub use cg_bound_registers::{Arch, Kernel, Pressure, Times};
 pub use find::{Outcome, find_pressure};
+pub use network::{Link, Part};

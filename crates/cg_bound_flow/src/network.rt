@@ -4,13 +4,13 @@ ghost use Rattle.cg_model.specs.Kernel.{size};
 ghost use Rattle.cg_bound_registers.specs.Sums.{table};
 ghost use Rattle.cg_bound_flow.specs.Parts.{AllStand, Stands, Has, HasNode, HasData, HasOrder, IsGrown, IsNetwork};
 
-use cg_bound_registers::{data_edge, far_at, most_latency, order_edge};
+use cg_bound_registers::{data_edge, hops_at, most_latency, order_edge};
 use cg_recur::{Arch, Kernel, latency};
 use std::alloc::{AllocError, Global};
 
 /// The constraint that a link represents.
 #[derive(Clone, Copy, Drop)]
-pub(crate) enum Part {
+pub enum Part {
     /// The value of the given node leaves no sooner than its operation's least latency allows.
     Least(u32),
     /// The value of the given node leaves no later than its operation's greatest latency allows.
@@ -25,7 +25,7 @@ pub(crate) enum Part {
 
 /// A link: its end plus `loss` cycles is no sooner than its beginning plus `gain` cycles.
 #[derive(Clone, Copy, Drop)]
-pub(crate) struct Link {
+pub struct Link {
     pub from: usize,
     pub to: usize,
     pub gain: u64,
@@ -39,12 +39,12 @@ fn add(
     link: Link,
     arch: &Arch,
     kernel: &Kernel,
-    far: &[u32],
+    hops: &[u32],
     ii: u32,
 ) -> Result<(), AllocError>
-    requires right { AllStand arch.now kernel.now (table far.now) ii links.old.items }
-    requires stands { Stands arch.now kernel.now (table far.now) ii link link.part }
-    ensures grown { OnOk result (IsGrown arch.now kernel.now (table far.now) ii links.old.items links.new.items) }
+    requires right { AllStand arch.now kernel.now (table hops.now) ii links.old.items }
+    requires stands { Stands arch.now kernel.now (table hops.now) ii link link.part }
+    ensures grown { OnOk result (IsGrown arch.now kernel.now (table hops.now) ii links.old.items links.new.items) }
     ensures has { OnOk result (Has links.new.items link.part) }
     ensures longer { OnOk result (length links.new.items ≡ length links.old.items + 1) }
 {
@@ -58,12 +58,12 @@ fn add_node(
     w: u32,
     arch: &Arch,
     kernel: &Kernel,
-    far: &[u32],
+    hops: &[u32],
     ii: u32,
 ) -> Result<(), AllocError>
     requires known { w < size kernel.now }
-    requires right { AllStand arch.now kernel.now (table far.now) ii links.old.items }
-    ensures grown { OnOk result (IsGrown arch.now kernel.now (table far.now) ii links.old.items links.new.items) }
+    requires right { AllStand arch.now kernel.now (table hops.now) ii links.old.items }
+    ensures grown { OnOk result (IsGrown arch.now kernel.now (table hops.now) ii links.old.items links.new.items) }
     ensures has { OnOk result (HasNode links.new.items w) }
     ensures longer { OnOk result (length links.new.items ≤ length links.old.items + 2) }
 {
@@ -79,7 +79,7 @@ fn add_node(
         loss: 0,
         part: Part::Least(w),
     };
-    add(links, least, arch, kernel, far, ii)?;
+    add(links, least, arch, kernel, hops, ii)?;
     let most = Link {
         from: leaves,
         to: begins,
@@ -87,7 +87,7 @@ fn add_node(
         loss: most_latency(arch, op) as u64,
         part: Part::Most(w),
     };
-    add(links, most, arch, kernel, far, ii)
+    add(links, most, arch, kernel, hops, ii)
 }
 
 /// Adds the links of the data edge that is operand `p` of node `v` to `links`, if that operand is an edge.
@@ -97,11 +97,11 @@ fn add_data(
     p: u32,
     arch: &Arch,
     kernel: &Kernel,
-    far: &[u32],
+    hops: &[u32],
     ii: u32,
 ) -> Result<(), AllocError>
-    requires right { AllStand arch.now kernel.now (table far.now) ii links.old.items }
-    ensures grown { OnOk result (IsGrown arch.now kernel.now (table far.now) ii links.old.items links.new.items) }
+    requires right { AllStand arch.now kernel.now (table hops.now) ii links.old.items }
+    ensures grown { OnOk result (IsGrown arch.now kernel.now (table hops.now) ii links.old.items links.new.items) }
     ensures has { OnOk result (HasData kernel.now links.new.items v p) }
     ensures longer { OnOk result (length links.new.items ≤ length links.old.items + 2) }
 {
@@ -112,11 +112,11 @@ fn add_data(
         let pull = Link {
             from: n + source,
             to: edge.target as usize,
-            gain: far_at(far, edge.target, edge.arg) as u64,
+            gain: hops_at(hops, edge.target, edge.arg) as u64,
             loss: turns,
             part: Part::Pull(v, p),
         };
-        add(links, pull, arch, kernel, far, ii)?;
+        add(links, pull, arch, kernel, hops, ii)?;
         let stay = Link {
             from: edge.target as usize,
             to: n + n + source,
@@ -124,7 +124,7 @@ fn add_data(
             loss: 0,
             part: Part::Stay(v, p),
         };
-        add(links, stay, arch, kernel, far, ii)?;
+        add(links, stay, arch, kernel, hops, ii)?;
     }
     Ok(())
 }
@@ -135,11 +135,11 @@ fn add_order(
     e: u32,
     arch: &Arch,
     kernel: &Kernel,
-    far: &[u32],
+    hops: &[u32],
     ii: u32,
 ) -> Result<(), AllocError>
-    requires right { AllStand arch.now kernel.now (table far.now) ii links.old.items }
-    ensures grown { OnOk result (IsGrown arch.now kernel.now (table far.now) ii links.old.items links.new.items) }
+    requires right { AllStand arch.now kernel.now (table hops.now) ii links.old.items }
+    ensures grown { OnOk result (IsGrown arch.now kernel.now (table hops.now) ii links.old.items links.new.items) }
     ensures has { OnOk result (HasOrder kernel.now links.new.items e) }
     ensures longer { OnOk result (length links.new.items ≤ length links.old.items + 1) }
 {
@@ -151,7 +151,7 @@ fn add_order(
             loss: ii as u64 * edge.distance as u64,
             part: Part::Tie(e),
         };
-        add(links, tie, arch, kernel, far, ii)?;
+        add(links, tie, arch, kernel, hops, ii)?;
     }
     Ok(())
 }
@@ -161,21 +161,21 @@ pub(crate) fn network(
     alloc: Global,
     arch: &Arch,
     kernel: &Kernel,
-    far: &[u32],
+    hops: &[u32],
     ii: u32,
 ) -> Result<Vec<Link>, AllocError>
-    ensures { IfOk result (λ v. IsNetwork arch.now kernel.now (table far.now) ii v.items) }
+    ensures { IfOk result (λ v. IsNetwork arch.now kernel.now (table hops.now) ii v.items) }
 {
     let n = kernel.nodes().len() as u32;
     let mut links: Vec<Link> = Vec::new(alloc);
     for w in 0..n {
-        add_node(&mut links, w, arch, kernel, far, ii)?;
-        add_data(&mut links, w, 0, arch, kernel, far, ii)?;
-        add_data(&mut links, w, 1, arch, kernel, far, ii)?;
-        add_data(&mut links, w, 2, arch, kernel, far, ii)?;
+        add_node(&mut links, w, arch, kernel, hops, ii)?;
+        add_data(&mut links, w, 0, arch, kernel, hops, ii)?;
+        add_data(&mut links, w, 1, arch, kernel, hops, ii)?;
+        add_data(&mut links, w, 2, arch, kernel, hops, ii)?;
     }
     for e in 0..kernel.order().len() as u32 {
-        add_order(&mut links, e, arch, kernel, far, ii)?;
+        add_order(&mut links, e, arch, kernel, hops, ii)?;
     }
     Ok(links)
 }

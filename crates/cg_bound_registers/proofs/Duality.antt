@@ -34,12 +34,12 @@ module _ (A : Arch) (K : Kernel) (good : IsKernel K) where
       subst (λ (z : Dependence). (z.source < size K) × (z.target < size K)) s (good.order.known k o.from o.to o.distance e)
 
   -- what times and latencies have to keep
-  pub record AreKept (far : ℕ → ℕ → ℕ) (ii : ℕ) (time lasts : ℕ → ℕ) : Type 0 where
+  pub record AreKept (hops : ℕ → ℕ → ℕ) (ii : ℕ) (time lasts : ℕ → ℕ) : Type 0 where
     pub latencies : (w : ℕ) → w < size K → (latency A (node K w).op ≤ lasts w) × (lasts w ≤ most_latency (node K w).op A.units)
-    pub edges : (v p : ℕ) (a : Dependence) → data_edge K v p ≡ Some a → time a.source + lasts a.source + far a.target a.arg ≤ time a.target + ii * a.distance
+    pub edges : (v p : ℕ) (a : Dependence) → data_edge K v p ≡ Some a → time a.source + lasts a.source + hops a.target a.arg ≤ time a.target + ii * a.distance
     pub order : (e : ℕ) (a : Dependence) → order_edge K e ≡ Some a → time a.source + 1 ≤ time a.target + ii * a.distance
 
-  module _ (far : ℕ → ℕ → ℕ) (ii : ℕ) (time lasts : ℕ → ℕ) (kept : AreKept far ii time lasts) where
+  module _ (hops : ℕ → ℕ → ℕ) (ii : ℕ) (time lasts : ℕ → ℕ) (kept : AreKept hops ii time lasts) where
     module _ (P : Pressure) (balanced : IsBalanced K P) where
       abbrev n : ℕ
       n = size K
@@ -105,9 +105,9 @@ module _ (A : Arch) (K : Kernel) (good : IsKernel K) where
               (λ (h : z ≤ y). let k = mul-le-mul_left {m = L} {n = m} (y - z) b in let e : z + (y - z) ≡ y = omega arith in let f = ap (λ q. L * q) e in let o : z - y ≡ 0 = omega arith in let o' = ap (λ q. q * l) o in omega arith)
               (cases_lt y z)
 
-      pub no_excess : (N : ℕ) → S (λ a. time a.target) + ii * S (λ a. a.distance) ≤ S (λ a. time a.source) + S (λ a. lasts a.source) + N → N ≤ ii * registers A → IsExcess A K far ii P → ⊥
+      pub no_excess : (N : ℕ) → S (λ a. time a.target) + ii * S (λ a. a.distance) ≤ S (λ a. time a.source) + S (λ a. lasts a.source) + N → N ≤ ii * registers A → IsExcess A K hops ii P → ⊥
       no_excess N a f excess =
-          let b = bound (λ (x : Pull). x.weight) (λ x. data_edge K x.node x.arg) (λ a. time a.source) (λ a. lasts a.source) (λ a. far a.target a.arg) (λ a. time a.target) ii P.pulls.items (λ x a is. kept.edges x.node x.arg a is) in
+          let b = bound (λ (x : Pull). x.weight) (λ x. data_edge K x.node x.arg) (λ a. time a.source) (λ a. lasts a.source) (λ a. hops a.target a.arg) (λ a. time a.target) ii P.pulls.items (λ x a is. kept.edges x.node x.arg a is) in
           let c = bound (λ (x : Tie). x.weight) (λ x. order_edge K x.edge) (λ a. time a.source) (λ a. 1) (λ a. 0) (λ a. time a.target) ii P.ties.items (λ x a is. let h = kept.order x.edge a is in omega arith) in
           let d = times_balance in
           let e = latencies_balance in
@@ -115,7 +115,7 @@ module _ (A : Arch) (K : Kernel) (good : IsKernel K) where
 
       -- stays of at most so long, all together at most the registers times the interval
       pub no_excess_loose : (longest : ℕ → ℕ) → ((v p : ℕ) (a : Dependence) → data_edge K v p ≡ Some a → time a.target + ii * a.distance ≤ time a.source + lasts a.source + longest a.source) →
-          total n longest ≤ ii * registers A → IsExcess A K far ii P → ⊥
+          total n longest ≤ ii * registers A → IsExcess A K hops ii P → ⊥
       no_excess_loose longest long few =
           let a = by_node n (λ a. a.source) longest (λ (s : Stay). 1) (λ s. data_edge K s.node s.arg) P.stays.items (λ s a is. (arc_known s.node s.arg a is).0) in
           let b : total n (λ w. longest w * S (from w)) ≤ total n longest = total_le n _ longest (λ w l. let m = mul-le-mul_left {m = S (from w)} {n = 1} (longest w) (balanced.one w l) in omega arith) in

@@ -26,20 +26,20 @@ greater i j r b d l g h e x =
     let o = ap (λ z. z * d) s in
     omega arith
 
-pub falls : (A : Arch) (K : Kernel) (far : ℕ → ℕ → ℕ) (i j : ℕ) (P : Pressure) → Falls A K P → i ≤ j → IsPressure A K far j P → IsPressure A K far i P
-falls A K far i j P f l p =
+pub falls : (A : Arch) (K : Kernel) (hops : ℕ → ℕ → ℕ) (i j : ℕ) (P : Pressure) → Falls A K P → i ≤ j → IsPressure A K hops j P → IsPressure A K hops i P
+falls A K hops i j P f l p =
     record {
       balanced = p.balanced;
       excess =
-          (let h = less i j (registers A) (pulls K P (λ a. a.distance) + ties K P (λ a. a.distance)) (stays K P (λ a. a.distance)) (lost A K P) (gained A K P + pulls K P (λ a. far a.target a.arg) + ties K P (λ a. 1)) f l (let e = p.excess in omega arith) in
+          (let h = less i j (registers A) (pulls K P (λ a. a.distance) + ties K P (λ a. a.distance)) (stays K P (λ a. a.distance)) (lost A K P) (gained A K P + pulls K P (λ a. hops a.target a.arg) + ties K P (λ a. 1)) f l (let e = p.excess in omega arith) in
           omega arith);
     }
 
-pub rises : (A : Arch) (K : Kernel) (far : ℕ → ℕ → ℕ) (i j : ℕ) (P : Pressure) → Rises A K P → i ≤ j → IsPressure A K far i P → IsPressure A K far j P
-rises A K far i j P f l p =
+pub rises : (A : Arch) (K : Kernel) (hops : ℕ → ℕ → ℕ) (i j : ℕ) (P : Pressure) → Rises A K P → i ≤ j → IsPressure A K hops i P → IsPressure A K hops j P
+rises A K hops i j P f l p =
     record {
       balanced = p.balanced;
       excess =
-          (let h = greater i j (registers A) (pulls K P (λ a. a.distance) + ties K P (λ a. a.distance)) (stays K P (λ a. a.distance)) (lost A K P) (gained A K P + pulls K P (λ a. far a.target a.arg) + ties K P (λ a. 1)) f l (let e = p.excess in omega arith) in
+          (let h = greater i j (registers A) (pulls K P (λ a. a.distance) + ties K P (λ a. a.distance)) (stays K P (λ a. a.distance)) (lost A K P) (gained A K P + pulls K P (λ a. hops a.target a.arg) + ties K P (λ a. 1)) f l (let e = p.excess in omega arith) in
           omega arith);
     }

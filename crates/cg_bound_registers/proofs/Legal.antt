@@ -18,7 +18,7 @@ use Rattle.cg_recur.specs.Edges.{latency}
 use Rattle.cg_model.specs.Mapping.{Mapping, Position, IsLegal, place, leaves, positions, positions_on, positions_after, of_operand as positions_of, of_route, Goes}
 use Rattle.cg_bound_registers.specs.declared.certificate.Stay.{Stay}
 use Rattle.cg_bound_registers.specs.declared.certificate.Pressure.{Pressure}
-use Rattle.cg_bound_registers.specs.Pressure.{Dependence, on_edge, weigh, of_operand, of_order, data_edge, one_if, from, is_register, registers, most_latency, IsKept, no_far, IsPressure}
+use Rattle.cg_bound_registers.specs.Pressure.{Dependence, on_edge, weigh, of_operand, of_order, data_edge, one_if, from, is_register, registers, most_latency, IsKept, no_hops, IsPressure}
 use Rattle.cg_class.proofs.Totals.{sum_by_total}
 use Rattle.cg_class.proofs.Balance.{at_most}
 use Rattle.cg_bound_registers.proofs.Slots.{slots, total_ones}
@@ -213,40 +213,40 @@ module _ (A : Arch) (K : Kernel) (M : Mapping) (legal : IsLegal A K M) where
         let h = legal.ordered k o.from o.to o.distance e in
         subst (λ (z : Dependence). time z.source + 1 ≤ time z.target + M.ii * z.distance) s (omega arith)
 
-    module _ (far : ℕ → ℕ → ℕ) (is_kept : IsKept A K M far) where
-      pulled : (v p : ℕ) (o : Option Operand) → slice_get (node K v).operands p ≡ o → (a : Dependence) → of_operand v p o ≡ Some a → time a.source + lasts a.source + far a.target a.arg ≤ time a.target + M.ii * a.distance
+    module _ (hops : ℕ → ℕ → ℕ) (is_kept : IsKept A K M hops) where
+      pulled : (v p : ℕ) (o : Option Operand) → slice_get (node K v).operands p ≡ o → (a : Dependence) → of_operand v p o ≡ Some a → time a.source + lasts a.source + hops a.target a.arg ≤ time a.target + M.ii * a.distance
       pulled v p None e a is = let bad : None ≡ Some a = is in absurd (cc)
       pulled v p (Some (Constant w)) e a is = let bad : None ≡ Some a = is in absurd (cc)
       pulled v p (Some (Edge u d init)) e a is =
           let s : record { source = u; target = v; arg = p; distance = d } ≡ a = cc in
-          subst (λ (z : Dependence). time z.source + lasts z.source + far z.target z.arg ≤ time z.target + M.ii * z.distance) s (is_kept v p u d init e)
+          subst (λ (z : Dependence). time z.source + lasts z.source + hops z.target z.arg ≤ time z.target + M.ii * z.distance) s (is_kept v p u d init e)
 
       latency_within : (w : ℕ) → w < size K → (latency A (node K w).op ≤ lasts w) × (lasts w ≤ most_latency (node K w).op A.units)
       latency_within w l =
           let h = among_it (unit A (place M w).unit).ops (node K w).op (legal.offered w l) in
           (least_le A (node K w).op (place M w).unit _ (legal.units w l) h, most_ge (node K w).op A.units (place M w).unit _ (legal.units w l) h)
 
-      kept : AreKept A K good far M.ii time lasts
+      kept : AreKept A K good hops M.ii time lasts
       kept = record {
         latencies = latency_within;
         edges = λ v p a is. pulled v p (slice_get (node K v).operands p) refl a is;
         order = λ e a is. tied e (slice_get K.order e) refl a is;
       }
 
-      pub not_legal : (P : Pressure) → IsPressure A K far M.ii P → ⊥
+      pub not_legal : (P : Pressure) → IsPressure A K hops M.ii P → ⊥
       not_legal P p =
           let a = length-claims P.stays.items in
-          no_excess A K good far M.ii time lasts kept P p.balanced (length (claims P.stays.items)) (omega arith)
+          no_excess A K good hops M.ii time lasts kept P p.balanced (length (claims P.stays.items)) (omega arith)
           (few_claims (claims P.stays.items) (each_claim P.stays.items) (claims_apart P.stays.items (λ w l. p.balanced.one w l))) p.excess
 
-pub no_pressure : (A : Arch) (K : Kernel) (M : Mapping) (far : ℕ → ℕ → ℕ) (P : Pressure) → IsKernel K → IsLegal A K M → IsKept A K M far → IsPressure A K far M.ii P → ⊥
-no_pressure A K M far P good legal kept p = not_legal A K M legal good far kept P p
+pub no_pressure : (A : Arch) (K : Kernel) (M : Mapping) (hops : ℕ → ℕ → ℕ) (P : Pressure) → IsKernel K → IsLegal A K M → IsKept A K M hops → IsPressure A K hops M.ii P → ⊥
+no_pressure A K M hops P good legal kept p = not_legal A K M legal good hops kept P p
 
 -- a path takes no negative time
 goes_up : (A : Arch) (path : List ℕ) (q t r s : ℕ) → Goes A q t path r s → t ≤ s
 goes_up A [] q t r s (e, f) = omega arith
 goes_up A (x ∷ path) q t r s (c, g) = let h = goes_up A path x (t + delay A x) r s g in omega arith
 
-pub no_plain_pressure : (A : Arch) (K : Kernel) (M : Mapping) (P : Pressure) → IsKernel K → IsLegal A K M → IsPressure A K no_far M.ii P → ⊥
+pub no_plain_pressure : (A : Arch) (K : Kernel) (M : Mapping) (P : Pressure) → IsKernel K → IsLegal A K M → IsPressure A K no_hops M.ii P → ⊥
 no_plain_pressure A K M P good legal p =
-    no_pressure A K M no_far P good legal (λ v p u d init h. let w = way_from A K M legal v p u d init h in let m = goes_up A w.path _ _ _ _ w.goes in omega arith) p
+    no_pressure A K M no_hops P good legal (λ v p u d init h. let w = way_from A K M legal v p u d init h in let m = goes_up A w.path _ _ _ _ w.goes in omega arith) p

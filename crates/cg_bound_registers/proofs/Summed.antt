@@ -13,15 +13,15 @@ use Rattle.cg_bound_registers.specs.declared.sums.Of.{Of}
 use Rattle.cg_bound_registers.specs.Pressure.{weigh, data_edge, order_edge, stays, pulls, ties, total}
 use Rattle.cg_bound_registers.specs.Sums.{value_of}
 
-module _ (K : Kernel) (P : Pressure) (far : List ℕ) (of : Of) where
-  pub at_stays : (xs : List Stay) (r : ℕ) → r ≡ weigh (λ (s : Stay). 1) (λ s. data_edge K s.node s.arg) (value_of far of) xs → xs ≡ P.stays.items → r ≡ stays K P (value_of far of)
-  at_stays xs r e f = e ∙ ap (weigh (λ (s : Stay). 1) (λ s. data_edge K s.node s.arg) (value_of far of)) f
+module _ (K : Kernel) (P : Pressure) (hops : List ℕ) (of : Of) where
+  pub at_stays : (xs : List Stay) (r : ℕ) → r ≡ weigh (λ (s : Stay). 1) (λ s. data_edge K s.node s.arg) (value_of hops of) xs → xs ≡ P.stays.items → r ≡ stays K P (value_of hops of)
+  at_stays xs r e f = e ∙ ap (weigh (λ (s : Stay). 1) (λ s. data_edge K s.node s.arg) (value_of hops of)) f
 
-  pub at_pulls : (xs : List Pull) (r : ℕ) → r ≡ weigh (λ (x : Pull). x.weight) (λ x. data_edge K x.node x.arg) (value_of far of) xs → xs ≡ P.pulls.items → r ≡ pulls K P (value_of far of)
-  at_pulls xs r e f = e ∙ ap (weigh (λ (x : Pull). x.weight) (λ x. data_edge K x.node x.arg) (value_of far of)) f
+  pub at_pulls : (xs : List Pull) (r : ℕ) → r ≡ weigh (λ (x : Pull). x.weight) (λ x. data_edge K x.node x.arg) (value_of hops of) xs → xs ≡ P.pulls.items → r ≡ pulls K P (value_of hops of)
+  at_pulls xs r e f = e ∙ ap (weigh (λ (x : Pull). x.weight) (λ x. data_edge K x.node x.arg) (value_of hops of)) f
 
-  pub at_ties : (xs : List Tie) (r : ℕ) → r ≡ weigh (λ (x : Tie). x.weight) (λ x. order_edge K x.edge) (value_of far of) xs → xs ≡ P.ties.items → r ≡ ties K P (value_of far of)
-  at_ties xs r e f = e ∙ ap (weigh (λ (x : Tie). x.weight) (λ x. order_edge K x.edge) (value_of far of)) f
+  pub at_ties : (xs : List Tie) (r : ℕ) → r ≡ weigh (λ (x : Tie). x.weight) (λ x. order_edge K x.edge) (value_of hops of) xs → xs ≡ P.ties.items → r ≡ ties K P (value_of hops of)
+  at_ties xs r e f = e ∙ ap (weigh (λ (x : Tie). x.weight) (λ x. order_edge K x.edge) (value_of hops of)) f
 
 total_next : (w : ℕ) (f : ℕ → ℕ) → total (w + 1) f ≡ total w f + f w
 total_next w f = rw add-one refl

@@ -114,39 +114,39 @@ registers A = count_by (λ (r : Resource). is_register r.kind) A.resources
 
 -- ---- what a certificate shows
 
--- in a mapping the value of each data edge crosses at least `far v p` registers on its way to operand p of node v
+-- in a mapping the value of each data edge crosses at least `hops v p` registers on its way to operand p of node v
 abbrev pub IsKept : Arch → Kernel → Mapping → (ℕ → ℕ → ℕ) → Type 0
-IsKept A K M far = (v p u d : ℕ) (init : List ℕ) → HasOperand K v p (Edge u d init) → leaves A M u + far v p ≤ (place M v).time + M.ii * d
+IsKept A K M hops = (v p u d : ℕ) (init : List ℕ) → HasOperand K v p (Edge u d init) → leaves A M u + hops v p ≤ (place M v).time + M.ii * d
 
 -- no registers on the ways
-abbrev pub no_far : ℕ → ℕ → ℕ
-no_far v p = 0
+abbrev pub no_hops : ℕ → ℕ → ℕ
+no_hops v p = 0
 
 -- the gain along a circulation, and the loss
 abbrev pub along : Arch → Kernel → (ℕ → ℕ → ℕ) → ℕ → Pressure → ℕ
-along A K far ii P = ii * stays K P (λ a. a.distance) + gained A K P + pulls K P (λ a. far a.target a.arg) + ties K P (λ a. 1)
+along A K hops ii P = ii * stays K P (λ a. a.distance) + gained A K P + pulls K P (λ a. hops a.target a.arg) + ties K P (λ a. 1)
 
 abbrev pub against : Arch → Kernel → ℕ → Pressure → ℕ
 against A K ii P = ii * (pulls K P (λ a. a.distance) + ties K P (λ a. a.distance)) + lost A K P
 
 -- a lower bound on the sum of its stays
 abbrev pub least_stays : Arch → Kernel → (ℕ → ℕ → ℕ) → ℕ → Pressure → ℕ
-least_stays A K far ii P = along A K far ii P - against A K ii P
+least_stays A K hops ii P = along A K hops ii P - against A K ii P
 
 -- the lower bound on the stays of a circulation exceeds the registers times the interval
 abbrev pub IsExcess : Arch → Kernel → (ℕ → ℕ → ℕ) → ℕ → Pressure → Type 0
-IsExcess A K far ii P =
+IsExcess A K hops ii P =
     ii * registers A + ii * (pulls K P (λ a. a.distance) + ties K P (λ a. a.distance)) + lost A K P
-    < ii * stays K P (λ a. a.distance) + gained A K P + pulls K P (λ a. far a.target a.arg) + ties K P (λ a. 1)
+    < ii * stays K P (λ a. a.distance) + gained A K P + pulls K P (λ a. hops a.target a.arg) + ties K P (λ a. 1)
 
 -- a certificate that no legal mapping has interval ii
-pub record IsPressure (A : Arch) (K : Kernel) (far : ℕ → ℕ → ℕ) (ii : ℕ) (P : Pressure) : Type 0 where
+pub record IsPressure (A : Arch) (K : Kernel) (hops : ℕ → ℕ → ℕ) (ii : ℕ) (P : Pressure) : Type 0 where
   pub balanced : IsBalanced K P
-  pub excess : IsExcess A K far ii P
+  pub excess : IsExcess A K hops ii P
 
 -- no certificate excludes the interval
 abbrev pub HasNoPressure : Arch → Kernel → (ℕ → ℕ → ℕ) → ℕ → Type 0
-HasNoPressure A K far ii = (P : Pressure) → IsPressure A K far ii P → ⊥
+HasNoPressure A K hops ii = (P : Pressure) → IsPressure A K hops ii P → ⊥
 
 -- the distances of the edges whose stays count are at most those of the others plus the registers: a certificate at an
 -- interval is one at each smaller interval
@@ -160,11 +160,11 @@ Rises A K P = pulls K P (λ a. a.distance) + ties K P (λ a. a.distance) + regis
 
 -- times that the edges allow on latencies that units have, with longest stays that fit in the registers: no certificate
 -- excludes the interval
-pub record IsLoose (A : Arch) (K : Kernel) (far : ℕ → ℕ → ℕ) (ii : ℕ) (time lasts longest : ℕ → ℕ) : Type 0 where
+pub record IsLoose (A : Arch) (K : Kernel) (hops : ℕ → ℕ → ℕ) (ii : ℕ) (time lasts longest : ℕ → ℕ) : Type 0 where
   pub latencies : (w : ℕ) → w < size K →
       (latency A (node K w).op ≤ lasts w) × (lasts w ≤ most_latency (node K w).op A.units)
   pub edges : (v p : ℕ) (a : Dependence) → data_edge K v p ≡ Some a →
-      time a.source + lasts a.source + far a.target a.arg ≤ time a.target + ii * a.distance
+      time a.source + lasts a.source + hops a.target a.arg ≤ time a.target + ii * a.distance
   pub order : (e : ℕ) (a : Dependence) → order_edge K e ≡ Some a →
       time a.source + 1 ≤ time a.target + ii * a.distance
   pub stays : (v p : ℕ) (a : Dependence) → data_edge K v p ≡ Some a →

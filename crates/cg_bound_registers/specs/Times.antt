@@ -19,12 +19,12 @@ longest t w = slice_index t.longest.items w
 
 -- times whose stays fit in the registers
 abbrev pub AreLoose : Arch → Kernel → (ℕ → ℕ → ℕ) → ℕ → Times → Type 0
-AreLoose A K far ii t = IsLoose A K far ii (begins t) (lasts t) (longest t)
+AreLoose A K hops ii t = IsLoose A K hops ii (begins t) (lasts t) (longest t)
 
 -- the times keep a data edge, and its stay is at most the longest one
 abbrev pub Keeps : List ℕ → ℕ → Times → Dependence → Type 0
-Keeps far ii t a =
-    (begins t a.source + lasts t a.source + table far a.target a.arg ≤ begins t a.target + ii * a.distance)
+Keeps hops ii t a =
+    (begins t a.source + lasts t a.source + table hops a.target a.arg ≤ begins t a.target + ii * a.distance)
     × (begins t a.target + ii * a.distance ≤ begins t a.source + lasts t a.source + longest t a.source)
 
 -- the times keep an order edge

@@ -70,14 +70,14 @@ fn losses(arch: &Arch, kernel: &Kernel, p: &Pressure) -> u128
 
 /// Returns the gain along the circulation: the distances of the edges whose stays count times the interval, the gained
 /// latencies, the registers on ways and the order edges.
-fn along(arch: &Arch, kernel: &Kernel, far: &[u32], ii: u32, p: &Pressure) -> u128
+fn along(arch: &Arch, kernel: &Kernel, hops: &[u32], ii: u32, p: &Pressure) -> u128
     requires short { IsShort p.now }
-    ensures value { result ≡ along arch.now kernel.now (table far.now) ii p.now }
+    ensures value { result ≡ along arch.now kernel.now (table hops.now) ii p.now }
     ensures small { result ≤ 2 ^ 114 }
 {
-    let forth = ii as u128 * sum_stays(kernel, far, &p.stays, Of::Distance)
+    let forth = ii as u128 * sum_stays(kernel, hops, &p.stays, Of::Distance)
         + gains(arch, kernel, p);
-    forth + sum_pulls(kernel, far, &p.pulls, Of::Far) + sum_ties(kernel, far, &p.ties, Of::One)
+    forth + sum_pulls(kernel, hops, &p.pulls, Of::Hops) + sum_ties(kernel, hops, &p.ties, Of::One)
 }
 
 /// Returns the loss along the circulation: the distances of the opposite edges times the interval and the lost
@@ -93,42 +93,47 @@ fn against(arch: &Arch, kernel: &Kernel, ii: u32, p: &Pressure) -> u128
 }
 
 /// Returns whether the stays add up to more than the registers times the interval.
-fn exceeds(arch: &Arch, kernel: &Kernel, far: &[u32], ii: u32, p: &Pressure) -> bool
+fn exceeds(arch: &Arch, kernel: &Kernel, hops: &[u32], ii: u32, p: &Pressure) -> bool
     requires short { IsShort p.now }
-    ensures { IsTrue result ↔ IsExcess arch.now kernel.now (table far.now) ii p.now }
+    ensures { IsTrue result ↔ IsExcess arch.now kernel.now (table hops.now) ii p.now }
 {
     let room = ii as u128 * count_registers(arch) as u128 + against(arch, kernel, ii, p);
-    let need = along(arch, kernel, far, ii, p);
+    let need = along(arch, kernel, hops, ii, p);
     room < need
 }
 
 /// Returns the least total number of cycles, by the circulation `certificate`, that the values of the edges whose stays
-/// count are in registers at interval `ii`. `far` has three numbers per node: for each operand the least number of
+/// count are in registers at interval `ii`. `hops` has three numbers per node: for each operand the least number of
 /// registers that a value crosses on its way there.
 pub fn least_stays(
     arch: &Arch,
     kernel: &Kernel,
-    far: &[u32],
+    hops: &[u32],
     ii: u32,
     certificate: &Pressure,
 ) -> u128
     requires short { IsShort certificate.now }
-    ensures { result ≡ spec.least_stays arch.now kernel.now (table far.now) ii certificate.now }
+    ensures { result ≡ spec.least_stays arch.now kernel.now (table hops.now) ii certificate.now }
 {
-    along(arch, kernel, far, ii, certificate).saturating_sub(against(arch, kernel, ii, certificate))
+    along(arch, kernel, hops, ii, certificate).saturating_sub(against(
+        arch,
+        kernel,
+        ii,
+        certificate,
+    ))
 }
 
-/// Returns whether `certificate` shows that no legal mapping has interval `ii`. `far` has three numbers per node: for
+/// Returns whether `certificate` shows that no legal mapping has interval `ii`. `hops` has three numbers per node: for
 /// each operand the least number of registers that a value crosses on its way there.
 pub fn check_pressure(
     arch: &Arch,
     kernel: &Kernel,
-    far: &[u32],
+    hops: &[u32],
     ii: u32,
     certificate: &Pressure,
 ) -> bool
     requires short { IsShort certificate.now }
-    ensures { IsTrue result ↔ IsPressure arch.now kernel.now (table far.now) ii certificate.now }
+    ensures { IsTrue result ↔ IsPressure arch.now kernel.now (table hops.now) ii certificate.now }
 {
-    balances(kernel, certificate) && exceeds(arch, kernel, far, ii, certificate)
+    balances(kernel, certificate) && exceeds(arch, kernel, hops, ii, certificate)
 }

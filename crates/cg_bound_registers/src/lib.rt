@@ -16,5 +16,5 @@ pub use check::{check_pressure, least_stays};
 pub use counts::{count_registers, most_latency};
 pub use dependence::{Dependence, data_edge, order_edge};
 pub use laws::{excludes, falls, loose, rises};
-pub use sums::far_at;
+pub use sums::hops_at;
 pub use times::{Times, all_stays, check_times};

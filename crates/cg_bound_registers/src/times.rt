@@ -7,7 +7,7 @@ ghost use Rattle.cg_bound_registers.specs.Times.{longest, AreLoose, Keeps, Follo
 
 use crate::counts::{count_registers, most_latency};
 use crate::dependence::{Dependence, data_edge, order_edge};
-use crate::sums::far_at;
+use crate::sums::hops_at;
 use cg_recur::{Arch, Kernel, latency};
 
 /// A schedule of nodes, with upper bounds on the stays of their values in registers.
@@ -30,12 +30,12 @@ fn at(list: &[u64], k: u32) -> u128
 }
 
 /// Returns whether `times` keep the data edge `edge`, and its stay is at most the longest one.
-fn keeps(far: &[u32], ii: u32, times: &Times, edge: Dependence) -> bool
-    ensures { IsTrue result ↔ Keeps far.now ii times.now edge }
+fn keeps(hops: &[u32], ii: u32, times: &Times, edge: Dependence) -> bool
+    ensures { IsTrue result ↔ Keeps hops.now ii times.now edge }
 {
     let leaves = at(&times.time, edge.source) + at(&times.lasts, edge.source);
     let arrives = at(&times.time, edge.target) + ii as u128 * edge.distance as u128;
-    leaves + far_at(far, edge.target, edge.arg) as u128 <= arrives
+    leaves + hops_at(hops, edge.target, edge.arg) as u128 <= arrives
         && arrives <= leaves + at(&times.longest, edge.source)
 }
 
@@ -48,14 +48,14 @@ fn follows(ii: u32, times: &Times, edge: Dependence) -> bool
 }
 
 /// Returns whether `times` keep the data edges into node `v`.
-fn keeps_node(kernel: &Kernel, far: &[u32], ii: u32, times: &Times, v: u32) -> bool
+fn keeps_node(kernel: &Kernel, hops: &[u32], ii: u32, times: &Times, v: u32) -> bool
     requires { v < size kernel.now }
-    ensures { IsTrue result ↔ ((p : ℕ) (a : Dependence) → data_edge_of kernel.now v p ≡ Some a → Keeps far.now ii times.now a) }
+    ensures { IsTrue result ↔ ((p : ℕ) (a : Dependence) → data_edge_of kernel.now v p ≡ Some a → Keeps hops.now ii times.now a) }
 {
     let count = kernel.nodes()[v as usize].operands.as_slice().len();
     for p in 0..count {
         if let Some(edge) = data_edge(kernel, v, p as u32) {
-            if !keeps(far, ii, times, edge) {
+            if !keeps(hops, ii, times, edge) {
                 return false;
             }
         }
@@ -64,11 +64,11 @@ fn keeps_node(kernel: &Kernel, far: &[u32], ii: u32, times: &Times, v: u32) -> b
 }
 
 /// Returns whether `times` keep all data edges.
-fn keeps_all(kernel: &Kernel, far: &[u32], ii: u32, times: &Times) -> bool
-    ensures { IsTrue result ↔ ((v p : ℕ) (a : Dependence) → data_edge_of kernel.now v p ≡ Some a → Keeps far.now ii times.now a) }
+fn keeps_all(kernel: &Kernel, hops: &[u32], ii: u32, times: &Times) -> bool
+    ensures { IsTrue result ↔ ((v p : ℕ) (a : Dependence) → data_edge_of kernel.now v p ≡ Some a → Keeps hops.now ii times.now a) }
 {
     for v in 0..kernel.nodes().len() as u32 {
-        if !keeps_node(kernel, far, ii, times, v) {
+        if !keeps_node(kernel, hops, ii, times, v) {
             return false;
         }
     }
@@ -117,13 +117,13 @@ pub fn all_stays(times: &Times, n: u32) -> u128
 }
 
 /// Returns whether `times` show that no certificate excludes interval `ii`: the edges allow them on latencies that
-/// units have, with longest stays that fit in the registers. `far` has three numbers per node: for each operand the
+/// units have, with longest stays that fit in the registers. `hops` has three numbers per node: for each operand the
 /// least number of registers that a value crosses on its way there.
-pub fn check_times(arch: &Arch, kernel: &Kernel, far: &[u32], ii: u32, times: &Times) -> bool
-    ensures { IsTrue result ↔ AreLoose arch.now kernel.now (table far.now) ii times.now }
+pub fn check_times(arch: &Arch, kernel: &Kernel, hops: &[u32], ii: u32, times: &Times) -> bool
+    ensures { IsTrue result ↔ AreLoose arch.now kernel.now (table hops.now) ii times.now }
 {
     latencies_fit(arch, kernel, times)
-        && keeps_all(kernel, far, ii, times)
+        && keeps_all(kernel, hops, ii, times)
         && follows_all(kernel, ii, times)
         && all_stays(times, kernel.nodes().len() as u32)
             <= ii as u128 * count_registers(arch) as u128

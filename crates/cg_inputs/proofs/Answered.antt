@@ -22,7 +22,7 @@ pub not_done : (o : Outcome) → o.status ≡ Done → o.status ≡ Malformed �
 not_done o done refused = let z : Done ≡ Malformed = sym done ∙ refused in cc
 
 pub not_no : (o : Outcome) → o.status ≡ No → o.status ≡ Malformed → ⊥
-not_no o no refused = let z : No ≡ Malformed = sym no ∙ refused in cc
+not_no o said refused = let z : No ≡ Malformed = sym said ∙ refused in cc
 
 module _ {X : Type 0} (Reads : Result X Outcome → Type 0) (Does : X → Outcome → Type 0) where
   -- ---- from what the program reads and does
@@ -61,8 +61,8 @@ module _ {X : Type 0} (Reads : Result X Outcome → Type 0) (Does : X → Outcom
 
     -- a command that writes nothing where it says No
     unwritten_by : ((x : X) (o : Outcome) → Does x o → o.status ≡ No → o.writes ≡ []) → (r : Result X Outcome) (o : Outcome) → AreRefused r → DoneWith Does r o → o.status ≡ No → o.writes ≡ []
-    unwritten_by each (Ok x) o u d no = each x o d no
-    unwritten_by each (Err e) o u d no = ap (λ z. z.writes) d ∙ u.quiet
+    unwritten_by each (Ok x) o u d said = each x o d said
+    unwritten_by each (Err e) o u d said = ap (λ z. z.writes) d ∙ u.quiet
 
     pub unwritten_answer : ((x : X) (o : Outcome) → Does x o → o.status ≡ No → o.writes ≡ []) → (o : Outcome) → ReadThen Reads Does o → o.status ≡ No → o.writes ≡ []
     unwritten_answer each o a = unwritten_by each a.read o (reading.refused a.read a.is_read) a.answer

@@ -4,7 +4,8 @@ ghost use Rattle.std.specs.Prelude.{◌≡◌};
 ghost use Rattle.cg_kernel.specs.declared.fault.KernelFault.TheVariants.{Memory};
 
 use std::alloc::AllocError;
-use thiserror::Error;
+use std::error::Error;
+use std::fmt;
 
 /// The first place of a fault: the whole file, a node or an order edge, counted from 0.
 #[derive(Clone, Copy, Debug, PartialEq, Eq)]
@@ -15,43 +16,59 @@ pub enum KernelPlace {
 }
 
 /// Why bytes don't describe a kernel. The variants after `Memory` are K1 to K16, in this order.
-#[derive(Debug, Drop, Error)]
+#[derive(Debug, Drop)]
 pub enum KernelFault {
-    #[error("memory ran out")]
     Memory,
-    #[error("no JSON value")]
     NotJson,
-    #[error("wrong shape")]
     WrongShape(KernelPlace),
-    #[error("unknown key")]
     UnknownKey(KernelPlace),
-    #[error("too many nodes or order edges")]
     TooLarge,
-    #[error("bad name")]
     BadName(KernelPlace),
-    #[error("repeated name")]
     RepeatedName(KernelPlace),
-    #[error("unknown operation")]
     UnknownOp(KernelPlace),
-    #[error("wrong number of operands")]
     WrongOperandCount(KernelPlace),
-    #[error("unknown node")]
     UnknownNode(KernelPlace),
-    #[error("source without a value")]
     NoValue(KernelPlace),
-    #[error("edge of distance 0 from no earlier node")]
     BackEdgeWithoutDistance(KernelPlace),
-    #[error("distance too great")]
     BadDistance(KernelPlace),
-    #[error("wrong number of initial words")]
     InitCount(KernelPlace),
-    #[error("more than one constant operand")]
     TwoConstants(KernelPlace),
-    #[error("bad port")]
     BadPort(KernelPlace),
-    #[error("repeated output port")]
     RepeatedOutputPort(KernelPlace),
 }
+
+impl KernelFault {
+    /// Returns what is wrong, without its place.
+    fn message(&self) -> &'static str {
+        match self {
+            KernelFault::Memory => "memory ran out",
+            KernelFault::NotJson => "no JSON value",
+            KernelFault::WrongShape(_) => "wrong shape",
+            KernelFault::UnknownKey(_) => "unknown key",
+            KernelFault::TooLarge => "too many nodes or order edges",
+            KernelFault::BadName(_) => "bad name",
+            KernelFault::RepeatedName(_) => "repeated name",
+            KernelFault::UnknownOp(_) => "unknown operation",
+            KernelFault::WrongOperandCount(_) => "wrong number of operands",
+            KernelFault::UnknownNode(_) => "unknown node",
+            KernelFault::NoValue(_) => "source without a value",
+            KernelFault::BackEdgeWithoutDistance(_) => "edge of distance 0 from no earlier node",
+            KernelFault::BadDistance(_) => "distance too great",
+            KernelFault::InitCount(_) => "wrong number of initial words",
+            KernelFault::TwoConstants(_) => "more than one constant operand",
+            KernelFault::BadPort(_) => "bad port",
+            KernelFault::RepeatedOutputPort(_) => "repeated output port",
+        }
+    }
+}
+
+impl fmt::Display for KernelFault {
+    fn fmt<W: fmt::Write>(&self, f: &mut fmt::Formatter<W>) -> fmt::Result {
+        f.write_str(self.message())
+    }
+}
+
+impl Error for KernelFault {}
 
 impl From<AllocError> for KernelFault {
     ghost from_gives = { λ _ fault. fault ≡ Memory };

@@ -4,6 +4,7 @@ ghost use Rattle.serde_json.specs.View.{view};
 ghost use Rattle.cg_model.specs.Answers.{Gives};
 ghost use Rattle.cg_model.specs.Kernel.{IsKernel};
 ghost use Rattle.cg_kernel.specs.Answer.{answer_of, judged, answer_in, answer_written};
+ghost use Rattle.cg_kernel.specs.Numbers.{IsIndex};
 ghost use Rattle.cg_kernel.specs.Words.{HasAllWords};
 ghost use Rattle.cg_kernel.specs.Written.{written_of};
 
@@ -14,7 +15,7 @@ use crate::reading;
 use crate::written::WrittenKernel;
 use cg_json::{JsonFault, json_value};
 use cg_model::Kernel;
-use cg_reading::{Misfit, numbers_of};
+use cg_reading::{Misfit, Numbers, numbers_of};
 use serde_json::Value;
 use std::alloc::Global;
 
@@ -47,8 +48,21 @@ fn judged(alloc: Global, written: &WrittenKernel) -> Result<Kernel, KernelFault>
     ensures valid { IfOk result IsKernel }
 {
     let numbers = numbers_of(alloc, written.nodes.as_slice())?;
-    if let Some(fault) = first_fault(&numbers, written) {
+    judged_by(alloc, &numbers, written)
+}
+
+fn judged_by(
+    alloc: Global,
+    numbers: &Numbers,
+    written: &WrittenKernel,
+) -> Result<Kernel, KernelFault>
+    requires index { IsIndex numbers.now written.now.nodes }
+    requires words { HasAllWords written.now }
+    ensures answer { Gives KernelFault.Memory result (judged written.now) }
+    ensures valid { IfOk result IsKernel }
+{
+    if let Some(fault) = first_fault(numbers, written) {
         return Err(fault);
     }
-    Ok(kernel_of(alloc, &numbers, written)?)
+    Ok(kernel_of(alloc, numbers, written)?)
 }

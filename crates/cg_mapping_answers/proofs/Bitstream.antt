@@ -75,7 +75,7 @@ unwritten_by out m (Some v) o is said = ap (λ x. x.writes) is
 
 pub unwritten_emit : (arch kernel mapping : File) (out : Name) (o : Outcome) → IsEmit arch kernel mapping out o → o.status ≡ No → o.writes ≡ []
 unwritten_emit arch kernel mapping out o p said =
-    unwritten_answer (AreMapped arch kernel mapping) (IsEmission out) (mapped_reading arch kernel mapping) (λ m o e no. unwritten_by out m (violation m.arch m.kernel m.mapping) o e no) o p said
+    unwritten_answer (AreMapped arch kernel mapping) (IsEmission out) (mapped_reading arch kernel mapping) (λ m o e said. unwritten_by out m (violation m.arch m.kernel m.mapping) o e said) o p said
 
 same_written : (out : Name) (m : Mapped) (v : Option Violation) (a b : Outcome) → IsEmittedBy out m v a → IsEmittedBy out m v b → a.status ≡ b.status
 same_written out m None a b p q = ap (λ x. x.status) p.outcome ∙ sym (ap (λ x. x.status) q.outcome)

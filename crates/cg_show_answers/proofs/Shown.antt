@@ -50,7 +50,7 @@ unwritten_by outs m (Some v) o p said = ap (λ x. x.writes) p
 
 pub unwritten_show : (arch kernel mapping : File) (outs : List Name) (o : Outcome) → IsShow arch kernel mapping outs o → o.status ≡ No → o.writes ≡ []
 unwritten_show arch kernel mapping outs o p said =
-    unwritten_answer (AreMapped arch kernel mapping) (IsShowing outs) (mapped_reading arch kernel mapping) (λ m o e no. unwritten_by outs m (violation m.arch m.kernel m.mapping) o e no) o p said
+    unwritten_answer (AreMapped arch kernel mapping) (IsShowing outs) (mapped_reading arch kernel mapping) (λ m o e said. unwritten_by outs m (violation m.arch m.kernel m.mapping) o e said) o p said
 
 same_shown : (outs : List Name) (m : Mapped) (v : Option Violation) (a b : Outcome) → IsShownBy outs m v a → IsShownBy outs m v b → a.status ≡ b.status
 same_shown outs m None a b p q = ap (λ x. x.status) p.outcome ∙ sym (ap (λ x. x.status) q.outcome)

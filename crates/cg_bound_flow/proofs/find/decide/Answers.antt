@@ -18,11 +18,11 @@ returns-then-all_stays-ii c =
     let b = c.all_stays.ensures.value in
     let d = ap (λ z. c.args.ii * z) c.count_registers.ensures.value in
     let f = c.if-all_stays-ii.true in
-    loose c.args.arch.now K (table c.args.far.now) c.args.ii c.nodes-n.ensures.valid c.args.links.now c.requires.network c.args.flow.now c.args.at.now c.args.routed.now c.requires.routing c.requires.all c.requires.graph c.in_ok-times.times s (omega arith)
+    loose c.args.arch.now K (table c.args.hops.now) c.args.ii c.nodes-n.ensures.valid c.args.links.now c.requires.network c.args.flow.now c.args.at.now c.args.routed.now c.requires.routing.kept c.requires.routing.circulation c.requires.routing.spans c.requires.all c.requires.graph c.in_ok-times.times s (omega arith)
 
 pub certificate-requires-clause-ones : goal.certificate-requires-clause-ones
 certificate-requires-clause-ones c =
-    λ k v p e. stay_small c.args.arch.now c.args.kernel.now (table c.args.far.now) c.args.ii c.nodes-n.ensures.valid c.args.links.now c.args.flow.now c.args.routed.now c.requires.network.right c.requires.routing.circulation k v p e
+    λ k v p e. stay_small c.args.arch.now c.args.kernel.now (table c.args.hops.now) c.args.ii c.nodes-n.ensures.valid c.args.links.now c.args.flow.now c.args.routed.now c.requires.network.right c.requires.routing.circulation k v p e
 
 pub returns : goal.returns
 returns c =
@@ -35,7 +35,7 @@ returns c =
     let f = c.if-all_stays-ii.false in
     let g = stays_sum (size K) c.args.at.now c.args.routed.now c.in_ok-times.times s in
     let much : c.args.ii * registers c.args.arch.now < total (size K) (stay_of (size K) c.args.at.now c.args.routed.now) = omega arith in (
-      certifies c.args.arch.now K (table c.args.far.now) c.args.ii c.nodes-n.ensures.valid c.args.links.now c.args.flow.now c.args.routed.now c.requires.network.right c.requires.routing.circulation c.in_ok-certificate.field-0 c.in_ok-certificate.ensures.taken
-          (excess c.args.arch.now K (table c.args.far.now) c.args.ii c.nodes-n.ensures.valid c.args.links.now c.requires.network c.args.flow.now c.args.at.now c.args.routed.now c.requires.routing c.requires.all c.requires.graph much),
+      certifies c.args.arch.now K (table c.args.hops.now) c.args.ii c.nodes-n.ensures.valid c.args.links.now c.args.flow.now c.args.routed.now c.requires.network.right c.requires.routing.circulation c.in_ok-certificate.field-0 c.in_ok-certificate.ensures.taken
+          (excess c.args.arch.now K (table c.args.hops.now) c.args.ii c.nodes-n.ensures.valid c.args.links.now c.requires.network c.args.flow.now c.args.at.now c.args.routed.now c.requires.routing.kept c.requires.routing.circulation c.requires.routing.spans c.requires.all c.requires.graph much),
       short (length c.args.links.now) c.in_ok-certificate.field-0 c.requires.graph.short c.in_ok-certificate.ensures.few,
     )

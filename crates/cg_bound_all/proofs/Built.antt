@@ -1,10 +1,8 @@
 -- The certificate of a flow, and the times of places, by definitions alone.
-use Rattle.std.proofs.Common.{◌≡◌, ℕ, zero, suc, ◌+◌, ◌-◌, ◌*◌, ◌^◌, ◌<◌, ◌≤◌, List, [], ◌∷◌, ◌++◌, length, Bool, refl, sym, ap, ◌∙◌, subst, arith, ⊎_elim}
+use Rattle.std.proofs.Common.{◌≡◌, ℕ, zero, suc, ◌+◌, ◌-◌, ◌*◌, ◌^◌, ◌<◌, ◌≤◌, List, [], ◌∷◌, ◌++◌, length, Bool, refl, ap, arith, ⊎_elim}
 use Rattle.std.specs.Prelude.{slice_index}
-use Rattle.std.specs.Global.{Vec}
 use Rattle.std.proofs.lemmas.Bool.{cases_lt}
 use Rattle.std.proofs.lemmas.List.{length_push}
-use denote.RawPtr.{null_ptr}
 use Rattle.cg_model.specs.Kernel.{Kernel}
 use Rattle.cg_bound_registers.specs.declared.certificate.Stay.{Stay as StayEdge}
 use Rattle.cg_bound_registers.specs.declared.certificate.Pull.{Pull as PullEdge}
@@ -14,23 +12,14 @@ use Rattle.cg_bound_registers.specs.declared.dependence.Dependence.{Dependence}
 use Rattle.cg_bound_registers.specs.declared.times.Times.{Times}
 use Rattle.cg_bound_registers.specs.Pressure.{data_edge, order_edge, weigh}
 use Rattle.cg_bound_flow.specs.Finish.{stay_of, IsSchedule}
-use Rattle.cg_bound_flow.specs.Taken.{HasAtMost}
-use Rattle.cg_bound_flow.proofs.Certificates.{weigh_more}
-use Rattle.cg_bound_flow_laws.proofs.Links.{Link, Part, Least, Most, Pull, Stay, Tie, link, on_stay, on_pull, on_tie, taken, IsTaken}
-use Rattle.cg_bound_flow_laws.proofs.Residual.{listed}
-
--- lists as values of the program: where they would stand in memory is no matter of what is said of them
-held_stays : (xs : List StayEdge) → length xs < 2 ^ 58 → (v : Vec StayEdge) × (v.items ≡ xs)
-held_stays xs l = (record { ptr = null_ptr; len = length xs; cap = length xs; alloc = record { memory = record { seal = tt } }; items = xs; ok = (refl, omega arith); small = omega arith }, refl)
-
-held_pulls : (xs : List PullEdge) → length xs < 2 ^ 58 → (v : Vec PullEdge) × (v.items ≡ xs)
-held_pulls xs l = (record { ptr = null_ptr; len = length xs; cap = length xs; alloc = record { memory = record { seal = tt } }; items = xs; ok = (refl, omega arith); small = omega arith }, refl)
-
-held_ties : (xs : List TieEdge) → length xs < 2 ^ 58 → (v : Vec TieEdge) × (v.items ≡ xs)
-held_ties xs l = (record { ptr = null_ptr; len = length xs; cap = length xs; alloc = record { memory = record { seal = tt } }; items = xs; ok = (refl, omega arith); small = omega arith }, refl)
-
-held_numbers : (xs : List ℕ) → length xs < 2 ^ 58 → (v : Vec ℕ) × (v.items ≡ xs)
-held_numbers xs l = (record { ptr = null_ptr; len = length xs; cap = length xs; alloc = record { memory = record { seal = tt } }; items = xs; ok = (refl, omega arith); small = omega arith }, refl)
+use Rattle.cg_bound_flow.specs.declared.network.Link.{Link}
+use Rattle.cg_bound_flow.specs.declared.network.Part.{Part}
+use Rattle.cg_bound_flow.specs.declared.network.Part.TheVariants.{Least, Most, Pull, Stay, Tie}
+use Rattle.cg_bound_flow.specs.Network.{link}
+use Rattle.cg_bound_flow.specs.Taken.{on_stay, on_pull, on_tie, taken, IsTaken, HasAtMost}
+use Rattle.cg_bound_flow.proofs.Certificates.{stay_added, pull_added, tie_added, next_suc}
+use Rattle.cg_bound_all.proofs.Tables.{held}
+use Rattle.cg_bound_all.proofs.Residual.{listed}
 
 -- ---- the certificate of a flow
 
@@ -59,8 +48,7 @@ module _ (K : Kernel) (links : List Link) (flow : List ℕ) where
       (λ (l : 0 < w).
       let x : StayEdge = record { node = v; arg = q } in
       let long = length_push xs x in
-      let one : 1 ≡ w = let h = few v q refl in omega arith in
-      (xs ++ x ∷ [], λ f. weigh_more (λ (s : StayEdge). 1) (λ s. data_edge K s.node s.arg) f xs x ∙ ap (λ z. weigh_stays f xs + z * on_stay K f (Stay v q)) one, omega arith))
+      (xs ++ x ∷ [], λ f. stay_added K f xs (xs ++ x ∷ []) (Stay v q) v q w l (few v q refl) refl refl, omega arith))
       (λ (l : w ≤ 0). (xs, λ f. let z : w ≡ 0 = omega arith in let e = ap (λ y. y * on_stay K f (Stay v q)) z in omega arith, omega arith))
       (cases_lt 0 w)
   more_stays xs (Least v) w few = (xs, λ f. omega arith, omega arith)
@@ -72,7 +60,7 @@ module _ (K : Kernel) (links : List Link) (flow : List ℕ) where
   more_pulls xs (Pull v q) w =
       let x : PullEdge = record { node = v; arg = q; weight = w } in
       let long = length_push xs x in
-      (xs ++ x ∷ [], λ f. weigh_more (λ (y : PullEdge). y.weight) (λ y. data_edge K y.node y.arg) f xs x, omega arith)
+      (xs ++ x ∷ [], λ f. pull_added K f xs (xs ++ x ∷ []) (Pull v q) v q w refl refl, omega arith)
   more_pulls xs (Least v) w = (xs, λ f. omega arith, omega arith)
   more_pulls xs (Most v) w = (xs, λ f. omega arith, omega arith)
   more_pulls xs (Stay v q) w = (xs, λ f. omega arith, omega arith)
@@ -82,7 +70,7 @@ module _ (K : Kernel) (links : List Link) (flow : List ℕ) where
   more_ties xs (Tie e) w =
       let x : TieEdge = record { edge = e; weight = w } in
       let long = length_push xs x in
-      (xs ++ x ∷ [], λ f. weigh_more (λ (y : TieEdge). y.weight) (λ y. order_edge K y.edge) f xs x, omega arith)
+      (xs ++ x ∷ [], λ f. tie_added K f xs (xs ++ x ∷ []) (Tie e) e w refl refl, omega arith)
   more_ties xs (Least v) w = (xs, λ f. omega arith, omega arith)
   more_ties xs (Most v) w = (xs, λ f. omega arith, omega arith)
   more_ties xs (Pull v q) w = (xs, λ f. omega arith, omega arith)
@@ -96,9 +84,6 @@ module _ (K : Kernel) (links : List Link) (flow : List ℕ) where
     pub few_stays : length ss ≤ k
     pub few_pulls : length ps ≤ k
     pub few_ties : length ts ≤ k
-
-  next : (k : ℕ) (f : Part → ℕ) (s s' : ℕ) → s ≡ taken links flow k f → s' ≡ s + slice_index flow k * f (link links k).part → s' ≡ taken links flow (suc k) f
-  next k f s s' a b = b ∙ ap (λ z. z + slice_index flow k * f (link links k).part) a
 
   module _ (ones : (k v p : ℕ) → (link links k).part ≡ Stay v p → slice_index flow k ≤ 1) where
     abbrev Taken : ℕ → Type 0
@@ -120,9 +105,9 @@ module _ (K : Kernel) (links : List Link) (flow : List ℕ) where
           ps',
           ts',
           record {
-            on_stays = λ f. next k (on_stay K f) _ _ (old.on_stays f) (a f);
-            on_pulls = λ f. next k (on_pull K f) _ _ (old.on_pulls f) (b f);
-            on_ties = λ f. next k (on_tie K f) _ _ (old.on_ties f) (c f);
+            on_stays = λ f. next_suc links flow k (on_stay K f) _ _ (old.on_stays f) (a f);
+            on_pulls = λ f. next_suc links flow k (on_pull K f) _ _ (old.on_pulls f) (b f);
+            on_ties = λ f. next_suc links flow k (on_tie K f) _ _ (old.on_ties f) (c f);
             few_stays = omega arith;
             few_pulls = omega arith;
             few_ties = omega arith;
@@ -134,17 +119,10 @@ module _ (K : Kernel) (links : List Link) (flow : List ℕ) where
         let (ss, ps, ts, all) = all_taken (length links) in
         let a = all.few_stays in
         let b = all.few_pulls in
-        let c = all.few_ties in
-        let (s, is) = held_stays ss (omega arith) in
-        let (p, ip) = held_pulls ps (omega arith) in
-        let (t, it) = held_ties ts (omega arith) in (
-          record { stays = s; pulls = p; ties = t },
-          record {
-            on_stays = λ f. ap (weigh_stays f) is ∙ all.on_stays f;
-            on_pulls = λ f. ap (weigh_pulls f) ip ∙ all.on_pulls f;
-            on_ties = λ f. ap (weigh_ties f) it ∙ all.on_ties f;
-          },
-          (subst (λ z. length z ≤ length links) (sym is) a, subst (λ z. length z ≤ length links) (sym ip) b, subst (λ z. length z ≤ length links) (sym it) c),
+        let c = all.few_ties in (
+          record { stays = held ss (omega arith); pulls = held ps (omega arith); ties = held ts (omega arith) },
+          record { on_stays = all.on_stays; on_pulls = all.on_pulls; on_ties = all.on_ties },
+          (a, b, c),
         )
 
 -- ---- times
@@ -153,14 +131,7 @@ pub some_schedule : (n : ℕ) (at : List ℕ) (routed : List Bool) → n ≤ 102
 some_schedule n at routed few =
     let (xs, lx, ax) = listed n (λ w. slice_index at w) in
     let (ys, ly, ay) = listed n (λ w. slice_index at (n + w) - slice_index at w) in
-    let (zs, lz, az) = listed n (stay_of n at routed) in
-    let (x, ix) = held_numbers xs (omega arith) in
-    let (y, iy) = held_numbers ys (omega arith) in
-    let (z, iz) = held_numbers zs (omega arith) in (
-      record { time = x; lasts = y; longest = z },
-      record {
-        time = λ w l. ap (λ q. slice_index q w) ix ∙ ax w l;
-        last = λ w l. ap (λ q. slice_index q w) iy ∙ ay w l;
-        stay = λ w l. ap (λ q. slice_index q w) iz ∙ az w l;
-      },
+    let (zs, lz, az) = listed n (stay_of n at routed) in (
+      record { time = held xs (omega arith); lasts = held ys (omega arith); longest = held zs (omega arith) },
+      record { time = ax; last = ay; stay = az },
     )

@@ -7,13 +7,15 @@ use Rattle.cg_recur.specs.declared.edge.Edge.{Edge}
 use Rattle.cg_recur.specs.Chain.{Goes, latencies, distances, latency_of, distance_of, source_of}
 use Rattle.cg_bound_registers.specs.Pressure.{one_if}
 use Rattle.cg_bound_flow.proofs.Pushes.{total_set}
-use Rattle.cg_bound_flow_laws.proofs.Links.{Link, link, gather, into_place, out_of}
-use Rattle.cg_bound_flow_laws.proofs.Residual.{IsMove}
+use Rattle.cg_bound_flow.specs.declared.network.Link.{Link}
+use Rattle.cg_bound_flow.specs.Network.{link}
+use Rattle.cg_bound_flow.specs.Push.{gather, into, out_of}
+use Rattle.cg_bound_all.proofs.Residual.{IsMove}
 
 -- one more goes from place a to place b, which gains the latencies less the distances
 pub record IsSent (links : List Link) (flow flow' : List ℕ) (a b latency distance : ℕ) : Type 0 where
   pub each : length flow' ≡ length flow
-  pub balanced : (x : ℕ) → into_place links flow' x + out_of links flow x + one_if (eqb a x) ≡ into_place links flow x + out_of links flow' x + one_if (eqb b x)
+  pub balanced : (x : ℕ) → into links flow' x + out_of links flow x + one_if (eqb a x) ≡ into links flow x + out_of links flow' x + one_if (eqb b x)
   pub gained : gather links flow' (λ l. l.gain) + gather links flow (λ l. l.loss) + distance ≡ gather links flow (λ l. l.gain) + gather links flow' (λ l. l.loss) + latency
 
 module _ (links : List Link) where

@@ -1,6 +1,6 @@
 -- For each interval there is a certificate or times: by definitions alone. A flow that routes all values is raised over
 -- closed chains of moves, until its links are tight, or its certificate is an excess.
-use Rattle.std.proofs.Common.{◌≡◌, ℕ, zero, suc, ◌+◌, ◌*◌, ◌<◌, ◌≤◌, List, length, get_or, Bool, ap, ◌∙◌, arith, inl, inr, ⊎_elim}
+use Rattle.std.proofs.Common.{◌≡◌, ℕ, zero, suc, ◌+◌, ◌*◌, ◌^◌, ◌<◌, ◌≤◌, List, length, get_or, Bool, ap, ◌∙◌, arith, inl, inr, ⊎_elim}
 use Rattle.std.specs.Prelude.{◌⊎◌, slice_get}
 use Rattle.std.proofs.lemmas.Bool.{cases_lt}
 use Rattle.std.proofs.lemmas.List.{get_or_default}
@@ -20,15 +20,17 @@ use Rattle.cg_bound_registers.specs.Sums.{IsShort}
 use Rattle.cg_bound_registers.specs.Times.{AreLoose}
 use Rattle.cg_bound_flow.specs.Finish.{stay_of}
 use Rattle.cg_bound_flow.proofs.Certificates.{short}
-use Rattle.cg_bound_flow.proofs.Finished.{most_small, stays_sum}
-use Rattle.cg_bound_flow_laws.proofs.Links.{Link, IsGraph, AreKept, gather, IsNetwork}
-use Rattle.cg_bound_flow_laws.proofs.Values.{stay_small, certifies}
-use Rattle.cg_bound_flow_laws.proofs.Networks.{some_network, graph, spans}
-use Rattle.cg_bound_flow_laws.proofs.Residual.{listed, residual, all_within, all_kept}
-use Rattle.cg_bound_flow_laws.proofs.Sent.{IsSent, sent_along}
-use Rattle.cg_bound_flow_laws.proofs.Routed.{IsRoutes, all_routed}
-use Rattle.cg_bound_flow_laws.proofs.Decided.{excess, loose}
-use Rattle.cg_bound_flow_laws.proofs.Built.{some_certificate, some_schedule}
+use Rattle.cg_bound_flow.proofs.Finished.{most_small, stays_sum, bounded, graph, spans, excess, loose}
+use Rattle.cg_bound_flow.specs.declared.network.Link.{Link}
+use Rattle.cg_bound_flow.specs.Network.{IsGraph, AreKept}
+use Rattle.cg_bound_flow.specs.Push.{gather}
+use Rattle.cg_bound_flow.specs.Parts.{IsNetwork}
+use Rattle.cg_bound_flow.proofs.Values.{stay_small, certifies}
+use Rattle.cg_bound_all.proofs.Networks.{some_network}
+use Rattle.cg_bound_all.proofs.Residual.{listed, residual, AreShort, all_within, all_kept}
+use Rattle.cg_bound_all.proofs.Sent.{IsSent, sent_along}
+use Rattle.cg_bound_all.proofs.Routed.{IsRoutes, all_routed}
+use Rattle.cg_bound_all.proofs.Built.{some_certificate, some_schedule}
 
 abbrev pub IsDecided : Arch → Kernel → (ℕ → ℕ → ℕ) → ℕ → Type 0
 IsDecided A K hops ii = ((P : Pressure) × IsPressure A K hops ii P × IsShort P) ⊎ ((t : Times) × AreLoose A K hops ii t)
@@ -48,7 +50,7 @@ routes_on n links flow flow' routed u l d sent r =
       all = r.all;
     }
 
-module _ (A : Arch) (K : Kernel) (hops : ℕ → ℕ → ℕ) (ii : ℕ) (good : IsKernel K) (links : List Link) (net : IsNetwork A K hops ii links) (bounds : IsGraph (size K + size K + size K) links) (routed : List Bool) where
+module _ (A : Arch) (K : Kernel) (hops : ℕ → ℕ → ℕ) (ii : ℕ) (good : IsKernel K) (links : List Link) (net : IsNetwork A K hops ii links) (bounds : IsGraph (size K + size K + size K) links) (near : AreShort links (size K + size K + size K)) (routed : List Bool) where
   abbrev n : ℕ
   n = size K
 
@@ -62,12 +64,12 @@ module _ (A : Arch) (K : Kernel) (hops : ℕ → ℕ → ℕ) (ii : ℕ) (good :
       inl (P, certifies A K hops ii good links flow routed net.right r.circulation P taken much, short (length links) P bounds.short few)
 
   -- all links with a flow are tight
-  tight : (flow at : List ℕ) → Routes flow → AreKept links flow at → IsDecided A K hops ii
+  tight : (flow at : List ℕ) → Routes flow → AreKept links (length links) flow at → IsDecided A K hops ii
   tight flow at r kept =
       let (t, s) = some_schedule n at routed good.few in
       ⊎_elim
-      (λ (l : ii * registers A < total n (stay_of n at routed)). exceeds flow r (excess A K hops ii good links net bounds flow at routed r kept l))
-      (λ (l : total n (stay_of n at routed) ≤ ii * registers A). let e = stays_sum n at routed t s in inr (t, loose A K hops ii good links net bounds flow at routed r kept t s (omega arith)))
+      (λ (l : ii * registers A < total n (stay_of n at routed)). exceeds flow r (excess A K hops ii good links net flow at routed kept r.circulation r.spans r.all bounds l))
+      (λ (l : total n (stay_of n at routed) ≤ ii * registers A). let e = stays_sum n at routed t s in inr (t, loose A K hops ii good links net flow at routed kept r.circulation r.spans r.all bounds t s (omega arith)))
       (cases_lt (ii * registers A) (total n (stay_of n at routed)))
 
   -- as often as the flow may still be raised
@@ -75,11 +77,11 @@ module _ (A : Arch) (K : Kernel) (hops : ℕ → ℕ → ℕ) (ii : ℕ) (good :
   decide zero flow r much = exceeds flow r (omega arith)
   decide (suc fuel) flow r much =
       let (es, moves) = residual links flow in
-      let inside = all_within links flow (n + n + n) es moves bounds in
+      let inside = all_within links flow (n + n + n) es moves near in
       ⊎_elim
       (λ (time, kept).
       let (at, len, same) = listed (n + n + n) time in
-      tight flow at r (all_kept links flow (n + n + n) es time at moves kept bounds same))
+      tight flow at r (all_kept links flow (n + n + n) es time at moves kept near same))
       (λ (log, last, g, deep).
       let (xs, c) = closed_chain es 1 (n + n + n) log last g deep in
       let (u, goes) = c.0.closed in
@@ -99,6 +101,8 @@ module _ (A : Arch) (K : Kernel) (hops : ℕ → ℕ → ℕ) (ii : ℕ) (arch :
   pub decided : IsDecided A K hops ii
   decided =
       let (links, net) = some_network A K hops ii good in
-      let bounds = graph A K hops ii good links net least most near interval in
+      let bounds = graph A K hops ii good links net least most (λ v p. let h = near v p in omega arith) interval in
+      let narrow = bounded A K hops ii good links net (2 ^ 15) (omega arith) least most (λ v p. let h = near v p in omega arith) interval in
       let (flow, routed, r) = all_routed A K hops ii good links net (spans A K hops ii good links net) in
-      decide A K hops ii good links net bounds routed (ii * registers A + gather links flow (λ l. l.loss) + 1) flow r (omega arith)
+      decide A K hops ii good links net bounds (λ k l. let (f, t, g, d) = narrow k l in (f, t, omega arith, omega arith)) routed
+      (ii * registers A + gather links flow (λ l. l.loss) + 1) flow r (omega arith)

@@ -7,7 +7,8 @@ use Rattle.std.proofs.lemmas.Option.{slice_get-get_or, slice_get_within, get_or_
 use Rattle.cg_recur.specs.declared.edge.Edge.{Edge}
 use Rattle.cg_recur.specs.Chain.{IsTight as AreTight}
 use Rattle.cg_recur.specs.Log.{IsWithin}
-use Rattle.cg_bound_flow_laws.proofs.Links.{Link, link, IsGraph, AreKept}
+use Rattle.cg_bound_flow.specs.declared.network.Link.{Link}
+use Rattle.cg_bound_flow.specs.Network.{link, AreKept}
 
 -- ---- lists of given numbers
 
@@ -67,6 +68,10 @@ forth l = record { source = l.from; target = l.to; latency = l.gain; distance = 
 abbrev pub back : Link → Edge
 back l = record { source = l.to; target = l.from; latency = l.loss; distance = l.gain }
 
+-- links between n places, with gains and losses of less than 16 bits
+abbrev pub AreShort : List Link → ℕ → Type 0
+AreShort links n = (k : ℕ) → k < length links → ((link links k).from < n) × ((link links k).to < n) × ((link links k).gain < 2 ^ 16) × ((link links k).loss < 2 ^ 16)
+
 module _ (links : List Link) (flow : List ℕ) where
   abbrev pub IsForth : Edge → Type 0
   IsForth e = (k : ℕ) × (k < length links) × (e ≡ forth (link links k))
@@ -108,20 +113,21 @@ module _ (links : List Link) (flow : List ℕ) where
   residual = moves (length links) (omega arith)
 
   -- its edges are within n places
-  pub all_within : (n : ℕ) (es : List Edge) → HasMoves (length links) es → IsGraph n links → IsWithin es n
-  all_within n es m graph x e is =
+  pub all_within : (n : ℕ) (es : List Edge) → HasMoves (length links) es → AreShort links n → IsWithin es n
+  all_within n es m short x e is =
       ⊎_elim
-      (λ (k, l, q). subst (λ (z : Edge). (z.source < n) × (z.target < n) × (z.latency < 2 ^ 16)) (sym q) (graph.from k l, graph.to k l, graph.gains k l))
-      (λ (k, l, p, q). subst (λ (z : Edge). (z.source < n) × (z.target < n) × (z.latency < 2 ^ 16)) (sym q) (graph.to k l, graph.from k l, graph.losses k l))
+      (λ (k, l, q). let (f, t, g, d) = short k l in subst (λ (z : Edge). (z.source < n) × (z.target < n) × (z.latency < 2 ^ 16)) (sym q) (f, t, g))
+      (λ (k, l, p, q). let (f, t, g, d) = short k l in subst (λ (z : Edge). (z.source < n) × (z.target < n) × (z.latency < 2 ^ 16)) (sym q) (t, f, d))
       (m.each x e is)
 
   -- times that keep all moves keep all links, and those with a flow are tight
-  pub all_kept : (n : ℕ) (es : List Edge) (time : ℕ → ℕ) (at : List ℕ) → HasMoves (length links) es → AreTight (slice_get es) 1 time → IsGraph n links → ((x : ℕ) → x < n → slice_index at x ≡ time x) → AreKept links flow at
-  all_kept n es time at m tight graph same k l =
+  pub all_kept : (n : ℕ) (es : List Edge) (time : ℕ → ℕ) (at : List ℕ) → HasMoves (length links) es → AreTight (slice_get es) 1 time → AreShort links n → ((x : ℕ) → x < n → slice_index at x ≡ time x) → AreKept links (length links) flow at
+  all_kept n es time at m tight short same k l =
       let (x, is) = m.forwards k l in
+      let (f, t, gain, loss) = short k l in
       let h : time (link links k).from + (link links k).gain ≤ time (link links k).to + 1 * (link links k).loss = tight x (forth (link links k)) is in
-      let a = same (link links k).from (graph.from k l) in
-      let b = same (link links k).to (graph.to k l) in (
+      let a = same (link links k).from f in
+      let b = same (link links k).to t in (
         omega arith,
         λ p.
             let (y, ys) = m.backwards k l p in
