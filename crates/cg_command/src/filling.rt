@@ -8,10 +8,10 @@ use crate::command::{Command, MapperCall};
 use cg_effects::File;
 
 /// Returns `command` with its input files `files`, which were read in the order of their names.
-pub fn fill<'a>(
+pub fn fill<'a, 'b>(
     command: &Command<&'a str, &'a str>,
-    files: &'a [File],
-) -> Command<&'a File, &'a str>
+    files: &'b [File],
+) -> Command<&'b File, &'a str>
     requires count { length files.now ≡ length (inputs_of (denoted command.now)) }
     requires names { names_of (map file_of files.now) ≡ inputs_of (denoted command.now) }
     ensures inputs { inputs_of (filled result) ≡ map file_of files.now }
@@ -148,10 +148,10 @@ pub fn fill<'a>(
 }
 
 /// Returns `call` with its input files `files`: an architecture and a kernel.
-fn call_with<'a>(
+fn call_with<'a, 'b>(
     call: &MapperCall<&'a str, &'a str>,
-    files: &'a [File],
-) -> MapperCall<&'a File, &'a str>
+    files: &'b [File],
+) -> MapperCall<&'b File, &'a str>
     requires { length files.now ≡ 2 }
     ensures files { file_of result.arch.now ∷ file_of result.kernel.now ∷ [] ≡ map file_of files.now }
     ensures rest { result ≡ record { arch = result.arch; kernel = result.kernel; out = call.now.out; mapping = call.now.mapping; request = call.now.request } }

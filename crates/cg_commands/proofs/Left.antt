@@ -27,7 +27,7 @@ use Rattle.cg_map_answers.proofs.Searched.{map_left, impossible_left, spent_left
 use Rattle.cg_search_answers.proofs.Searched.{search_left, search_impossible_left, search_spent_left}
 use Rattle.cg_show_answers.proofs.Shown.{shown_left, unshown_left}
 use Rattle.cg_loop_answers.proofs.Looped.{looped_left}
-use Rattle.cg_commands.proofs.Reads.{first, second, third, fourth, first_bytes, second_bytes}
+use Rattle.cg_commands.proofs.InputsRead.{first, second, third, fourth, first_bytes, second_bytes}
 use Rattle.cg_commands.specs.Commands.{IsAnswer, Leaves, LeavesDone, LeavesNo, LeavesImpossible, LeavesSpent}
 use Rattle.cg_map_answers.specs.Map.{IsMapRun}
 use Rattle.cg_search_answers.specs.Search.{IsSearchRun}
@@ -59,10 +59,7 @@ silent command ReadFault before after h = tt
 silent command WriteFault before after h = tt
 
 module _ (o : Outcome) (before after : Moment) where
-  IsThere : File → Type 0
-  IsThere file = IsRead before.held file
-
-  left_done : (c : Command File Name) → All IsThere (inputs_of c) → All HoldsBytes (inputs_of c) → IsAnswer c o → o.status ≡ Done → Completed o before after Done → LeavesDone (names_only c) before after
+  left_done : (c : Command File Name) → All (IsRead before.held) (inputs_of c) → All HoldsBytes (inputs_of c) → IsAnswer c o → o.status ≡ Done → Completed o before after Done → LeavesDone (names_only c) before after
   left_done (Turns f n) read bytes answer is done = turned_left n f.name f o before after (first before.held f [] read) answer is done
   left_done (TurnsOnImage f n g out) read bytes answer is done =
       ordered_left n f.name g.name out f g o before after (first before.held f (g ∷ []) read) (second before.held f g [] read) answer is done
@@ -106,7 +103,7 @@ module _ (o : Outcome) (before after : Moment) where
   left_done (Why f g) read bytes answer is done =
       why_left f.name g.name f g before after (first before.held f (g ∷ []) read) (second before.held f g [] read) o answer is done
 
-  left_no : (c : Command File Name) → All IsThere (inputs_of c) → IsAnswer c o → o.status ≡ No → Completed o before after No → LeavesNo (names_only c) before after
+  left_no : (c : Command File Name) → All (IsRead before.held) (inputs_of c) → IsAnswer c o → o.status ≡ No → Completed o before after No → LeavesNo (names_only c) before after
   left_no (TurnsOnImage f n g out) read answer is done =
       unordered_left n f.name g.name out f g o before after (first before.held f (g ∷ []) read) (second before.held f g [] read) answer is done
   left_no (Check f g h) read answer is done =
@@ -119,7 +116,7 @@ module _ (o : Outcome) (before after : Moment) where
       violated_left f.name g.name h.name f g h before after (first before.held f (g ∷ h ∷ []) read) (second before.held f g (h ∷ []) read) (third before.held f g h [] read) o answer is done
   left_no c read answer is done = absurd (never (owns_of c) No o (sound c o answer) refl is)
 
-  left_impossible : (c : Command File Name) → All IsThere (inputs_of c) → IsAnswer c o → o.status ≡ Impossible → Completed o before after Impossible → LeavesImpossible (names_only c) before after
+  left_impossible : (c : Command File Name) → All (IsRead before.held) (inputs_of c) → IsAnswer c o → o.status ≡ Impossible → Completed o before after Impossible → LeavesImpossible (names_only c) before after
   left_impossible (Map c) read answer is done =
       impossible_left c.request c.arch.name c.kernel.name (c.out ∷ listed c.mapping) c.arch c.kernel before after
       (first before.held c.arch (c.kernel ∷ []) read) (second before.held c.arch c.kernel [] read) o answer is done
@@ -128,7 +125,7 @@ module _ (o : Outcome) (before after : Moment) where
       (first before.held c.arch (c.kernel ∷ []) read) (second before.held c.arch c.kernel [] read) o answer is done
   left_impossible c read answer is done = absurd (never (owns_of c) Impossible o (sound c o answer) refl is)
 
-  left_spent : (c : Command File Name) → All IsThere (inputs_of c) → IsAnswer c o → o.status ≡ BudgetSpent → Completed o before after BudgetSpent → LeavesSpent (names_only c) before after
+  left_spent : (c : Command File Name) → All (IsRead before.held) (inputs_of c) → IsAnswer c o → o.status ≡ BudgetSpent → Completed o before after BudgetSpent → LeavesSpent (names_only c) before after
   left_spent (Map c) read answer is done =
       spent_left c.request c.arch.name c.kernel.name (c.out ∷ listed c.mapping) c.arch c.kernel before after
       (first before.held c.arch (c.kernel ∷ []) read) (second before.held c.arch c.kernel [] read) o answer is done
@@ -138,7 +135,7 @@ module _ (o : Outcome) (before after : Moment) where
   left_spent c read answer is done = absurd (never (owns_of c) BudgetSpent o (sound c o answer) refl is)
 
   -- what a command leaves that was carried out
-  pub left : (c : Command File Name) (status : Status) → All IsThere (inputs_of c) → All HoldsBytes (inputs_of c) → IsAnswer c o → o.status ≡ status → Completed o before after status → Leaves (names_only c) status before after
+  pub left : (c : Command File Name) (status : Status) → All (IsRead before.held) (inputs_of c) → All HoldsBytes (inputs_of c) → IsAnswer c o → o.status ≡ status → Completed o before after status → Leaves (names_only c) status before after
   left c Done read bytes answer is done = left_done c read bytes answer is done
   left c No read bytes answer is done = left_no c read answer is done
   left c Impossible read bytes answer is done = left_impossible c read answer is done

@@ -1,4 +1,4 @@
-pub mod Reads
+pub mod InputsRead
 pub mod Trialed
 pub mod Netlisted
 pub mod Depended

@@ -8,7 +8,7 @@ use Rattle.cg_command.specs.declared.command.Command.TheVariants.{Turns, TurnsOn
 use Rattle.cg_command.specs.declared.command.MapperCall.{MapperCall}
 use Rattle.cg_command.specs.Files.{names_only}
 use Rattle.cg_command.specs.Command.{inputs_of, listed}
-use Rattle.cg_commands.proofs.Reads.{first, second, third}
+use Rattle.cg_commands.proofs.InputsRead.{first, second, third}
 use Rattle.cg_task_answers.specs.Runs.{FirstRuns}
 use Rattle.cg_mapping_answers.specs.Emit.{FirstRunsRead}
 use Rattle.cg_mapping_answers.proofs.Bitstream.{emit_writes_run}

@@ -1,7 +1,8 @@
 //! The answer of a command.
 ghost use Rattle.std.specs.Prelude.{◌≡◌, ◌∷◌, IfOk, map, option_map, string_bytes};
 ghost use Rattle.cg_model.specs.Request.{IsInRange};
-ghost use Rattle.cg_effects.specs.Outcome.{file_of};
+ghost use Rattle.std.specs.Borrow.{Bor};
+ghost use Rattle.cg_effects.specs.Outcome.{Name, file_of};
 ghost use Rattle.cg_cause.specs.Allowed.{Allows};
 ghost use Rattle.cg_command.specs.Command.{IsRanged, listed};
 ghost use Rattle.cg_command.specs.Files.{filled};
@@ -103,7 +104,7 @@ fn map(
 ) -> Result<Outcome, Stop>
     requires { IsInRange call.now.request }
     ensures { Allows (IsMap call.now.request (file_of call.now.arch.now) (file_of call.now.kernel.now)
-        (call.now.out.now ∷ listed (option_map (λ name. name.now) call.now.mapping))) result }
+        (call.now.out.now ∷ listed (option_map (λ (name : Bor Name). name.now) call.now.mapping))) result }
 {
     let outputs = output_names(alloc, call.out, call.mapping)?;
     cg_map_answers::map(
@@ -124,7 +125,7 @@ fn search(
 ) -> Result<Outcome, Stop>
     requires { IsInRange call.now.request }
     ensures { Allows (IsSearch call.now.request (file_of call.now.arch.now) (file_of call.now.kernel.now)
-        (call.now.out.now ∷ listed (option_map (λ name. name.now) call.now.mapping))) result }
+        (call.now.out.now ∷ listed (option_map (λ (name : Bor Name). name.now) call.now.mapping))) result }
 {
     let outputs = output_names(alloc, call.out, call.mapping)?;
     cg_search_answers::search(
@@ -140,7 +141,7 @@ fn search(
 /// Returns the names of the files that a mapper writes: `out` for the bits, and `mapping` for the mapping, if it is asked
 /// for.
 fn output_names(alloc: Global, out: &str, mapping: Option<&str>) -> Result<Vec<String>, AllocError>
-    ensures { IfOk result (λ names. map string_bytes names.items ≡ out.now ∷ listed (option_map (λ name. name.now) mapping)) }
+    ensures { IfOk result (λ names. map string_bytes names.items ≡ out.now ∷ listed (option_map (λ (name : Bor Name). name.now) mapping.entry)) }
 {
     match mapping {
         None => copies(alloc, &[out]),
@@ -158,7 +159,7 @@ fn show(
     out: Option<&str>,
 ) -> Result<Outcome, Stop>
     ensures { Allows (IsShow (file_of arch.now) (file_of kernel.now) (file_of mapping.now)
-        (listed (option_map (λ name. name.now) out))) result }
+        (listed (option_map (λ (name : Bor Name). name.now) out.entry))) result }
 {
     let outputs = match out {
         None => Vec::new(alloc),

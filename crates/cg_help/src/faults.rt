@@ -65,58 +65,100 @@ impl fmt::Display for Fault<'_> {
     fn fmt<W: fmt::Write>(&self, f: &mut fmt::Formatter<W>) -> fmt::Result {
         match *self {
             Fault::NoOption {
-                word,
-                nearest: Some(nearest),
-                ..
-            } => write!(f, "no option {word}; did you mean --{nearest}?"),
-            Fault::NoOption {
                 usage,
                 word,
-                nearest: None,
-            } => {
-                write!(f, "no option {word}; ")?;
-                write_options(f, usage)
+                nearest,
+            } => write_no_option(f, usage, word, nearest),
+            Fault::Twice { name } => write_around(f, "--", name, " is given twice"),
+            Fault::NoValue { name } => write_around(f, "--", name, " needs a value"),
+            Fault::HyphenInValue { name, value } => {
+                write_around(f, "the value of --", name, " can't begin with -, got ")?;
+                f.write_str(value)
             }
-            Fault::Twice { name } => write!(f, "--{name} is given twice"),
-            Fault::NoValue { name } => write!(f, "--{name} needs a value"),
-            Fault::HyphenInValue { name, value } => write!(
-                f,
-                "the value of --{name} can't begin with -, got {value}"
-            ),
-            Fault::ValueOutOfRange { name, range, value } => write!(
-                f,
-                "--{name} is {range}, got {value}"
-            ),
-            Fault::EmptyWord => write!(f, "a word is empty"),
-            Fault::HyphenInFile { word } => write!(
-                f,
-                "a file's name can't begin with -, got {word}"
-            ),
-            Fault::NoForm { forms, count } => {
-                write_forms(f, forms)?;
-                write_count(f, count)?;
-                write_missing(f, forms, count)
+            Fault::ValueOutOfRange { name, range, value } => {
+                f.write_str("--")?;
+                write_outside(f, name, range, value)
             }
+            Fault::EmptyWord => f.write_str("a word is empty"),
+            Fault::HyphenInFile { word } => {
+                f.write_str("a file's name can't begin with -, got ")?;
+                f.write_str(word)
+            }
+            Fault::NoForm { forms, count } => write_no_form(f, forms, count),
             Fault::MissingTurns { word } => {
-                write!(f, "TURNS is missing, got {word} in its place")
+                write_around(f, "TURNS is missing, got ", word, " in its place")
             }
-            Fault::NoTurns { word } => write!(f, "TURNS is {TURNS}, got {word}"),
-            Fault::ManyTurns { word } => {
-                let most = TURNS.most;
-                write!(f, "TURNS is at most {most}, got {word}")
-            }
-            Fault::NoSeed { word } => write!(f, "SEED is {SEEDS}, got {word}"),
+            Fault::NoTurns { word } => write_outside(f, "TURNS", TURNS, word),
+            Fault::ManyTurns { word } => write_above(f, "TURNS", TURNS.most, word),
+            Fault::NoSeed { word } => write_outside(f, "SEED", SEEDS, word),
         }
     }
+}
+
+/// Writes `word` to `f`, between `before` and `after`.
+fn write_around<W: fmt::Write>(
+    f: &mut fmt::Formatter<W>,
+    before: &str,
+    word: &str,
+    after: &str,
+) -> fmt::Result {
+    f.write_str(before)?;
+    f.write_str(word)?;
+    f.write_str(after)
+}
+
+/// Writes to `f` that `name` is in `range`, but `word` is given.
+fn write_outside<W: fmt::Write>(
+    f: &mut fmt::Formatter<W>,
+    name: &str,
+    range: Range,
+    word: &str,
+) -> fmt::Result {
+    write!(f, "{name} is {range}, got {word}")
+}
+
+/// Writes to `f` that `name` is at most `most`, but `word` is given.
+fn write_above<W: fmt::Write>(
+    f: &mut fmt::Formatter<W>,
+    name: &str,
+    most: u64,
+    word: &str,
+) -> fmt::Result {
+    write!(f, "{name} is at most {most}, got {word}")
+}
+
+/// Writes to `f` that the command `usage` has no option `word`, and `nearest`, or all of its options.
+fn write_no_option<W: fmt::Write>(
+    f: &mut fmt::Formatter<W>,
+    usage: &Usage,
+    word: &str,
+    nearest: Option<&str>,
+) -> fmt::Result {
+    write_around(f, "no option ", word, "; ")?;
+    match nearest {
+        Some(nearest) => write_around(f, "did you mean --", nearest, "?"),
+        None => write_options(f, usage),
+    }
+}
+
+/// Writes to `f` that `count` words are given, which is the number of none of `forms`.
+fn write_no_form<W: fmt::Write>(
+    f: &mut fmt::Formatter<W>,
+    forms: &[&str],
+    count: usize,
+) -> fmt::Result {
+    write_forms(f, forms)?;
+    write_count(f, count)?;
+    write_missing(f, forms, count)
 }
 
 /// Writes `forms` to `f`, with `or` between them.
 fn write_forms<W: fmt::Write>(f: &mut fmt::Formatter<W>, forms: &[&str]) -> fmt::Result {
     for (index, form) in forms.iter().enumerate() {
         if index > 0 {
-            write!(f, " or ")?;
+            f.write_str(" or ")?;
         }
-        write!(f, "{form}")?;
+        f.write_str(form)?;
     }
     Ok(())
 }
@@ -124,7 +166,7 @@ fn write_forms<W: fmt::Write>(f: &mut fmt::Formatter<W>, forms: &[&str]) -> fmt:
 /// Writes to `f` that `count` words are given.
 fn write_count<W: fmt::Write>(f: &mut fmt::Formatter<W>, count: usize) -> fmt::Result {
     match count {
-        1 => write!(f, ", got 1 word"),
+        1 => f.write_str(", got 1 word"),
         _ => write!(f, ", got {count} words"),
     }
 }
@@ -138,7 +180,7 @@ fn write_missing<W: fmt::Write>(
     for form in forms {
         if form.split(' ').count() == count.saturating_add(1) {
             let last = form.split(' ').last().unwrap_or("");
-            return write!(f, ": {last} is missing");
+            return write_around(f, ": ", last, " is missing");
         }
     }
     Ok(())
@@ -146,17 +188,13 @@ fn write_missing<W: fmt::Write>(
 
 /// Writes to `f` the options that the command `usage` takes.
 fn write_options<W: fmt::Write>(f: &mut fmt::Formatter<W>, usage: &Usage) -> fmt::Result {
-    let name = usage.name;
     if usage.options.is_empty() {
-        return write!(f, "{name} takes none");
+        return write_around(f, "", usage.name, " takes none");
     }
-    write!(f, "{name} takes")?;
+    write_around(f, "", usage.name, " takes")?;
     for (index, choice) in usage.options.iter().enumerate() {
-        let option = choice.name;
-        if index > 0 {
-            write!(f, ",")?;
-        }
-        write!(f, " --{option}")?;
+        let before = if index > 0 { ", --" } else { " --" };
+        write_around(f, before, choice.name, "")?;
     }
     Ok(())
 }

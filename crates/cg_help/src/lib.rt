@@ -6,9 +6,11 @@ mod faults;
 mod nearest;
 mod numbers;
 mod reader;
+mod shown;
 mod usages;
 mod words;
 
 pub use commands::COMMANDS;
 pub use nearest::nearest_name;
+pub use shown::push_shown;
 pub use words::note_words;

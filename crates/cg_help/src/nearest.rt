@@ -26,7 +26,15 @@ pub fn nearest_name<'a>(
         return Ok(None);
     }
     let word = word.to_ascii_lowercase(alloc)?;
-    let word = word.as_str();
+    nearest_to(alloc, word.as_str(), names)
+}
+
+/// Returns the name among the first of `names` that is nearest to `word`, in lower case, if it is few edits away.
+fn nearest_to<'a>(
+    alloc: Global,
+    word: &str,
+    names: &[&'a str],
+) -> Result<Option<&'a str>, AllocError> {
     let mut bound = too_many_edits(word);
     let mut nearest = None;
     for name in names.iter().take(MOST_NAMES) {

@@ -1,8 +1,10 @@
 //! Notes on words that fit no command.
 
 use crate::commands::COMMANDS;
+use crate::faults::Fault;
 use crate::nearest::nearest_name;
 use crate::reader::{Stop, read_words};
+use crate::shown::push_shown;
 use crate::usages::{USAGES, Usage, usage_of};
 use cg_diagnostics::Aside;
 use std::alloc::{AllocError, Global};
@@ -54,15 +56,22 @@ fn note_misuse(
 ) -> Result<(), AllocError> {
     match read_words(alloc, usage, words) {
         Ok(()) => {}
-        Err(Stop::Wrong(fault)) => {
-            let name = usage.name;
-            let text = format!(in alloc; "{name}: {fault}")?;
-            note_text(alloc, text.as_str(), aside)?;
-        }
+        Err(Stop::Wrong(fault)) => note_fault(alloc, usage.name, &fault, aside)?,
         Err(Stop::Memory) => return Err(AllocError),
     }
     note_command(usage, aside);
     Ok(())
+}
+
+/// Notes `fault`, which the words of the command `name` have.
+fn note_fault(
+    alloc: Global,
+    name: &str,
+    fault: &Fault<'_>,
+    aside: &mut dyn Aside,
+) -> Result<(), AllocError> {
+    let text = format!(in alloc; "{name}: {fault}")?;
+    note_text(alloc, text.as_str(), aside)
 }
 
 /// Notes that there is no command `name`, and the lines of all commands.
@@ -70,14 +79,19 @@ fn note_unknown(alloc: Global, name: &str, aside: &mut dyn Aside) -> Result<(), 
     if name.is_empty() {
         aside.note("no command");
     } else {
-        let text = match nearest_command(alloc, name)? {
-            Some(nearest) => format!(in alloc; "no command {name}; did you mean {nearest}?")?,
-            None => format!(in alloc; "no command {name}")?,
-        };
+        let text = no_command(alloc, name)?;
         note_text(alloc, text.as_str(), aside)?;
     }
     note_commands(aside);
     Ok(())
+}
+
+/// Returns the message that there is no command `name`, with the one that may be meant.
+fn no_command(alloc: Global, name: &str) -> Result<String, AllocError> {
+    match nearest_command(alloc, name)? {
+        Some(nearest) => format!(in alloc; "no command {name}; did you mean {nearest}?"),
+        None => format!(in alloc; "no command {name}"),
+    }
 }
 
 /// Returns the name of the command that `name` may mean.
@@ -104,15 +118,16 @@ fn note_command(usage: &Usage, aside: &mut dyn Aside) {
 
 /// Notes `text` as one line: a control character in it, such as a line feed, is escaped as in a literal.
 fn note_text(alloc: Global, text: &str, aside: &mut dyn Aside) -> Result<(), AllocError> {
-    let mut line = String::new(alloc);
-    for character in text.chars() {
-        if character.is_control() {
-            let escaped = character.escape_default();
-            write!(line, "{escaped}")?;
-        } else {
-            line.push(character)?;
-        }
-    }
+    let line = escaped(alloc, text)?;
     aside.note(line.as_str());
     Ok(())
+}
+
+/// Returns `text` with its control characters escaped.
+fn escaped(alloc: Global, text: &str) -> Result<String, AllocError> {
+    let mut line = String::new(alloc);
+    for character in text.chars() {
+        push_shown(&mut line, character)?;
+    }
+    Ok(line)
 }

@@ -1,7 +1,7 @@
 //! Names in sentences.
 
 use crate::words::{form_meant, key_meant, operation_meant};
-use cg_help::nearest_name;
+use cg_help::{nearest_name, push_shown};
 use cg_word::Op;
 use std::alloc::{AllocError, Global};
 
@@ -15,12 +15,7 @@ const MOST_LISTED: usize = 8;
 pub fn shown(alloc: Global, name: &str) -> Result<String, AllocError> {
     let mut text = String::new(alloc);
     for character in name.chars().take(MOST_SHOWN) {
-        if character.is_control() {
-            let escaped = character.escape_default();
-            write!(text, "{escaped}")?;
-        } else {
-            text.push(character)?;
-        }
+        push_shown(&mut text, character)?;
     }
     if name.chars().count() > MOST_SHOWN {
         text.push_str("..")?;
@@ -31,21 +26,39 @@ pub fn shown(alloc: Global, name: &str) -> Result<String, AllocError> {
 /// Returns the message that there is no key `key`, with the one of `keys` that may be meant: by the words of other
 /// formats, else the nearest one, else all `keys`.
 pub fn unknown_key(alloc: Global, key: &str, keys: &[&'static str]) -> Result<String, AllocError> {
-    let near = match key_meant(alloc, key, keys)? {
-        Some(meant) => Some(meant),
-        None => nearest_name(alloc, key, keys)?,
-    };
+    let near = key_near(alloc, key, keys)?;
     let key = shown(alloc, key)?;
-    let key = key.as_str();
     match near {
-        Some("args") => format!(in alloc; "unknown key \"{key}\", did you mean \"args\", a list?"),
-        Some(near) => format!(in alloc; "unknown key \"{key}\", did you mean \"{near}\"?"),
-        None => {
-            let all = list_of(alloc, keys)?;
-            let all = all.as_str();
-            format!(in alloc; "unknown key \"{key}\", the keys here are {all}")
-        }
+        Some(near) => key_with_near(alloc, key.as_str(), near),
+        None => key_with_all(alloc, key.as_str(), keys),
     }
+}
+
+/// Returns the one of `keys` that may be meant by `key`.
+fn key_near(
+    alloc: Global,
+    key: &str,
+    keys: &[&'static str],
+) -> Result<Option<&'static str>, AllocError> {
+    match key_meant(alloc, key, keys)? {
+        Some(meant) => Ok(Some(meant)),
+        None => nearest_name(alloc, key, keys),
+    }
+}
+
+/// Returns the message that there is no key `key`, and that the key `near` may be meant.
+fn key_with_near(alloc: Global, key: &str, near: &str) -> Result<String, AllocError> {
+    match near {
+        "args" => format!(in alloc; "unknown key \"{key}\", did you mean \"args\", a list?"),
+        _ => format!(in alloc; "unknown key \"{key}\", did you mean \"{near}\"?"),
+    }
+}
+
+/// Returns the message that there is no key `key`, with all `keys`.
+fn key_with_all(alloc: Global, key: &str, keys: &[&str]) -> Result<String, AllocError> {
+    let all = list_of(alloc, keys)?;
+    let all = all.as_str();
+    format!(in alloc; "unknown key \"{key}\", the keys here are {all}")
 }
 
 /// Returns `names`, separated by commas.
@@ -64,15 +77,34 @@ fn list_of(alloc: Global, names: &[&str]) -> Result<String, AllocError> {
 /// means: by the words of other languages and tools, else the nearest name, else all names.
 pub fn unknown_operation(alloc: Global, name: &str) -> Result<String, AllocError> {
     if let Some(form) = form_meant(alloc, name)? {
-        let name = shown(alloc, name)?;
-        let name = name.as_str();
-        return format!(in alloc; "no operation is called \"{name}\": {form}");
+        return operation_with_form(alloc, name, form);
     }
+    let names = operation_names(alloc)?;
+    operation_not_among(alloc, name, names.as_slice())
+}
+
+/// Returns the message that there is no operation `name`, and `form`, which replaces it.
+fn operation_with_form(alloc: Global, name: &str, form: &str) -> Result<String, AllocError> {
+    let name = shown(alloc, name)?;
+    let name = name.as_str();
+    format!(in alloc; "no operation is called \"{name}\": {form}")
+}
+
+/// Returns the names of all operations.
+fn operation_names(alloc: Global) -> Result<Vec<&'static str>, AllocError> {
     let mut names = Vec::new(alloc);
     for op in &Op::ALL {
         names.push(op.name())?;
     }
-    let names = names.as_slice();
+    Ok(names)
+}
+
+/// Returns the message that there is no operation `name` among `names`, with the one that may be meant, or with all.
+fn operation_not_among(
+    alloc: Global,
+    name: &str,
+    names: &[&'static str],
+) -> Result<String, AllocError> {
     let near = operation_near(alloc, name, names)?;
     let name = shown(alloc, name)?;
     let name = name.as_str();
@@ -80,12 +112,15 @@ pub fn unknown_operation(alloc: Global, name: &str) -> Result<String, AllocError
         Some(near) => format!(in alloc;
             "no operation is called \"{name}\", did you mean \"{near}\"?"
         ),
-        None => {
-            let all = list_of(alloc, names)?;
-            let all = all.as_str();
-            format!(in alloc; "no operation is called \"{name}\", the operations are {all}")
-        }
+        None => operation_with_all(alloc, name, names),
     }
+}
+
+/// Returns the message that there is no operation `name`, with all `names`.
+fn operation_with_all(alloc: Global, name: &str, names: &[&str]) -> Result<String, AllocError> {
+    let all = list_of(alloc, names)?;
+    let all = all.as_str();
+    format!(in alloc; "no operation is called \"{name}\", the operations are {all}")
 }
 
 /// Returns the one of `names`, those of all operations, that may be meant by `name`.
@@ -126,12 +161,20 @@ pub fn no_name(
     match near {
         Some(near) => format!(in alloc; "no {noun} is called \"{name}\", did you mean \"{near}\"?"),
         None if names.is_empty() => format!(in alloc; "no {noun} is called \"{name}\""),
-        None => {
-            let first = first_shown(alloc, names)?;
-            let first = first.as_str();
-            format!(in alloc; "no {noun} is called \"{name}\", the {noun}s are {first}")
-        }
+        None => name_with_first(alloc, noun, name, names),
     }
+}
+
+/// Returns the message that no `noun` is called `name`, with the first of `names`.
+fn name_with_first(
+    alloc: Global,
+    noun: &str,
+    name: &str,
+    names: &[&str],
+) -> Result<String, AllocError> {
+    let first = first_shown(alloc, names)?;
+    let first = first.as_str();
+    format!(in alloc; "no {noun} is called \"{name}\", the {noun}s are {first}")
 }
 
 /// Returns the first of `names`, as notes show them, separated by commas, with two points at the end if there are more.
@@ -141,11 +184,16 @@ fn first_shown(alloc: Global, names: &[&str]) -> Result<String, AllocError> {
         if index > 0 {
             list.push_str(", ")?;
         }
-        let name = shown(alloc, name)?;
-        list.push_str(name.as_str())?;
+        push_name(alloc, &mut list, name)?;
     }
     if names.len() > MOST_LISTED {
         list.push_str(" ..")?;
     }
     Ok(list)
+}
+
+/// Adds `name`, as notes show it, to `list`.
+fn push_name(alloc: Global, list: &mut String, name: &str) -> Result<(), AllocError> {
+    let name = shown(alloc, name)?;
+    list.push_str(name.as_str())
 }

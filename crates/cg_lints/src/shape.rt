@@ -77,6 +77,17 @@ pub struct Shape {
     pub fields: &'static [Field],
 }
 
+/// An item of the list of a shape.
+#[derive(Clone, Copy, Drop)]
+struct Item<'a> {
+    /// The shape.
+    shape: &'a Shape,
+    /// The number of the item in the list, from 0.
+    item: usize,
+    /// How sentences about the item begin.
+    prefix: &'a str,
+}
+
 /// Returns the items of `value`; none if it isn't a list.
 pub fn items_of(value: &Value) -> &[Value] {
     match value.as_array() {
@@ -99,22 +110,30 @@ pub fn note_shape(
         let text = format!(in alloc; "{prefix}must be an object")?;
         return slips.add(shape.codes[0], shape.list, item, Spot::Item, text);
     }
+    let at = Item {
+        shape,
+        item,
+        prefix,
+    };
     for field in shape.fields {
-        note_field(alloc, slips, shape, item, prefix, value, field)?;
+        note_field(alloc, slips, &at, value, field)?;
     }
     Ok(())
 }
 
-/// Adds to `slips` the faults of the value of `field` in `value`.
+/// Adds to `slips` the faults of the value of `field` in `value`, the item `at`.
 fn note_field(
     alloc: Global,
     slips: &mut Slips,
-    shape: &Shape,
-    item: usize,
-    prefix: &str,
+    at: &Item<'_>,
     value: &Value,
     field: &Field,
 ) -> Result<(), AllocError> {
+    let Item {
+        shape,
+        item,
+        prefix,
+    } = *at;
     let name = field.name;
     let code = shape.codes[0];
     match value.get(name) {
@@ -144,15 +163,41 @@ pub fn note_keys(
         return Ok(());
     };
     let names: Vec<&'static str> = shape.fields.iter().map(|field| field.name).collect(alloc)?;
+    let at = Item {
+        shape,
+        item,
+        prefix,
+    };
     for key in members.keys() {
         let key = key.as_str();
         if !names.contains(&key) {
-            let said = unknown_key(alloc, key, names.as_slice())?;
-            let said = said.as_str();
-            let text = format!(in alloc; "{prefix}{said}")?;
-            let spot = Spot::OtherKey(String::from_str(alloc, key)?);
-            slips.add(shape.codes[1], shape.list, item, spot, text)?;
+            note_key(alloc, slips, &at, key, names.as_slice())?;
         }
     }
     Ok(())
+}
+
+/// Adds to `slips` the key `key` of the item `at`, which isn't one of `names`.
+fn note_key(
+    alloc: Global,
+    slips: &mut Slips,
+    at: &Item<'_>,
+    key: &str,
+    names: &[&'static str],
+) -> Result<(), AllocError> {
+    let text = key_text(alloc, at.prefix, key, names)?;
+    let spot = Spot::OtherKey(String::from_str(alloc, key)?);
+    slips.add(at.shape.codes[1], at.shape.list, at.item, spot, text)
+}
+
+/// Returns the message, which begins with `prefix`, that `key` isn't one of `names`.
+fn key_text(
+    alloc: Global,
+    prefix: &str,
+    key: &str,
+    names: &[&'static str],
+) -> Result<String, AllocError> {
+    let said = unknown_key(alloc, key, names)?;
+    let said = said.as_str();
+    format!(in alloc; "{prefix}{said}")
 }

@@ -1,18 +1,19 @@
 //! `map ARCH KERNEL OUT [--ii N] [--seed N] [--moves N] [--mapping FILE]`.
 ghost use Rattle.std.specs.Prelude.{IfOk, map, string_bytes};
-ghost use Rattle.cg_effects.specs.Allowed.{Allows};
+ghost use Rattle.cg_cause.specs.Allowed.{Allows};
 ghost use Rattle.cg_effects.specs.Outcome.{file_of, outcome_of};
 ghost use Rattle.cg_model.specs.Request.{IsInRange};
 ghost use Rattle.cg_map_answers.specs.Map.{IsMap, IsWalk};
 ghost use Rattle.cg_task_answers.specs.Searches.{IsWithin, is_above};
 
 use cg_arch::Arch;
+use cg_cause::Stop;
 use cg_diagnostics::Aside;
-use cg_effects::{File, Outcome, Stop};
+use cg_effects::{File, Outcome};
 use cg_inputs::{arch_in, kernel_in};
+use cg_intervals::Answer;
 use cg_map::map_answer;
 use cg_model::{Kernel, Request};
-use cg_intervals::Answer;
 use cg_task_answers::{above, asks_above, found, impossible, left_report, spent};
 use std::alloc::{AllocError, Global};
 

@@ -21,14 +21,9 @@ fn of_json_error(
     bytes: &[u8],
     error: &serde_json::Error,
 ) -> Result<Finding, AllocError> {
-    let (line, column) = (error.line(), error.column());
-    let text = format!(in alloc; "{error}")?;
-    let ending = format!(in alloc; " at line {line} column {column}")?;
-    let message = text.as_str();
-    let message = message.strip_suffix(ending.as_str()).unwrap_or(message);
     let place = Place {
-        line: line.max(1),
-        column: column.max(1),
+        line: error.line().max(1),
+        column: error.column().max(1),
     };
     let at = offset_of(bytes, place);
     if let Some(text) = missing_quote(alloc, bytes, at, false)? {
@@ -38,10 +33,35 @@ fn of_json_error(
         Some(at) => Place::at(bytes, at),
         None => place,
     };
+    let text = error_text(alloc, bytes, place, error)?;
+    Ok(Finding { place, text })
+}
+
+/// Returns the message of `error` without its place, and a hint on what may be wrong at `place` of `bytes`.
+fn error_text(
+    alloc: Global,
+    bytes: &[u8],
+    place: Place,
+    error: &serde_json::Error,
+) -> Result<String, AllocError> {
+    let text = format!(in alloc; "{error}")?;
+    let ending = place_ending(alloc, error)?;
+    let message = text.as_str();
+    let message = message.strip_suffix(ending.as_str()).unwrap_or(message);
+    hinted(alloc, bytes, place, message)
+}
+
+/// Returns the place with which the text of `error` ends.
+fn place_ending(alloc: Global, error: &serde_json::Error) -> Result<String, AllocError> {
+    let (line, column) = (error.line(), error.column());
+    format!(in alloc; " at line {line} column {column}")
+}
+
+/// Returns `message`, which the parser reports at `place` of `bytes`, and a hint on what may be wrong there.
+fn hinted(alloc: Global, bytes: &[u8], place: Place, message: &str) -> Result<String, AllocError> {
     let hint = json_hint(alloc, bytes, place, message)?;
     let hint = hint.as_str();
-    let text = format!(in alloc; "{message}{hint}")?;
-    Ok(Finding { place, text })
+    format!(in alloc; "{message}{hint}")
 }
 
 /// Returns the byte before byte `at` of `bytes` if it is a bracket that closes one of the other kind, or a bracket in
@@ -244,6 +264,12 @@ struct Open {
 
 /// Returns the last bracket of `bytes` that isn't closed at their end, outside strings.
 fn open_bracket(alloc: Global, bytes: &[u8]) -> Result<Option<Open>, AllocError> {
+    let open = open_brackets(alloc, bytes)?;
+    Ok(last_open(bytes, open.as_slice()))
+}
+
+/// Returns the bytes, from 0, of the brackets of `bytes` that aren't closed at their end, outside strings.
+fn open_brackets(alloc: Global, bytes: &[u8]) -> Result<Vec<usize>, AllocError> {
     let mut open: Vec<usize> = Vec::new(alloc);
     let mut is_text = false;
     let mut is_escaped = false;
@@ -260,14 +286,15 @@ fn open_bracket(alloc: Global, bytes: &[u8]) -> Result<Option<Open>, AllocError>
             let _ = open.pop();
         }
     }
-    let Some(at) = open.last() else {
-        return Ok(None);
-    };
-    match bytes.get(*at) {
-        Some(byte) => Ok(Some(Open {
-            byte: *byte,
-            place: Place::at(bytes, *at),
-        })),
-        None => Ok(None),
-    }
+    Ok(open)
+}
+
+/// Returns the last of the brackets of `bytes` at the bytes `open`.
+fn last_open(bytes: &[u8], open: &[usize]) -> Option<Open> {
+    let at = *open.last()?;
+    let byte = *bytes.get(at)?;
+    Some(Open {
+        byte,
+        place: Place::at(bytes, at),
+    })
 }

@@ -33,6 +33,15 @@ pub fn find_in_json(
     if bytes.len() > MOST_PARSED {
         return Ok(None);
     }
+    find_in_small_json(alloc, bytes, what)
+}
+
+/// Returns why `bytes`, which aren't many, are not a JSON text, where `what` names the file that should be one.
+fn find_in_small_json(
+    alloc: Global,
+    bytes: &[u8],
+    what: &str,
+) -> Result<Option<Finding>, AllocError> {
     if toml_table(alloc, bytes).is_ok() {
         let text = format!(in alloc; "this is TOML, but a {what} is JSON")?;
         return Ok(Some(Finding {
@@ -43,6 +52,11 @@ pub fn find_in_json(
     if let Some(text) = other_text(bytes) {
         return Ok(Some(Finding::new(alloc, Place::START, text)?));
     }
+    find_in_syntax(alloc, bytes)
+}
+
+/// Returns the error of the JSON parser on `bytes`, if there is one.
+fn find_in_syntax(alloc: Global, bytes: &[u8]) -> Result<Option<Finding>, AllocError> {
     match json_value(alloc, bytes) {
         Ok(_) => Ok(None),
         Err(JsonFault::NotJson) => json_error(alloc, bytes),
@@ -61,8 +75,13 @@ pub fn find_in_toml(alloc: Global, bytes: &[u8]) -> Result<Option<Finding>, Allo
     if bytes.len() > MOST_PARSED {
         return Ok(None);
     }
-    if let Ok(value) = json_value(alloc, bytes) {
-        return Ok(Some(Finding::new(alloc, Place::START, json_text(&value))?));
+    find_in_small_toml(alloc, bytes)
+}
+
+/// Returns why `bytes`, which aren't many, are not a TOML document.
+fn find_in_small_toml(alloc: Global, bytes: &[u8]) -> Result<Option<Finding>, AllocError> {
+    if let Some(text) = json_in(alloc, bytes) {
+        return Ok(Some(Finding::new(alloc, Place::START, text)?));
     }
     if let Some(text) = other_text(bytes) {
         return Ok(Some(Finding::new(alloc, Place::START, text)?));
@@ -71,6 +90,14 @@ pub fn find_in_toml(alloc: Global, bytes: &[u8]) -> Result<Option<Finding>, Allo
         Ok(_) => Ok(None),
         Err(TomlFault::NotToml) => toml_error(alloc, bytes),
         Err(TomlFault::Memory) => Err(AllocError),
+    }
+}
+
+/// Returns what `bytes` represent in place of an architecture, if they are a JSON text.
+fn json_in(alloc: Global, bytes: &[u8]) -> Option<&'static str> {
+    match json_value(alloc, bytes) {
+        Ok(value) => Some(json_text(&value)),
+        Err(_) => None,
     }
 }
 
@@ -138,26 +165,39 @@ fn toml_error(alloc: Global, bytes: &[u8]) -> Result<Option<Finding>, AllocError
                 return Err(AllocError);
             };
             let message = error.message().lines().next().unwrap_or("");
-            if message == "duplicate key" {
-                if let Some(finding) = table_for_list(alloc, bytes, span.start)? {
-                    return Ok(Some(finding));
-                }
-            }
-            if let Some(text) = toml_quote(alloc, bytes, span.start)? {
-                let place = Place::at(bytes, span.start);
-                return Ok(Some(Finding { place, text }));
-            }
-            if let Some(text) = header_within(alloc, bytes, span.start)? {
-                let place = Place::at(bytes, span.start);
-                return Ok(Some(Finding { place, text }));
-            }
-            let hint = toml_hint(alloc, bytes, span.start, message)?;
-            let hint = hint.as_str();
-            let text = format!(in alloc; "{message}{hint}")?;
-            let place = Place::at(bytes, span.start);
-            Ok(Some(Finding { place, text }))
+            Ok(Some(of_toml_error(alloc, bytes, span.start, message)?))
         }
     }
+}
+
+/// Returns the finding of the error at byte `at` of `bytes` that the parser reports by `message`.
+fn of_toml_error(
+    alloc: Global,
+    bytes: &[u8],
+    at: usize,
+    message: &str,
+) -> Result<Finding, AllocError> {
+    if message == "duplicate key" {
+        if let Some(finding) = table_for_list(alloc, bytes, at)? {
+            return Ok(finding);
+        }
+    }
+    let text = error_text(alloc, bytes, at, message)?;
+    let place = Place::at(bytes, at);
+    Ok(Finding { place, text })
+}
+
+/// Returns what is wrong at byte `at` of `bytes`, where the parser reports `message`.
+fn error_text(alloc: Global, bytes: &[u8], at: usize, message: &str) -> Result<String, AllocError> {
+    if let Some(text) = toml_quote(alloc, bytes, at)? {
+        return Ok(text);
+    }
+    if let Some(text) = header_within(alloc, bytes, at)? {
+        return Ok(text);
+    }
+    let hint = toml_hint(alloc, bytes, at, message)?;
+    let hint = hint.as_str();
+    format!(in alloc; "{message}{hint}")
 }
 
 /// Returns the message that the parts of a tile are a list, if byte `at` of `bytes` begins a header and the tile is
@@ -169,13 +209,18 @@ fn table_for_list(alloc: Global, bytes: &[u8], at: usize) -> Result<Option<Findi
     let Some(begins) = table_line(bytes, tile) else {
         return Ok(None);
     };
-    let tile = shown(alloc, tile)?;
-    let tile = tile.as_str();
-    let text = format!(in alloc;
-        "the parts of a tile are a list: each begins with its header in double brackets, [[tiles.{tile}]]"
-    )?;
+    let text = list_text(alloc, tile)?;
     let place = Place::at(bytes, begins);
     Ok(Some(Finding { place, text }))
+}
+
+/// Returns the message that the parts of `tile` are a list.
+fn list_text(alloc: Global, tile: &str) -> Result<String, AllocError> {
+    let tile = shown(alloc, tile)?;
+    let tile = tile.as_str();
+    format!(in alloc;
+        "the parts of a tile are a list: each begins with its header in double brackets, [[tiles.{tile}]]"
+    )
 }
 
 /// Returns the message that a double quote is missing in the line of `bytes` around byte `at`; None if none is missing,
@@ -226,18 +271,22 @@ fn toml_hint(alloc: Global, bytes: &[u8], at: usize, message: &str) -> Result<St
     }
     if message.starts_with("duplicate key") {
         if let Some(tile) = last_tile(before) {
-            let tile = shown(alloc, tile)?;
-            let tile = tile.as_str();
-            let key = word_at(bytes, at);
-            return format!(in alloc;
-                ": this part has {key} already; if another part begins here, its header [[tiles.{tile}]] is missing"
-            );
+            return repeated_key(alloc, tile, word_at(bytes, at));
         }
     }
     match start_hint(bytes.get(at..).unwrap_or(&[]), message) {
         "" => within(alloc, bytes.get(..at).unwrap_or(&[]), "is open here"),
         hint => String::from_str(alloc, hint),
     }
+}
+
+/// Returns the hint that a part of `tile` has `key` already.
+fn repeated_key(alloc: Global, tile: &str, key: &str) -> Result<String, AllocError> {
+    let tile = shown(alloc, tile)?;
+    let tile = tile.as_str();
+    format!(in alloc;
+        ": this part has {key} already; if another part begins here, its header [[tiles.{tile}]] is missing"
+    )
 }
 
 /// Returns the word that begins at byte `at` of `bytes`, or the beginning of a long one.

@@ -38,21 +38,27 @@ fn field_text(alloc: Global, code: &str, field: &str) -> Result<String, AllocErr
     let name = shown(alloc, field)?;
     let name = name.as_str();
     match code {
-        "T1" => {
-            let why = unknown_field(alloc, field)?;
-            let why = why.as_str();
-            format!(in alloc; "\"{name}\" is not a word: {why}")
-        }
+        "T1" => unknown_text(alloc, field, name),
         "T2" => format!(in alloc;
             "\"{name}\" comes before any memory or stream P: write memory or stream 0 before it"
         ),
         "T3" => port_text(alloc, field, name),
-        _ => {
-            let why = too_large(alloc, field)?;
-            let why = why.as_str();
-            format!(in alloc; "\"{name}\": {why}")
-        }
+        _ => large_text(alloc, field, name),
     }
+}
+
+/// Returns the message that `field`, which notes show as `name`, isn't a word and begins no section.
+fn unknown_text(alloc: Global, field: &str, name: &str) -> Result<String, AllocError> {
+    let why = unknown_field(alloc, field)?;
+    let why = why.as_str();
+    format!(in alloc; "\"{name}\" is not a word: {why}")
+}
+
+/// Returns the message that `field`, which notes show as `name`, is too large.
+fn large_text(alloc: Global, field: &str, name: &str) -> Result<String, AllocError> {
+    let why = too_large(alloc, field)?;
+    let why = why.as_str();
+    format!(in alloc; "\"{name}\": {why}")
 }
 
 /// Returns the message that `field`, which notes show as `name`, is in the place of a port and is none.

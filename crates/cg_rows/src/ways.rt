@@ -14,14 +14,14 @@ pub(crate) fn registers_on_ways(
     kernel: &Kernel,
 ) -> Result<bool, AllocError> {
     let ways = find_ways(alloc, arch, kernel, 2)?;
-    let by_wire = ways.far(1, 0);
-    let by_register = ways.far(1, 1);
-    let no_link = ways.far(1, 2);
-    let constant = ways.far(2, 0);
-    let to_itself = ways.far(2, 2);
-    let from_selected = ways.far(3, 0);
-    let to_the_other = ways.far(3, 2);
-    let past_the_last = ways.far(4, 0);
+    let by_wire = ways.hops(1, 0);
+    let by_register = ways.hops(1, 1);
+    let no_link = ways.hops(1, 2);
+    let constant = ways.hops(2, 0);
+    let to_itself = ways.hops(2, 2);
+    let from_selected = ways.hops(3, 0);
+    let to_the_other = ways.hops(3, 2);
+    let past_the_last = ways.hops(4, 0);
     Ok(
         by_wire == Some(0)
             && by_register == Some(1)

@@ -13,7 +13,7 @@ use std::alloc::{AllocError, Global};
 
 /// Probes at the intervals of `call` from the first one upwards, until a mapping is found or the last interval is done.
 /// `aside` takes the progress.
-pub(crate) fn probe<'a>(
+pub(crate) fn probe_upwards<'a>(
     alloc: Global,
     call: &Call<'a, '_>,
     aside: &mut dyn Aside,

@@ -6,7 +6,7 @@ ghost use Rattle.cg_search.specs.Course.{IsPosed, AreMisses, Comes};
 
 use crate::descent::descend;
 use crate::misses::{Misses, add, nothing};
-use crate::probing::probe;
+use crate::probing::probe_upwards;
 use crate::retrying::{Retried, retry};
 use crate::trying::{Call, Found, Outcome, search_long};
 use cg_diagnostics::Aside;
@@ -27,7 +27,7 @@ pub(crate) fn run_schedule<'a>(
     if let Some(_) = call.request.ii {
         return search_requested(alloc, call, aside);
     }
-    match probe(alloc, call, aside)? {
+    match probe_upwards(alloc, call, aside)? {
         Outcome::Found(found) => Ok(Outcome::Found(descend(alloc, call, found, &[], aside)?)),
         Outcome::Left(left) => from_nearest(alloc, call, left, aside),
     }

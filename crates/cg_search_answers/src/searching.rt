@@ -1,6 +1,6 @@
 //! `search ARCH KERNEL OUT [--ii N] [--seed N] [--moves N] [--mapping FILE]`.
 ghost use Rattle.std.specs.Prelude.{IfOk, map, string_bytes};
-ghost use Rattle.cg_effects.specs.Allowed.{Allows};
+ghost use Rattle.cg_cause.specs.Allowed.{Allows};
 ghost use Rattle.cg_effects.specs.Outcome.{file_of, outcome_of};
 ghost use Rattle.cg_model.specs.Request.{IsInRange};
 ghost use Rattle.cg_search_answers.specs.Search.{IsSearch, IsSearched};
@@ -8,12 +8,13 @@ ghost use Rattle.cg_task_answers.specs.Searches.{IsWithin, is_above};
 
 use crate::reporting::left_over;
 use cg_arch::Arch;
+use cg_cause::Stop;
 use cg_diagnostics::Aside;
-use cg_effects::{File, Outcome, Stop};
+use cg_effects::{File, Outcome};
 use cg_inputs::{arch_in, kernel_in};
+use cg_intervals::Answer;
 use cg_model::{Kernel, Request};
 use cg_search::{Conclusion, search_answer};
-use cg_intervals::Answer;
 use cg_task_answers::{above, asks_above, found, impossible};
 use std::alloc::{AllocError, Global};
 

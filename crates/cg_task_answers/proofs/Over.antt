@@ -11,9 +11,9 @@ use Rattle.cg_effects.specs.Ends.{Moment, Completed}
 use Rattle.cg_intervals.specs.Intervals.{IsAsked}
 use Rattle.cg_model.specs.declared.request.Request.{Request}
 use Rattle.cg_model.specs.Request.{IsInRange}
-use Rattle.cg_effects.specs.declared.read.Stop.{Stop}
-use Rattle.cg_effects.specs.Allowed.{EndsBy}
-use Rattle.cg_effects.proofs.Allowed.{ends_weaker}
+use Rattle.cg_cause.specs.declared.stop.Stop.{Stop}
+use Rattle.cg_cause.specs.Allowed.{EndsBy}
+use Rattle.cg_cause.proofs.Allowed.{ends_weaker}
 use Rattle.cg_tiles.specs.Answer.{AreValidBytes}
 use Rattle.cg_kernel.specs.Answer as kernels
 use Rattle.cg_inputs.specs.Refused.{RefusesArch, RefusesKernel}

@@ -7,8 +7,8 @@ ghost use Rattle.cg_task_answers.specs.Answered as spec;
 use crate::writing::written;
 use cg_check::LegalMapping;
 use cg_effects::Outcome;
-use cg_mapping_answers::emit_report;
 use cg_intervals::FoundBy;
+use cg_mapping_answers::emit_report;
 use std::alloc::{AllocError, Global};
 
 /// Returns the outcome for `mapping`, which was found over the hub, or by the search that the word `by` names.

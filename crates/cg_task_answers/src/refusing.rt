@@ -8,8 +8,8 @@ ghost use Rattle.cg_task_answers.specs.Searches.{is_above, above_contexts, impos
 use cg_arch::Arch;
 use cg_bound::{Certificate, certificate_text};
 use cg_effects::{Outcome, Status, malformed};
-use cg_model::{Kernel, Request};
 use cg_intervals::last_tried;
+use cg_model::{Kernel, Request};
 use std::alloc::{AllocError, Global};
 
 /// Checks whether the interval `asked` has more cycles than `arch` has contexts.

@@ -136,9 +136,9 @@ fn outcome<S: Store>(
 }
 
 /// Returns the outcome of `command` for the files in `store`, and notes what is wrong with them.
-fn answered<S: Store>(
+fn answered<'a, S: Store>(
     alloc: Global,
-    command: &Command<&str, &str>,
+    command: &Command<&'a str, &'a str>,
     store: &mut S,
     aside: &mut dyn Aside,
 ) -> Result<Outcome, AllocError>

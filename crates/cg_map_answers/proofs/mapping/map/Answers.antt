@@ -1,7 +1,7 @@
 use Rattle.std.proofs.Common.{map, subst}
 use Rattle.std.specs.Prelude.{string_bytes}
 use Rattle.cg_effects.specs.Outcome.{file_of, outcome_of}
-use Rattle.cg_effects.proofs.Allowed.{stopped}
+use Rattle.cg_cause.proofs.Allowed.{stopped}
 use Rattle.cg_task_answers.specs.Searches.{IsWithin, is_above}
 use Rattle.cg_task_answers.proofs.Over.{arch_refused, kernel_refused, pair_given}
 use Rattle.cg_map_answers.specs.Map.{IsMap, IsWalk}

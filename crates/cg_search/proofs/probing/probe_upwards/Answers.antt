@@ -1,6 +1,6 @@
 use Rattle.std.proofs.Common.{arith}
 use Rattle.cg_search.proofs.Begins.{posed_within}
-use Rattle.cg_search.proofs.probing.probe.Goals as goal
+use Rattle.cg_search.proofs.probing.probe_upwards.Goals as goal
 
 pub returns : goal.returns
 returns g c =
