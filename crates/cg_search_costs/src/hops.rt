@@ -5,6 +5,7 @@ ghost use Rattle.cg_model.specs.Limits.{most_resources};
 use crate::flow::is_of;
 use cg_arch::{Kind, Resource, Unit};
 use std::alloc::{AllocError, Global};
+use std::mem::replace;
 
 /// The value that denotes that there is no way, in place of a number of registers.
 pub const NO_WAY: u32 = 255;
@@ -33,66 +34,78 @@ fn ways_to(alloc: Global, resources: &[Resource], number: u32) -> Result<Vec<u8>
     }
 }
 
-/// Returns the least numbers to `port`, found in rounds: one more register in each round.
+/// Returns the least numbers to `port`.
 fn ways_to_port(alloc: Global, resources: &[Resource], port: u32) -> Result<Vec<u8>, AllocError> {
-    let mut ways = vec![in alloc; 255u8; resources.len()]?;
-    let mut here = Vec::new(alloc);
-    if try_lower(&mut ways, port, 0) {
-        here.push(port)?;
-    }
+    let mut wave = Wave::at(alloc, resources, port)?;
     for hops in 0..MOST_HOPS {
-        if here.is_empty() {
+        if wave.here.is_empty() {
             break;
         }
-        here = round(alloc, resources, hops, here, &mut ways)?;
+        wave.round(alloc, hops)?;
     }
-    Ok(ways)
+    Ok(wave.ways)
 }
 
-/// Goes back from the resources `here`, whose number is `hops`, as far as no register is entered, and returns the
-/// resources from which one more register is entered.
-fn round(
-    alloc: Global,
-    resources: &[Resource],
-    hops: u8,
-    mut here: Vec<u32>,
-    ways: &mut [u8],
-) -> Result<Vec<u32>, AllocError>
-    requires { hops < 255 }
-{
-    let mut later = Vec::new(alloc);
-    for place in 0..resources.len() {
-        let Some(number) = here.get(place).copied() else {
-            break;
+/// A wave that goes back from a port in rounds: in each round one more register is entered on the ways to the port.
+#[derive(Drop)]
+struct Wave<'a> {
+    resources: &'a [Resource],
+    /// The least numbers of registers found so far, by resource number; 255 where no way is found yet.
+    ways: Vec<u8>,
+    /// The resources from which the round goes back. It adds those that it reaches without another register.
+    here: Vec<u32>,
+    /// The resources from which the next round goes back.
+    later: Vec<u32>,
+}
+
+impl<'a> Wave<'a> {
+    /// Returns the wave that begins at `port`.
+    fn at(alloc: Global, resources: &'a [Resource], port: u32) -> Result<Wave<'a>, AllocError> {
+        let mut wave = Wave {
+            resources,
+            ways: vec![in alloc; 255u8; resources.len()]?,
+            here: Vec::new(alloc),
+            later: Vec::new(alloc),
         };
-        go_back(resources, number, hops, &mut here, &mut later, ways)?;
+        if try_lower(&mut wave.ways, port, 0) {
+            wave.here.push(port)?;
+        }
+        Ok(wave)
     }
-    Ok(later)
-}
 
-/// Goes back from resource `number` to its drivers, if the number of registers from it is `hops`.
-fn go_back(
-    resources: &[Resource],
-    number: u32,
-    hops: u8,
-    here: &mut Vec<u32>,
-    later: &mut Vec<u32>,
-    ways: &mut [u8],
-) -> Result<(), AllocError>
-    requires { hops < 255 }
-{
-    if let Some(resource) = resources.get(number as usize) {
-        let drivers = resource.drivers.as_slice();
-        if ways.get(number as usize) != Some(&hops) {
-            return Ok(());
+    /// Goes back from the resources whose number of registers is `hops` as far as no register is entered, and on to
+    /// those of the next round.
+    fn round(&mut self, alloc: Global, hops: u8) -> Result<(), AllocError>
+        requires { hops < 255 }
+    {
+        for place in 0..self.resources.len() {
+            let Some(number) = self.here.get(place).copied() else {
+                break;
+            };
+            self.go_back(number, hops)?;
         }
-        if resource.kind == Kind::Register {
-            lower(drivers, hops + 1, later, ways)?;
-        } else {
-            lower(drivers, hops, here, ways)?;
-        }
+        self.here = replace(&mut self.later, Vec::new(alloc));
+        Ok(())
     }
-    Ok(())
+
+    /// Goes back from resource `number` to its drivers, if the number of registers from it is `hops`.
+    fn go_back(&mut self, number: u32, hops: u8) -> Result<(), AllocError>
+        requires { hops < 255 }
+    {
+        let resources = self.resources;
+        if let Some(resource) = resources.get(number as usize) {
+            let drivers = resource.drivers.as_slice();
+            if self.ways.get(number as usize) != Some(&hops) {
+                return Ok(());
+            }
+            if resource.kind == Kind::Register {
+                lower(drivers, hops + 1, &mut self.later, &mut self.ways)?;
+            } else {
+                lower(drivers, hops, &mut self.here, &mut self.ways)?;
+            }
+        }
+        Ok(())
+    }
 }
 
 /// Lowers the numbers of `drivers` to `hops` where they are greater, and adds these drivers to `list`.

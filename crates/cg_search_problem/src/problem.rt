@@ -2,7 +2,7 @@
 ghost use Rattle.std.specs.Prelude.{◌≡◌, ◌<◌, IfOk};
 
 use crate::hosts::{Host, hosts, offers};
-use crate::late::latest;
+use crate::late::Dependences;
 use crate::lists::{Lists, count, number_at};
 use crate::places::Places;
 use crate::times::ideal;
@@ -105,7 +105,13 @@ impl<'a> Problem<'a> {
         let ties = ties(alloc, nodes, &order)?;
         let quickest = quickest(alloc, arch, kernel)?;
         let early = from_origin(alloc, ii, task.early())?;
-        let late = latest(alloc, ii, &early, &edges, &order, &quickest)?;
+        let dependences = Dependences {
+            ii,
+            edges: edges.as_slice(),
+            order: order.as_slice(),
+            quickest: quickest.as_slice(),
+        };
+        let late = dependences.latest(alloc, &early)?;
         Ok(Problem {
             ii,
             nodes,

@@ -1,6 +1,5 @@
 //! The faults of a state.
 
-use cg_search_problem::Problem;
 use cg_search_state::State;
 use std::alloc::{AllocError, Global};
 
@@ -12,15 +11,13 @@ pub(crate) const LOST: u32 = 5;
 
 /// Returns the faults of `state`: 0 where each node has a place and each edge a route, no two nodes begin on a unit in
 /// a slot, no place is claimed twice and no order edge is violated.
-pub(crate) fn faults(problem: &Problem, state: &State) -> u32 {
+pub(crate) fn faults(state: &State) -> u32 {
     let shared = state.places.excess().saturating_mul(SHARED);
     let missing = state
         .places
         .missing()
         .saturating_add(state.routes.missing());
-    let lost = missing
-        .saturating_add(broken(problem, state))
-        .saturating_mul(LOST);
+    let lost = missing.saturating_add(broken(state)).saturating_mul(LOST);
     state
         .routes
         .excess()
@@ -29,11 +26,11 @@ pub(crate) fn faults(problem: &Problem, state: &State) -> u32 {
 }
 
 /// Counts the order edges that are violated.
-fn broken(problem: &Problem, state: &State) -> u32 {
+fn broken(state: &State) -> u32 {
     let mut sum: u32 = 0;
     let mut tie: u32 = 0;
-    for _ in &problem.order {
-        if state.is_broken(problem, tie) {
+    for _ in &state.problem.order {
+        if state.is_broken(tie) {
             sum = sum.saturating_add(1);
         }
         tie = tie.saturating_add(1);
@@ -42,11 +39,11 @@ fn broken(problem: &Problem, state: &State) -> u32 {
 }
 
 /// Checks whether `node` takes part in a fault.
-pub(crate) fn is_bad(problem: &Problem, state: &State, node: u32) -> bool {
+pub(crate) fn is_bad(state: &State, node: u32) -> bool {
     state.places.is_shared(node)
-        || has_bad_edge(state, problem.ins.of(node))
-        || has_bad_edge(state, problem.outs.of(node))
-        || has_broken_tie(problem, state, node)
+        || has_bad_edge(state, state.problem.ins.of(node))
+        || has_bad_edge(state, state.problem.outs.of(node))
+        || has_broken_tie(state, node)
 }
 
 /// Checks whether one of `edges` has no route, or one with a place that is claimed twice.
@@ -60,9 +57,9 @@ fn has_bad_edge(state: &State, edges: &[u32]) -> bool {
 }
 
 /// Checks whether an order edge of `node` is violated.
-fn has_broken_tie(problem: &Problem, state: &State, node: u32) -> bool {
-    for tie in problem.ties.of(node) {
-        if state.is_broken(problem, *tie) {
+fn has_broken_tie(state: &State, node: u32) -> bool {
+    for tie in state.problem.ties.of(node) {
+        if state.is_broken(*tie) {
             return true;
         }
     }
@@ -70,25 +67,12 @@ fn has_broken_tie(problem: &Problem, state: &State, node: u32) -> bool {
 }
 
 /// Returns the nodes that take part in a fault, ascending.
-pub(crate) fn bad_nodes(
-    alloc: Global,
-    problem: &Problem,
-    state: &State,
-) -> Result<Vec<u32>, AllocError> {
+pub(crate) fn bad_nodes(alloc: Global, state: &State) -> Result<Vec<u32>, AllocError> {
     let mut bad = Vec::new(alloc);
-    for node in 0..problem.nodes {
-        if is_bad(problem, state, node) {
+    for node in 0..state.problem.nodes {
+        if is_bad(state, node) {
             bad.push(node)?;
         }
     }
     Ok(bad)
-}
-
-/// Returns all nodes, ascending.
-pub(crate) fn all_nodes(alloc: Global, problem: &Problem) -> Result<Vec<u32>, AllocError> {
-    let mut all = Vec::new(alloc);
-    for node in 0..problem.nodes {
-        all.push(node)?;
-    }
-    Ok(all)
 }

@@ -3,17 +3,27 @@
 //! and places it where it and its routes cost least. The search ends when there are no faults.
 #![tactic(auto)]
 
+mod candidates;
 mod claims;
 mod counting;
+mod draws;
 mod effort;
+mod estimates;
+mod estimating;
 mod faults;
+mod known;
 mod mapping;
 mod opening;
 mod pace;
+mod ranks;
 mod responding;
+mod search;
+mod settling;
 mod snapshot;
 mod sweeps;
 mod turning;
+mod windows;
+mod wires;
 
 pub use cg_search_costs::Wiring;
 pub use effort::Effort;

@@ -40,49 +40,61 @@ fn routes_of(alloc: Global, kernel: &Kernel, snapshot: &Snapshot) -> Result<Vec<
     ensures { IfOk result (λ v. map end_of v.items ≡ ends_from 0 kernel.now.nodes) }
 {
     let nodes = kernel.nodes();
-    let mut routes = Vec::new(alloc);
+    let mut listing = Listing {
+        snapshot,
+        routes: Vec::new(alloc),
+    };
     for node in 0..nodes.len() {
         let operands = nodes[node].operands.as_slice();
-        add_routes(alloc, &mut routes, node as u32, operands, snapshot)?;
+        listing.add_routes(alloc, node as u32, operands)?;
     }
-    Ok(routes)
+    Ok(listing.routes)
 }
 
-/// Adds the routes to the operands `operands` of `node`.
-fn add_routes(
-    alloc: Global,
-    routes: &mut Vec<Route>,
-    node: u32,
-    operands: &[Operand],
-    snapshot: &Snapshot,
-) -> Result<(), AllocError>
-    requires { length operands.now < 2 ^ 32 }
-    ensures { OnOk result (map end_of routes.new.items ≡ map end_of routes.old.items ++ ends_of node 0 operands.now) }
-{
-    for arg in 0..operands.len() {
-        add_route(alloc, routes, node, arg as u32, &operands[arg], snapshot)?;
-    }
-    Ok(())
+/// The routes of a copy of a state, listed by node and operand. Edges are numbered in this order.
+#[derive(Drop)]
+struct Listing<'s> {
+    /// The copy.
+    snapshot: &'s Snapshot,
+    /// The routes so far.
+    routes: Vec<Route>,
 }
 
-/// Adds the route to operand `arg` of `node` if it is an edge. Edges are numbered in the order of their routes.
-fn add_route(
-    alloc: Global,
-    routes: &mut Vec<Route>,
-    node: u32,
-    arg: u32,
-    operand: &Operand,
-    snapshot: &Snapshot,
-) -> Result<(), AllocError>
-    ensures { OnOk result (map end_of routes.new.items ≡ map end_of routes.old.items ++ ends_of node arg (operand.now ∷ [])) }
-{
-    match operand {
-        Operand::Const(_) => Ok(()),
-        Operand::Edge { .. } => {
-            let edge = count(routes.as_slice());
-            let path = path_of(alloc, snapshot, edge)?;
-            routes.push(Route { node, arg, path })?;
-            Ok(())
+impl<'s> Listing<'s> {
+    /// Adds the routes to the operands `operands` of `node`.
+    fn add_routes(
+        &mut self,
+        alloc: Global,
+        node: u32,
+        operands: &[Operand],
+    ) -> Result<(), AllocError>
+        requires { length operands.now < 2 ^ 32 }
+        ensures { OnOk result (map end_of self.new.routes.items ≡ map end_of self.old.routes.items ++ ends_of node 0 operands.now) }
+    {
+        for arg in 0..operands.len() {
+            self.add_route(alloc, node, arg as u32, &operands[arg])?;
+        }
+        Ok(())
+    }
+
+    /// Adds the route to operand `arg` of `node` if it is an edge.
+    fn add_route(
+        &mut self,
+        alloc: Global,
+        node: u32,
+        arg: u32,
+        operand: &Operand,
+    ) -> Result<(), AllocError>
+        ensures { OnOk result (map end_of self.new.routes.items ≡ map end_of self.old.routes.items ++ ends_of node arg (operand.now ∷ [])) }
+    {
+        match operand {
+            Operand::Const(_) => Ok(()),
+            Operand::Edge { .. } => {
+                let edge = count(self.routes.as_slice());
+                let path = path_of(alloc, self.snapshot, edge)?;
+                self.routes.push(Route { node, arg, path })?;
+                Ok(())
+            }
         }
     }
 }

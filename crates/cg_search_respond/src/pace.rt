@@ -4,7 +4,6 @@ use crate::effort::Effort;
 use crate::faults::faults;
 use crate::snapshot::Snapshot;
 use cg_diagnostics::Aside;
-use cg_search_moves::settle;
 use cg_search_problem::Problem;
 use cg_search_state::State;
 use rand_pcg::Lcg64Xsh32;
@@ -50,8 +49,9 @@ pub(crate) struct Pace {
     pub(crate) least: u32,
     /// The first state with the least number of faults; one in which no node is placed where none were counted yet.
     pub(crate) best: Snapshot,
+    /// The number of candidates of a node that are tried with their routes.
+    pub(crate) tried: u32,
     effort: Effort,
-    tried: u32,
     low: u32,
     since: u32,
     since_move: u32,
@@ -104,13 +104,9 @@ impl Pace {
     }
 
     /// Counts the faults of `state`, where none were counted yet.
-    pub(crate) fn count_once(
-        &mut self,
-        problem: &Problem,
-        state: &State,
-    ) -> Result<(), AllocError> {
+    pub(crate) fn count_once(&mut self, state: &State) -> Result<(), AllocError> {
         if self.least == u32::MAX {
-            self.keep(state, faults(problem, state))?;
+            self.keep(state, faults(state))?;
         }
         Ok(())
     }
@@ -125,12 +121,8 @@ impl Pace {
     }
 
     /// Counts the faults of `state` before a sweep. Returns how the attempt ends, if it does.
-    pub(crate) fn count(
-        &mut self,
-        problem: &Problem,
-        state: &State,
-    ) -> Result<Option<Ending>, AllocError> {
-        let found = faults(problem, state);
+    pub(crate) fn count(&mut self, state: &State) -> Result<Option<Ending>, AllocError> {
+        let found = faults(state);
         self.keep(state, found)?;
         if found < self.low {
             self.low = found;
@@ -139,7 +131,7 @@ impl Pace {
         } else {
             self.since = self.since.saturating_add(1);
         }
-        Ok(self.ending(problem.nodes, found))
+        Ok(self.ending(state.problem.nodes, found))
     }
 
     /// Returns how an attempt on `nodes` nodes ends at `found` faults, if it does.
@@ -168,21 +160,5 @@ impl Pace {
             self.reported = self.made;
             aside.progress(ii, self.made, self.least);
         }
-    }
-
-    /// Makes the best response of `node`, if there are moves left.
-    pub(crate) fn respond(
-        &mut self,
-        alloc: Global,
-        problem: &Problem,
-        state: &mut State,
-        node: u32,
-    ) -> Result<(), AllocError> {
-        if self.has_moves() {
-            self.step();
-            state.lift(problem, node);
-            settle(alloc, problem, state, node, self.tried, &mut self.generator)?;
-        }
-        Ok(())
     }
 }

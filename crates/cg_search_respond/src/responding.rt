@@ -7,15 +7,14 @@ use crate::counting::mapping_faults;
 use crate::effort::Effort;
 use crate::mapping::mapping;
 use crate::pace::{Ending, Pace};
+use crate::search::Search;
 use crate::snapshot::Snapshot;
-use crate::sweeps::attempt;
 use cg_check::{CheckVerdict, LegalMapping, check};
 use cg_diagnostics::Aside;
 use cg_model::Mapping;
 use cg_place::Task;
 use cg_search_costs::Wiring;
 use cg_search_problem::Problem;
-use cg_search_state::State;
 use std::alloc::{AllocError, Global};
 
 /// How a search ends.
@@ -59,23 +58,22 @@ fn attempts<'a>(
     requires few { effort.moves ≤ most_moves }
     ensures { IfOk result (IsResponded task.now.arch task.now.kernel task.now.ii effort.moves) }
 {
-    let mut state = State::new(alloc, problem)?;
-    let mut pace = Pace::new(alloc, problem, effort)?;
+    let mut search = Search::new(alloc, problem, effort)?;
     for number in 0..effort.moves + 1 {
-        let ending = attempt(alloc, problem, &mut state, &mut pace, number, aside)?;
+        let ending = search.attempt(alloc, number, aside)?;
         if ending == Ending::Clean {
-            match checked(alloc, task, &pace.best)? {
+            match checked(alloc, task, &search.pace.best)? {
                 CheckVerdict::Legal(legal) => {
-                    return Ok(Responded::Mapped(legal, pace.made.min(effort.moves)));
+                    return Ok(Responded::Mapped(legal, search.pace.made.min(effort.moves)));
                 }
-                CheckVerdict::Illegal { .. } => pace.least = 1,
+                CheckVerdict::Illegal { .. } => search.pace.least = 1,
             }
         }
         if ending == Ending::Over {
             break;
         }
     }
-    ended(alloc, task, &pace, effort)
+    ended(alloc, task, &search.pace, effort)
 }
 
 /// Returns the end of a search with `effort` that is over, by its best state.

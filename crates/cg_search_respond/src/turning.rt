@@ -2,45 +2,35 @@
 //! shorter time. Its nodes keep their units and slots, and the routes within it are kept; only those across its border
 //! are searched anew.
 
-use crate::pace::Pace;
-use cg_search_problem::{Problem, longest_stays};
-use cg_search_state::{State, along};
+use crate::search::Search;
+use cg_search_problem::longest_stays;
+use cg_search_state::State;
 use std::alloc::{AllocError, Global};
 
-/// Tries for each node to move a whole interval later and a whole interval sooner, with all nodes that must move
-/// along.
-pub(crate) fn turn_parts(
-    alloc: Global,
-    problem: &Problem,
-    state: &mut State,
-    pace: &mut Pace,
-) -> Result<(), AllocError> {
-    for node in 0..problem.nodes {
-        turn(alloc, problem, state, pace, node, true)?;
-        turn(alloc, problem, state, pace, node, false)?;
+impl<'a> Search<'a> {
+    /// Tries for each node to move a whole interval later and a whole interval sooner, with all nodes that must move
+    /// along.
+    pub(crate) fn turn_parts(&mut self, alloc: Global) -> Result<(), AllocError> {
+        for node in 0..self.state.problem.nodes {
+            self.turn(alloc, node, true)?;
+            self.turn(alloc, node, false)?;
+        }
+        Ok(())
     }
-    Ok(())
-}
 
-/// Moves `node` a whole interval later, where `is_later` is true, or sooner, with all nodes that must move along, if
-/// these aren't the whole kernel, the longest stays of values become less and moves are left.
-fn turn(
-    alloc: Global,
-    problem: &Problem,
-    state: &mut State,
-    pace: &mut Pace,
-    node: u32,
-    is_later: bool,
-) -> Result<(), AllocError> {
-    let part = along(alloc, problem, &state.places, node, is_later)?;
-    if are_all(&part) || !pace.has_moves() {
-        return Ok(());
+    /// Moves `node` a whole interval later, where `is_later` is true, or sooner, with all nodes that must move along, if
+    /// these aren't the whole kernel, the longest stays of values become less and moves are left.
+    fn turn(&mut self, alloc: Global, node: u32, is_later: bool) -> Result<(), AllocError> {
+        let part = self.state.along(alloc, node, is_later)?;
+        if are_all(&part) || !self.pace.has_moves() {
+            return Ok(());
+        }
+        if pays(alloc, &self.state, &part, is_later)? {
+            self.pace.step();
+            self.state.shift(alloc, &part, is_later)?;
+        }
+        Ok(())
     }
-    if pays(alloc, problem, state, &part, is_later)? {
-        pace.step();
-        state.shift(alloc, problem, &part, is_later)?;
-    }
-    Ok(())
 }
 
 /// Checks whether all of `marks` are true.
@@ -55,13 +45,8 @@ fn are_all(marks: &[bool]) -> bool {
 
 /// Checks whether the longest stays of values become less where the nodes of `part` move a whole interval later, or
 /// sooner.
-fn pays(
-    alloc: Global,
-    problem: &Problem,
-    state: &State,
-    part: &[bool],
-    is_later: bool,
-) -> Result<bool, AllocError> {
+fn pays(alloc: Global, state: &State, part: &[bool], is_later: bool) -> Result<bool, AllocError> {
+    let problem = state.problem;
     let mut times = state.places.times(alloc)?;
     let before = longest_stays(problem, &times);
     for node in 0..times.len() {

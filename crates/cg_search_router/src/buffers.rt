@@ -27,6 +27,8 @@ pub struct Layers {
     masks: Vec<u128>,
     /// The number of resources.
     width: u32,
+    /// The cycle of layer 0: the first one where layers are filled forward, the last one where they are filled backward.
+    origin: u32,
     /// The number of layers.
     count: u32,
     /// The last layer in which an existing route is free.
@@ -55,26 +57,27 @@ impl Layers {
             before: Vec::new(alloc),
             masks: Vec::new(alloc),
             width: 0,
+            origin: 0,
             count: 0,
             laid: 0,
             entering: Vec::new(alloc),
         }
     }
 
-    /// Makes layers 0 to `last`, without prices except for `out`, where the value begins.
-    pub fn begin(&mut self, wiring: &Wiring, out: u32, last: u32) -> Result<(), AllocError> {
-        self.make_blank(wiring, last)?;
+    /// Makes layers 0 to `last`, without prices except for `from`, where the value begins in layer 0.
+    pub fn begin(&mut self, wiring: &Wiring, from: Stand, last: u32) -> Result<(), AllocError> {
+        self.make_blank(wiring, from.time, last)?;
         let entry = Entry {
             price: 0,
             before: NOWHERE,
             mask: 0,
         };
-        self.put(place_in(0, out), entry);
+        self.put(place_in(0, from.resource), entry);
         Ok(())
     }
 
-    /// Makes an existing route of the value free: branches can only leave it.
-    pub fn lay(&mut self, occupancy: &Occupancy, start: u32, last: u32, route: &[Stand]) {
+    /// Makes an existing route of the value free, where the layers are begun: branches can only leave it.
+    pub fn lay(&mut self, occupancy: &Occupancy, route: &[Stand]) {
         let mut entry = Entry {
             price: 0,
             before: NOWHERE,
@@ -82,8 +85,8 @@ impl Layers {
         };
         for stand in route {
             entry.mask |= bit(stand.resource, stand.time % occupancy.interval());
-            let layer = stand.time.wrapping_sub(start);
-            if layer <= last {
+            let layer = stand.time.wrapping_sub(self.origin);
+            if self.holds(layer) {
                 self.lay_at(layer, stand.resource, entry);
             }
             entry.before = stand.resource;
@@ -119,19 +122,18 @@ impl Layers {
         }
     }
 
-    /// Returns the way to a port in a layer, from its beginning on; empty where there is none. The layers have to be
+    /// Returns the way to `to`, a port at a time, from its beginning on; empty where there is none. The layers have to be
     /// filled forward.
     pub fn way_to(
         &self,
         alloc: Global,
         wiring: &Wiring,
-        port: u32,
-        start: u32,
-        layer: u32,
+        to: Stand,
     ) -> Result<Vec<Stand>, AllocError> {
         let mut path = Vec::new(alloc);
-        if self.price(layer, port) < UNREACHED {
-            self.walk_back(wiring, port, start, layer, &mut path)?;
+        let layer = to.time.wrapping_sub(self.origin);
+        if self.price(layer, to.resource) < UNREACHED {
+            self.walk_back(wiring, to.resource, layer, &mut path)?;
             path.reverse();
         }
         Ok(path)
@@ -142,7 +144,6 @@ impl Layers {
         &self,
         wiring: &Wiring,
         to: u32,
-        start: u32,
         last: u32,
         path: &mut Vec<Stand>,
     ) -> Result<(), AllocError> {
@@ -151,7 +152,7 @@ impl Layers {
         for _ in 0..self.before.len() {
             path.push(Stand {
                 resource,
-                time: start.saturating_add(layer),
+                time: self.origin.saturating_add(layer),
             })?;
             let before = self.before_at(self.place(layer, resource));
             if before == NOWHERE {
@@ -166,17 +167,12 @@ impl Layers {
     }
 
     /// Adds the stands from the last stand of a path on to the port; nothing where there is no way. The layers have to
-    /// be filled backward from `end`.
-    pub fn way_on(
-        &self,
-        wiring: &Wiring,
-        end: u32,
-        path: &mut Vec<Stand>,
-    ) -> Result<(), AllocError> {
+    /// be filled backward.
+    pub fn way_on(&self, wiring: &Wiring, path: &mut Vec<Stand>) -> Result<(), AllocError> {
         if let Some(stand) = path.last().copied() {
-            let layer = end.wrapping_sub(stand.time);
+            let layer = self.origin.wrapping_sub(stand.time);
             if self.price(layer, stand.resource) < UNREACHED {
-                self.walk_on(wiring, stand.resource, layer, end, path)?;
+                self.walk_on(wiring, stand.resource, layer, path)?;
             }
         }
         Ok(())
@@ -188,7 +184,6 @@ impl Layers {
         wiring: &Wiring,
         from: u32,
         first: u32,
-        end: u32,
         path: &mut Vec<Stand>,
     ) -> Result<(), AllocError> {
         let mut resource = from;
@@ -204,14 +199,19 @@ impl Layers {
             resource = next;
             path.push(Stand {
                 resource,
-                time: end.saturating_sub(layer),
+                time: self.origin.saturating_sub(layer),
             })?;
         }
         Ok(())
     }
 
-    /// Makes layers 0 to `last` without a price.
-    pub(crate) fn make_blank(&mut self, wiring: &Wiring, last: u32) -> Result<(), AllocError> {
+    /// Makes layers 0 to `last` without a price, layer 0 for the cycle `origin`.
+    pub(crate) fn make_blank(
+        &mut self,
+        wiring: &Wiring,
+        origin: u32,
+        last: u32,
+    ) -> Result<(), AllocError> {
         let width = wiring.resources();
         let count = (last as usize + 1) * width;
         if self.prices.len() < count {
@@ -224,6 +224,7 @@ impl Layers {
             self.masks.resize(count, 0)?;
         }
         self.width = width as u32;
+        self.origin = origin;
         self.count = last.saturating_add(1);
         self.laid = 0;
         blank(&mut self.prices, count);
@@ -267,6 +268,18 @@ impl Layers {
     #[inline]
     pub(crate) fn width(&self) -> u32 {
         self.width
+    }
+
+    /// Returns the cycle of layer 0.
+    #[inline]
+    pub fn origin(&self) -> u32 {
+        self.origin
+    }
+
+    /// Returns the number of layers.
+    #[inline]
+    pub(crate) fn layers(&self) -> u32 {
+        self.count
     }
 
     /// Checks whether an existing route is free in `layer` or in a later one.

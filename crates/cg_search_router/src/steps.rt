@@ -1,9 +1,12 @@
 //! The data from which a layer is filled.
 use crate::buffers::UNREACHED;
+use cg_search_costs::Wiring;
 
 /// The data from which a layer is filled, forward in time.
 #[derive(Clone, Copy)]
 pub(crate) struct Ahead<'a> {
+    /// The resources and their connections.
+    pub wiring: &'a Wiring,
     /// The layer.
     pub layer: u32,
     /// The place where its entries begin.
@@ -29,6 +32,8 @@ pub(crate) struct Ahead<'a> {
 /// The data from which a layer is filled, backward in time.
 #[derive(Clone, Copy)]
 pub(crate) struct Back<'a> {
+    /// The resources and their connections.
+    pub wiring: &'a Wiring,
     /// The layer, counted from the end.
     pub layer: u32,
     /// The place where its entries begin.
@@ -43,6 +48,26 @@ pub(crate) struct Back<'a> {
     pub prices: &'a [u32],
     /// The price from which on a way is of no use.
     pub worth: u32,
+}
+
+/// A resource in the slot of the layer that is filled.
+#[derive(Clone, Copy)]
+pub(crate) struct Spot {
+    /// The resource.
+    pub resource: u32,
+    /// Its bits in that slot.
+    pub mark: u128,
+}
+
+impl Spot {
+    /// Returns `resource` in `slot`.
+    #[inline]
+    pub(crate) fn new(resource: u32, slot: u32) -> Spot {
+        Spot {
+            resource,
+            mark: bit(resource, slot),
+        }
+    }
 }
 
 /// Returns where the entries of `layer` begin, where there are `width` resources.

@@ -1,10 +1,9 @@
 //! Routes that are read out of layers that are filled already.
 
-use crate::ends::{Ends, routable_ends};
+use crate::ends::{Connection, Ends};
 use crate::pool::Filling;
 use crate::routes::Routes;
 use cg_search_costs::Wiring;
-use cg_search_problem::{Places, Problem};
 use cg_search_router::{Layers, Stand, UNREACHED};
 use std::alloc::{AllocError, Global};
 
@@ -13,6 +12,15 @@ use std::alloc::{AllocError, Global};
 struct Found {
     price: u32,
     route: Vec<Stand>,
+}
+
+/// An existing route, off which a way may branch.
+#[derive(Clone, Copy, Drop)]
+struct Trunk<'a> {
+    /// The number of its edge.
+    edge: u32,
+    /// The route.
+    stands: &'a [Stand],
 }
 
 /// The point where a way branches off the existing routes of its source.
@@ -26,80 +34,52 @@ struct Branch {
     stands: usize,
 }
 
-impl Routes {
-    /// Routes `edge`, which has no route, by the layers of buffer `number` where that costs less than `cap`: these
-    /// layers were filled for this edge, when one of its nodes was placed as now and the other was lifted. The way in
-    /// them is still the best one if no price on it has changed; else the edge is routed by layers of its own. Returns
-    /// the cost of the route; None where there is no route.
+impl<'a> Routes<'a> {
+    /// Routes `connection`, which has no route, by the layers of buffer `number`: these layers were filled for its edge,
+    /// when one of its nodes was placed as now and the other was lifted. The way in them is still the best one if no
+    /// price on it has changed; else the edge is routed by layers of its own. Returns the cost of the route; None where
+    /// there is no route.
     pub fn join(
         &mut self,
         alloc: Global,
-        problem: &Problem,
-        places: &Places,
-        edge: u32,
+        connection: Connection,
         number: u32,
-        cap: u32,
     ) -> Result<Option<u32>, AllocError> {
-        match routable_ends(problem, places, edge) {
-            Some(ends) if self.is_kept(number) && self.holds(number, ends.cycles()) => {
-                self.join_ends(alloc, problem, edge, number, ends, cap)
-            }
-            Some(ends) => self.connect_ends(alloc, problem, edge, ends, cap),
+        if !self.is_kept(number) || !self.holds(number, connection.ends.cycles()) {
+            return self.connect(alloc, connection);
+        }
+        match self.found(alloc, number, connection.ends)? {
+            Some(found) => self.put_if_best(alloc, connection, found),
             None => Ok(None),
         }
     }
 
-    /// Routes `edge` between its ends `ends`, as `join` does, by layers that hold them.
-    fn join_ends(
-        &mut self,
-        alloc: Global,
-        problem: &Problem,
-        edge: u32,
-        number: u32,
-        ends: Ends,
-        cap: u32,
-    ) -> Result<Option<u32>, AllocError> {
-        match self.found(alloc, problem, number, ends)? {
-            Some(found) => self.put_if_best(alloc, problem, edge, ends, found, cap),
-            None => Ok(None),
-        }
-    }
-
-    /// Gives `edge` the way `found` where its cost is still the one that was found, and less than `cap`; where its cost
-    /// has changed, routes the edge by layers of its own.
+    /// Gives the edge of `connection` the way `found` where its cost is still the one that was found, and less than the
+    /// cap; where its cost has changed, routes the edge by layers of its own.
     fn put_if_best(
         &mut self,
         alloc: Global,
-        problem: &Problem,
-        edge: u32,
-        ends: Ends,
+        connection: Connection,
         found: Found,
-        cap: u32,
     ) -> Result<Option<u32>, AllocError> {
-        let source = ends.from.source;
+        let source = connection.ends.from.source;
         let price = self.standing.due(source, found.route.as_slice());
         if price != found.price {
-            return self.connect_ends(alloc, problem, edge, ends, cap);
+            return self.connect(alloc, connection);
         }
-        if price >= cap {
+        if price >= connection.cap {
             return Ok(None);
         }
-        self.standing.put(source, edge, found.route)?;
+        self.standing.put(source, connection.edge, found.route)?;
         Ok(Some(price))
     }
 
     /// Returns the way between `ends` in buffer `number`. None where there is none.
-    fn found(
-        &self,
-        alloc: Global,
-        problem: &Problem,
-        number: u32,
-        ends: Ends,
-    ) -> Result<Option<Found>, AllocError> {
+    fn found(&self, alloc: Global, number: u32, ends: Ends) -> Result<Option<Found>, AllocError> {
         let buffer = self.pool.buffer(number);
         match buffer.filling {
-            Filling::Forward => found_to(alloc, problem.wiring, &buffer.layers, ends),
-            Filling::Backward => self.found_from(alloc, problem, &buffer.layers, ends),
+            Filling::Forward => found_to(alloc, self.standing.problem.wiring, &buffer.layers, ends),
+            Filling::Backward => self.found_from(alloc, &buffer.layers, ends),
         }
     }
 
@@ -107,16 +87,15 @@ impl Routes {
     fn found_from(
         &self,
         alloc: Global,
-        problem: &Problem,
         layers: &Layers,
         ends: Ends,
     ) -> Result<Option<Found>, AllocError> {
-        let branch = self.branch(problem, layers, ends);
+        let branch = self.branch(layers, ends);
         if branch.price >= UNREACHED {
             return Ok(None);
         }
         let mut route = self.stem(alloc, ends, branch)?;
-        layers.way_on(problem.wiring, ends.end, &mut route)?;
+        layers.way_on(self.standing.problem.wiring, &mut route)?;
         Ok(Some(Found {
             price: branch.price,
             route,
@@ -125,15 +104,20 @@ impl Routes {
 
     /// Returns where a way between `ends` branches off the existing routes of its source for the least price from there
     /// on, by `layers` that are filled backward: the first such place.
-    fn branch(&self, problem: &Problem, layers: &Layers, ends: Ends) -> Branch {
+    fn branch(&self, layers: &Layers, ends: Ends) -> Branch {
+        let problem = self.standing.problem;
         let mut best = Branch {
-            price: layers.price(ends.cycles(), ends.from.out),
+            price: layers.price(ends.cycles(), ends.from.at.resource),
             edge: 0,
             stands: 0,
         };
         for edge in problem.outs.of(ends.from.source) {
-            if let Some(route) = self.standing.route(*edge) {
-                best = branch_on(problem.wiring, layers, ends.end, *edge, route, best);
+            if let Some(stands) = self.standing.route(*edge) {
+                let trunk = Trunk {
+                    edge: *edge,
+                    stands,
+                };
+                best = branch_on(problem.wiring, layers, trunk, best);
             }
         }
         best
@@ -146,10 +130,7 @@ impl Routes {
             stem.push(*stand)?;
         }
         if stem.is_empty() {
-            stem.push(Stand {
-                resource: ends.from.out,
-                time: ends.from.start,
-            })?;
+            stem.push(ends.from.at)?;
         }
         Ok(stem)
     }
@@ -170,28 +151,21 @@ fn found_to(
     layers: &Layers,
     ends: Ends,
 ) -> Result<Option<Found>, AllocError> {
-    let last = ends.cycles();
-    let price = layers.price(last, ends.port);
+    let price = layers.price(ends.cycles(), ends.to.resource);
     if price >= UNREACHED {
         return Ok(None);
     }
-    let route = layers.way_to(alloc, wiring, ends.port, ends.from.start, last)?;
+    let route = layers.way_to(alloc, wiring, ends.to)?;
     Ok(Some(Found { price, route }))
 }
 
-/// Returns the best of `best` and the branches off `route`, that of `edge`, before `end`: `best` among equals. No way
-/// leaves a port.
-fn branch_on(
-    wiring: &Wiring,
-    layers: &Layers,
-    end: u32,
-    edge: u32,
-    route: &[Stand],
-    best: Branch,
-) -> Branch {
+/// Returns the best of `best` and the branches off `trunk`, by `layers` that are filled backward: `best` among equals.
+/// No way leaves a port.
+fn branch_on(wiring: &Wiring, layers: &Layers, trunk: Trunk, best: Branch) -> Branch {
+    let end = layers.origin();
     let mut best = best;
     let mut stands: usize = 0;
-    for stand in route {
+    for stand in trunk.stands {
         if stand.time > end {
             break;
         }
@@ -200,7 +174,7 @@ fn branch_on(
         if price < best.price && !wiring.is_port(stand.resource) {
             best = Branch {
                 price,
-                edge,
+                edge: trunk.edge,
                 stands,
             };
         }

@@ -11,7 +11,7 @@ mod standing;
 mod state;
 mod together;
 
-pub use ends::{Leaving, leaving_of};
+pub use cg_search_router::{Extent, Stand};
+pub use ends::{Connection, Leaving, leaving_of, reading_of};
 pub use routes::Routes;
 pub use state::{State, is_before};
-pub use together::along;

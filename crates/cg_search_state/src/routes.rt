@@ -15,16 +15,16 @@ pub(crate) const PENALTY_AGE: u32 = 30;
 
 /// The routes of data edges by number, with the prices of places, and the layers by which routes are found.
 #[derive(Drop)]
-pub struct Routes {
-    pub(crate) standing: Standing,
+pub struct Routes<'a> {
+    pub(crate) standing: Standing<'a>,
     pub(crate) pool: Pool,
     pub(crate) scratch: Layers,
     histories: Vec<u32>,
 }
 
-impl Routes {
-    /// Returns routes of which none exists yet.
-    pub fn new(alloc: Global, problem: &Problem) -> Result<Routes, AllocError> {
+impl<'a> Routes<'a> {
+    /// Returns routes of `problem` of which none exists yet.
+    pub fn new(alloc: Global, problem: &'a Problem<'a>) -> Result<Routes<'a>, AllocError> {
         Ok(Routes {
             standing: Standing::new(alloc, problem)?,
             pool: Pool::new(alloc, problem)?,
@@ -40,7 +40,8 @@ impl Routes {
 
     /// Returns the penalty of `edge` where it has no route: a value that stays for iterations costs a register in each
     /// cycle.
-    pub fn penalty(&self, problem: &Problem, edge: u32) -> u32 {
+    pub fn penalty(&self, edge: u32) -> u32 {
+        let problem = self.standing.problem;
         let history = number_at(self.histories.as_slice(), edge as usize);
         let stay = match problem.edge(edge) {
             Some(facts) => problem.turns(facts.distance).saturating_mul(REGISTER_PRICE),
@@ -50,26 +51,21 @@ impl Routes {
     }
 
     /// Removes the route of `edge`, if it has one.
-    pub fn rip(&mut self, problem: &Problem, edge: u32) {
-        let _ = self.take(problem, edge);
+    pub fn rip(&mut self, edge: u32) {
+        let _ = self.take(edge);
     }
 
     /// Removes the route of `edge`, if it has one, and returns it.
-    pub(crate) fn take(&mut self, problem: &Problem, edge: u32) -> Option<Vec<Stand>> {
-        match problem.edge(edge) {
+    pub(crate) fn take(&mut self, edge: u32) -> Option<Vec<Stand>> {
+        match self.standing.problem.edge(edge) {
             Some(facts) => self.standing.rip(facts.source, edge),
             None => None,
         }
     }
 
     /// Gives `route` to `edge`, which has none.
-    pub(crate) fn put(
-        &mut self,
-        problem: &Problem,
-        edge: u32,
-        route: Vec<Stand>,
-    ) -> Result<(), AllocError> {
-        match problem.edge(edge) {
+    pub(crate) fn put(&mut self, edge: u32, route: Vec<Stand>) -> Result<(), AllocError> {
+        match self.standing.problem.edge(edge) {
             Some(facts) => self.standing.put(facts.source, edge, route),
             None => Ok(()),
         }

@@ -1,36 +1,24 @@
 //! Layers for edges, and routes by layers of their own.
 
-use crate::ends::{Ends, Leaving, routable_ends};
+use crate::ends::{Connection, Leaving};
 use crate::pool::Filling;
 use crate::routes::Routes;
-use crate::standing::Extent;
-use cg_search_problem::{Places, Problem};
-use cg_search_router::UNREACHED;
+use cg_search_router::{Extent, Stand, UNREACHED};
 use std::alloc::{AllocError, Global};
 
-impl Routes {
-    /// Fills buffer `number` with the least prices below `cap` from where a node's value is, beginning at the time at
-    /// which it leaves the unit, up to the layer `last`; with nothing where there is no last layer.
+impl<'a> Routes<'a> {
+    /// Fills buffer `number` with the least prices from where a node's value is, beginning at the time at which it
+    /// leaves the unit, as far as `extent`; with nothing where there is no extent.
     pub fn spread_from(
         &mut self,
-        problem: &Problem,
         number: u32,
         from: Leaving,
-        last: Option<u32>,
-        cap: u32,
+        extent: Option<Extent>,
     ) -> Result<(), AllocError> {
         let buffer = self.pool.buffer_mut(number);
         buffer.filling = Filling::Forward;
-        match last {
-            Some(last) => {
-                let extent = Extent {
-                    last,
-                    target: None,
-                    cap,
-                };
-                self.standing
-                    .spread(&mut buffer.layers, problem, from, extent)
-            }
+        match extent {
+            Some(extent) => self.standing.spread(&mut buffer.layers, from, None, extent),
             None => {
                 buffer.layers.close();
                 Ok(())
@@ -38,28 +26,18 @@ impl Routes {
         }
     }
 
-    /// Fills buffer `number` with the least prices below `cap` to `port` at the time `end`, up to the layer `last`;
-    /// with nothing where there is no last layer.
+    /// Fills buffer `number` with the least prices to `to`, a port at a time, as far as `extent`; with nothing where
+    /// there is no extent.
     pub fn spread_to(
         &mut self,
-        problem: &Problem,
         number: u32,
-        port: u32,
-        end: u32,
-        last: Option<u32>,
-        cap: u32,
+        to: Stand,
+        extent: Option<Extent>,
     ) -> Result<(), AllocError> {
         let buffer = self.pool.buffer_mut(number);
         buffer.filling = Filling::Backward;
-        match last {
-            Some(last) => buffer.layers.backward(
-                &self.standing.occupancy,
-                problem.wiring,
-                port,
-                end,
-                last,
-                cap,
-            ),
+        match extent {
+            Some(extent) => buffer.layers.backward(self.standing.fabric(), to, extent),
             None => {
                 buffer.layers.close();
                 Ok(())
@@ -84,72 +62,37 @@ impl Routes {
         self.pool.is_kept(number)
     }
 
-    /// Routes `edge`, which has no route, by layers of its own where that costs less than `cap`. Returns the cost of
-    /// the route; None where there is no route.
+    /// Routes `connection`, which has no route, by layers of its own. Returns the cost of the route; None where there is
+    /// no route.
     pub fn connect(
         &mut self,
         alloc: Global,
-        problem: &Problem,
-        places: &Places,
-        edge: u32,
-        cap: u32,
+        connection: Connection,
     ) -> Result<Option<u32>, AllocError> {
-        match routable_ends(problem, places, edge) {
-            Some(ends) => self.connect_ends(alloc, problem, edge, ends, cap),
-            None => Ok(None),
-        }
-    }
-
-    /// Routes `edge` between its ends `ends`, as `connect` does.
-    pub(crate) fn connect_ends(
-        &mut self,
-        alloc: Global,
-        problem: &Problem,
-        edge: u32,
-        ends: Ends,
-        cap: u32,
-    ) -> Result<Option<u32>, AllocError> {
-        if problem.wiring.hops(ends.from.out, ends.port) > ends.cycles() {
+        let ends = connection.ends;
+        let wiring = self.standing.problem.wiring;
+        if wiring.hops(ends.from.at.resource, ends.to.resource) > ends.cycles() {
             return Ok(None);
         }
-        let price = self.spread_between(problem, ends, cap)?;
+        let price = self.spread_between(connection)?;
         if price >= UNREACHED {
             return Ok(None);
         }
-        self.put_found(alloc, problem, edge, ends)?;
+        let route = self.scratch.way_to(alloc, wiring, ends.to)?;
+        self.standing.put(ends.from.source, connection.edge, route)?;
         Ok(Some(price))
     }
 
-    /// Finds the least price below `cap` of a route between `ends`; `UNREACHED` where there is none.
-    fn spread_between(
-        &mut self,
-        problem: &Problem,
-        ends: Ends,
-        cap: u32,
-    ) -> Result<u32, AllocError> {
+    /// Finds the least price of a route of `connection`; `UNREACHED` where there is none.
+    fn spread_between(&mut self, connection: Connection) -> Result<u32, AllocError> {
+        let ends = connection.ends;
+        let port = ends.to.resource;
         let extent = Extent {
             last: ends.cycles(),
-            target: Some(ends.port),
-            cap,
+            cap: connection.cap,
         };
         self.standing
-            .spread(&mut self.scratch, problem, ends.from, extent)?;
-        Ok(self.scratch.price(extent.last, ends.port))
-    }
-
-    /// Gives `edge` the route that was found between `ends`.
-    fn put_found(
-        &mut self,
-        alloc: Global,
-        problem: &Problem,
-        edge: u32,
-        ends: Ends,
-    ) -> Result<(), AllocError> {
-        let wiring = problem.wiring;
-        let start = ends.from.start;
-        let route = self
-            .scratch
-            .way_to(alloc, wiring, ends.port, start, ends.cycles())?;
-        self.standing.put(ends.from.source, edge, route)
+            .spread(&mut self.scratch, ends.from, Some(port), extent)?;
+        Ok(self.scratch.price(extent.last, port))
     }
 }

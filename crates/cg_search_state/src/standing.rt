@@ -3,35 +3,35 @@
 use crate::ends::Leaving;
 use cg_search_costs::Occupancy;
 use cg_search_problem::Problem;
-use cg_search_router::{Layers, Stand};
+use cg_search_router::{Extent, Fabric, Layers, Stand};
 use std::alloc::{AllocError, Global};
 
 /// The routes of data edges by number, with their claims.
 #[derive(Drop)]
-pub(crate) struct Standing {
+pub(crate) struct Standing<'a> {
+    /// The problem whose data edges are routed.
+    pub(crate) problem: &'a Problem<'a>,
     routes: Vec<Option<Vec<Stand>>>,
     /// The claims, with the prices of places.
     pub(crate) occupancy: Occupancy,
 }
 
-/// The extent to which layers are filled, and the bounds on it.
-#[derive(Clone, Copy, Drop)]
-pub(crate) struct Extent {
-    /// The last layer.
-    pub(crate) last: u32,
-    /// The port to be reached in the last layer, if there is one.
-    pub(crate) target: Option<u32>,
-    /// The price from which on a way is of no use.
-    pub(crate) cap: u32,
-}
-
-impl Standing {
+impl<'a> Standing<'a> {
     /// Returns routes of which none exists yet.
-    pub(crate) fn new(alloc: Global, problem: &Problem) -> Result<Standing, AllocError> {
+    pub(crate) fn new(alloc: Global, problem: &'a Problem<'a>) -> Result<Standing<'a>, AllocError> {
         Ok(Standing {
+            problem,
             routes: unrouted(alloc, problem.edges.len())?,
             occupancy: Occupancy::new(alloc, problem.wiring, problem.ii)?,
         })
+    }
+
+    /// Returns the fabric in which routes are searched, with the claims of the routes.
+    pub(crate) fn fabric(&self) -> Fabric<'_> {
+        Fabric {
+            wiring: self.problem.wiring,
+            occupancy: &self.occupancy,
+        }
     }
 
     /// Returns the number of the edges.
@@ -92,28 +92,22 @@ impl Standing {
         sum
     }
 
-    /// Fills `layers` from where a node's value is, beginning at the time at which it leaves the unit: `from`.
+    /// Fills `layers` from where a node's value is, beginning at the time at which it leaves the unit, as far as
+    /// `extent`: to the port `target`, or to all resources where there is no target.
     pub(crate) fn spread(
         &self,
         layers: &mut Layers,
-        problem: &Problem,
         from: Leaving,
+        target: Option<u32>,
         extent: Extent,
     ) -> Result<(), AllocError> {
-        layers.begin(problem.wiring, from.out, extent.last)?;
-        for edge in problem.outs.of(from.source) {
+        layers.begin(self.problem.wiring, from.at, extent.last)?;
+        for edge in self.problem.outs.of(from.source) {
             if let Some(route) = self.route(*edge) {
-                layers.lay(&self.occupancy, from.start, extent.last, route);
+                layers.lay(&self.occupancy, route);
             }
         }
-        layers.forward(
-            &self.occupancy,
-            problem.wiring,
-            from.start,
-            extent.last,
-            extent.target,
-            extent.cap,
-        );
+        layers.forward(self.fabric(), target, extent.cap);
         Ok(())
     }
 

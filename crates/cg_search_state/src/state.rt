@@ -1,18 +1,21 @@
 //! The state of a search: places and routes, and the penalties of violated order edges.
 
+use crate::ends::{Connection, routable_ends};
 use crate::routes::{PENALTY, PENALTY_AGE, Routes};
 use cg_model::Place;
 use cg_search_problem::{Places, Problem, count, number_at, raise, shifted};
 use cg_search_router::Stand;
 use std::alloc::{AllocError, Global};
 
-/// The places of nodes and the routes of values, at an interval.
+/// The places of the nodes of a problem and the routes of their values.
 #[derive(Drop)]
-pub struct State {
+pub struct State<'a> {
+    /// The problem.
+    pub problem: &'a Problem<'a>,
     /// The places of nodes.
     pub places: Places,
     /// The routes of data edges.
-    pub routes: Routes,
+    pub routes: Routes<'a>,
     histories: Vec<u32>,
 }
 
@@ -32,11 +35,12 @@ struct Carried {
     route: Vec<Stand>,
 }
 
-impl State {
-    /// Returns a state in which no node is placed.
-    pub fn new(alloc: Global, problem: &Problem) -> Result<State, AllocError> {
+impl<'a> State<'a> {
+    /// Returns a state of `problem` in which no node is placed.
+    pub fn new(alloc: Global, problem: &'a Problem<'a>) -> Result<State<'a>, AllocError> {
         let nodes = problem.nodes as usize;
         Ok(State {
+            problem,
             places: Places::new(alloc, nodes, problem.hosts.len(), problem.ii)?,
             routes: Routes::new(alloc, problem)?,
             histories: vec![in alloc; 0u32; problem.order.len()]?,
@@ -49,7 +53,8 @@ impl State {
     }
 
     /// Checks whether the order edge `tie` is violated by nodes that are placed.
-    pub fn is_broken(&self, problem: &Problem, tie: u32) -> bool {
+    pub fn is_broken(&self, tie: u32) -> bool {
+        let problem = self.problem;
         match problem.order.get(tie as usize) {
             None => false,
             Some(edge) => match (self.places.at(edge.from), self.places.at(edge.to)) {
@@ -61,13 +66,21 @@ impl State {
         }
     }
 
+    /// Returns the connection of data edge number `edge`, for a route below the price `cap`. None where one of its nodes
+    /// isn't placed, or its route would end before it begins or take more cycles than a route may take.
+    pub fn connection(&self, edge: u32, cap: u32) -> Option<Connection> {
+        let ends = routable_ends(self.problem, &self.places, edge)?;
+        Some(Connection { edge, ends, cap })
+    }
+
     /// Lifts `node`, and removes the routes of its edges.
-    pub fn lift(&mut self, problem: &Problem, node: u32) {
+    pub fn lift(&mut self, node: u32) {
+        let problem = self.problem;
         for edge in problem.ins.of(node) {
-            self.routes.rip(problem, *edge);
+            self.routes.rip(*edge);
         }
         for edge in problem.outs.of(node) {
-            self.routes.rip(problem, *edge);
+            self.routes.rip(*edge);
         }
         self.places.lift(node);
     }
@@ -82,33 +95,27 @@ impl State {
     pub fn shift(
         &mut self,
         alloc: Global,
-        problem: &Problem,
         members: &[bool],
         is_later: bool,
     ) -> Result<(), AllocError> {
-        let torn = self.tear(alloc, problem, members)?;
-        for node in 0..problem.nodes {
+        let torn = self.tear(alloc, members)?;
+        for node in 0..self.problem.nodes {
             if is_marked(members, node) {
                 self.places.shift(node, is_later);
             }
         }
-        self.put_within(problem, torn.within, is_later)?;
-        self.connect_all(alloc, problem, torn.border.as_slice())
+        self.put_within(torn.within, is_later)?;
+        self.connect_all(alloc, torn.border.as_slice())
     }
 
     /// Removes the routes of all edges of `members`.
-    fn tear(
-        &mut self,
-        alloc: Global,
-        problem: &Problem,
-        members: &[bool],
-    ) -> Result<Torn, AllocError> {
+    fn tear(&mut self, alloc: Global, members: &[bool]) -> Result<Torn, AllocError> {
         let mut torn = Torn {
             within: Vec::new(alloc),
             border: Vec::new(alloc),
         };
-        for edge in 0..count(problem.edges.as_slice()) {
-            self.tear_edge(problem, members, edge, &mut torn)?;
+        for edge in 0..count(self.problem.edges.as_slice()) {
+            self.tear_edge(members, edge, &mut torn)?;
         }
         Ok(torn)
     }
@@ -116,12 +123,11 @@ impl State {
     /// Removes the route of `edge`, if it has an end among `members`, and adds it to `torn`.
     fn tear_edge(
         &mut self,
-        problem: &Problem,
         members: &[bool],
         edge: u32,
         torn: &mut Torn,
     ) -> Result<(), AllocError> {
-        let ends = match problem.edge(edge) {
+        let ends = match self.problem.edge(edge) {
             Some(facts) => (
                 is_marked(members, facts.source),
                 is_marked(members, facts.target),
@@ -130,13 +136,13 @@ impl State {
         };
         match ends {
             (true, true) => {
-                if let Some(route) = self.routes.take(problem, edge) {
+                if let Some(route) = self.routes.take(edge) {
                     torn.within.push(Carried { edge, route })?;
                 }
             }
             (false, false) => {}
             _ => {
-                self.routes.rip(problem, edge);
+                self.routes.rip(edge);
                 torn.border.push(edge)?;
             }
         }
@@ -144,54 +150,45 @@ impl State {
     }
 
     /// Puts the routes `within` back, an interval later or sooner.
-    fn put_within(
-        &mut self,
-        problem: &Problem,
-        within: Vec<Carried>,
-        is_later: bool,
-    ) -> Result<(), AllocError> {
+    fn put_within(&mut self, within: Vec<Carried>, is_later: bool) -> Result<(), AllocError> {
         for carried in within {
             let mut route = carried.route;
-            shift_route(&mut route, problem.ii, is_later);
-            self.routes.put(problem, carried.edge, route)?;
+            shift_route(&mut route, self.problem.ii, is_later);
+            self.routes.put(carried.edge, route)?;
         }
         Ok(())
     }
 
     /// Routes `edges`, which have no routes, where that costs less than to have none.
-    fn connect_all(
-        &mut self,
-        alloc: Global,
-        problem: &Problem,
-        edges: &[u32],
-    ) -> Result<(), AllocError> {
+    fn connect_all(&mut self, alloc: Global, edges: &[u32]) -> Result<(), AllocError> {
         for edge in edges {
-            let cap = self.routes.penalty(problem, *edge);
-            self.routes
-                .connect(alloc, problem, &self.places, *edge, cap)?;
+            let cap = self.routes.penalty(*edge);
+            if let Some(connection) = self.connection(*edge, cap) {
+                self.routes.connect(alloc, connection)?;
+            }
         }
         Ok(())
     }
 
     /// Raises the prices and penalties of all faults.
-    pub fn age(&mut self, problem: &Problem) {
+    pub fn age(&mut self) {
         self.routes.age();
         self.places.age();
         for tie in 0..self.histories.len() {
-            self.age_at(problem, tie);
+            self.age_at(tie);
         }
     }
 
     /// Raises the penalty of the order edge `tie` where it is violated.
-    fn age_at(&mut self, problem: &Problem, tie: usize) {
-        if self.is_broken(problem, tie.min(u32::MAX as usize) as u32) {
+    fn age_at(&mut self, tie: usize) {
+        if self.is_broken(tie.min(u32::MAX as usize) as u32) {
             raise(&mut self.histories, tie, PENALTY_AGE);
         }
     }
 
     /// Removes all nodes and routes, and resets their prices.
-    pub fn clear(&mut self, problem: &Problem) {
-        for node in 0..problem.nodes {
+    pub fn clear(&mut self) {
+        for node in 0..self.problem.nodes {
             self.places.lift(node);
         }
         self.places.forget();

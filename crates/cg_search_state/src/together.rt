@@ -1,6 +1,7 @@
 //! Nodes that must move a whole interval later, or sooner, together.
 
 use crate::ends::ends_of;
+use crate::state::State;
 use cg_model::OrderEdge;
 use cg_search_problem::{DataEdge, Group, Places, Problem, Tightness};
 use std::alloc::{AllocError, Global};
@@ -16,9 +17,10 @@ impl<'a> Tightness for Placed<'a> {
     fn is_tight(&self, problem: &Problem, edge: DataEdge) -> bool {
         match ends_of(problem, self.places, edge) {
             Some(ends) => {
-                let hops = problem.wiring.hops(ends.from.out, ends.port);
+                let from = ends.from.at;
+                let hops = problem.wiring.hops(from.resource, ends.to.resource);
                 let needed = problem.ii.saturating_add(hops);
-                ends.end < ends.from.start.saturating_add(needed)
+                ends.to.time < from.time.saturating_add(needed)
             }
             None => false,
         }
@@ -37,17 +39,16 @@ impl<'a> Tightness for Placed<'a> {
     }
 }
 
-/// Returns for each node whether it must move along where `node` moves a whole interval later, or sooner, so that no
-/// edge becomes too short.
-pub fn along(
-    alloc: Global,
-    problem: &Problem,
-    places: &Places,
-    node: u32,
-    is_later: bool,
-) -> Result<Vec<bool>, AllocError> {
-    let mut group = Group::new(alloc, problem.nodes)?;
-    group.add(node)?;
-    group.grow(problem, &Placed { places }, is_later)?;
-    Ok(group.into_marks())
+impl<'a> State<'a> {
+    /// Returns for each node whether it must move along where `node` moves a whole interval later, or sooner, so that no
+    /// edge becomes too short.
+    pub fn along(&self, alloc: Global, node: u32, is_later: bool) -> Result<Vec<bool>, AllocError> {
+        let mut group = Group::new(alloc, self.problem.nodes)?;
+        group.add(node)?;
+        let placed = Placed {
+            places: &self.places,
+        };
+        group.grow(self.problem, &placed, is_later)?;
+        Ok(group.into_marks())
+    }
 }

@@ -3,8 +3,8 @@
 use crate::known::Known;
 use crate::windows::Window;
 use cg_model::Place;
-use cg_search_problem::{Host, Places, Problem, number_at, raise};
-use cg_search_state::Routes;
+use cg_search_problem::{Host, Places, number_at, raise};
+use cg_search_state::{Routes, State};
 use std::alloc::{AllocError, Global};
 
 /// The cost of each cycle by which a value comes too late.
@@ -34,6 +34,15 @@ pub(crate) struct Estimates {
     fans: Vec<Fan>,
 }
 
+/// A unit that offers the node's operation: the row of its times.
+#[derive(Clone, Copy, Drop)]
+pub(crate) struct Row {
+    /// The number of the row.
+    pub(crate) number: u32,
+    /// The unit.
+    pub(crate) unit: u32,
+}
+
 /// A data edge of the node, seen from its other end.
 #[derive(Clone, Copy, Drop)]
 pub(crate) struct Link {
@@ -41,6 +50,8 @@ pub(crate) struct Link {
     pub(crate) number: u32,
     /// The time at the other end: when the value leaves there, or has to be there.
     pub(crate) time: u32,
+    /// The cycles by which the node's iteration begins after the one in which that time is counted.
+    pub(crate) turns: u32,
     /// The last layer that was searched, in cycles from there.
     pub(crate) last: u32,
     /// The cost of having no route.
@@ -51,17 +62,16 @@ impl Estimates {
     /// Returns the costs of placing `node` on each unit that offers its operation, at each time of `window`.
     pub(crate) fn of_places(
         alloc: Global,
-        problem: &Problem,
-        places: &Places,
+        state: &State,
         node: u32,
         window: Window,
     ) -> Result<Estimates, AllocError> {
         let width = window.width() as usize;
-        let offers = problem.offers.of(node);
+        let offers = state.problem.offers.of(node);
         let entries = offers.len().saturating_mul(width);
         let mut costs = Vec::with_capacity(alloc, entries)?;
         for unit in offers {
-            add_prices(&mut costs, places, *unit, window)?;
+            add_prices(&mut costs, &state.places, *unit, window)?;
         }
         Ok(Estimates {
             window,
@@ -71,6 +81,11 @@ impl Estimates {
             costs,
             fans: vec![in alloc; Fan { sum: 0, most: 0 }; entries]?,
         })
+    }
+
+    /// Returns the node's edges whose other ends are placed.
+    pub(crate) fn into_known(self) -> Vec<Known> {
+        self.known
     }
 
     /// Returns the cost of unit number `row` among those that offer the operation, at time number `column` of the
@@ -101,15 +116,14 @@ impl Estimates {
         }
     }
 
-    /// Adds the route of an edge into the node, to the port `port` of the unit of `row`. The iteration of its target
-    /// begins `turns` cycles after that of its source.
-    pub(crate) fn add_in(&mut self, routes: &Routes, link: Link, row: u32, port: u32, turns: u32) {
+    /// Adds the route of an edge into the node, to the port `port` of the unit of `row`.
+    pub(crate) fn add_in(&mut self, routes: &Routes, link: Link, row: u32, port: u32) {
         for column in 0..self.window.width() {
             let begin = self
                 .window
                 .first
                 .saturating_add(column)
-                .saturating_add(turns);
+                .saturating_add(link.turns);
             let layer = begin.saturating_sub(link.time);
             let cost = if begin < link.time {
                 too_late(link.penalty, link.time - begin)

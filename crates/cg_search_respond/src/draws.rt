@@ -4,7 +4,7 @@ use rand_core::utils::NextWord;
 use rand_pcg::Lcg64Xsh32;
 
 /// Returns a random number below `k` from the next word of `generator`; 0 where `k` is 0.
-pub fn draw(generator: &mut Lcg64Xsh32, k: u32) -> u32 {
+pub(crate) fn draw(generator: &mut Lcg64Xsh32, k: u32) -> u32 {
     let word = generator.next_word();
     scaled(word, k)
 }
@@ -15,7 +15,7 @@ fn scaled(word: u32, k: u32) -> u32 {
 }
 
 /// Puts `list` in a random order, by the words of `generator`.
-pub fn shuffle(generator: &mut Lcg64Xsh32, list: &mut [u32]) {
+pub(crate) fn shuffle(generator: &mut Lcg64Xsh32, list: &mut [u32]) {
     for place in (1..list.len()).rev() {
         let other = draw(generator, step_up(place));
         exchange(list, place, other as usize);
