@@ -1,9 +1,10 @@
 //! The least intervals that no reason of one kind excludes.
 ghost use Rattle.std.specs.Prelude.{◌≡◌, ◌≤◌, IfOk, Some};
-ghost use Rattle.cg_bound_all.specs.Why.{AreAllNumbers, IsShown, IsBound, AreBounds, all_kinds};
-ghost use Rattle.cg_bound_all.specs.Scan.{IsBetween};
+ghost use Rattle.cg_bound_all.specs.Why.{AreNumbers, AreAllNumbers, numbers_at, hops_at, IsShown, IsBound, AreBounds, all_kinds};
+ghost use Rattle.cg_bound_all.specs.Scan.{IsFound, IsBetween};
 
 use crate::exclusion::find_reason;
+use crate::instances::{AtInterval, Instance};
 use crate::numbers::HopTables;
 use crate::reach::excludes_lower;
 use crate::reason::{Kind, Reason};
@@ -21,30 +22,55 @@ pub struct Bound {
     pub below: Option<Reason>,
 }
 
-/// Finds the least interval that no reason of kind `kind` excludes, by binary search: reasons exclude each interval up to
-/// `low`, `below` that one, and none excludes `free`. Below an interval that none excludes, each interval below one that
-/// is excluded is excluded too.
+/// The search for the least interval of `instance` that no reason of kind `kind` excludes.
+#[derive(Clone, Copy)]
+struct Search<'a> {
+    instance: Instance<'a>,
+    kind: Kind,
+}
+
+/// Finds a reason of the kind of `search` that excludes interval `ii`; `None` if no reason does.
+fn find_at(alloc: Global, search: Search, ii: u32) -> Result<Option<Reason>, AllocError>
+    requires interval { ii ≤ search.instance.arch.now.contexts }
+    requires numbers { AreNumbers search.instance.arch.now search.instance.kernel.now ii (numbers_at search.instance.tables.now ii) }
+    ensures { IfOk result (IsFound search.entry.instance.arch.now search.entry.instance.kernel.now (hops_at search.entry.instance.tables.now ii) ii search.entry.kind) }
+{
+    let Instance {
+        arch,
+        kernel,
+        tables,
+    } = search.instance;
+    let numbers = tables.at(ii);
+    let at = AtInterval {
+        arch,
+        kernel,
+        numbers,
+        ii,
+    };
+    find_reason(alloc, at, search.kind)
+}
+
+/// Finds the least interval that no reason of the kind of `search` excludes, by binary search: reasons exclude each
+/// interval up to `low`, `below` that one, and none excludes `free`. Below an interval that none excludes, each interval
+/// below one that is excluded is excluded too.
 fn halve(
     alloc: Global,
-    arch: &Arch,
-    kernel: &Kernel,
-    tables: &HopTables,
-    kind: Kind,
+    search: Search,
     low: u32,
     below: Reason,
     free: u32,
 ) -> Result<Bound, AllocError>
-    requires numbers { AreAllNumbers arch.now kernel.now tables.now }
-    requires between { IsBetween arch.now kernel.now tables.now kind low free (Some below) }
-    ensures bound { IfOk result (IsBound arch.now kernel.now tables.now) }
-    ensures kind { IfOk result (λ bound. bound.kind ≡ kind) }
+    requires numbers { AreAllNumbers search.instance.arch.now search.instance.kernel.now search.instance.tables.now }
+    requires between { IsBetween search.instance.arch.now search.instance.kernel.now search.instance.tables.now search.kind low free (Some below) }
+    ensures bound { IfOk result (IsBound search.entry.instance.arch.now search.entry.instance.kernel.now search.entry.instance.tables.now) }
+    ensures kind { IfOk result (λ bound. bound.kind ≡ search.entry.kind) }
 {
     let mut low = low;
     let mut high = free;
     let mut below = Some(below);
     while low + 1 < high {
         let middle = low + (high - low) / 2;
-        match find_reason(alloc, arch, kernel, tables.at(middle), middle, kind)? {
+        match find_at(alloc, search, middle)? {
             Some(reason) => {
                 low = middle;
                 below = Some(reason);
@@ -53,38 +79,35 @@ fn halve(
         }
     }
     Ok(Bound {
-        kind,
+        kind: search.kind,
         least: Some(high),
         below,
     })
 }
 
-/// Finds the least interval that no reason of kind `kind` excludes, by binary search for one that none excludes: `first`
-/// excludes interval 1, and `last` the contexts of `arch`.
-fn narrow(
-    alloc: Global,
-    arch: &Arch,
-    kernel: &Kernel,
-    tables: &HopTables,
-    kind: Kind,
-    first: Reason,
-    last: Reason,
-) -> Result<Bound, AllocError>
-    requires numbers { AreAllNumbers arch.now kernel.now tables.now }
-    requires first { IsShown arch.now kernel.now tables.now kind 1 (Some first) }
-    requires last { IsShown arch.now kernel.now tables.now kind arch.now.contexts (Some last) }
-    requires several { 2 ≤ arch.now.contexts }
-    ensures bound { IfOk result (IsBound arch.now kernel.now tables.now) }
-    ensures kind { IfOk result (λ bound. bound.kind ≡ kind) }
+/// Finds the least interval that no reason of the kind of `search` excludes, by binary search for one that none excludes:
+/// `first` excludes interval 1, and `last` the contexts of the architecture.
+fn narrow(alloc: Global, search: Search, first: Reason, last: Reason) -> Result<Bound, AllocError>
+    requires numbers { AreAllNumbers search.instance.arch.now search.instance.kernel.now search.instance.tables.now }
+    requires first { IsShown search.instance.arch.now search.instance.kernel.now search.instance.tables.now search.kind 1 (Some first) }
+    requires last { IsShown search.instance.arch.now search.instance.kernel.now search.instance.tables.now search.kind search.instance.arch.now.contexts (Some last) }
+    requires several { 2 ≤ search.instance.arch.now.contexts }
+    ensures bound { IfOk result (IsBound search.entry.instance.arch.now search.entry.instance.kernel.now search.entry.instance.tables.now) }
+    ensures kind { IfOk result (λ bound. bound.kind ≡ search.entry.kind) }
 {
+    let Instance {
+        arch,
+        kernel,
+        tables,
+    } = search.instance;
     let mut low = 1;
     let mut below = first;
     let mut high = arch.contexts();
     let mut above = last;
     while low + 1 < high {
         let middle = low + (high - low) / 2;
-        let Some(reason) = find_reason(alloc, arch, kernel, tables.at(middle), middle, kind)? else {
-            return halve(alloc, arch, kernel, tables, kind, low, below, middle);
+        let Some(reason) = find_at(alloc, search, middle)? else {
+            return halve(alloc, search, low, below, middle);
         };
         if excludes_lower(arch, kernel, tables, middle, &reason) {
             low = middle;
@@ -95,34 +118,34 @@ fn narrow(
         }
     }
     Ok(Bound {
-        kind,
+        kind: search.kind,
         least: None,
         below: Some(above),
     })
 }
 
-/// Finds the least interval that no reason of kind `kind` excludes, from 1 to the contexts of `arch`.
-fn find_bound(
-    alloc: Global,
-    arch: &Arch,
-    kernel: &Kernel,
-    tables: &HopTables,
-    kind: Kind,
-) -> Result<Bound, AllocError>
-    requires { AreAllNumbers arch.now kernel.now tables.now }
-    ensures bound { IfOk result (IsBound arch.now kernel.now tables.now) }
-    ensures kind { IfOk result (λ bound. bound.kind ≡ kind) }
+/// Finds the least interval that no reason of the kind of `search` excludes, from 1 to the contexts of the architecture.
+fn find_bound(alloc: Global, search: Search) -> Result<Bound, AllocError>
+    requires { AreAllNumbers search.instance.arch.now search.instance.kernel.now search.instance.tables.now }
+    ensures bound { IfOk result (IsBound search.entry.instance.arch.now search.entry.instance.kernel.now search.entry.instance.tables.now) }
+    ensures kind { IfOk result (λ bound. bound.kind ≡ search.entry.kind) }
 {
+    let Instance {
+        arch,
+        kernel,
+        tables,
+    } = search.instance;
+    let kind = search.kind;
     let most = arch.contexts();
-    let Some(first) = find_reason(alloc, arch, kernel, tables.at(1), 1, kind)? else {
+    let Some(first) = find_at(alloc, search, 1)? else {
         return Ok(Bound {
             kind,
             least: Some(1),
             below: None,
         });
     };
-    let Some(last) = find_reason(alloc, arch, kernel, tables.at(most), most, kind)? else {
-        return halve(alloc, arch, kernel, tables, kind, 1, first, most);
+    let Some(last) = find_at(alloc, search, most)? else {
+        return halve(alloc, search, 1, first, most);
     };
     if most == 1 || excludes_lower(arch, kernel, tables, most, &last) {
         return Ok(Bound {
@@ -131,7 +154,7 @@ fn find_bound(
             below: Some(last),
         });
     }
-    narrow(alloc, arch, kernel, tables, kind, first, last)
+    narrow(alloc, search, first, last)
 }
 
 /// Returns the kinds, in order.
@@ -151,11 +174,20 @@ pub(crate) fn find_bounds(
     requires { AreAllNumbers arch.now kernel.now tables.now }
     ensures { IfOk result (λ bounds. AreBounds arch.now kernel.now tables.now 4 bounds.items) }
 {
+    let instance = Instance {
+        arch,
+        kernel,
+        tables,
+    };
     let all = kinds();
     let kinds = all.as_slice();
     let mut bounds = Vec::new(alloc);
     for kind in kinds {
-        bounds.push(find_bound(alloc, arch, kernel, tables, *kind)?)?;
+        let search = Search {
+            instance,
+            kind: *kind,
+        };
+        bounds.push(find_bound(alloc, search)?)?;
     }
     Ok(bounds)
 }

@@ -5,6 +5,7 @@ ghost use Rattle.cg_bound_all.specs.declared.reason.Kind.TheVariants as kinds;
 ghost use Rattle.cg_bound_all.specs.Why.{AreNumbers};
 ghost use Rattle.cg_bound_all.specs.Scan.{IsFound};
 
+use crate::instances::AtInterval;
 use crate::numbers::Numbers;
 use crate::reason::{Kind, Reason};
 use cg_bound_flow::{Outcome, find_pressure};
@@ -13,20 +14,22 @@ use cg_class::{Assignment, assign};
 use cg_recur::{Arch, Kernel, Recur, recurrence};
 use std::alloc::{AllocError, Global};
 
-/// Finds a reason of kind `kind` that excludes interval `ii`, for which `numbers` has the registers on the ways; `None`
-/// if no reason does.
+/// Finds a reason of kind `kind` that excludes the interval of `at`; `None` if no reason does.
 pub(crate) fn find_reason(
     alloc: Global,
-    arch: &Arch,
-    kernel: &Kernel,
-    numbers: &Numbers,
-    ii: u32,
+    at: AtInterval,
     kind: Kind,
 ) -> Result<Option<Reason>, AllocError>
-    requires interval { ii ≤ arch.now.contexts }
-    requires numbers { AreNumbers arch.now kernel.now ii numbers.now }
-    ensures { IfOk result (IsFound arch.now kernel.now (table numbers.now.hops.items) ii kind) }
+    requires interval { at.ii ≤ at.arch.now.contexts }
+    requires numbers { AreNumbers at.arch.now at.kernel.now at.ii at.numbers.now }
+    ensures { IfOk result (IsFound at.entry.arch.now at.entry.kernel.now (table at.entry.numbers.now.hops.items) at.entry.ii kind) }
 {
+    let AtInterval {
+        arch,
+        kernel,
+        numbers,
+        ii,
+    } = at;
     match kind {
         Kind::Recurrence => by_recurrence(alloc, arch, kernel, numbers, ii),
         Kind::Class => by_class(alloc, arch, kernel, numbers, ii),

@@ -4,6 +4,7 @@
 
 mod bounds;
 mod exclusion;
+mod instances;
 mod laws;
 mod least;
 mod numbers;
@@ -13,6 +14,7 @@ mod why;
 
 pub use bounds::Bound;
 pub use cg_recur::{Arch, EdgeId, Kernel};
+pub use instances::Instance;
 pub use laws::{always_decided, always_explained, excludes};
 pub use least::{Least, find_exclusion};
 pub use numbers::{HopTables, Numbers, find_hops};

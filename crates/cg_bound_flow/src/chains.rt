@@ -22,6 +22,15 @@ pub(crate) struct Incidence {
     pub ends: Chain,
 }
 
+/// The network of a kernel with `n` nodes.
+#[derive(Clone, Copy)]
+pub(crate) struct Network<'a> {
+    pub links: &'a [Link],
+    /// The links of each place.
+    pub incidence: &'a Incidence,
+    pub n: usize,
+}
+
 /// Adds the next link to those of place `x`.
 fn add(chain: &mut Chain, x: usize) -> Result<(), AllocError>
     requires linked { IsLinked (length chain.old.last.items) (length chain.old.earlier.items) chain.old }

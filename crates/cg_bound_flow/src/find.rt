@@ -12,11 +12,12 @@ ghost use Rattle.cg_bound_flow.specs.Parts.{IsNetwork};
 ghost use Rattle.cg_bound_flow.specs.Route.{IsSettled, IsRouting, AreRouted, HasSpans};
 ghost use Rattle.cg_bound_flow.specs.Finish.{IsSchedule, IsFound, IsSound};
 
-use crate::chains::incidence_of;
+use crate::chains::{Network, incidence_of};
 use crate::extract::certificate;
-use crate::network::{Link, network};
-use crate::push::push;
-use crate::route::route_all;
+use crate::instances::Instance;
+use crate::network::{Link, all_links};
+use crate::push::{Path, Priced, push};
+use crate::route::{Routing, route_all};
 use crate::settle::{Blocked, keep_all};
 use cg_bound_registers::{Pressure, Times, all_stays, count_registers};
 use cg_recur::{Arch, Kernel, latencies_are_small};
@@ -31,49 +32,45 @@ pub enum Outcome {
     Open(Times),
 }
 
-/// Returns the certificate of a closed chain of links that can't all be kept. The flow on the chain is the number of
-/// register slots plus 1.
+/// Returns the certificate of a closed chain of links of `priced` that can't all be kept. The flow on the chain is the
+/// number of register slots plus 1.
 fn recurrence(
     alloc: Global,
-    arch: &Arch,
-    kernel: &Kernel,
-    hops: &[u32],
-    ii: u32,
-    links: &[Link],
+    instance: Instance,
+    priced: Priced,
     flow: &mut Vec<u32>,
-    at: &[u64],
     blocked: &Blocked,
 ) -> Result<Pressure, AllocError>
-    requires interval { ii ≤ 64 }
-    requires network { IsNetwork arch.now kernel.now (table hops.now) ii links.now }
-    requires graph { IsGraph (size kernel.now + size kernel.now + size kernel.now) links.now }
-    requires flows { length flow.old.items ≡ length links.now }
+    requires interval { instance.ii ≤ 64 }
+    requires network { IsNetwork instance.arch.now instance.kernel.now (table instance.hops.now) instance.ii priced.links.now }
+    requires graph { IsGraph (size instance.kernel.now + size instance.kernel.now + size instance.kernel.now) priced.links.now }
+    requires flows { length flow.old.items ≡ length priced.links.now }
     requires idle { (k : ℕ) → slice_index flow.old.items k ≡ 0 }
-    requires blocked { IsSettled links.now flow.old.items (size kernel.now + size kernel.now + size kernel.now) at.now (Some blocked.now) }
-    ensures { IfOk result (IsFound arch.now kernel.now (table hops.now) ii) }
+    requires blocked { IsSettled priced.links.now flow.old.items (size instance.kernel.now + size instance.kernel.now + size instance.kernel.now) priced.potentials.now (Some blocked.now) }
+    ensures { IfOk result (IsFound instance.entry.arch.now instance.entry.kernel.now (table instance.entry.hops.now) instance.entry.ii) }
 {
-    let _nodes = kernel.nodes();
-    let by = ii * count_registers(arch) as u32 + 1;
-    push(
-        links,
-        at,
-        flow,
-        &blocked.reached,
-        links[blocked.link].from,
-        by,
-    );
+    let links = priced.links;
+    let _nodes = instance.kernel.nodes();
+    let by = instance.ii * count_registers(instance.arch) as u32 + 1;
+    let path = Path {
+        reached: &blocked.reached,
+        goal: links[blocked.link].from,
+    };
+    push(priced, flow, path, by);
     flow[blocked.link] += by;
-    let found = certificate(alloc, kernel, links, flow)?;
+    let found = certificate(alloc, instance.kernel, links, flow)?;
     Ok(found)
 }
 
-/// Returns the times of the nodes, with the stays of the values that are routed.
-fn schedule(alloc: Global, n: usize, at: &[u64], routed: &[bool]) -> Result<Times, AllocError>
-    requires each { length at.now ≡ n + n + n }
-    requires marks { length routed.now ≡ n }
+/// Returns the times of the `n` nodes, with the stays of the values that are routed.
+fn schedule(alloc: Global, n: usize, routing: &Routing) -> Result<Times, AllocError>
+    requires each { length routing.now.potentials.items ≡ n + n + n }
+    requires marks { length routing.now.routed.items ≡ n }
     requires few { n ≤ 1024 }
-    ensures { IfOk result (IsSchedule n at.now routed.now) }
+    ensures { IfOk result (IsSchedule n routing.now.potentials.items routing.now.routed.items) }
 {
+    let at = &routing.potentials;
+    let routed = &routing.routed;
     let mut time = Vec::new(alloc);
     let mut lasts = Vec::new(alloc);
     let mut longest = Vec::new(alloc);
@@ -90,49 +87,45 @@ fn schedule(alloc: Global, n: usize, at: &[u64], routed: &[bool]) -> Result<Time
     })
 }
 
-/// Returns the times if their stays fit in the registers, and else the certificate of the flow.
+/// Returns the times of `routing` if their stays fit in the registers, and else the certificate of its flow.
 fn decide(
     alloc: Global,
-    arch: &Arch,
-    kernel: &Kernel,
-    hops: &[u32],
-    ii: u32,
+    instance: Instance,
     links: &[Link],
-    flow: &[u32],
-    at: &[u64],
-    routed: &[bool],
+    routing: &Routing,
 ) -> Result<Outcome, AllocError>
-    requires network { IsNetwork arch.now kernel.now (table hops.now) ii links.now }
-    requires graph { IsGraph (size kernel.now + size kernel.now + size kernel.now) links.now }
-    requires routing { IsRouting (size kernel.now) links.now (length links.now) flow.now at.now routed.now }
-    requires all { AreRouted (size kernel.now) links.now (length links.now) routed.now }
-    ensures { IfOk result (IsSound arch.now kernel.now (table hops.now) ii) }
+    requires network { IsNetwork instance.arch.now instance.kernel.now (table instance.hops.now) instance.ii links.now }
+    requires graph { IsGraph (size instance.kernel.now + size instance.kernel.now + size instance.kernel.now) links.now }
+    requires routing { IsRouting (size instance.kernel.now) links.now (length links.now) routing.now.flow.items routing.now.potentials.items routing.now.routed.items }
+    requires all { AreRouted (size instance.kernel.now) links.now (length links.now) routing.now.routed.items }
+    ensures { IfOk result (IsSound instance.entry.arch.now instance.entry.kernel.now (table instance.entry.hops.now) instance.entry.ii) }
 {
-    let n = kernel.nodes().len();
-    let times = schedule(alloc, n, at, routed)?;
-    if all_stays(&times, n as u32) <= ii as u128 * count_registers(arch) as u128 {
+    let n = instance.kernel.nodes().len();
+    let times = schedule(alloc, n, routing)?;
+    let room = instance.ii as u128 * count_registers(instance.arch) as u128;
+    if all_stays(&times, n as u32) <= room {
         return Ok(Outcome::Open(times));
     }
-    Ok(Outcome::Excluded(certificate(alloc, kernel, links, flow)?))
+    Ok(Outcome::Excluded(certificate(alloc, instance.kernel, links, &routing.flow)?))
 }
 
-/// Returns the network of a kernel, whose links are small.
-fn whole_network(
-    alloc: Global,
-    arch: &Arch,
-    kernel: &Kernel,
-    hops: &[u32],
-    ii: u32,
-) -> Result<Vec<Link>, AllocError>
-    requires { ii ≤ 64 }
-    ensures network { IfOk result (λ v. IsNetwork arch.now kernel.now (table hops.now) ii v.items) }
-    ensures graph { IfOk result (λ v. IsGraph (size kernel.now + size kernel.now + size kernel.now) v.items) }
-    ensures spans { IfOk result (λ v. HasSpans (size kernel.now) v.items) }
+/// States that each of the numbers of registers `_hops` is less than 2^32; the call does nothing.
+fn hops_are_words(_hops: &[u32])
+    ensures { (k : ℕ) → slice_index _hops.now k < 2 ^ 32 }
+{}
+
+/// Returns the links of the network of `instance`, which are small.
+fn whole_network(alloc: Global, instance: Instance) -> Result<Vec<Link>, AllocError>
+    requires { instance.ii ≤ 64 }
+    ensures network { IfOk result (λ v. IsNetwork instance.entry.arch.now instance.entry.kernel.now (table instance.entry.hops.now) instance.entry.ii v.items) }
+    ensures graph { IfOk result (λ v. IsGraph (size instance.entry.kernel.now + size instance.entry.kernel.now + size instance.entry.kernel.now) v.items) }
+    ensures spans { IfOk result (λ v. HasSpans (size instance.entry.kernel.now) v.items) }
 {
-    latencies_are_small(arch);
-    let _units = arch.units();
-    let _nodes = kernel.nodes();
-    let links = network(alloc, arch, kernel, hops, ii)?;
+    latencies_are_small(instance.arch);
+    hops_are_words(instance.hops);
+    let _units = instance.arch.units();
+    let _nodes = instance.kernel.nodes();
+    let links = all_links(alloc, instance)?;
     Ok(links)
 }
 
@@ -150,19 +143,37 @@ pub fn find_pressure(
     ensures { IfOk result (IsSound arch.now kernel.now (table hops.now) ii) }
 {
     let _contexts = arch.contexts();
+    let instance = Instance {
+        arch,
+        kernel,
+        hops,
+        ii,
+    };
     let n = kernel.nodes().len();
-    let list = whole_network(alloc, arch, kernel, hops, ii)?;
+    let list = whole_network(alloc, instance)?;
     let links = list.as_slice();
     let incidence = incidence_of(alloc, links, n + n + n)?;
-    let mut at = vec![in alloc; 0u64; n + n + n]?;
+    let network = Network {
+        links,
+        incidence: &incidence,
+        n,
+    };
+    let mut potentials = vec![in alloc; 0u64; n + n + n]?;
     let mut flow = vec![in alloc; 0u32; links.len()]?;
-    if let Some(blocked) = keep_all(alloc, links, &incidence, &flow, &mut at)? {
-        let found = recurrence(
-            alloc, arch, kernel, hops, ii, links, &mut flow, &at, &blocked,
-        )?;
+    if let Some(blocked) = keep_all(alloc, network, &flow, &mut potentials)? {
+        let priced = Priced {
+            links,
+            potentials: potentials.as_slice(),
+        };
+        let found = recurrence(alloc, instance, priced, &mut flow, &blocked)?;
         return Ok(Outcome::Excluded(found));
     }
-    let mut routed = vec![in alloc; false; n]?;
-    route_all(alloc, links, &incidence, n, &mut flow, &mut at, &mut routed)?;
-    decide(alloc, arch, kernel, hops, ii, links, &flow, &at, &routed)
+    let routed = vec![in alloc; false; n]?;
+    let mut routing = Routing {
+        flow,
+        potentials,
+        routed,
+    };
+    route_all(alloc, network, &mut routing)?;
+    decide(alloc, instance, links, &routing)
 }

@@ -4,6 +4,7 @@
 mod chains;
 mod extract;
 mod find;
+mod instances;
 mod lift;
 mod network;
 mod push;

@@ -4,8 +4,9 @@ ghost use Rattle.cg_model.specs.Kernel.{size};
 ghost use Rattle.cg_bound_registers.specs.Sums.{table};
 ghost use Rattle.cg_bound_flow.specs.Parts.{AllStand, Stands, Has, HasNode, HasData, HasOrder, IsGrown, IsNetwork};
 
+use crate::instances::Instance;
 use cg_bound_registers::{data_edge, hops_at, most_latency, order_edge};
-use cg_recur::{Arch, Kernel, latency};
+use cg_recur::latency;
 use std::alloc::{AllocError, Global};
 
 /// The constraint that a link represents.
@@ -34,17 +35,10 @@ pub struct Link {
 }
 
 /// Adds `link` to `links`.
-fn add(
-    links: &mut Vec<Link>,
-    link: Link,
-    arch: &Arch,
-    kernel: &Kernel,
-    hops: &[u32],
-    ii: u32,
-) -> Result<(), AllocError>
-    requires right { AllStand arch.now kernel.now (table hops.now) ii links.old.items }
-    requires stands { Stands arch.now kernel.now (table hops.now) ii link link.part }
-    ensures grown { OnOk result (IsGrown arch.now kernel.now (table hops.now) ii links.old.items links.new.items) }
+fn add(links: &mut Vec<Link>, link: Link, instance: Instance) -> Result<(), AllocError>
+    requires right { AllStand instance.arch.now instance.kernel.now (table instance.hops.now) instance.ii links.old.items }
+    requires stands { Stands instance.arch.now instance.kernel.now (table instance.hops.now) instance.ii link link.part }
+    ensures grown { OnOk result (IsGrown instance.entry.arch.now instance.entry.kernel.now (table instance.entry.hops.now) instance.entry.ii links.old.items links.new.items) }
     ensures has { OnOk result (Has links.new.items link.part) }
     ensures longer { OnOk result (length links.new.items ≡ length links.old.items + 1) }
 {
@@ -53,21 +47,14 @@ fn add(
 }
 
 /// Adds the links of node `w` to `links`.
-fn add_node(
-    links: &mut Vec<Link>,
-    w: u32,
-    arch: &Arch,
-    kernel: &Kernel,
-    hops: &[u32],
-    ii: u32,
-) -> Result<(), AllocError>
-    requires known { w < size kernel.now }
-    requires right { AllStand arch.now kernel.now (table hops.now) ii links.old.items }
-    ensures grown { OnOk result (IsGrown arch.now kernel.now (table hops.now) ii links.old.items links.new.items) }
+fn add_node(links: &mut Vec<Link>, w: u32, instance: Instance) -> Result<(), AllocError>
+    requires known { w < size instance.kernel.now }
+    requires right { AllStand instance.arch.now instance.kernel.now (table instance.hops.now) instance.ii links.old.items }
+    ensures grown { OnOk result (IsGrown instance.entry.arch.now instance.entry.kernel.now (table instance.entry.hops.now) instance.entry.ii links.old.items links.new.items) }
     ensures has { OnOk result (HasNode links.new.items w) }
     ensures longer { OnOk result (length links.new.items ≤ length links.old.items + 2) }
 {
-    let nodes = kernel.nodes();
+    let nodes = instance.kernel.nodes();
     let n = nodes.len();
     let begins = w as usize;
     let leaves = n + begins;
@@ -75,48 +62,40 @@ fn add_node(
     let least = Link {
         from: begins,
         to: leaves,
-        gain: latency(arch, op) as u64,
+        gain: latency(instance.arch, op) as u64,
         loss: 0,
         part: Part::Least(w),
     };
-    add(links, least, arch, kernel, hops, ii)?;
+    add(links, least, instance)?;
     let most = Link {
         from: leaves,
         to: begins,
         gain: 0,
-        loss: most_latency(arch, op) as u64,
+        loss: most_latency(instance.arch, op) as u64,
         part: Part::Most(w),
     };
-    add(links, most, arch, kernel, hops, ii)
+    add(links, most, instance)
 }
 
 /// Adds the links of the data edge that is operand `p` of node `v` to `links`, if that operand is an edge.
-fn add_data(
-    links: &mut Vec<Link>,
-    v: u32,
-    p: u32,
-    arch: &Arch,
-    kernel: &Kernel,
-    hops: &[u32],
-    ii: u32,
-) -> Result<(), AllocError>
-    requires right { AllStand arch.now kernel.now (table hops.now) ii links.old.items }
-    ensures grown { OnOk result (IsGrown arch.now kernel.now (table hops.now) ii links.old.items links.new.items) }
-    ensures has { OnOk result (HasData kernel.now links.new.items v p) }
+fn add_data(links: &mut Vec<Link>, v: u32, p: u32, instance: Instance) -> Result<(), AllocError>
+    requires right { AllStand instance.arch.now instance.kernel.now (table instance.hops.now) instance.ii links.old.items }
+    ensures grown { OnOk result (IsGrown instance.entry.arch.now instance.entry.kernel.now (table instance.entry.hops.now) instance.entry.ii links.old.items links.new.items) }
+    ensures has { OnOk result (HasData instance.entry.kernel.now links.new.items v p) }
     ensures longer { OnOk result (length links.new.items ≤ length links.old.items + 2) }
 {
-    let n = kernel.nodes().len();
-    if let Some(edge) = data_edge(kernel, v, p) {
+    let n = instance.kernel.nodes().len();
+    if let Some(edge) = data_edge(instance.kernel, v, p) {
         let source = edge.source as usize;
-        let turns = ii as u64 * edge.distance as u64;
+        let turns = instance.ii as u64 * edge.distance as u64;
         let pull = Link {
             from: n + source,
             to: edge.target as usize,
-            gain: hops_at(hops, edge.target, edge.arg) as u64,
+            gain: hops_at(instance.hops, edge.target, edge.arg) as u64,
             loss: turns,
             part: Part::Pull(v, p),
         };
-        add(links, pull, arch, kernel, hops, ii)?;
+        add(links, pull, instance)?;
         let stay = Link {
             from: edge.target as usize,
             to: n + n + source,
@@ -124,58 +103,45 @@ fn add_data(
             loss: 0,
             part: Part::Stay(v, p),
         };
-        add(links, stay, arch, kernel, hops, ii)?;
+        add(links, stay, instance)?;
     }
     Ok(())
 }
 
 /// Adds the link of order edge number `e` to `links`, if there is one.
-fn add_order(
-    links: &mut Vec<Link>,
-    e: u32,
-    arch: &Arch,
-    kernel: &Kernel,
-    hops: &[u32],
-    ii: u32,
-) -> Result<(), AllocError>
-    requires right { AllStand arch.now kernel.now (table hops.now) ii links.old.items }
-    ensures grown { OnOk result (IsGrown arch.now kernel.now (table hops.now) ii links.old.items links.new.items) }
-    ensures has { OnOk result (HasOrder kernel.now links.new.items e) }
+fn add_order(links: &mut Vec<Link>, e: u32, instance: Instance) -> Result<(), AllocError>
+    requires right { AllStand instance.arch.now instance.kernel.now (table instance.hops.now) instance.ii links.old.items }
+    ensures grown { OnOk result (IsGrown instance.entry.arch.now instance.entry.kernel.now (table instance.entry.hops.now) instance.entry.ii links.old.items links.new.items) }
+    ensures has { OnOk result (HasOrder instance.entry.kernel.now links.new.items e) }
     ensures longer { OnOk result (length links.new.items ≤ length links.old.items + 1) }
 {
-    if let Some(edge) = order_edge(kernel, e) {
+    if let Some(edge) = order_edge(instance.kernel, e) {
         let tie = Link {
             from: edge.source as usize,
             to: edge.target as usize,
             gain: 1,
-            loss: ii as u64 * edge.distance as u64,
+            loss: instance.ii as u64 * edge.distance as u64,
             part: Part::Tie(e),
         };
-        add(links, tie, arch, kernel, hops, ii)?;
+        add(links, tie, instance)?;
     }
     Ok(())
 }
 
-/// Returns the network of a kernel.
-pub(crate) fn network(
-    alloc: Global,
-    arch: &Arch,
-    kernel: &Kernel,
-    hops: &[u32],
-    ii: u32,
-) -> Result<Vec<Link>, AllocError>
-    ensures { IfOk result (λ v. IsNetwork arch.now kernel.now (table hops.now) ii v.items) }
+/// Returns the links of the network of `instance`.
+pub(crate) fn all_links(alloc: Global, instance: Instance) -> Result<Vec<Link>, AllocError>
+    ensures { IfOk result (λ v. IsNetwork instance.entry.arch.now instance.entry.kernel.now (table instance.entry.hops.now) instance.entry.ii v.items) }
 {
-    let n = kernel.nodes().len() as u32;
+    let n = instance.kernel.nodes().len() as u32;
     let mut links: Vec<Link> = Vec::new(alloc);
     for w in 0..n {
-        add_node(&mut links, w, arch, kernel, hops, ii)?;
-        add_data(&mut links, w, 0, arch, kernel, hops, ii)?;
-        add_data(&mut links, w, 1, arch, kernel, hops, ii)?;
-        add_data(&mut links, w, 2, arch, kernel, hops, ii)?;
+        add_node(&mut links, w, instance)?;
+        add_data(&mut links, w, 0, instance)?;
+        add_data(&mut links, w, 1, instance)?;
+        add_data(&mut links, w, 2, instance)?;
     }
-    for e in 0..kernel.order().len() as u32 {
-        add_order(&mut links, e, arch, kernel, hops, ii)?;
+    for e in 0..instance.kernel.order().len() as u32 {
+        add_order(&mut links, e, instance)?;
     }
     Ok(links)
 }

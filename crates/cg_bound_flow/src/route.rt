@@ -4,47 +4,60 @@ ghost use Rattle.cg_bound_flow.specs.Network.{IsGraph, AreKept};
 ghost use Rattle.cg_bound_flow.specs.Chains.{IsIncidence};
 ghost use Rattle.cg_bound_flow.specs.Route.{IsRouted, IsRouting, IsRoutedToo, IsSpan, HasSpans, AreRouted};
 
-use crate::chains::Incidence;
-use crate::lift::lift;
-use crate::network::{Link, Part};
-use crate::push::push;
+use crate::chains::Network;
+use crate::lift::{Raise, lift};
+use crate::network::Part;
+use crate::push::{Path, Priced, push};
+use crate::reach::Terminals;
 use std::alloc::{AllocError, Global};
 
-/// Lifts `start` until `goal` is reached, and sends a flow of 1 there.
+/// The flow of the values that are routed, with the potential of each place, and for each node whether its value is
+/// routed.
+#[derive(Drop)]
+pub(crate) struct Routing {
+    pub flow: Vec<u32>,
+    pub potentials: Vec<u64>,
+    pub routed: Vec<bool>,
+}
+
+/// Lifts the start of `terminals` until the goal is reached, and sends a flow of 1 there.
 fn route(
     alloc: Global,
-    links: &[Link],
-    incidence: &Incidence,
+    network: Network,
     flow: &mut Vec<u32>,
-    at: &mut Vec<u64>,
-    start: usize,
-    goal: usize,
+    potentials: &mut Vec<u64>,
+    terminals: Terminals,
 ) -> Result<(), AllocError>
-    requires graph { IsGraph (length at.old.items) links.now }
-    requires incidence { IsIncidence links.now (length at.old.items) incidence.now }
-    requires flows { length flow.old.items ≡ length links.now }
-    requires kept { AreKept links.now (length links.now) flow.old.items at.old.items }
-    requires start { start < length at.old.items }
-    requires goal { goal < length at.old.items }
-    requires times { (x : ℕ) → slice_index at.old.items x ≤ 2 ^ 61 }
+    requires graph { IsGraph (length potentials.old.items) network.links.now }
+    requires incidence { IsIncidence network.links.now (length potentials.old.items) network.incidence.now }
+    requires flows { length flow.old.items ≡ length network.links.now }
+    requires kept { AreKept network.links.now (length network.links.now) flow.old.items potentials.old.items }
+    requires start { terminals.start < length potentials.old.items }
+    requires goal { terminals.goal < length potentials.old.items }
+    requires times { (x : ℕ) → slice_index potentials.old.items x ≤ 2 ^ 61 }
     requires small { (k : ℕ) → slice_index flow.old.items k ≤ 2 ^ 16 }
-    requires spans { (f t : List ℕ) → AreKept links.now (length links.now) f t → slice_index t start ≤ slice_index t goal }
-    ensures { OnOk result (IsRouted links.now flow.old.items at.old.items start goal flow.new.items at.new.items) }
+    requires spans { (f t : List ℕ) → AreKept network.links.now (length network.links.now) f t → slice_index t terminals.start ≤ slice_index t terminals.goal }
+    ensures { OnOk result (IsRouted network.entry.links.now flow.old.items potentials.old.items terminals.start terminals.goal flow.new.items potentials.new.items) }
 {
-    let need = at[goal] - at[start] + 1;
-    match lift(
-        alloc,
-        links,
-        incidence,
-        links.len(),
-        flow,
-        at,
-        start,
-        goal,
+    let need = potentials[terminals.goal] - potentials[terminals.start] + 1;
+    let raise = Raise {
+        terminals,
         need,
-    )? {
+        count: network.links.len(),
+    };
+    match lift(alloc, network, flow, potentials, raise)? {
         None => unreachable!(),
-        Some(reached) => push(links, at, flow, &reached, goal, 1),
+        Some(reached) => {
+            let priced = Priced {
+                links: network.links,
+                potentials: potentials.as_slice(),
+            };
+            let path = Path {
+                reached: &reached,
+                goal: terminals.goal,
+            };
+            push(priced, flow, path, 1);
+        }
     }
     Ok(())
 }
@@ -52,25 +65,32 @@ fn route(
 /// Routes the value of node `u`, unless it is routed already.
 fn route_node(
     alloc: Global,
-    links: &[Link],
-    incidence: &Incidence,
-    n: usize,
-    flow: &mut Vec<u32>,
-    at: &mut Vec<u64>,
-    routed: &mut Vec<bool>,
+    network: Network,
+    routing: &mut Routing,
     u: usize,
     count: usize,
 ) -> Result<(), AllocError>
-    requires graph { IsGraph (n + n + n) links.now }
-    requires incidence { IsIncidence links.now (n + n + n) incidence.now }
-    requires routing { IsRouting n links.now count flow.old.items at.old.items routed.old.items }
+    requires graph { IsGraph (network.n + network.n + network.n) network.links.now }
+    requires incidence { IsIncidence network.links.now (network.n + network.n + network.n) network.incidence.now }
+    requires routing { IsRouting network.n network.links.now count routing.old.flow.items routing.old.potentials.items routing.old.routed.items }
     requires few { count < 2 ^ 14 }
-    requires span { IsSpan n links.now u }
-    ensures { OnOk result (IsRoutedToo n links.now count u flow.new.items at.new.items routed.old.items routed.new.items) }
+    requires span { IsSpan network.n network.links.now u }
+    ensures { OnOk result (IsRoutedToo network.entry.n network.entry.links.now count u routing.new.flow.items routing.new.potentials.items routing.old.routed.items routing.new.routed.items) }
 {
-    if !routed[u] {
-        route(alloc, links, incidence, flow, at, n + u, n + n + u)?;
-        routed[u] = true;
+    let n = network.n;
+    if !routing.routed[u] {
+        let terminals = Terminals {
+            start: n + u,
+            goal: n + n + u,
+        };
+        route(
+            alloc,
+            network,
+            &mut routing.flow,
+            &mut routing.potentials,
+            terminals,
+        )?;
+        routing.routed[u] = true;
     }
     Ok(())
 }
@@ -78,24 +98,22 @@ fn route_node(
 /// Routes the values of all nodes that a stay leaves.
 pub(crate) fn route_all(
     alloc: Global,
-    links: &[Link],
-    incidence: &Incidence,
-    n: usize,
-    flow: &mut Vec<u32>,
-    at: &mut Vec<u64>,
-    routed: &mut Vec<bool>,
+    network: Network,
+    routing: &mut Routing,
 ) -> Result<(), AllocError>
-    requires graph { IsGraph (n + n + n) links.now }
-    requires incidence { IsIncidence links.now (n + n + n) incidence.now }
-    requires routing { IsRouting n links.now 0 flow.old.items at.old.items routed.old.items }
-    requires spans { HasSpans n links.now }
-    ensures routing { OnOk result (IsRouting n links.now (length links.now) flow.new.items at.new.items routed.new.items) }
-    ensures all { OnOk result (AreRouted n links.now (length links.now) routed.new.items) }
+    requires graph { IsGraph (network.n + network.n + network.n) network.links.now }
+    requires incidence { IsIncidence network.links.now (network.n + network.n + network.n) network.incidence.now }
+    requires routing { IsRouting network.n network.links.now 0 routing.old.flow.items routing.old.potentials.items routing.old.routed.items }
+    requires spans { HasSpans network.n network.links.now }
+    ensures routing { OnOk result (IsRouting network.entry.n network.entry.links.now (length network.entry.links.now) routing.new.flow.items routing.new.potentials.items routing.new.routed.items) }
+    ensures all { OnOk result (AreRouted network.entry.n network.entry.links.now (length network.entry.links.now) routing.new.routed.items) }
 {
+    let links = network.links;
+    let n = network.n;
     for k in 0..links.len() {
         if let Part::Stay(_, _) = links[k].part {
             let u = links[k].to - (n + n);
-            route_node(alloc, links, incidence, n, flow, at, routed, u, k)?;
+            route_node(alloc, network, routing, u, k)?;
         }
     }
     Ok(())

@@ -4,10 +4,9 @@ ghost use Rattle.cg_bound_flow.specs.Network.{IsGraph};
 ghost use Rattle.cg_bound_flow.specs.Chains.{IsIncidence};
 ghost use Rattle.cg_bound_flow.specs.Route.{IsSettled};
 
-use crate::chains::Incidence;
-use crate::lift::lift;
-use crate::network::Link;
-use crate::reach::Reached;
+use crate::chains::Network;
+use crate::lift::{Raise, lift};
+use crate::reach::{Reached, Terminals};
 use std::alloc::{AllocError, Global};
 
 /// A link that can't be kept, and the places that rise with its end; the link's beginning is one of them.
@@ -17,37 +16,35 @@ pub(crate) struct Blocked {
     pub link: usize,
 }
 
-/// Lifts places until all links are kept, or one can't be.
+/// Lifts places of `network` until all links are kept, or one can't be.
 pub(crate) fn keep_all(
     alloc: Global,
-    links: &[Link],
-    incidence: &Incidence,
+    network: Network,
     flow: &[u32],
-    at: &mut Vec<u64>,
+    potentials: &mut Vec<u64>,
 ) -> Result<Option<Blocked>, AllocError>
-    requires graph { IsGraph (length at.old.items) links.now }
-    requires incidence { IsIncidence links.now (length at.old.items) incidence.now }
-    requires flows { length flow.now ≡ length links.now }
+    requires graph { IsGraph (length potentials.old.items) network.links.now }
+    requires incidence { IsIncidence network.links.now (length potentials.old.items) network.incidence.now }
+    requires flows { length flow.now ≡ length network.links.now }
     requires idle { (k : ℕ) → slice_index flow.now k ≡ 0 }
-    requires times { (x : ℕ) → slice_index at.old.items x ≡ 0 }
-    ensures { IfOk result (IsSettled links.now flow.now (length at.old.items) at.new.items) }
+    requires times { (x : ℕ) → slice_index potentials.old.items x ≡ 0 }
+    ensures { IfOk result (IsSettled network.entry.links.now flow.now (length potentials.old.items) potentials.new.items) }
 {
+    let links = network.links;
     for k in 0..links.len() {
         let link = links[k];
-        let high = at[link.from] + link.gain;
-        let low = at[link.to] + link.loss;
+        let high = potentials[link.from] + link.gain;
+        let low = potentials[link.to] + link.loss;
         if low < high {
-            if let Some(reached) = lift(
-                alloc,
-                links,
-                incidence,
-                k,
-                flow,
-                at,
-                link.to,
-                link.from,
-                high - low,
-            )? {
+            let raise = Raise {
+                terminals: Terminals {
+                    start: link.to,
+                    goal: link.from,
+                },
+                need: high - low,
+                count: k,
+            };
+            if let Some(reached) = lift(alloc, network, flow, potentials, raise)? {
                 return Ok(Some(Blocked { reached, link: k }));
             }
         }

@@ -49,47 +49,51 @@ fn question_at(kernel: &Kernel, ii: u32, node: usize, arg: usize) -> Option<Ques
     }
 }
 
-/// Finds the least number of registers on a way for operand number `arg` of a node at interval `ii`; `None` if there is
-/// no way.
+/// A kernel on an architecture, at an interval.
+#[derive(Clone, Copy)]
+struct Instance<'a> {
+    arch: &'a Arch,
+    kernel: &'a Kernel,
+    ii: u32,
+}
+
+/// Finds the least number of registers on a way for operand number `arg` of `node` in `instance`; `None` if there is no
+/// way.
 fn hops_at(
     alloc: Global,
-    arch: &Arch,
-    kernel: &Kernel,
-    ii: u32,
+    instance: Instance,
     node: usize,
     arg: usize,
     answers: &mut Vec<Answer>,
 ) -> Result<Option<u32>, AllocError>
-    requires node { node < kernels.size kernel.now }
-    requires arg { arg < length (kernels.node kernel.now node).operands }
-    requires answers { AreAnswers arch.now answers.old.items }
-    ensures hops { IfOk result (AreFoundHops arch.now kernel.now ii node arg) }
-    ensures kept { OnOk result (AreAnswers arch.now answers.new.items) }
+    requires node { node < kernels.size instance.kernel.now }
+    requires arg { arg < length (kernels.node instance.kernel.now node).operands }
+    requires answers { AreAnswers instance.arch.now answers.old.items }
+    ensures hops { IfOk result (AreFoundHops instance.entry.arch.now instance.entry.kernel.now instance.entry.ii node arg) }
+    ensures kept { OnOk result (AreAnswers instance.entry.arch.now answers.new.items) }
 {
-    match question_at(kernel, ii, node, arg) {
-        Some(question) => ask_shared(alloc, arch, answers, question),
+    match question_at(instance.kernel, instance.ii, node, arg) {
+        Some(question) => ask_shared(alloc, instance.arch, answers, question),
         None => Ok(None),
     }
 }
 
-/// Finds the numbers for all operands of a node at interval `ii`.
+/// Finds the numbers for all operands of `node` in `instance`.
 fn row_of(
     alloc: Global,
-    arch: &Arch,
-    kernel: &Kernel,
-    ii: u32,
+    instance: Instance,
     node: usize,
     answers: &mut Vec<Answer>,
 ) -> Result<Items<Option<u32>>, AllocError>
-    requires node { node < kernels.size kernel.now }
-    requires answers { AreAnswers arch.now answers.old.items }
-    ensures row { IfOk result (λ row. IsRow arch.now kernel.now ii node row) }
-    ensures kept { OnOk result (AreAnswers arch.now answers.new.items) }
+    requires node { node < kernels.size instance.kernel.now }
+    requires answers { AreAnswers instance.arch.now answers.old.items }
+    ensures row { IfOk result (λ row. IsRow instance.entry.arch.now instance.entry.kernel.now instance.entry.ii node row) }
+    ensures kept { OnOk result (AreAnswers instance.entry.arch.now answers.new.items) }
 {
-    let operands = kernel.nodes()[node].operands.as_slice();
+    let operands = instance.kernel.nodes()[node].operands.as_slice();
     let mut row = Vec::new(alloc);
     for arg in 0..operands.len() {
-        row.push(hops_at(alloc, arch, kernel, ii, node, arg, answers)?)?;
+        row.push(hops_at(alloc, instance, node, arg, answers)?)?;
     }
     Ok(Items::new(row))
 }
@@ -99,10 +103,11 @@ pub fn find_ways(alloc: Global, arch: &Arch, kernel: &Kernel, ii: u32) -> Result
     ensures ways { IfOk result (λ w. AreWays arch.now kernel.now ii w) }
     ensures small { IfOk result (λ w. AreSmall (length arch.now.resources) w) }
 {
+    let instance = Instance { arch, kernel, ii };
     let mut answers = Vec::new(alloc);
     let mut rows = Vec::new(alloc);
     for node in 0..kernel.nodes().len() {
-        rows.push(row_of(alloc, arch, kernel, ii, node, &mut answers)?)?;
+        rows.push(row_of(alloc, instance, node, &mut answers)?)?;
     }
     Ok(Ways::new(rows))
 }

@@ -5,42 +5,37 @@ ghost use Rattle.cg_bound_recurrence.specs.WayCycles.{registers_of as registers_
 ghost use Rattle.cg_bound_all.specs.Why.{HasShortLists};
 ghost use Rattle.cg_bound_text.specs.Text.{way_cycle_text, stay_word, pull_word, tie_word, circulation_text, registers_text, reason_text, no_way_text, weight_word, heading};
 
+use crate::instances::AtInterval;
 use cg_bound::{edge_word, push_chain, push_edges, push_set, sums};
 use cg_bound_all::Reason;
 use cg_bound_recurrence::least_registers;
 use cg_bound_registers::{Pressure, Pull, Stay, Tie, count_registers, least_stays};
 use cg_bound_routes::Missing;
-use cg_recur::{Arch, EdgeId, Kernel};
+use cg_recur::{EdgeId, Kernel};
 use std::alloc::{AllocError, Global};
 
-/// Adds the text of `reason` to `text`, as `cycle x.0 a.0 latency 3 distance 1`. `hops` has the registers on the ways at
-/// interval `ii`, three numbers per node.
+/// Adds the text of `reason`, which excludes the interval of `at`, to `text`, as `cycle x.0 a.0 latency 3 distance 1`.
 pub fn push_reason(
     alloc: Global,
     text: &mut Vec<u8>,
-    arch: &Arch,
-    kernel: &Kernel,
-    hops: &[u32],
-    ii: u32,
+    at: AtInterval,
     reason: &Reason,
 ) -> Result<(), AllocError>
     requires short { HasShortLists reason.now }
-    ensures { OnOk result (text.new.items ≡ text.old.items ++ reason_text arch.now kernel.now (table hops.now) ii reason.now) }
+    ensures { OnOk result (text.new.items ≡ text.old.items ++ reason_text at.entry.arch.now at.entry.kernel.now (table at.entry.hops.now) at.entry.ii reason.now) }
 {
     match reason {
         Reason::Recurrence(ids) => {
             text.extend_from_slice(b"cycle")?;
-            push_chain(alloc, text, arch, kernel, ids)
+            push_chain(alloc, text, at.arch, at.kernel, ids)
         }
         Reason::Class(set) => {
             text.extend_from_slice(b"class")?;
-            push_set(alloc, text, arch, kernel, *set)
+            push_set(alloc, text, at.arch, at.kernel, *set)
         }
-        Reason::NoWay(missing) => push_no_way(alloc, text, kernel, *missing),
-        Reason::Ways(ids) => push_way_cycle(alloc, text, arch, kernel, hops, ids),
-        Reason::Registers(pressure) => {
-            push_registers(alloc, text, arch, kernel, hops, ii, pressure)
-        }
+        Reason::NoWay(missing) => push_no_way(alloc, text, at.kernel, *missing),
+        Reason::Ways(ids) => push_way_cycle(alloc, text, at, ids),
+        Reason::Registers(pressure) => push_registers(alloc, text, at, pressure),
     }
 }
 
@@ -84,17 +79,15 @@ fn sum_of_registers(hops: &[u32], ids: &[EdgeId]) -> u128
 fn push_way_cycle(
     alloc: Global,
     text: &mut Vec<u8>,
-    arch: &Arch,
-    kernel: &Kernel,
-    hops: &[u32],
+    at: AtInterval,
     ids: &[EdgeId],
 ) -> Result<(), AllocError>
-    ensures { OnOk result (text.new.items ≡ text.old.items ++ way_cycle_text arch.now kernel.now (table hops.now) ids.now) }
+    ensures { OnOk result (text.new.items ≡ text.old.items ++ way_cycle_text at.entry.arch.now at.entry.kernel.now (table at.entry.hops.now) ids.now) }
 {
-    let (latency, distance) = sums(arch, kernel, ids);
-    let ways = sum_of_registers(hops, ids);
+    let (latency, distance) = sums(at.arch, at.kernel, ids);
+    let ways = sum_of_registers(at.hops, ids);
     text.extend_from_slice(b"cycle")?;
-    push_edges(alloc, text, kernel, ids)?;
+    push_edges(alloc, text, at.kernel, ids)?;
     let word = format!(in alloc; " latency {latency} ways {ways} distance {distance}")?;
     push_word(text, word.as_str())
 }
@@ -198,18 +191,15 @@ fn push_circulation(
 fn push_registers(
     alloc: Global,
     text: &mut Vec<u8>,
-    arch: &Arch,
-    kernel: &Kernel,
-    hops: &[u32],
-    ii: u32,
+    at: AtInterval,
     pressure: &Pressure,
 ) -> Result<(), AllocError>
     requires short { IsShort pressure.now }
-    ensures { OnOk result (text.new.items ≡ text.old.items ++ registers_text arch.now kernel.now (table hops.now) ii pressure.now) }
+    ensures { OnOk result (text.new.items ≡ text.old.items ++ registers_text at.entry.arch.now at.entry.kernel.now (table at.entry.hops.now) at.entry.ii pressure.now) }
 {
-    let need = least_stays(arch, kernel, hops, ii, pressure);
-    let room = ii as u64 * count_registers(arch) as u64;
+    let need = least_stays(at.arch, at.kernel, at.hops, at.ii, pressure);
+    let room = at.ii as u64 * count_registers(at.arch) as u64;
     let words = format!(in alloc; "registers {need} of {room}")?;
     push_word(text, words.as_str())?;
-    push_circulation(alloc, text, kernel, pressure)
+    push_circulation(alloc, text, at.kernel, pressure)
 }

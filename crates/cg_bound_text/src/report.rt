@@ -3,30 +3,30 @@ ghost use Rattle.std.specs.Prelude.{◌≡◌, ◌++◌, IfOk, OnOk};
 ghost use Rattle.cg_bound_all.specs.Why.{hops_at, Shows, IsWhy};
 ghost use Rattle.cg_bound_text.specs.Text.{free_line, why_text, excluded_line as line_of_excluded};
 
-use crate::lines::{push_line, push_lines};
+use crate::instances::AtInterval;
+use crate::lines::{Row, push_line, push_lines};
 use crate::reasons::push_reason;
-use cg_bound_all::{HopTables, Reason, Why};
+use cg_bound_all::{HopTables, Instance, Reason, Why};
 use cg_bound_registers::{Times, all_stays, count_registers};
 use cg_recur::{Arch, Kernel};
 use std::alloc::{AllocError, Global};
 
-/// Adds the number of register slots that are enough at the least interval.
+/// Adds to `text` the number of register slots that `times` need at the least interval `least`, if there is one.
 fn push_free(
     alloc: Global,
     text: &mut Vec<u8>,
-    arch: &Arch,
-    kernel: &Kernel,
+    instance: Instance,
     least: Option<u32>,
     times: &Option<Times>,
 ) -> Result<(), AllocError>
-    ensures { OnOk result (text.new.items ≡ text.old.items ++ free_line arch.now kernel.now least times.now) }
+    ensures { OnOk result (text.new.items ≡ text.old.items ++ free_line instance.entry.arch.now instance.entry.kernel.now least times.now) }
 {
-    let (Some(least), Some(times)) = (least, times) else {
+    let (Some(interval), Some(times)) = (least, times) else {
         return Ok(());
     };
-    let need = all_stays(times, kernel.nodes().len() as u32);
-    let room = least as u64 * count_registers(arch) as u64;
-    let line = format!(in alloc; "free {least}: {need} of {room} register slots are enough\n")?;
+    let need = all_stays(times, instance.kernel.nodes().len() as u32);
+    let room = interval as u64 * count_registers(instance.arch) as u64;
+    let line = format!(in alloc; "free {interval}: {need} of {room} register slots are enough\n")?;
     text.extend_from_slice(line.as_bytes())?;
     Ok(())
 }
@@ -47,7 +47,13 @@ pub fn excluded_line(
     let numbers = tables.at(ii);
     let mut line = Vec::new(alloc);
     line.extend_from_slice(begin.as_bytes())?;
-    push_reason(alloc, &mut line, arch, kernel, &numbers.hops, ii, reason)?;
+    let at = AtInterval {
+        arch,
+        kernel,
+        hops: numbers.hops.as_slice(),
+        ii,
+    };
+    push_reason(alloc, &mut line, at, reason)?;
     line.push(b'\n')?;
     Ok(line)
 }
@@ -64,19 +70,25 @@ pub fn why_report(
     requires { IsWhy arch.now kernel.now why.now }
     ensures { IfOk result (λ text. text.items ≡ why_text arch.now kernel.now why.now) }
 {
-    let least = &why.least;
-    let mut text = Vec::new(alloc);
-    push_line(
-        alloc,
-        &mut text,
+    let instance = Instance {
         arch,
         kernel,
-        &why.tables,
-        "least ",
-        least.interval,
-        &least.below,
+        tables: &why.tables,
+    };
+    let least = Row {
+        name: "least ",
+        least: why.least.interval,
+        below: &why.least.below,
+    };
+    let mut text = Vec::new(alloc);
+    push_line(alloc, &mut text, instance, least)?;
+    push_lines(alloc, &mut text, instance, &why.bounds)?;
+    push_free(
+        alloc,
+        &mut text,
+        instance,
+        why.least.interval,
+        &why.least.times,
     )?;
-    push_lines(alloc, &mut text, arch, kernel, &why.tables, &why.bounds)?;
-    push_free(alloc, &mut text, arch, kernel, least.interval, &least.times)?;
     Ok(text)
 }

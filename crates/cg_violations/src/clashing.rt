@@ -5,10 +5,9 @@ ghost use Rattle.cg_check.specs.Claims.{alike, is_clash as is_clash_in, rule_of 
 ghost use Rattle.cg_violations.specs.Cells as cells;
 ghost use Rattle.cg_violations.specs.Violations as spec;
 
+use crate::mappings::Mapped;
 use crate::placing::{is_interval, push_if};
-use cg_arch::Arch;
 use cg_check::{Cell, Rule, RulePlace, Sharing, Violation, all_claims};
-use cg_model::{Kernel, Mapping};
 use std::alloc::{AllocError, Global};
 
 /// Returns whether `cell` has two values that don't share what they must.
@@ -66,36 +65,37 @@ fn push_table(
     Ok(())
 }
 
-/// Adds to `found` the violations of the rule that requires values to share `sharing`, if L1 is kept.
+/// Adds to `found` the violations by `mapped` of the rule that requires values to share `sharing`, if L1 is kept.
 pub(crate) fn push_clashes(
     alloc: Global,
     found: &mut Vec<Violation>,
     sharing: Sharing,
-    arch: &Arch,
-    kernel: &Kernel,
-    mapping: &Mapping,
+    mapped: Mapped,
 ) -> Result<(), AllocError>
-    ensures { OnOk result (found.new.items ≡ found.old.items ++ spec.violations_by (rule_by sharing) arch.now kernel.now mapping.now) }
+    ensures { OnOk result (found.new.items ≡ found.old.items ++ spec.violations_by (rule_by sharing) mapped.entry.arch.now mapped.entry.kernel.now mapped.entry.mapping.now) }
 {
-    if !is_interval(arch, mapping) {
+    if !is_interval(mapped.arch, mapped.mapping) {
         return Ok(());
     }
-    push_all(alloc, found, sharing, arch, kernel, mapping)?;
+    push_all(alloc, found, sharing, mapped)?;
     Ok(())
 }
 
-/// Adds the violations of the rule for `sharing` to `found`.
+/// Adds the violations by `mapped` of the rule for `sharing` to `found`.
 fn push_all(
     alloc: Global,
     found: &mut Vec<Violation>,
     sharing: Sharing,
-    arch: &Arch,
-    kernel: &Kernel,
-    mapping: &Mapping,
+    mapped: Mapped,
 ) -> Result<(), AllocError>
-    requires { 0 < mapping.now.ii }
-    ensures { OnOk result (found.new.items ≡ found.old.items ++ spec.clash_violations (alike sharing) (rule_by sharing) arch.now kernel.now mapping.now) }
+    requires { 0 < mapped.mapping.now.ii }
+    ensures { OnOk result (found.new.items ≡ found.old.items ++ spec.clash_violations (alike sharing) (rule_by sharing) mapped.entry.arch.now mapped.entry.kernel.now mapped.entry.mapping.now) }
 {
+    let Mapped {
+        arch,
+        kernel,
+        mapping,
+    } = mapped;
     let table = all_claims(alloc, sharing, arch, kernel, mapping)?;
     let resources = arch.resources().len();
     push_table(

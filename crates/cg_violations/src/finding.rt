@@ -4,6 +4,7 @@ ghost use Rattle.cg_model.specs.Mapping.{IsShaped};
 ghost use Rattle.cg_violations.specs.Violations.{violations_of, AreAll};
 
 use crate::clashing::push_clashes;
+use crate::mappings::Mapped;
 use crate::placing::{push_interval, push_order, push_routes, push_units};
 use crate::sharing::push_shared;
 use cg_arch::Arch;
@@ -11,24 +12,24 @@ use cg_check::{Sharing, Violation};
 use cg_model::{Kernel, Mapping};
 use std::alloc::{AllocError, Global};
 
-/// Returns all violations of the rules, in the rules' order.
-fn collected(
-    alloc: Global,
-    arch: &Arch,
-    kernel: &Kernel,
-    mapping: &Mapping,
-) -> Result<Vec<Violation>, AllocError>
-    requires { IsShaped kernel.now mapping.now }
-    ensures { IfOk result (λ found. found.items ≡ violations_of arch.now kernel.now mapping.now) }
+/// Returns all violations of the rules by `mapped`, in the rules' order.
+fn collected(alloc: Global, mapped: Mapped) -> Result<Vec<Violation>, AllocError>
+    requires { IsShaped mapped.kernel.now mapped.mapping.now }
+    ensures { IfOk result (λ found. found.items ≡ violations_of mapped.entry.arch.now mapped.entry.kernel.now mapped.entry.mapping.now) }
 {
+    let Mapped {
+        arch,
+        kernel,
+        mapping,
+    } = mapped;
     let mut found = Vec::new(alloc);
     push_interval(&mut found, arch, mapping)?;
     push_units(&mut found, arch, kernel, mapping)?;
     push_shared(alloc, &mut found, arch, kernel, mapping)?;
     push_order(&mut found, kernel, mapping)?;
     push_routes(&mut found, arch, kernel, mapping)?;
-    push_clashes(alloc, &mut found, Sharing::Value, arch, kernel, mapping)?;
-    push_clashes(alloc, &mut found, Sharing::Way, arch, kernel, mapping)?;
+    push_clashes(alloc, &mut found, Sharing::Value, mapped)?;
+    push_clashes(alloc, &mut found, Sharing::Way, mapped)?;
     Ok(found)
 }
 
@@ -47,6 +48,11 @@ pub fn violations(
 {
     let _valid_arch = arch.units();
     let _valid_kernel = kernel.nodes();
-    let found = collected(alloc, arch, kernel, mapping)?;
+    let mapped = Mapped {
+        arch,
+        kernel,
+        mapping,
+    };
+    let found = collected(alloc, mapped)?;
     Ok(found)
 }

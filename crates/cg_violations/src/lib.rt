@@ -5,6 +5,7 @@ mod buckets;
 mod clashing;
 mod finding;
 mod lines;
+mod mappings;
 mod meeting;
 mod placing;
 mod sharing;

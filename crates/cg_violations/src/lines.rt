@@ -9,6 +9,7 @@ ghost use Rattle.cg_violations.specs.Violations.{violations_of};
 ghost use Rattle.cg_violations.specs.Faults as spec;
 
 use crate::buckets::Buckets;
+use crate::mappings::Mapped;
 use crate::meeting::{Spot, first_meeting, first_on, first_unlike, place};
 use crate::sharing::slot_of;
 use crate::stops::all_stops;
@@ -16,6 +17,13 @@ use cg_arch::Arch;
 use cg_check::{Rule, RulePlace, Sharing, Stop, Violation};
 use cg_model::{Kernel, Mapping};
 use std::alloc::{AllocError, Global};
+
+/// A mapping, and the stops of all its routes in buckets.
+#[derive(Clone, Copy)]
+struct Indexed<'a> {
+    mapped: Mapped<'a>,
+    buckets: &'a Buckets,
+}
 
 /// Returns the name of `node`; empty past the last one.
 fn name_of(kernel: &Kernel, node: usize) -> &str
@@ -87,16 +95,15 @@ fn way_name(arch: &Arch, stop: Option<Stop>) -> &str
     }
 }
 
-/// Returns the text for `node`, which shares its unit and slot with an earlier one.
-fn shared_text(
-    alloc: Global,
-    arch: &Arch,
-    kernel: &Kernel,
-    mapping: &Mapping,
-    node: usize,
-) -> Result<String, AllocError>
-    ensures { IfOk result (λ text. string_bytes text ≡ spec.shared_text arch.now kernel.now mapping.now node) }
+/// Returns the text for `node` of `mapped`, which shares its unit and slot with an earlier one.
+fn shared_text(alloc: Global, mapped: Mapped, node: usize) -> Result<String, AllocError>
+    ensures { IfOk result (λ text. string_bytes text ≡ spec.shared_text mapped.entry.arch.now mapped.entry.kernel.now mapped.entry.mapping.now node) }
 {
+    let Mapped {
+        arch,
+        kernel,
+        mapping,
+    } = mapped;
     let place = place(mapping, node);
     let unit = unit_name(arch, place.unit);
     let slot = slot_of(u64::from(place.time), mapping.ii());
@@ -105,21 +112,14 @@ fn shared_text(
     format!(in alloc; "unit {unit} slot {slot} {first} {name}")
 }
 
-/// Returns the text for `node` at `rule`.
-fn node_text(
-    alloc: Global,
-    arch: &Arch,
-    kernel: &Kernel,
-    mapping: &Mapping,
-    rule: Rule,
-    node: usize,
-) -> Result<String, AllocError>
-    ensures { IfOk result (λ text. string_bytes text ≡ spec.node_text arch.now kernel.now mapping.now rule node) }
+/// Returns the text for `node` of `mapped` at `rule`.
+fn node_text(alloc: Global, mapped: Mapped, rule: Rule, node: usize) -> Result<String, AllocError>
+    ensures { IfOk result (λ text. string_bytes text ≡ spec.node_text mapped.entry.arch.now mapped.entry.kernel.now mapped.entry.mapping.now rule node) }
 {
     match rule {
-        Rule::L3 => shared_text(alloc, arch, kernel, mapping, node),
+        Rule::L3 => shared_text(alloc, mapped, node),
         _ => {
-            let name = name_of(kernel, node);
+            let name = name_of(mapped.kernel, node);
             format!(in alloc; "node {name}")
         }
     }
@@ -153,18 +153,17 @@ fn meeting_text(
 /// Returns the text for the resource in the slot of `spot`, where two of `stops` aren't one value.
 fn value_text(
     alloc: Global,
-    arch: &Arch,
-    kernel: &Kernel,
+    mapped: Mapped,
     stops: &[Stop],
     spot: Spot,
 ) -> Result<String, AllocError>
-    ensures { IfOk result (λ text. string_bytes text ≡ spec.resource_text arch.now kernel.now spot.ii (map position_of stops.now) Sharing.Value spot.resource spot.slot) }
+    ensures { IfOk result (λ text. string_bytes text ≡ spec.resource_text mapped.entry.arch.now mapped.entry.kernel.now spot.ii (map position_of stops.now) Sharing.Value spot.resource spot.slot) }
 {
     let first = first_on(stops, spot);
     let second = first_unlike(stops, spot, Sharing::Value, first);
-    let first_name = source_name(kernel, first);
-    let second_name = source_name(kernel, second);
-    let text = meeting_text(alloc, arch, spot, first_name, second_name)?;
+    let first_name = source_name(mapped.kernel, first);
+    let second_name = source_name(mapped.kernel, second);
+    let text = meeting_text(alloc, mapped.arch, spot, first_name, second_name)?;
     Ok(text)
 }
 
@@ -183,100 +182,80 @@ fn way_text(alloc: Global, arch: &Arch, stops: &[Stop], spot: Spot) -> Result<St
 /// Returns the text for the resource in the slot of `spot`, where two of `stops` don't share what `sharing` requires.
 fn resource_text(
     alloc: Global,
-    arch: &Arch,
-    kernel: &Kernel,
+    mapped: Mapped,
     stops: &[Stop],
     sharing: Sharing,
     spot: Spot,
 ) -> Result<String, AllocError>
-    ensures { IfOk result (λ text. string_bytes text ≡ spec.resource_text arch.now kernel.now spot.ii (map position_of stops.now) sharing spot.resource spot.slot) }
+    ensures { IfOk result (λ text. string_bytes text ≡ spec.resource_text mapped.entry.arch.now mapped.entry.kernel.now spot.ii (map position_of stops.now) sharing spot.resource spot.slot) }
 {
     match sharing {
-        Sharing::Value => value_text(alloc, arch, kernel, stops, spot),
-        Sharing::Way => way_text(alloc, arch, stops, spot),
+        Sharing::Value => value_text(alloc, mapped, stops, spot),
+        Sharing::Way => way_text(alloc, mapped.arch, stops, spot),
     }
 }
 
-/// Returns the text for `place` at `rule`. The stops of all routes are in `buckets`.
-fn place_text(
-    alloc: Global,
-    arch: &Arch,
-    kernel: &Kernel,
-    mapping: &Mapping,
-    buckets: &Buckets,
-    violation: Violation,
-) -> Result<String, AllocError>
-    requires { IsFilled mapping.now.ii (positions arch.now kernel.now mapping.now) buckets.now.ii buckets.now.lists.items }
-    ensures { IfOk result (λ text. string_bytes text ≡ spec.place_text arch.now kernel.now mapping.now violation.rule violation.place) }
+/// Returns the text for the place of `violation` in `indexed`.
+fn place_text(alloc: Global, indexed: Indexed, violation: Violation) -> Result<String, AllocError>
+    requires { IsFilled indexed.mapped.mapping.now.ii (positions indexed.mapped.arch.now indexed.mapped.kernel.now indexed.mapped.mapping.now) indexed.buckets.now.ii indexed.buckets.now.lists.items }
+    ensures { IfOk result (λ text. string_bytes text ≡ spec.place_text indexed.entry.mapped.arch.now indexed.entry.mapped.kernel.now indexed.entry.mapped.mapping.now violation.rule violation.place) }
 {
+    let mapped = indexed.mapped;
     match violation.place {
         RulePlace::Mapping => String::from_str(alloc, "mapping"),
-        RulePlace::Node(node) => node_text(alloc, arch, kernel, mapping, violation.rule, node),
+        RulePlace::Node(node) => node_text(alloc, mapped, violation.rule, node),
         RulePlace::Order(edge) => format!(in alloc; "order {edge}"),
         RulePlace::Arg { node, arg } => {
-            let name = name_of(kernel, node as usize);
+            let name = name_of(mapped.kernel, node as usize);
             format!(in alloc; "edge {name}.{arg}")
         }
         RulePlace::Resource { resource, slot } => {
-            let ii = mapping.ii();
+            let ii = mapped.mapping.ii();
             let spot = Spot { ii, resource, slot };
             let sharing = sharing_of(violation.rule);
-            let stops = buckets.of(spot);
-            resource_text(alloc, arch, kernel, stops, sharing, spot)
+            let stops = indexed.buckets.of(spot);
+            resource_text(alloc, mapped, stops, sharing, spot)
         }
     }
 }
 
-/// Returns the line of `violation`. The stops of all routes are in `buckets`.
+/// Returns the line of `violation` in `indexed`.
 #[tactic(auto, unfolding(crate::specs::Faults::fault_line))]
-fn fault_line(
-    alloc: Global,
-    arch: &Arch,
-    kernel: &Kernel,
-    mapping: &Mapping,
-    buckets: &Buckets,
-    violation: Violation,
-) -> Result<String, AllocError>
-    requires { IsFilled mapping.now.ii (positions arch.now kernel.now mapping.now) buckets.now.ii buckets.now.lists.items }
-    ensures { IfOk result (λ line. string_bytes line ≡ spec.fault_line arch.now kernel.now mapping.now violation) }
+fn fault_line(alloc: Global, indexed: Indexed, violation: Violation) -> Result<String, AllocError>
+    requires { IsFilled indexed.mapped.mapping.now.ii (positions indexed.mapped.arch.now indexed.mapped.kernel.now indexed.mapped.mapping.now) indexed.buckets.now.ii indexed.buckets.now.lists.items }
+    ensures { IfOk result (λ line. string_bytes line ≡ spec.fault_line indexed.entry.mapped.arch.now indexed.entry.mapped.kernel.now indexed.entry.mapped.mapping.now violation) }
 {
     let code = violation.rule.code();
-    let place = place_text(alloc, arch, kernel, mapping, buckets, violation)?;
+    let place = place_text(alloc, indexed, violation)?;
     format!(in alloc; "fault {code} {place}\n")
 }
 
-/// Adds the line of `violation` to `text`. The stops of all routes are in `buckets`.
+/// Adds the line of `violation` in `indexed` to `text`.
 fn push_line(
     alloc: Global,
     text: &mut Vec<u8>,
-    arch: &Arch,
-    kernel: &Kernel,
-    mapping: &Mapping,
-    buckets: &Buckets,
+    indexed: Indexed,
     violation: Violation,
 ) -> Result<(), AllocError>
-    requires { IsFilled mapping.now.ii (positions arch.now kernel.now mapping.now) buckets.now.ii buckets.now.lists.items }
-    ensures { OnOk result (text.new.items ≡ text.old.items ++ spec.fault_line arch.now kernel.now mapping.now violation) }
+    requires { IsFilled indexed.mapped.mapping.now.ii (positions indexed.mapped.arch.now indexed.mapped.kernel.now indexed.mapped.mapping.now) indexed.buckets.now.ii indexed.buckets.now.lists.items }
+    ensures { OnOk result (text.new.items ≡ text.old.items ++ spec.fault_line indexed.entry.mapped.arch.now indexed.entry.mapped.kernel.now indexed.entry.mapped.mapping.now violation) }
 {
-    let line = fault_line(alloc, arch, kernel, mapping, buckets, violation)?;
+    let line = fault_line(alloc, indexed, violation)?;
     text.extend_from_slice(line.as_bytes())
 }
 
-/// Returns the lines of `violations`. The stops of all routes are in `buckets`.
+/// Returns the lines of `violations` in `indexed`.
 fn lines_of(
     alloc: Global,
-    arch: &Arch,
-    kernel: &Kernel,
-    mapping: &Mapping,
-    buckets: &Buckets,
+    indexed: Indexed,
     violations: &[Violation],
 ) -> Result<Vec<u8>, AllocError>
-    requires { IsFilled mapping.now.ii (positions arch.now kernel.now mapping.now) buckets.now.ii buckets.now.lists.items }
-    ensures { IfOk result (λ text. text.items ≡ flat_map (spec.fault_line arch.now kernel.now mapping.now) violations.now) }
+    requires { IsFilled indexed.mapped.mapping.now.ii (positions indexed.mapped.arch.now indexed.mapped.kernel.now indexed.mapped.mapping.now) indexed.buckets.now.ii indexed.buckets.now.lists.items }
+    ensures { IfOk result (λ text. text.items ≡ flat_map (spec.fault_line indexed.entry.mapped.arch.now indexed.entry.mapped.kernel.now indexed.entry.mapped.mapping.now) violations.now) }
 {
     let mut text = Vec::new(alloc);
     for violation in violations {
-        push_line(alloc, &mut text, arch, kernel, mapping, buckets, *violation)?;
+        push_line(alloc, &mut text, indexed, *violation)?;
     }
     Ok(text)
 }
@@ -324,6 +303,14 @@ pub fn fault_lines(
 {
     let buckets = all_buckets(alloc, arch, kernel, mapping)?;
     let shown = first_of(violations, most);
-    let text = lines_of(alloc, arch, kernel, mapping, &buckets, shown)?;
+    let indexed = Indexed {
+        mapped: Mapped {
+            arch,
+            kernel,
+            mapping,
+        },
+        buckets: &buckets,
+    };
+    let text = lines_of(alloc, indexed, shown)?;
     Ok(text)
 }

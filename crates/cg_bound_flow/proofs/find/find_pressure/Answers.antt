@@ -12,17 +12,17 @@ pub route_all-requires-clause-routing : goal.route_all-requires-clause-routing
 route_all-requires-clause-routing c =
     let e = ap length c.nodes-n.ensures.nodes in
     let links = c.as_slice-links.result.now in
-    let settled : IsSettled links c.deref.result.now (length c.in_ok-at.at.items) c.keep_all.new.at.items c.in_ok-blocked.field-0 = c.in_ok-blocked.ensures in
-    let none : IsSettled links c.deref.result.now (length c.in_ok-at.at.items) c.keep_all.new.at.items None =
-    subst (λ (o : Option Blocked). IsSettled links c.deref.result.now (length c.in_ok-at.at.items) c.keep_all.new.at.items o) c.in_default.is settled in
-    let here : IsSettling links c.in_ok-flow.flow.items (length c.in_ok-at.at.items) (length links) c.keep_all.new.at.items =
-    subst (λ (z : List ℕ). IsSettling links z (length c.in_ok-at.at.items) (length links) c.keep_all.new.at.items) c.deref.ensures.value none in
+    let settled : IsSettled links c.deref.result.now (length c.in_ok-potentials.potentials.items) c.keep_all.new.potentials.items c.in_ok-blocked.field-0 = c.in_ok-blocked.ensures in
+    let none : IsSettled links c.deref.result.now (length c.in_ok-potentials.potentials.items) c.keep_all.new.potentials.items None =
+    subst (λ (o : Option Blocked). IsSettled links c.deref.result.now (length c.in_ok-potentials.potentials.items) c.keep_all.new.potentials.items o) c.in_default.is settled in
+    let here : IsSettling links c.in_ok-flow.flow.items (length c.in_ok-potentials.potentials.items) (length links) c.keep_all.new.potentials.items =
+    subst (λ (z : List ℕ). IsSettling links z (length c.in_ok-potentials.potentials.items) (length links) c.keep_all.new.potentials.items) c.deref.ensures.value none in
     let g = c.in_ok-list.ensures.graph.short in
     let f = ap length c.as_slice-links.ensures.value in
-    let a = c.in_ok-at.ensures.items_if_clones_equal (λ y e. e) in
+    let a = c.in_ok-potentials.ensures.items_if_clones_equal (λ y e. e) in
     let b = c.in_ok-flow.ensures.items_if_clones_equal (λ y e. e) in
     let d = c.in_ok-routed.ensures.items_if_clones_equal (λ y e. e) in
-    routing_begins (length c.nodes-n.result.now) (length c.in_ok-at.at.items) links c.in_ok-flow.flow.items c.keep_all.new.at.items c.in_ok-routed.routed.items here (ap length a ∙ length-replicate _ _) (omega arith)
+    routing_begins (length c.nodes-n.result.now) (length c.in_ok-potentials.potentials.items) links c.in_ok-flow.flow.items c.keep_all.new.potentials.items c.in_ok-routed.routed.items here (ap length a ∙ length-replicate _ _) (omega arith)
     (ap length b ∙ length-replicate _ _) (λ k. ap (λ (z : List ℕ). slice_index z k) b ∙ all_zeros _ k 0) (ap length d ∙ length-replicate _ _) (λ w. ap (λ (z : List Bool). slice_index_or z w false) d ∙ all_zeros _ w false)
 
 pub route_all-requires-clause-spans : goal.route_all-requires-clause-spans
@@ -32,6 +32,5 @@ route_all-requires-clause-spans c =
 pub decide-requires-clause-all : goal.decide-requires-clause-all
 decide-requires-clause-all c =
     let links = c.as_slice-links.result.now in
-    let h : AreRouted (length c.nodes-n.result.now) links (length links) c.route_all.new.routed.items = c.in_ok-route_all.ensures.all in
-    let i : AreRouted (size c.args.kernel.now) links (length links) c.route_all.new.routed.items = subst (λ z. AreRouted z links (length links) c.route_all.new.routed.items) (ap length c.nodes-n.ensures.nodes) h in
-    subst (λ (z : List Bool). AreRouted (size c.args.kernel.now) links (length links) z) (sym c.deref-4.ensures.value) i
+    let h : AreRouted (length c.nodes-n.result.now) links (length links) c.route_all.new.routing.routed.items = c.in_ok-route_all.ensures.all in
+    subst (λ z. AreRouted z links (length links) c.route_all.new.routing.routed.items) (ap length c.nodes-n.ensures.nodes) h

@@ -8,5 +8,5 @@ abbrev pub invariant-loop-i : goal.invariant-loop-i
 invariant-loop-i l = record {
   positive : 0 < l.by;
   most : l.by ≤ l.need;
-  rises : (j k : ℕ) → j < l.i → k < l.count → (link l.links k).from ≡ (step l.reached.steps.items j).place → LetsRise l.links l.at l.reached.order.items l.by k;
+  rises : (j k : ℕ) → j < l.i → k < l.cut.count → (link l.cut.network.links.now k).from ≡ (step l.cut.reached.now.steps.items j).place → LetsRise l.cut.network.links.now l.cut.potentials.now l.cut.reached.now.order.items l.by k;
 }

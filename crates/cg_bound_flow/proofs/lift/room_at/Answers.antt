@@ -9,8 +9,8 @@ loop-more-init c =
     let chain = c.requires.chain in
     let p = chain.linked.places in
     let l = c.requires.place in
-    let inside : c.args.place < length c.args.begins.now.last.items = omega arith in
-    let e : c.index-more.result.now ≡ slice_index c.args.begins.now.last.items c.args.place = read c.args.begins.now.last.items c.args.place c.index-more.result.now 0 inside c.index-more.ensures in
+    let inside : c.args.place < length c.args.cut.network.incidence.now.begins.last.items = omega arith in
+    let e : c.index-more.result.now ≡ slice_index c.args.cut.network.incidence.now.begins.last.items c.args.place = read c.args.cut.network.incidence.now.begins.last.items c.args.place c.index-more.result.now 0 inside c.index-more.ensures in
     record {
       positive = c.requires.some;
       most = omega arith;
@@ -26,14 +26,14 @@ loop-more-preserved c =
     let t = c.loop-more-test.true in
     let w = c.loop-more.invariant.within in
     let a = chain.linked.each in
-    let inside : m - 1 < length c.args.begins.now.earlier.items = omega arith in
+    let inside : m - 1 < length c.args.cut.network.incidence.now.begins.earlier.items = omega arith in
     let here = c.loop-more.invariant.here (m - 1) (omega arith) in
-    let e : c.index-more-in-loop-more.result.now ≡ slice_index c.args.begins.now.earlier.items (m - 1) = read c.args.begins.now.earlier.items (m - 1) c.index-more-in-loop-more.result.now 0 inside c.index-more-in-loop-more.ensures in
+    let e : c.index-more-in-loop-more.result.now ≡ slice_index c.args.cut.network.incidence.now.begins.earlier.items (m - 1) = read c.args.cut.network.incidence.now.begins.earlier.items (m - 1) c.index-more-in-loop-more.result.now 0 inside c.index-more-in-loop-more.ensures in
     record {
       positive = c.room_over-by.ensures.positive;
       most = (let x = c.room_over-by.ensures.most in let y = c.loop-more.invariant.most in omega arith);
       within = (let x = chain.linked.before (m - 1) in omega arith);
       here = λ k q. chain.next (m - 1) k (omega arith) (sym e ∙ q) ∙ here;
-      rises = room_more c.args.links.now c.args.at.now c.args.order.now _ c.args.place c.args.count m (m - 1) c.index-more-in-loop-more.result.now c.loop-more.by c.room_over-by.result c.args.begins.now chain w (omega arith) here e
+      rises = room_more c.args.cut.network.links.now c.args.cut.potentials.now c.args.cut.reached.now.order.items _ c.args.place c.args.cut.count m (m - 1) c.index-more-in-loop-more.result.now c.loop-more.by c.room_over-by.result c.args.cut.network.incidence.now.begins chain w (omega arith) here e
           c.room_over-by.ensures.most c.loop-more.invariant.rises c.room_over-by.ensures.rises;
     }

@@ -11,8 +11,8 @@ use Rattle.cg_bound_flow.proofs.settle.keep_all.Goals.{then-low-high+in_ok-reach
 
 pub loop-k-preserved : goal.loop-k-preserved
 loop-k-preserved c =
-    let at = c.loop-k.at.items in
-    let l = link c.args.links.now c.loop-k.k in
+    let at = c.loop-k.potentials.items in
+    let l = link c.args.network.links.now c.loop-k.k in
     let n = c.loop-k.invariant.each in
     let f = c.requires.graph.from c.loop-k.k c.loop-k-test.true in
     let t = c.requires.graph.to c.loop-k.k c.loop-k-test.true in
@@ -24,13 +24,13 @@ loop-k-preserved c =
       | then-low-high+in_ok-reached+in_default w ↦
           let need = (c.index.result.now + l.gain) - (c.index-in-loop-k.result.now + l.loss) in
           let m = w.if-low-high.true in
-          let lifted : IsLifted c.args.links.now c.loop-k.k c.args.flow.now at l.to l.from need w.lift.new.at.items w.in_ok-reached.field-0 = w.in_ok-reached.ensures in
-          let none : IsLifted c.args.links.now c.loop-k.k c.args.flow.now at l.to l.from need w.lift.new.at.items None =
-          subst (λ (o : Option Reached). IsLifted c.args.links.now c.loop-k.k c.args.flow.now at l.to l.from need w.lift.new.at.items o) w.in_default.is lifted in
-          subst (λ (v : Vec ℕ Global). IsSettling c.args.links.now c.args.flow.now (length c.args.at.now.items) (c.loop-k.k + 1) v.items) (sym w.at-is)
-          (settling_lifted c.args.links.now c.args.flow.now (length c.args.at.now.items) c.requires.idle c.loop-k.k need at w.lift.new.at.items c.loop-k.invariant (omega arith) (omega arith) none)
+          let lifted : IsLifted c.args.network.links.now c.loop-k.k c.args.flow.now at l.to l.from need w.lift.new.potentials.items w.in_ok-reached.field-0 = w.in_ok-reached.ensures in
+          let none : IsLifted c.args.network.links.now c.loop-k.k c.args.flow.now at l.to l.from need w.lift.new.potentials.items None =
+          subst (λ (o : Option Reached). IsLifted c.args.network.links.now c.loop-k.k c.args.flow.now at l.to l.from need w.lift.new.potentials.items o) w.in_default.is lifted in
+          subst (λ (v : Vec ℕ Global). IsSettling c.args.network.links.now c.args.flow.now (length c.args.potentials.now.items) (c.loop-k.k + 1) v.items) (sym w.potentials-is)
+          (settling_lifted c.args.network.links.now c.args.flow.now (length c.args.potentials.now.items) c.requires.idle c.loop-k.k need at w.lift.new.potentials.items c.loop-k.invariant (omega arith) (omega arith) none)
       | else-low-high w ↦
           let m = w.if-low-high.false in
-          subst (λ (v : Vec ℕ Global). IsSettling c.args.links.now c.args.flow.now (length c.args.at.now.items) (c.loop-k.k + 1) v.items) (sym w.at-is)
-          (settling_kept c.args.links.now c.args.flow.now (length c.args.at.now.items) c.requires.idle c.loop-k.k at c.loop-k.invariant (omega arith))
+          subst (λ (v : Vec ℕ Global). IsSettling c.args.network.links.now c.args.flow.now (length c.args.potentials.now.items) (c.loop-k.k + 1) v.items) (sym w.potentials-is)
+          (settling_kept c.args.network.links.now c.args.flow.now (length c.args.potentials.now.items) c.requires.idle c.loop-k.k at c.loop-k.invariant (omega arith))
     ]

@@ -3,4 +3,4 @@ use Rattle.cg_bound_flow.specs.Route.{IsSettling}
 use Rattle.cg_bound_flow.proofs.settle.keep_all.Given as goal
 
 abbrev pub invariant-loop-k : goal.invariant-loop-k
-invariant-loop-k l = IsSettling l.links l.flow (length l.initial.at.items) l.k l.at.items
+invariant-loop-k l = IsSettling l.network.links.now l.flow (length l.initial.potentials.items) l.k l.potentials.items

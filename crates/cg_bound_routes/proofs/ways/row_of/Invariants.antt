@@ -4,6 +4,6 @@ use Rattle.cg_bound_routes.proofs.ways.row_of.Given as goal
 abbrev pub invariant-loop-arg : goal.invariant-loop-arg
 invariant-loop-arg l =
     record {
-      row : IsRowTo l.arch l.kernel l.ii l.node l.arg l.row.items;
-      answers : AreAnswers l.arch l.answers.items;
+      row : IsRowTo l.instance.arch.now l.instance.kernel.now l.instance.ii l.node l.arg l.row.items;
+      answers : AreAnswers l.instance.arch.now l.answers.items;
     }
