@@ -3,6 +3,7 @@
 
 mod commands;
 mod faults;
+mod list;
 mod nearest;
 mod numbers;
 mod reader;
@@ -11,6 +12,7 @@ mod usages;
 mod words;
 
 pub use commands::COMMANDS;
+pub use list::short_list;
 pub use nearest::nearest_name;
 pub use shown::push_shown;
 pub use words::note_words;

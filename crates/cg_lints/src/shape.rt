@@ -1,10 +1,13 @@
 //! The keys of objects, and what they hold.
 
 use crate::names::unknown_key;
-use crate::slip::{Slips, Spot};
+use crate::slip::{At, Rule, Slips, Spot};
 use cg_json::word_in;
 use serde_json::Value;
-use std::alloc::{AllocError, Global};
+use std::alloc::AllocError;
+
+/// The greatest interval that a mapping may give.
+const MOST_INTERVAL: u32 = 65_535;
 
 /// The kind of the value of a key.
 #[derive(Clone, Copy, PartialEq, Eq, Drop)]
@@ -19,6 +22,8 @@ pub enum Kind {
     Distance,
     /// A whole number of 32 bits that is a time: only values up to 65,534 are valid.
     Time,
+    /// A whole number up to 65,535.
+    Interval,
     /// A list.
     List,
     /// A list of whole numbers of 32 bits.
@@ -29,13 +34,13 @@ pub enum Kind {
 
 impl Kind {
     /// Checks whether `value` is of this kind.
-    fn has(self, value: &Value) -> bool {
+    pub(crate) fn has(self, value: &Value) -> bool {
         match self {
             Kind::Text => value.is_string(),
             Kind::Number | Kind::Port | Kind::Distance | Kind::Time => word_in(value).is_some(),
+            Kind::Interval => word_in(value).is_some_and(|word| word <= MOST_INTERVAL),
             Kind::List => value.is_array(),
-            Kind::Numbers => items_of(value).iter().all(|item| word_in(item).is_some())
-                && value.is_array(),
+            Kind::Numbers => are_words(value),
             Kind::Texts => items_of(value).iter().all(|item| item.is_string()) && value.is_array(),
         }
     }
@@ -48,6 +53,7 @@ impl Kind {
             Kind::Port => "a whole number from 0 to 15",
             Kind::Distance => "a whole number from 0 to 255",
             Kind::Time => "a whole number from 0 to 65534",
+            Kind::Interval => "a whole number up to 65535",
             Kind::List => "a list",
             Kind::Numbers => "a list of whole numbers from 0 to 4294967295",
             Kind::Texts => "a list of strings",
@@ -55,37 +61,26 @@ impl Kind {
     }
 }
 
-/// A key of an object.
-#[derive(Clone, Copy, Drop)]
-pub struct Field {
-    /// The key.
-    pub name: &'static str,
-    /// The kind of its value.
-    pub kind: Kind,
-    /// Whether the key is required.
-    pub is_needed: bool,
-}
-
-/// The keys of an object.
+/// The keys of the objects of a list.
 #[derive(Clone, Copy, Drop)]
 pub struct Shape {
-    /// The key of the list that holds the objects.
+    /// The key of the list.
     pub list: &'static str,
-    /// The codes of a fault of the shape and of an unknown key.
-    pub codes: [&'static str; 2],
-    /// The keys.
-    pub fields: &'static [Field],
+    /// The keys of an object, each with the kind of its value.
+    pub fields: &'static [(&'static str, Kind)],
+    /// The keys that are required.
+    pub needed: &'static [&'static str],
 }
 
 /// An item of the list of a shape.
 #[derive(Clone, Copy, Drop)]
-struct Item<'a> {
+pub struct Item<'a> {
     /// The shape.
-    shape: &'a Shape,
+    pub shape: &'a Shape,
     /// The number of the item in the list, from 0.
-    item: usize,
+    pub number: usize,
     /// How sentences about the item begin.
-    prefix: &'a str,
+    pub prefix: &'a str,
 }
 
 /// Returns the items of `value`; none if it isn't a list.
@@ -96,108 +91,96 @@ pub fn items_of(value: &Value) -> &[Value] {
     }
 }
 
-/// Adds to `slips` the faults in the values of `value`, item `item` of the list of `shape`. Their sentences begin with
-/// `prefix`.
-pub fn note_shape(
-    alloc: Global,
-    slips: &mut Slips,
-    shape: &Shape,
-    item: usize,
-    prefix: &str,
-    value: &Value,
-) -> Result<(), AllocError> {
-    if !value.is_object() {
-        let text = format!(in alloc; "{prefix}must be an object")?;
-        return slips.add(shape.codes[0], shape.list, item, Spot::Item, text);
-    }
-    let at = Item {
-        shape,
-        item,
-        prefix,
-    };
-    for field in shape.fields {
-        note_field(alloc, slips, &at, value, field)?;
-    }
-    Ok(())
-}
-
-/// Adds to `slips` the faults of the value of `field` in `value`, the item `at`.
-fn note_field(
-    alloc: Global,
-    slips: &mut Slips,
-    at: &Item<'_>,
-    value: &Value,
-    field: &Field,
-) -> Result<(), AllocError> {
-    let Item {
-        shape,
-        item,
-        prefix,
-    } = *at;
-    let name = field.name;
-    let code = shape.codes[0];
-    match value.get(name) {
-        None if field.is_needed => {
-            let text = format!(in alloc; "{prefix}the key \"{name}\" is missing")?;
-            slips.add(code, shape.list, item, Spot::Item, text)
-        }
-        Some(found) if !field.kind.has(found) => {
-            let noun = field.kind.noun();
-            let text = format!(in alloc; "{prefix}\"{name}\" must be {noun}")?;
-            slips.add(code, shape.list, item, Spot::Key(name), text)
-        }
-        _ => Ok(()),
+/// Returns the items of the list at `key` of `value`; none if there is no list.
+pub fn items_at<'a>(value: &'a Value, key: &str) -> &'a [Value] {
+    match value.get(key) {
+        Some(found) => items_of(found),
+        None => &[],
     }
 }
 
-/// Adds to `slips` each key of `value`, item `item` of the list of `shape`, that isn't in the shape.
-pub fn note_keys(
-    alloc: Global,
-    slips: &mut Slips,
-    shape: &Shape,
-    item: usize,
-    prefix: &str,
-    value: &Value,
-) -> Result<(), AllocError> {
-    let Some(members) = value.as_object() else {
-        return Ok(());
-    };
-    let names: Vec<&'static str> = shape.fields.iter().map(|field| field.name).collect(alloc)?;
-    let at = Item {
-        shape,
-        item,
-        prefix,
-    };
-    for key in members.keys() {
-        let key = key.as_str();
-        if !names.contains(&key) {
-            note_key(alloc, slips, &at, key, names.as_slice())?;
+/// Checks whether `value` is a list of words.
+pub fn are_words(value: &Value) -> bool {
+    value.is_array() && items_of(value).iter().all(|item| word_in(item).is_some())
+}
+
+impl Item<'_> {
+    /// Adds to `slips` the faults in the values of `value`, this item, and each key of it that isn't in the shape.
+    pub fn note(self, slips: &mut Slips, value: &Value) -> Result<(), AllocError> {
+        if !value.is_object() {
+            return self.add(slips, Rule::WrongShape, Spot::Item, "must be an object");
+        }
+        self.note_fields(slips, value, self.shape.fields)?;
+        self.note_keys(slips, value)
+    }
+
+    /// Adds to `slips` the faults of the values of `fields`, those of the shape, in `value`.
+    fn note_fields(
+        self,
+        slips: &mut Slips,
+        value: &Value,
+        fields: &'static [(&'static str, Kind)],
+    ) -> Result<(), AllocError> {
+        for (name, kind) in fields {
+            self.note_field(slips, value, name, *kind)?;
+        }
+        Ok(())
+    }
+
+    /// Adds to `slips` that `text`, which breaks `rule`, is wrong at `spot` of this item.
+    fn add(self, slips: &mut Slips, rule: Rule, spot: Spot, text: &str) -> Result<(), AllocError> {
+        let prefix = self.prefix;
+        let text = format!(in slips.alloc; "{prefix}{text}")?;
+        let at = At::Item {
+            list: self.shape.list,
+            item: self.number,
+            spot,
+        };
+        slips.add(rule, at, text)
+    }
+
+    /// Adds to `slips` the faults of the value of `kind` at the key `name` of `value`.
+    fn note_field(
+        self,
+        slips: &mut Slips,
+        value: &Value,
+        name: &'static str,
+        kind: Kind,
+    ) -> Result<(), AllocError> {
+        match value.get(name) {
+            None if self.shape.needed.contains(&name) => {
+                let text = format!(in slips.alloc; "the key \"{name}\" is missing")?;
+                self.add(slips, Rule::WrongShape, Spot::Item, text.as_str())
+            }
+            Some(found) if !kind.has(found) => {
+                let noun = kind.noun();
+                let text = format!(in slips.alloc; "\"{name}\" must be {noun}")?;
+                self.add(slips, Rule::WrongShape, Spot::Key(name), text.as_str())
+            }
+            _ => Ok(()),
         }
     }
-    Ok(())
-}
 
-/// Adds to `slips` the key `key` of the item `at`, which isn't one of `names`.
-fn note_key(
-    alloc: Global,
-    slips: &mut Slips,
-    at: &Item<'_>,
-    key: &str,
-    names: &[&'static str],
-) -> Result<(), AllocError> {
-    let text = key_text(alloc, at.prefix, key, names)?;
-    let spot = Spot::OtherKey(String::from_str(alloc, key)?);
-    slips.add(at.shape.codes[1], at.shape.list, at.item, spot, text)
-}
-
-/// Returns the message, which begins with `prefix`, that `key` isn't one of `names`.
-fn key_text(
-    alloc: Global,
-    prefix: &str,
-    key: &str,
-    names: &[&'static str],
-) -> Result<String, AllocError> {
-    let said = unknown_key(alloc, key, names)?;
-    let said = said.as_str();
-    format!(in alloc; "{prefix}{said}")
+    /// Adds to `slips` each key of `value` that isn't in the shape.
+    fn note_keys(self, slips: &mut Slips, value: &Value) -> Result<(), AllocError> {
+        let Some(members) = value.as_object() else {
+            return Ok(());
+        };
+        let alloc = slips.alloc;
+        let names: Vec<&'static str> = self
+            .shape
+            .fields
+            .iter()
+            .map(|(name, _)| *name)
+            .collect(alloc)?;
+        for key in members.keys() {
+            let key = key.as_str();
+            if !names.contains(&key) {
+                let text = unknown_key(alloc, key, names.as_slice())?;
+                let spot = Spot::OtherKey(String::from_str(alloc, key)?);
+                self.add(slips, Rule::UnknownKey, spot, text.as_str())?;
+            }
+        }
+        Ok(())
+    }
 }

@@ -2,17 +2,16 @@
 
 use cg_effects::File;
 use cg_json::{items_at, json_value, text_at};
-use cg_notes_texts::{MOST_PARSED, Place};
-use cg_spans::{Step, json_value_at};
+use cg_spans::{Finding, MOST_PARSED, Step, json_value_at};
 use serde_json::Value;
 use std::alloc::{AllocError, Global};
 
-/// Adds to `notes` what `report`, of a command that answered no, means: why an interval is impossible, which two
+/// Adds to `notes` what `report`, of a command that answered no for `kernel`, means: why an interval is impossible, which two
 /// accesses are left unordered, or what to try if no mapping was found.
 pub(crate) fn note_answer(
     alloc: Global,
-    report: &str,
-    files: &[File],
+    report: &[u8],
+    kernel: Option<&File>,
     notes: &mut Vec<String>,
 ) -> Result<(), AllocError> {
     let Some(line) = telling_line(report) else {
@@ -20,7 +19,7 @@ pub(crate) fn note_answer(
     };
     match line.split_once(' ') {
         Some(("unordered", rest)) => note_unordered(alloc, rest, notes),
-        Some(("impossible", rest)) => note_impossible(alloc, rest, files, notes),
+        Some(("impossible", rest)) => note_impossible(alloc, rest, kernel, notes),
         Some(("ii", rest)) if rest.contains(" cost ") || rest.contains(" faults ") => {
             notes.push(String::from_str(
                 alloc,
@@ -34,7 +33,8 @@ pub(crate) fn note_answer(
 
 /// Returns the line of `report` that gives the reason: the first line if the report is on intervals, the last line
 /// otherwise.
-fn telling_line(report: &str) -> Option<&str> {
+fn telling_line(report: &[u8]) -> Option<&str> {
+    let report = std::str::from_utf8(report).ok()?;
     let first = report.lines().next()?;
     if first.starts_with("ii ") {
         Some(first)
@@ -47,7 +47,7 @@ fn telling_line(report: &str) -> Option<&str> {
 fn note_impossible(
     alloc: Global,
     rest: &str,
-    files: &[File],
+    kernel: Option<&File>,
     notes: &mut Vec<String>,
 ) -> Result<(), AllocError> {
     let mut words = rest.split(' ').rev();
@@ -58,7 +58,7 @@ fn note_impossible(
         return Ok(());
     };
     let note = match (what, last) {
-        (Some("units"), 0) => unoffered_note(alloc, class_of(rest), files)?,
+        (Some("units"), 0) => unoffered_note(alloc, class_of(rest), kernel)?,
         (Some("units"), last) => overfull_note(alloc, first, last, first.div_ceil(last))?,
         (Some("distance"), 1..) => recurrence_note(alloc, first, last, first.div_ceil(last))?,
         _ => return Ok(()),
@@ -67,11 +67,14 @@ fn note_impossible(
     Ok(())
 }
 
-/// Returns the note that no unit offers `op`, with the first node that needs it, if one of `files` is the kernel.
-fn unoffered_note(alloc: Global, op: &str, files: &[File]) -> Result<String, AllocError> {
-    let place = user_of(alloc, files, op)?;
-    let place = place.as_str();
-    format!(in alloc; "{place}no unit offers {op}: add it to the ops of a unit")
+/// Returns the note that no unit offers `op`, with the first node of `kernel` that needs it.
+fn unoffered_note(alloc: Global, op: &str, kernel: Option<&File>) -> Result<String, AllocError> {
+    if let Some(kernel) = kernel {
+        if let Some(note) = user_note(alloc, kernel, op)? {
+            return Ok(note);
+        }
+    }
+    format!(in alloc; "no unit offers {op}: add it to the ops of a unit")
 }
 
 /// Returns the note that `units` units offer an operation of `nodes` nodes, so that the interval is at least `least`.
@@ -94,44 +97,46 @@ fn recurrence_note(
     )
 }
 
-/// Returns the beginning of a note on the first node with the operation `op` in one of `files`, a kernel:
-/// `NAME:LINE:COLUMN: node NUMBER "NODE": `. Returns an empty text if no kernel is found.
-fn user_of(alloc: Global, files: &[File], op: &str) -> Result<String, AllocError> {
-    for file in files {
-        let bytes = file.bytes.as_slice();
-        if bytes.len() > MOST_PARSED || file.name.as_str().contains('\n') {
-            continue;
-        }
-        if let Ok(value) = json_value(alloc, bytes) {
-            if let Some(text) = user_in(alloc, file.name.as_str(), bytes, &value, op)? {
-                return Ok(text);
-            }
-        }
+/// Returns the note that no unit offers `op` on the first node with this operation in `kernel`; None if it isn't found.
+fn user_note(alloc: Global, kernel: &File, op: &str) -> Result<Option<String>, AllocError> {
+    let bytes = kernel.bytes.as_slice();
+    let name = kernel.name.as_str();
+    if bytes.len() > MOST_PARSED || name.contains('\n') {
+        return Ok(None);
     }
-    Ok(String::new(alloc))
+    let Ok(value) = json_value(alloc, bytes) else {
+        return Ok(None);
+    };
+    match user_in(alloc, bytes, &value, op)? {
+        Some(finding) => Ok(Some(finding.note(alloc, name, "")?)),
+        None => Ok(None),
+    }
 }
 
-/// Returns the beginning of a note on the first node with the operation `op` in `kernel`, the value of `bytes`, the file
-/// `name`.
+/// Returns the finding that no unit offers `op` on the first node with this operation in `kernel`, the value of `bytes`.
 fn user_in(
     alloc: Global,
-    name: &str,
     bytes: &[u8],
     kernel: &Value,
     op: &str,
-) -> Result<Option<String>, AllocError> {
+) -> Result<Option<Finding>, AllocError> {
     let nodes = items_at(kernel, "nodes").unwrap_or(&[]);
-    for (number, node) in nodes.iter().enumerate() {
-        if text_at(node, "op") == Some(op) {
-            let path = [Step::Key("nodes"), Step::Item(number), Step::Key("op")];
-            let at = json_value_at(bytes, &path).unwrap_or(0);
-            let place = Place::at(bytes, at);
-            let user = text_at(node, "name").unwrap_or("");
-            let text = format!(in alloc; "{name}:{place}: node {number} \"{user}\": ")?;
-            return Ok(Some(text));
-        }
-    }
-    Ok(None)
+    let Some(number) = nodes
+        .iter()
+        .position(|node| text_at(node, "op") == Some(op))
+    else {
+        return Ok(None);
+    };
+    let user = match nodes.get(number) {
+        Some(node) => text_at(node, "name").unwrap_or(""),
+        None => "",
+    };
+    let text = format!(in alloc;
+        "node {number} \"{user}\": no unit offers {op}: add it to the ops of a unit"
+    )?;
+    let path = [Step::Key("nodes"), Step::Item(number), Step::Key("op")];
+    let at = json_value_at(bytes, &path).unwrap_or(0);
+    Ok(Some(Finding::at(bytes, at, text)))
 }
 
 /// Returns the operations of the certificate in `rest`, `.. class OPERATIONS nodes ..`.

@@ -1,10 +1,13 @@
-//! Notes for the user on refused files: where in a text the fault lies, and what is wrong there.
+//! Notes for the user on a call of a command: where in a file a fault lies, what an answer means, or what a run left
+//! out.
 #![tactic(auto)]
 
+mod answered;
 mod answers;
+mod calls;
+mod files;
+mod given;
 mod refused;
-mod sentences;
-mod slips;
-mod values;
 
-pub use refused::{Refusal, report_notes};
+pub use calls::note_call;
+pub use files::note_files;

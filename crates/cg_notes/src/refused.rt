@@ -1,239 +1,135 @@
-//! Notes on a refusal.
+//! Notes on refused files.
 
-use crate::answers::note_answer;
-use crate::sentences::{sentence_of, sentence_without_place};
-use crate::slips::{Noted, slips_in};
-use crate::values::find_value;
+use crate::given::{arch_of, kernel_of, refused_file};
+use cg_bits::BitsFault;
+use cg_cause::Cause;
+use cg_command::Command;
+use cg_datapath::SimFault;
+use cg_depend::DependFault;
 use cg_effects::File;
-use cg_notes_elements::{find_hub, find_limit, find_loop, other_drivers};
-use cg_notes_loops::find_token;
-use cg_notes_netlists::find_in_netlist;
-use cg_notes_texts::{Finding, find_in_json, find_in_text, find_in_toml};
+use cg_grid::TilesFault;
+use cg_kernel::KernelFault;
+use cg_mapping::MappingFault;
+use cg_notes_arch::arch_findings;
+use cg_notes_kernel::{MappingCall, kernel_findings, mapping_findings};
+use cg_notes_runs::{BitsCall, find_in_bits, find_in_image, find_in_text};
+use cg_notes_texts::{find_in_gates, find_in_json, find_in_loop, find_in_netlist, find_in_toml};
+use cg_spans::{Finding, Findings};
 use std::alloc::{AllocError, Global};
 
-/// The maximum number of places of one fault that are noted, and of places of further faults.
-const MOST_NOTED: usize = 8;
-
-/// Adds to `notes` the notes for the user on `report`, the report of a call over `files`: where in a text a fault lies,
-/// or what an answer means.
-pub fn report_notes(
+/// Adds to `notes` what is wrong in the file `name` of `command`, which is refused for `cause`. Adds nothing if a line
+/// feed in its name would break the lines.
+pub(crate) fn add_refused(
     alloc: Global,
-    report: &[u8],
-    files: &[File],
+    command: &Command<&File, &str>,
+    name: &str,
+    cause: &Cause,
     notes: &mut Vec<String>,
 ) -> Result<(), AllocError> {
-    note_refused(alloc, report, files, notes)?;
-    match std::str::from_utf8(report) {
-        Ok(text) => note_answer(alloc, text, files, notes),
-        Err(_) => Ok(()),
+    match refused_file(command, cause) {
+        Some(file) if !name.contains('\n') => {
+            let findings = findings_of(alloc, command, file.bytes.as_slice(), cause)?;
+            findings.note(alloc, name, notes)
+        }
+        _ => Ok(()),
     }
 }
 
-/// Adds to `notes` where in a text the fault lies that `report` gives for one of `files`, and what is wrong there, as
-/// `FILE:LINE:COLUMN: TEXT`: each of its places, up to a limit, and then faults of other kinds as further ones. Adds
-/// nothing if the report isn't a refusal of a text, or if a line feed in the file's name would break the line.
-fn note_refused(
+/// Returns what is wrong in `bytes`, a file of `command` that is refused for `cause`.
+fn findings_of(
     alloc: Global,
-    report: &[u8],
-    files: &[File],
-    notes: &mut Vec<String>,
-) -> Result<(), AllocError> {
-    let Some(refusal) = Refusal::read(report, files) else {
-        return Ok(());
-    };
-    if refusal.file.name.as_str().contains('\n') {
-        return Ok(());
-    }
-    let slips = slips_in(alloc, refusal.code, refusal.file.bytes.as_slice(), files)?;
-    refusal.note_slips(alloc, slips.as_slice(), notes)
-}
-
-/// A refusal, as a report gives it.
-#[derive(Clone, Copy, Drop)]
-pub struct Refusal<'a> {
-    /// The file that is refused.
-    pub file: &'a File,
-    /// The code of its fault.
-    pub code: &'a str,
-    /// The fault's place.
-    pub place: &'a str,
-}
-
-impl Refusal<'_> {
-    /// Returns the refusal that `report` gives of one of `files`, and `None` if it gives none.
-    pub fn read<'a>(report: &'a [u8], files: &'a [File]) -> Option<Refusal<'a>> {
-        let text = std::str::from_utf8(report).ok()?;
-        let line = text.strip_suffix('\n')?.strip_prefix("malformed ")?;
-        files.iter().find_map(|file| Refusal::of_file(file, line))
-    }
-
-    /// Returns the refusal of `file` in `line`, if that begins with the name of `file`: `NAME: CODE FAULT PLACE`.
-    fn of_file<'a>(file: &'a File, line: &'a str) -> Option<Refusal<'a>> {
-        let fault = line.strip_prefix(file.name.as_str())?.strip_prefix(": ")?;
-        let (code, rest) = fault.split_once(' ')?;
-        let (_, place) = rest.split_once(' ')?;
-        Some(Refusal { file, code, place })
-    }
-
-    /// Adds the sentences of `slips` to `notes`, or the finding at the fault's place if none of them has its code.
-    fn note_slips(
-        &self,
-        alloc: Global,
-        slips: &[Noted],
-        notes: &mut Vec<String>,
-    ) -> Result<(), AllocError> {
-        self.note_some(alloc, slips, true, "", notes)?;
-        if notes.is_empty() {
-            self.note_place(alloc, notes)?;
+    command: &Command<&File, &str>,
+    bytes: &[u8],
+    cause: &Cause,
+) -> Result<Findings, AllocError> {
+    match cause {
+        Cause::Arch(TilesFault::NotToml) => only(alloc, find_in_toml(alloc, bytes)?),
+        Cause::Arch(fault) => arch_findings(alloc, bytes, fault),
+        Cause::Kernel(KernelFault::NotJson) => only(alloc, find_in_json(alloc, bytes, "kernel")?),
+        Cause::Kernel(fault) => kernel_findings(alloc, bytes, fault),
+        Cause::Mapping(MappingFault::NotJson) => {
+            only(alloc, find_in_json(alloc, bytes, "mapping")?)
         }
-        self.note_some(alloc, slips, false, "further: ", notes)
-    }
-
-    /// Adds to `notes` the first of `slips` with the refusal's code or, if `is_own` is false, with other codes, with
-    /// `front` before their texts.
-    fn note_some(
-        &self,
-        alloc: Global,
-        slips: &[Noted],
-        is_own: bool,
-        front: &str,
-        notes: &mut Vec<String>,
-    ) -> Result<(), AllocError> {
-        let mut left = MOST_NOTED;
-        for slip in slips {
-            if slip.is_own == is_own && left > 0 {
-                self.note(alloc, &slip.finding, front, notes)?;
-                left -= 1;
-            }
-        }
-        Ok(())
-    }
-
-    /// Adds `finding` to `notes`, with `front` before its text.
-    fn note(
-        &self,
-        alloc: Global,
-        finding: &Finding,
-        front: &str,
-        notes: &mut Vec<String>,
-    ) -> Result<(), AllocError> {
-        let name = self.file.name.as_str();
-        let Finding { place, text } = finding;
-        let text = text.as_str();
-        let note = format!(in alloc; "{name}:{place}: {front}{text}")?;
-        notes.push(note)?;
-        Ok(())
-    }
-
-    /// Adds to `notes` the finding at the place that the report gives.
-    fn note_place(&self, alloc: Global, notes: &mut Vec<String>) -> Result<(), AllocError> {
-        if let Some(finding) = self.find(alloc)? {
-            self.note(alloc, &finding, "", notes)?;
-            return self.note_others(alloc, &finding, notes);
-        }
-        if let Some(sentence) = count_sentence(alloc, self.code, self.place)? {
-            return self.note_sentence(alloc, sentence.as_str(), notes);
-        }
-        match sentence_without_place(self.code) {
-            Some(sentence) => self.note_sentence(alloc, sentence, notes),
-            None => Ok(()),
-        }
-    }
-
-    /// Adds to `notes` the other places of the fault of `first`, if it is a reference to a resource that doesn't exist.
-    fn note_others(
-        &self,
-        alloc: Global,
-        first: &Finding,
-        notes: &mut Vec<String>,
-    ) -> Result<(), AllocError> {
-        if self.code == "A4" {
-            for finding in &other_drivers(alloc, self.file.bytes.as_slice(), first)? {
-                self.note(alloc, finding, "", notes)?;
-            }
-        }
-        Ok(())
-    }
-
-    /// Adds `sentence`, on the file as a whole, to `notes`.
-    fn note_sentence(
-        &self,
-        alloc: Global,
-        sentence: &str,
-        notes: &mut Vec<String>,
-    ) -> Result<(), AllocError> {
-        let name = self.file.name.as_str();
-        let note = format!(in alloc; "{name}: {sentence}")?;
-        notes.push(note)?;
-        Ok(())
-    }
-
-    /// Returns the finding in the file's text, and `None` if there is none.
-    fn find(&self, alloc: Global) -> Result<Option<Finding>, AllocError> {
-        let bytes = self.file.bytes.as_slice();
-        match self.code {
-            "K1" => find_in_json(alloc, bytes, "kernel"),
-            "P1" => find_in_json(alloc, bytes, "mapping"),
-            "M1" => find_in_toml(alloc, bytes),
-            "T1" | "T2" | "T3" | "T4" => find_in_text(alloc, bytes, self.code, self.place),
-            "V2" | "V3" | "E1" | "E2" | "E3" | "E4" | "E5" | "E6" => {
-                find_in_netlist(alloc, bytes, self.code, self.place)
-            }
-            "A1" => find_limit(alloc, bytes, self.place),
-            "A6" => find_loop(alloc, bytes, self.place),
-            "A9" => find_hub(alloc, bytes, self.place),
-            code => match byte_place(self.place) {
-                Some(offset) => find_token(alloc, bytes, code, offset),
-                None => self.find_value(alloc, bytes),
-            },
-        }
-    }
-
-    /// Returns the finding on the value at the fault's place in `bytes`.
-    fn find_value(&self, alloc: Global, bytes: &[u8]) -> Result<Option<Finding>, AllocError> {
-        match sentence_of(self.code) {
-            Some(sentence) => find_value(alloc, bytes, self.code, self.place, sentence),
-            None => Ok(None),
-        }
+        Cause::Mapping(fault) => findings_in_mapping(alloc, command, bytes, fault),
+        _ => only(alloc, find_in_other(alloc, command, bytes, cause)?),
     }
 }
 
-/// Returns the number of bytes before the place `byte N`, and `None` if `place` isn't of that form.
-fn byte_place(place: &str) -> Option<usize> {
-    place.strip_prefix("byte ")?.parse().ok()
+/// Returns `finding` alone, if there is one.
+fn only(alloc: Global, finding: Option<Finding>) -> Result<Findings, AllocError> {
+    let mut findings = Findings::new(alloc);
+    findings.add(finding)?;
+    Ok(findings)
 }
 
-/// Returns the sentence on the number in `place` at the fault `code`: the number of nodes or order edges that a kernel
-/// would have, of words of an image, or of contexts of an architecture.
-fn count_sentence(alloc: Global, code: &str, place: &str) -> Result<Option<String>, AllocError> {
-    if !matches!(code, "Q7" | "Y1" | "G2" | "S2") {
-        return Ok(None);
+/// Returns what is wrong in `bytes`, the mapping of `command`, which is refused for `fault`.
+fn findings_in_mapping(
+    alloc: Global,
+    command: &Command<&File, &str>,
+    bytes: &[u8],
+    fault: &MappingFault,
+) -> Result<Findings, AllocError> {
+    match (arch_of(command), kernel_of(command)) {
+        (Some(arch), Some(kernel)) => {
+            let call = MappingCall {
+                arch: arch.bytes.as_slice(),
+                kernel: kernel.bytes.as_slice(),
+                kernel_name: kernel.name.as_str(),
+                mapping: bytes,
+            };
+            mapping_findings(alloc, call, fault)
+        }
+        _ => Ok(Findings::new(alloc)),
     }
-    match place.split_once(' ') {
-        Some(("contexts", count)) => {
-            let text = format!(in alloc;
-                "the interval given by --ii is greater than the number of contexts of the architecture, {count}"
-            )?;
-            Ok(Some(text))
+}
+
+/// Returns what is wrong in `bytes`, a file of `command` that is refused for `cause` and is no architecture, kernel or
+/// mapping.
+fn find_in_other(
+    alloc: Global,
+    command: &Command<&File, &str>,
+    bytes: &[u8],
+    cause: &Cause,
+) -> Result<Option<Finding>, AllocError> {
+    match cause {
+        Cause::Bits(fault) | Cause::FirstBits(fault) => {
+            find_in_bits_of(alloc, command, bytes, *fault)
         }
-        Some(("words", count)) => {
-            let text = format!(in alloc;
-                "memory words of the image: {count}, more than the architecture has by its key memory"
-            )?;
-            Ok(Some(text))
-        }
-        Some(("nodes", count)) => {
-            let text = format!(in alloc;
-                "the kernel would have {count} nodes, but at most 1024 are allowed"
-            )?;
-            Ok(Some(text))
-        }
-        Some(("order", count)) => {
+        Cause::Image(fault) => Ok(Some(find_in_image(alloc, bytes, *fault)?)),
+        Cause::ImageText(fault) => find_in_text(alloc, bytes, *fault),
+        Cause::Loop(fault) => find_in_loop(alloc, bytes, fault),
+        Cause::Netlist(fault) => find_in_netlist(alloc, bytes, fault),
+        Cause::Gates(fault) => find_in_gates(alloc, bytes, fault),
+        Cause::Depend(DependFault::TooManyEdges(count)) => {
             let text = format!(in alloc;
                 "the kernel would have {count} order edges, but at most 4096 are allowed"
             )?;
-            Ok(Some(text))
+            Ok(Some(Finding { place: None, text }))
+        }
+        Cause::Run(SimFault::ImageTooLarge(count)) => {
+            let text = format!(in alloc;
+                "memory words of the image: {count}, more than the architecture has by its key memory"
+            )?;
+            Ok(Some(Finding { place: None, text }))
         }
         _ => Ok(None),
     }
+}
+
+/// Returns what is wrong with `bits`, those of `command`, which are refused for `fault`.
+fn find_in_bits_of(
+    alloc: Global,
+    command: &Command<&File, &str>,
+    bits: &[u8],
+    fault: BitsFault,
+) -> Result<Option<Finding>, AllocError> {
+    let Some(arch) = arch_of(command) else {
+        return Ok(None);
+    };
+    let call = BitsCall {
+        arch: arch.bytes.as_slice(),
+        bits,
+        is_first: matches!(command, Command::Migrate { .. }),
+    };
+    Ok(Some(find_in_bits(alloc, call, fault)?))
 }

@@ -1,11 +1,18 @@
-//! All that is wrong in the parts of tiles in an architecture file, in sentences.
+//! All that is wrong in an architecture file, in sentences: its keys, the parts of its tiles, the elements of its cells
+//! and what drives them.
 #![tactic(auto)]
 
-mod lines;
+mod drivers;
+mod elements;
+mod files;
+mod heads;
+mod names;
 mod ops;
+mod others;
 mod parts;
+mod reach;
 mod references;
-mod slips;
+mod rows;
+mod tiles;
 
-pub use lines::{key_line, key_line_in, unknown_key_line};
-pub use slips::{TomlSlip, arch_slips};
+pub use files::arch_findings;

@@ -1,95 +1,97 @@
 //! What is wrong with the operations, the latency and the number of ports of a unit.
 
-use crate::parts::{note_missing, place_of};
-use crate::slips::{Here, TomlSlips};
-use cg_lints::unknown_operation;
+use crate::tiles::Here;
+use cg_lints::{Rule, Slips, unknown_operation};
+use cg_toml::items_at;
 use cg_word::Op;
-use std::alloc::{AllocError, Global};
+use std::alloc::AllocError;
 use toml::Value;
 
 /// The maximum latency.
 const MOST_LATENCY: i64 = 4;
 
-/// Adds to `slips` what is wrong with the operations of `value`, the unit `here`.
-pub(crate) fn note_ops(
-    alloc: Global,
-    slips: &mut TomlSlips,
-    here: Here<'_>,
-    value: &Value,
-) -> Result<(), AllocError> {
-    let Some(found) = value.get("ops") else {
-        return note_missing(alloc, slips, here, "ops");
-    };
-    let at = place_of(here, "ops");
-    let Some(ops) = found.as_array() else {
-        return slips.add(alloc, "M2", here, at, "\"ops\" must be a list of strings");
-    };
-    if ops.is_empty() {
-        slips.add(
-            alloc,
-            "A7",
-            here,
-            at,
-            "a unit must have at least one operation",
-        )?;
-    }
-    for op in ops.iter() {
-        note_op(alloc, slips, here, at, op)?;
-    }
-    note_arity(alloc, slips, here, value)
-}
+/// The message on operations that aren't texts.
+const WRONG_OPS: &str = "\"ops\" must be a list of strings";
 
-/// Adds to `slips` the faults of `op`, an item of the operations at byte `at`.
-fn note_op(
-    alloc: Global,
-    slips: &mut TomlSlips,
-    here: Here<'_>,
-    at: usize,
-    op: &Value,
-) -> Result<(), AllocError> {
-    match op.as_str() {
-        None => slips.add(alloc, "M2", here, at, "\"ops\" must be a list of strings"),
-        Some(name) if Op::from_name(name).is_none() => {
-            let text = unknown_operation(alloc, name)?;
-            slips.add(alloc, "M6", here, at, text.as_str())
+impl Here<'_> {
+    /// Adds to `slips` what is wrong with the operations of `value`, a unit.
+    pub(crate) fn note_ops(self, slips: &mut Slips, value: &Value) -> Result<(), AllocError> {
+        if value.get("ops").is_none() {
+            return self.note_missing(slips, "ops");
         }
-        Some(_) => Ok(()),
+        let Some(ops) = items_at(value, "ops") else {
+            return self.add_shape(slips, "ops", WRONG_OPS);
+        };
+        if ops.is_empty() {
+            let at = self.place_of("ops");
+            self.add(
+                slips,
+                Rule::BadUnit,
+                at,
+                "a unit must have at least one operation",
+            )?;
+        }
+        for op in ops {
+            self.note_op(slips, op)?;
+        }
+        match items_at(value, "ports") {
+            Some(ports) => self.note_arity(slips, ops, ports.len()),
+            None => Ok(()),
+        }
     }
-}
 
-/// Adds to `slips` the first operation of `value`, the unit `here`, that takes more arguments than the unit has ports.
-fn note_arity(
-    alloc: Global,
-    slips: &mut TomlSlips,
-    here: Here<'_>,
-    value: &Value,
-) -> Result<(), AllocError> {
-    let ports = match value.get("ports") {
-        Some(ports) => match ports.as_array() {
-            Some(ports) => ports.len(),
-            None => return Ok(()),
-        },
-        None => return Ok(()),
-    };
-    let Some(ops) = value.get("ops") else {
-        return Ok(());
-    };
-    let Some(ops) = ops.as_array() else {
-        return Ok(());
-    };
-    for op in ops.iter() {
-        if let Some(op) = op_of(op) {
-            let arity = op.arity();
-            if arity as usize > ports {
-                let name = op.name();
-                let text = format!(in alloc;
-                    "{name} takes {arity} arguments, but the unit has ports for {ports}"
-                )?;
-                return slips.add(alloc, "A7", here, place_of(here, "ports"), text.as_str());
+    /// Adds to `slips` the faults of `op`, an item of the operations.
+    fn note_op(self, slips: &mut Slips, op: &Value) -> Result<(), AllocError> {
+        match op.as_str() {
+            None => self.add_shape(slips, "ops", WRONG_OPS),
+            Some(name) if Op::from_name(name).is_none() => {
+                let text = unknown_operation(slips.alloc, name)?;
+                self.add(slips, Rule::UnknownOp, self.place_of("ops"), text.as_str())
+            }
+            Some(_) => Ok(()),
+        }
+    }
+
+    /// Adds to `slips` the first of `ops` that takes more arguments than the unit has `ports`.
+    fn note_arity(self, slips: &mut Slips, ops: &[Value], ports: usize) -> Result<(), AllocError> {
+        for op in ops {
+            match op_of(op) {
+                Some(op) if op.arity() as usize > ports => {
+                    let name = op.name();
+                    let arity = op.arity();
+                    let text = format!(in slips.alloc;
+                        "{name} takes {arity} arguments, but the unit has ports for {ports}"
+                    )?;
+                    let at = self.place_of("ports");
+                    return self.add(slips, Rule::BadUnit, at, text.as_str());
+                }
+                _ => {}
             }
         }
+        Ok(())
     }
-    Ok(())
+
+    /// Adds to `slips` what is wrong with the latency of `value`, a unit.
+    pub(crate) fn note_latency(self, slips: &mut Slips, value: &Value) -> Result<(), AllocError> {
+        let Some(found) = value.get("latency") else {
+            return self.note_missing(slips, "latency");
+        };
+        match found.as_integer() {
+            None => self.add_shape(slips, "latency", "\"latency\" must be a number from 1 to 4"),
+            Some(latency) if latency < 1 || latency > MOST_LATENCY => {
+                let rule = if latency < 0 || latency > i64::from(u32::MAX) {
+                    Rule::WrongShape
+                } else {
+                    Rule::BadUnit
+                };
+                let text = format!(in slips.alloc;
+                    "a latency is 1 to 4, but this one is {latency}"
+                )?;
+                self.add(slips, rule, self.place_of("latency"), text.as_str())
+            }
+            Some(_) => Ok(()),
+        }
+    }
 }
 
 /// Returns the operation that `value` names.
@@ -97,37 +99,5 @@ fn op_of(value: &Value) -> Option<Op> {
     match value.as_str() {
         Some(name) => Op::from_name(name),
         None => None,
-    }
-}
-
-/// Adds to `slips` what is wrong with the latency of `value`, the unit `here`.
-pub(crate) fn note_latency(
-    alloc: Global,
-    slips: &mut TomlSlips,
-    here: Here<'_>,
-    value: &Value,
-) -> Result<(), AllocError> {
-    let Some(found) = value.get("latency") else {
-        return note_missing(alloc, slips, here, "latency");
-    };
-    let at = place_of(here, "latency");
-    match found.as_integer() {
-        None => slips.add(
-            alloc,
-            "M2",
-            here,
-            at,
-            "\"latency\" must be a number from 1 to 4",
-        ),
-        Some(latency) if latency < 1 || latency > MOST_LATENCY => {
-            let code = if latency < 0 || latency > i64::from(u32::MAX) {
-                "M2"
-            } else {
-                "A7"
-            };
-            let text = format!(in alloc; "a latency is 1 to 4, but this one is {latency}")?;
-            slips.add(alloc, code, here, at, text.as_str())
-        }
-        Some(_) => Ok(()),
     }
 }

@@ -1,12 +1,9 @@
 //! What is wrong with a part: its keys and their values.
 
-use crate::lines::key_line_in;
-use crate::ops::{note_latency, note_ops};
-use crate::references::{note_from, note_ports};
-use crate::slips::{Here, TomlSlips};
-use cg_lints::unknown_key;
+use crate::tiles::Here;
+use cg_lints::{Rule, Slips, unknown_key};
 use cg_model::{LONGEST_NAME, is_name};
-use std::alloc::{AllocError, Global};
+use std::alloc::AllocError;
 use toml::Value;
 
 /// The keys that say what a part is.
@@ -26,139 +23,125 @@ const FILE_KEYS: [&str; 7] = [
 /// The keys of a part of any kind.
 const ALL_KEYS: [&str; 7] = ["wire", "reg", "unit", "from", "ops", "latency", "ports"];
 
-/// Returns the byte of the line that sets `key` in the part `here`, or the byte at which the part begins if there is no
-/// such line.
-pub(crate) fn place_of(here: Here<'_>, key: &str) -> usize {
-    if here.is_listed {
-        return here.at;
-    }
-    key_line_in(here.bytes, here.at, key).unwrap_or(here.at)
-}
-
-/// Adds to `slips` that `value`, the part `here`, has several of the keys wire, reg and unit, at the last of them.
-fn note_heads(
-    alloc: Global,
-    slips: &mut TomlSlips,
-    here: Here<'_>,
-    value: &Value,
-) -> Result<(), AllocError> {
-    note_keys(alloc, slips, here, value, &ALL_KEYS)?;
-    let mut last = here.at;
-    for head in &HEADS {
-        if value.get(*head).is_some() {
-            last = last.max(place_of(here, *head));
+impl Here<'_> {
+    /// Adds to `slips` what is wrong with `value`, the part.
+    pub(crate) fn note_part(self, slips: &mut Slips, value: &Value) -> Result<(), AllocError> {
+        let heads = HEADS
+            .iter()
+            .filter(|head| value.get(**head).is_some())
+            .count();
+        match heads {
+            0 => {
+                self.note_keys(slips, value, &ALL_KEYS)?;
+                let text = "a part must have one of the keys wire, reg and unit";
+                self.add(slips, Rule::WrongShape, self.at, text)
+            }
+            1 if value.get("unit").is_some() => self.note_unit(slips, value),
+            1 => self.note_net(slips, value),
+            _ => self.note_heads(slips, value),
         }
     }
-    let tile = here.tile;
-    let text = format!(in alloc;
-        "a part must have only one of the keys wire, reg and unit: is a header [[tiles.{tile}]] missing before this one?"
-    )?;
-    slips.add(alloc, "M2", here, last, text.as_str())
-}
 
-/// Adds to `slips` what is wrong with `value`, the part `here`.
-pub(crate) fn note_part(
-    alloc: Global,
-    slips: &mut TomlSlips,
-    here: Here<'_>,
-    value: &Value,
-) -> Result<(), AllocError> {
-    let heads = HEADS
-        .iter()
-        .filter(|head| value.get(**head).is_some())
-        .count();
-    if heads > 1 {
-        return note_heads(alloc, slips, here, value);
+    /// Adds to `slips` what is wrong with `value`, a unit.
+    fn note_unit(self, slips: &mut Slips, value: &Value) -> Result<(), AllocError> {
+        self.note_name(slips, value, "unit")?;
+        self.note_keys(slips, value, &UNIT_KEYS)?;
+        self.note_ops(slips, value)?;
+        self.note_latency(slips, value)?;
+        self.note_ports(slips, value)
     }
-    if heads == 0 {
-        note_keys(alloc, slips, here, value, &ALL_KEYS)?;
-        let text = "a part must have one of the keys wire, reg and unit";
-        return slips.add(alloc, "M2", here, here.at, text);
-    }
-    if value.get("unit").is_some() {
-        note_name(alloc, slips, here, value, "unit")?;
-        note_keys(alloc, slips, here, value, &UNIT_KEYS)?;
-        note_ops(alloc, slips, here, value)?;
-        note_latency(alloc, slips, here, value)?;
-        note_ports(alloc, slips, here, value)
-    } else {
-        note_name(alloc, slips, here, value, "wire")?;
-        note_name(alloc, slips, here, value, "reg")?;
-        note_keys(alloc, slips, here, value, &NET_KEYS)?;
-        note_from(alloc, slips, here, value)
-    }
-}
 
-/// Adds to `slips` each key of `value` that isn't one of `keys`.
-fn note_keys(
-    alloc: Global,
-    slips: &mut TomlSlips,
-    here: Here<'_>,
-    value: &Value,
-    keys: &[&'static str],
-) -> Result<(), AllocError> {
-    let Some(members) = value.as_table() else {
-        return Ok(());
-    };
-    for (key, _) in members.iter() {
-        let key = key.as_str();
-        if !(&*keys).contains(&key) {
-            let text = if FILE_KEYS.contains(&key) {
-                format!(in alloc; "\"{key}\" is a key of the file and must come before the tiles")?
-            } else {
-                unknown_key(alloc, key, keys)?
-            };
-            slips.add(alloc, "M3", here, place_of(here, key), text.as_str())?;
+    /// Adds to `slips` what is wrong with `value`, a wire or a register.
+    fn note_net(self, slips: &mut Slips, value: &Value) -> Result<(), AllocError> {
+        self.note_name(slips, value, "wire")?;
+        self.note_name(slips, value, "reg")?;
+        self.note_keys(slips, value, &NET_KEYS)?;
+        self.note_from(slips, value)
+    }
+
+    /// Adds to `slips` that `value` has several of the keys wire, reg and unit, at the last of them.
+    fn note_heads(self, slips: &mut Slips, value: &Value) -> Result<(), AllocError> {
+        self.note_keys(slips, value, &ALL_KEYS)?;
+        let mut last = self.at;
+        for head in &HEADS {
+            if value.get(*head).is_some() {
+                last = last.max(self.place_of(head));
+            }
         }
+        let tile = self.tile;
+        let text = format!(in slips.alloc;
+            "a part must have only one of the keys wire, reg and unit: is a header [[tiles.{tile}]] missing before this one?"
+        )?;
+        self.add(slips, Rule::WrongShape, last, text.as_str())
     }
-    Ok(())
-}
 
-/// Adds to `slips` what is wrong with the name that `value` has at `key`, if it has that key.
-fn note_name(
-    alloc: Global,
-    slips: &mut TomlSlips,
-    here: Here<'_>,
-    value: &Value,
-    key: &str,
-) -> Result<(), AllocError> {
-    let Some(found) = value.get(key) else {
-        return Ok(());
-    };
-    let at = place_of(here, key);
-    match found.as_str() {
-        None => {
-            let text = format!(in alloc; "\"{key}\" must be a string")?;
-            slips.add(alloc, "M2", here, at, text.as_str())
+    /// Adds to `slips` each key of `value` that isn't one of `keys`.
+    fn note_keys(
+        self,
+        slips: &mut Slips,
+        value: &Value,
+        keys: &[&'static str],
+    ) -> Result<(), AllocError> {
+        let Some(members) = value.as_table() else {
+            return Ok(());
+        };
+        for (key, _) in members.iter() {
+            let key = key.as_str();
+            if !(&*keys).contains(&key) {
+                self.note_key(slips, key, keys)?;
+            }
         }
-        Some(name) if !is_name(name, LONGEST_NAME) => {
-            let length = name.len();
-            let text = if length > LONGEST_NAME {
-                format!(in alloc;
+        Ok(())
+    }
+
+    /// Adds to `slips` that `key` isn't one of `keys`.
+    fn note_key(
+        self,
+        slips: &mut Slips,
+        key: &str,
+        keys: &[&'static str],
+    ) -> Result<(), AllocError> {
+        let text = if FILE_KEYS.contains(&key) {
+            format!(in slips.alloc;
+                "\"{key}\" is a key of the file and must come before the tiles"
+            )?
+        } else {
+            unknown_key(slips.alloc, key, keys)?
+        };
+        self.add(slips, Rule::UnknownKey, self.place_of(key), text.as_str())
+    }
+
+    /// Adds to `slips` what is wrong with the name that `value` has at `key`, if it has that key.
+    fn note_name(self, slips: &mut Slips, value: &Value, key: &str) -> Result<(), AllocError> {
+        let Some(found) = value.get(key) else {
+            return Ok(());
+        };
+        match found.as_str() {
+            None => {
+                let text = format!(in slips.alloc; "\"{key}\" must be a string")?;
+                self.add_shape(slips, key, text.as_str())
+            }
+            Some(name) if is_name(name, LONGEST_NAME) => Ok(()),
+            Some(name) if name.len() > LONGEST_NAME => {
+                let length = name.len();
+                let text = format!(in slips.alloc;
                     "a name has at most {LONGEST_NAME} characters including the prefix of its cell, such as r0c0_, but this one alone has {length}"
-                )?
-            } else {
-                String::from_str(
-                    alloc,
-                    "a name is a letter or _, followed by letters, digits or _",
-                )?
-            };
-            slips.add(alloc, "A2", here, at, text.as_str())
+                )?;
+                self.add(slips, Rule::BadName, self.place_of(key), text.as_str())
+            }
+            Some(_) => {
+                let text = "a name is a letter or _, followed by letters, digits or _";
+                self.add(slips, Rule::BadName, self.place_of(key), text)
+            }
         }
-        Some(_) => Ok(()),
     }
-}
 
-/// Adds to `slips` that the part `here` lacks the key `key`.
-pub(crate) fn note_missing(
-    alloc: Global,
-    slips: &mut TomlSlips,
-    here: Here<'_>,
-    key: &str,
-) -> Result<(), AllocError> {
-    let example = example_of(key);
-    let text = format!(in alloc; "the key \"{key}\" is missing, for example {example}")?;
-    slips.add(alloc, "M2", here, here.at, text.as_str())
+    /// Adds to `slips` that the part lacks the key `key`.
+    pub(crate) fn note_missing(self, slips: &mut Slips, key: &str) -> Result<(), AllocError> {
+        let example = example_of(key);
+        let text = format!(in slips.alloc; "the key \"{key}\" is missing, for example {example}")?;
+        self.add(slips, Rule::WrongShape, self.at, text.as_str())
+    }
 }
 
 /// Returns an example of a line that sets the key `key` of a part.

@@ -1,91 +1,145 @@
 //! The rules that arguments break.
 
-use crate::nodes::{Here, no_node};
+use crate::nodes::{Checked, Here, name_at};
 use cg_kernel::{WrittenArg, WrittenKernel, WrittenNode, op_of};
-use cg_lints::{Slips, Spot, shown};
+use cg_lints::{Rule, Spot, shown};
 use cg_model::{MOST_DISTANCE, MOST_NODES};
 use cg_reading::{Numbers, number_in};
 use cg_word::Op;
 use std::alloc::{AllocError, Global};
 
-/// Adds to `slips` the faults of the arguments of `node`.
-pub(crate) fn note_args(
-    alloc: Global,
-    slips: &mut Slips,
-    here: Here<'_>,
-    numbers: &Numbers,
-    node: &WrittenNode,
-) -> Result<(), AllocError> {
-    for (place, arg) in node.args.as_slice().iter().enumerate() {
-        if let WrittenArg::Source {
-            from,
-            distance,
-            init,
-            ..
-        } = arg
-        {
-            note_source(alloc, slips, here, numbers, place, from.as_str(), *distance)?;
-            note_distance(alloc, slips, here, place, *distance, init.as_slice().len())?;
+/// The advice to take the value of the previous iteration.
+const BEFORE: &str =
+    "for its value in the previous turn, write \"distance\": 1, with one word in \"init\"";
+
+/// An argument that is being checked.
+#[derive(Clone, Copy, Drop)]
+struct Arg<'a> {
+    /// Its node.
+    here: Here<'a>,
+    /// Its number, from 0.
+    place: usize,
+}
+
+impl Checked<'_> {
+    /// Adds the faults of the arguments of `node`.
+    pub(crate) fn note_args(
+        &mut self,
+        here: Here<'_>,
+        node: &WrittenNode,
+    ) -> Result<(), AllocError> {
+        for (place, arg) in node.args.as_slice().iter().enumerate() {
+            if let WrittenArg::Source {
+                from,
+                distance,
+                init,
+                ..
+            } = arg
+            {
+                let arg = Arg { here, place };
+                self.note_source(arg, from.as_str(), *distance)?;
+                self.note_distance(arg, *distance)?;
+                self.note_init(arg, *distance, init.as_slice().len())?;
+            }
         }
+        Ok(())
     }
-    Ok(())
-}
 
-/// Adds to `slips` the faults of the source of the argument at `place`: the node `from`, `distance` iterations before.
-fn note_source(
-    alloc: Global,
-    slips: &mut Slips,
-    here: Here<'_>,
-    numbers: &Numbers,
-    place: usize,
-    from: &str,
-    distance: u32,
-) -> Result<(), AllocError> {
-    let Here {
-        written,
-        number,
-        prefix,
-    } = here;
-    let spot = Spot::ElementKey("args", place, "from");
-    let Some(source) = number_in(numbers, from) else {
-        let said = no_node(alloc, slips, written, from)?;
-        let said = said.as_str();
-        let text = format!(in alloc; "{prefix}argument {place}: {said}")?;
-        return slips.add("K9", "nodes", number, spot, text);
-    };
-    note_value(alloc, slips, here, place, source)?;
-    if distance == 0 && source >= number {
-        let said = not_earlier(alloc, slips, here, numbers, source)?;
-        let said = said.as_str();
-        let text = format!(in alloc; "{prefix}argument {place}: {said}")?;
-        slips.add("K11", "nodes", number, spot, text)?;
+    /// Adds that `text`, which breaks `rule`, is wrong at `key` of `arg`; at the argument itself if there is no
+    /// key.
+    fn add_to_arg(
+        &mut self,
+        rule: Rule,
+        arg: Arg<'_>,
+        key: Option<&'static str>,
+        text: &str,
+    ) -> Result<(), AllocError> {
+        let Arg { here, place } = arg;
+        let text = format!(in self.slips.alloc; "argument {place}{text}")?;
+        let spot = match key {
+            Some(key) => Spot::ElementKey("args", place, key),
+            None => Spot::Element("args", place),
+        };
+        self.add(rule, here, spot, text.as_str())
     }
-    Ok(())
-}
 
-/// Adds a slip to `slips` if node `source`, the source of the argument at `place`, has no value.
-fn note_value(
-    alloc: Global,
-    slips: &mut Slips,
-    here: Here<'_>,
-    place: usize,
-    source: usize,
-) -> Result<(), AllocError> {
-    let Here {
-        written,
-        number,
-        prefix,
-    } = here;
-    let Some(op) = op_at(written, source).filter(|op| !op.has_value()) else {
-        return Ok(());
-    };
-    let said = without_value(alloc, written, source, op)?;
-    let said = said.as_str();
-    let from = name_at(alloc, written, source)?;
-    let from = from.as_str();
-    let text = format!(in alloc; "{prefix}argument {place} comes from \"{from}\": {said}")?;
-    let spot = Spot::ElementKey("args", place, "from");
-    slips.add("K10", "nodes", number, spot, text)
+    /// Adds the faults of the source of `arg`: the node `from`, `distance` iterations before.
+    fn note_source(&mut self, arg: Arg<'_>, from: &str, distance: u32) -> Result<(), AllocError> {
+        let Some(source) = number_in(self.numbers, from) else {
+            let said = self.no_node(from)?;
+            let said = said.as_str();
+            let text = format!(in self.slips.alloc; ": {said}")?;
+            return self.add_to_arg(Rule::UnknownNode, arg, Some("from"), text.as_str());
+        };
+        self.note_value(arg, source)?;
+        if distance == 0 && source >= arg.here.number {
+            let text = self.not_earlier(arg.here.number, source)?;
+            let rule = Rule::BackEdgeWithoutDistance;
+            return self.add_to_arg(rule, arg, Some("from"), text.as_str());
+        }
+        Ok(())
+    }
+
+    /// Adds a slip if node `source`, the source of `arg`, has no value.
+    fn note_value(&mut self, arg: Arg<'_>, source: usize) -> Result<(), AllocError> {
+        let written = self.written;
+        let Some(op) = op_at(written, source).filter(|op| !op.has_value()) else {
+            return Ok(());
+        };
+        let alloc = self.slips.alloc;
+        let said = without_value(alloc, written, source, op)?;
+        let said = said.as_str();
+        let from = name_at(alloc, written, source)?;
+        let from = from.as_str();
+        let text = format!(in alloc; " comes from \"{from}\": {said}")?;
+        self.add_to_arg(Rule::NoValue, arg, Some("from"), text.as_str())
+    }
+
+    /// Returns the message that node `source` doesn't come before node `number`, which takes its value of the same
+    /// iteration, and how to repair that.
+    fn not_earlier(&self, number: usize, source: usize) -> Result<String, AllocError> {
+        let alloc = self.slips.alloc;
+        let from = name_at(alloc, self.written, source)?;
+        let from = from.as_str();
+        if source == number {
+            return format!(in alloc; ": \"{from}\" is the node itself: {BEFORE}");
+        }
+        let to = name_at(alloc, self.written, number)?;
+        let to = to.as_str();
+        if self.slips.are_few() && needs(alloc, self.written, self.numbers, source, number)? {
+            return format!(in alloc; ": \"{from}\" needs \"{to}\" in the same turn: {BEFORE}");
+        }
+        format!(in alloc;
+            ": \"{from}\" comes after \"{to}\": put the node {from} before it; or, if its value in the previous turn is meant, write \"distance\": 1 with one word in \"init\""
+        )
+    }
+
+    /// Adds a slip if `distance`, the distance of `arg`, is too great.
+    fn note_distance(&mut self, arg: Arg<'_>, distance: u32) -> Result<(), AllocError> {
+        if distance <= MOST_DISTANCE {
+            return Ok(());
+        }
+        let text = format!(in self.slips.alloc;
+            ": a distance is at most 4, but this one is {distance}: pass the value on by further nodes, over at most 4 turns each"
+        )?;
+        self.add_to_arg(Rule::BadDistance, arg, Some("distance"), text.as_str())
+    }
+
+    /// Adds a slip if `count`, the number of initial words of `arg`, isn't its `distance`.
+    fn note_init(&mut self, arg: Arg<'_>, distance: u32, count: usize) -> Result<(), AllocError> {
+        if count as u64 == u64::from(distance) {
+            return Ok(());
+        }
+        let text = match count {
+            0 => format!(in self.slips.alloc;
+                ": \"init\" is missing or empty: it needs one word for each turn of the distance, which is {distance}, such as \"init\":[0] for distance 1"
+            )?,
+            _ => format!(in self.slips.alloc;
+                ": \"init\" needs one word for each turn of the distance, which is {distance}, but has {count}"
+            )?,
+        };
+        self.add_to_arg(Rule::InitCount, arg, None, text.as_str())
+    }
 }
 
 /// Returns the message that `op`, the operation of node `source` of `written`, has no value, and what to take instead.
@@ -97,6 +151,20 @@ fn without_value(
 ) -> Result<String, AllocError> {
     let name = op.name();
     let does = if op.is_store() { "stores" } else { "sends" };
+    let what = instead_of(alloc, written, source, op)?;
+    let what = what.as_str();
+    format!(in alloc;
+        "{name} has no value: use what it {does}{what}; to order this node after it, add an edge in \"order\""
+    )
+}
+
+/// Returns what node `source` of `written`, with the operation `op`, stores or sends, after a comma.
+fn instead_of(
+    alloc: Global,
+    written: &WrittenKernel,
+    source: usize,
+    op: Op,
+) -> Result<String, AllocError> {
     let what = match written.nodes.as_slice().get(source) {
         Some(node) => node.args.as_slice().get(op.last_arg()),
         None => None,
@@ -105,57 +173,10 @@ fn without_value(
         Some(WrittenArg::Source { from, .. }) => {
             let from = shown(alloc, from.as_str())?;
             let from = from.as_str();
-            format!(in alloc;
-                "{name} has no value: use what it {does}, \"{from}\"; to order this node after it, add an edge in \"order\""
-            )
+            format!(in alloc; ", \"{from}\"")
         }
-        Some(WrittenArg::Number(word)) => format!(in alloc;
-            "{name} has no value: use what it {does}, the number {word}; to order this node after it, add an edge in \"order\""
-        ),
-        None => format!(in alloc;
-            "{name} has no value: use what it {does}; to order this node after it, add an edge in \"order\""
-        ),
-    }
-}
-
-/// Returns the message that node `source` doesn't come before the node `here`, which takes its value of the same
-/// iteration, and how to repair that.
-fn not_earlier(
-    alloc: Global,
-    slips: &Slips,
-    here: Here<'_>,
-    numbers: &Numbers,
-    source: usize,
-) -> Result<String, AllocError> {
-    let Here {
-        written,
-        number,
-        ..
-    } = here;
-    let from = name_at(alloc, written, source)?;
-    let from = from.as_str();
-    if source == number {
-        return format!(in alloc;
-            "\"{from}\" is the node itself: for its value in the previous turn, write \"distance\": 1, with one word in \"init\""
-        );
-    }
-    let to = name_at(alloc, written, number)?;
-    let to = to.as_str();
-    if slips.are_few() && needs(alloc, written, numbers, source, number)? {
-        return format!(in alloc;
-            "\"{from}\" needs \"{to}\" in the same turn: for its value in the previous turn, write \"distance\": 1, with one word in \"init\""
-        );
-    }
-    format!(in alloc;
-        "\"{from}\" comes after \"{to}\": put the node {from} before it; or, if its value in the previous turn is meant, write \"distance\": 1 with one word in \"init\""
-    )
-}
-
-/// Returns the name of node `number` of `written`, as a note shows it.
-fn name_at(alloc: Global, written: &WrittenKernel, number: usize) -> Result<String, AllocError> {
-    match written.nodes.as_slice().get(number) {
-        Some(node) => shown(alloc, node.name.as_str()),
-        None => String::from_str(alloc, ""),
+        Some(WrittenArg::Number(word)) => format!(in alloc; ", the number {word}"),
+        None => Ok(String::new(alloc)),
     }
 }
 
@@ -218,41 +239,4 @@ fn op_at(written: &WrittenKernel, number: usize) -> Option<Op> {
         Some(node) => op_of(written, node),
         None => None,
     }
-}
-
-/// Adds to `slips` the faults of `distance`, the distance of the argument at `place`, and of `init`, its number of
-/// initial words.
-fn note_distance(
-    alloc: Global,
-    slips: &mut Slips,
-    here: Here<'_>,
-    place: usize,
-    distance: u32,
-    init: usize,
-) -> Result<(), AllocError> {
-    let Here { number, prefix, .. } = here;
-    if distance > MOST_DISTANCE {
-        let text = format!(in alloc;
-            "{prefix}argument {place}: a distance is at most 4, but this one is {distance}: pass the value on by further nodes, over at most 4 turns each"
-        )?;
-        slips.add(
-            "K12",
-            "nodes",
-            number,
-            Spot::ElementKey("args", place, "distance"),
-            text,
-        )?;
-    }
-    if init as u64 != u64::from(distance) {
-        let text = match init {
-            0 => format!(in alloc;
-                "{prefix}argument {place}: \"init\" is missing or empty: it needs one word for each turn of the distance, which is {distance}, such as \"init\":[0] for distance 1"
-            )?,
-            _ => format!(in alloc;
-                "{prefix}argument {place}: \"init\" needs one word for each turn of the distance, which is {distance}, but has {init}"
-            )?,
-        };
-        slips.add("K13", "nodes", number, Spot::Element("args", place), text)?;
-    }
-    Ok(())
 }

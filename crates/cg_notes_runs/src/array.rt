@@ -1,12 +1,11 @@
 //! Notes on `run`.
-ghost use Rattle.std.specs.Prelude.{◌≡◌};
+ghost use Rattle.std.specs.Prelude.{◌≡◌, ◌<◌, ℕ, length};
 ghost use Rattle.cg_model.specs.Canonical.{IsCanonical};
+ghost use Rattle.cg_config.specs.Known.{HasUnit};
 
 use crate::streams::{add_short_streams, mark};
 use cg_arch::Arch;
-use cg_bits::CGB2;
 use cg_model::{PORTS, Unit, UnitFields};
-use cg_notes_bits::{slot_from, unit_bits, unit_fields, unit_from};
 use cg_pad::{Image, Work, read_image};
 use cg_sim::{Sim, SimFault};
 use cg_tiles::read_arch;
@@ -17,69 +16,78 @@ use std::alloc::{AllocError, Global};
 /// The maximum work of resources and units, over all cycles, that is repeated for a note.
 const MOST_WORK: u64 = 50_000_000;
 
-/// A run of an array, as its files describe it.
+/// A run of an array, by the bytes of its files.
+#[derive(Clone, Copy, Drop)]
+pub struct ArrayRun<'a> {
+    /// The architecture.
+    pub arch: &'a [u8],
+    /// The bits that configure it.
+    pub bits: &'a [u8],
+    /// The image from which it runs.
+    pub image: &'a [u8],
+    /// The number of iterations.
+    pub turns: u32,
+    /// Whether the first access outside the memory is sought.
+    pub reaches_outside: bool,
+}
+
+/// A run of an array.
 #[derive(Clone, Copy, Drop)]
 struct Run<'a> {
     arch: &'a Arch,
-    bits: &'a [u8],
-    ii: u32,
     turns: u32,
     image: &'a Image,
 }
 
-/// Adds to `notes` the notes on a run of `turns` iterations of the architecture whose file has the bytes `arch`,
-/// configured by `bits`, from the image `image`: on its first access outside the memory if `reaches_outside` is true,
-/// and on the inputs that read past their streams.
+/// Adds to `notes` the notes on `run`: on its first access outside the memory, if that is sought, and on the inputs that
+/// read past their streams.
 pub fn array_notes(
     alloc: Global,
-    arch: &[u8],
-    bits: &[u8],
-    image: &[u8],
-    turns: u32,
-    reaches_outside: bool,
+    run: ArrayRun<'_>,
     notes: &mut Vec<String>,
 ) -> Result<(), AllocError> {
-    let Ok(arch) = read_arch(alloc, arch) else {
+    let Ok(arch) = read_arch(alloc, run.arch) else {
         return Ok(());
     };
-    let Ok(view) = ConfigView::of(&arch, bits) else {
+    let Ok(view) = ConfigView::of(&arch, run.bits) else {
         return Ok(());
     };
-    let Ok(image) = read_image(alloc, image) else {
+    let Ok(image) = read_image(alloc, run.image) else {
         return Ok(());
     };
-    let run = Run {
-        arch: &arch,
-        bits,
-        ii: view.ii(),
-        turns,
-        image: &image,
-    };
-    if reaches_outside {
+    let inputs = inputs_of(&arch, &view);
+    if run.reaches_outside {
+        let run = Run {
+            arch: &arch,
+            turns: run.turns,
+            image: &image,
+        };
         add_first(alloc, run, &view, notes)?;
     }
-    add_short_streams(alloc, &image, turns, &inputs_of(run), notes)
+    add_short_streams(alloc, &image, run.turns, &inputs, notes)
 }
 
-/// Returns which ports the inputs of `run` read.
-fn inputs_of(run: Run<'_>) -> [bool; PORTS] {
+/// Returns which ports the inputs of `arch` under `view` read.
+fn inputs_of(arch: &Arch, view: &ConfigView<'_>) -> [bool; PORTS]
+    requires { IsCanonical arch.now view.now }
+{
     let mut inputs = [false; PORTS];
-    for slot in 0..run.ii {
-        mark_slot(run, slot, &mut inputs);
+    let units = arch.units().len() as u32;
+    for slot in 0..view.ii() {
+        mark_slot(view, units, slot, &mut inputs);
     }
     inputs
 }
 
-/// Marks in `inputs` the ports that the inputs of `run` read in `slot`.
-fn mark_slot(run: Run<'_>, slot: u32, inputs: &mut [bool; PORTS]) {
-    let first = unit_from(run.arch, CGB2, 0);
-    let mut from = slot_from(run.arch, slot as usize).saturating_add(first);
-    for unit in run.arch.units() {
-        let fields = unit_fields(run.bits, from);
-        if fields.op == Some(Op::Input) {
-            mark(inputs, fields.port);
+/// Marks in `inputs` the ports that the inputs of the first `units` units read in `slot` of `view`.
+fn mark_slot(view: &ConfigView<'_>, units: u32, slot: u32, inputs: &mut [bool; PORTS])
+    requires { (x : ℕ) → x < units → HasUnit view.now x slot }
+{
+    for unit in 0..units {
+        let head = view.head(unit, slot);
+        if head.op == Some(Op::Input) {
+            mark(inputs, head.port);
         }
-        from = from.saturating_add(unit_bits(unit, CGB2));
     }
 }
 
@@ -97,8 +105,11 @@ fn add_first(
         Err(SimFault::Memory) => return Err(AllocError),
         Err(_) => return Ok(()),
     };
-    match cycle_outside(&mut sim, most_cycles(run.arch)) {
-        Some(cycle) => add_in_cycle(alloc, run, &sim, cycle, notes),
+    let Some(cycle) = cycle_outside(&mut sim, most_cycles(run.arch)) else {
+        return Ok(());
+    };
+    match access_in(run, view, &sim, cycle) {
+        Some(access) => add_access(alloc, run, access, notes),
         None => Ok(()),
     }
 }
@@ -130,42 +141,49 @@ fn cycle_outside(sim: &mut Sim<'_, ConfigView<'_>>, most: u64) -> Option<u64>
     None
 }
 
-/// Adds to `notes` the first access outside the memory that a unit of `run` begins in `cycle`, the last cycle of `sim`.
-fn add_in_cycle(
-    alloc: Global,
-    run: Run<'_>,
-    sim: &Sim<'_, ConfigView<'_>>,
-    cycle: u64,
-    notes: &mut Vec<String>,
-) -> Result<(), AllocError>
-    requires { sim.now.arch ≡ run.arch.now }
-{
-    let (Some(slot), Some(round)) = (
-        cycle.checked_rem(u64::from(run.ii)),
-        cycle.checked_div(u64::from(run.ii)),
-    ) else {
-        return Ok(());
-    };
-    let first = unit_from(run.arch, CGB2, 0);
-    let mut from = slot_from(run.arch, slot as usize).saturating_add(first);
-    for unit in run.arch.units() {
-        let fields = unit_fields(run.bits, from);
-        if let Some(work) = work_of(run, sim, unit, fields, round) {
-            if work.missed(run.image.memory().len()) > 0 {
-                return add_access(alloc, run, unit, work, notes);
-            }
-        }
-        from = from.saturating_add(unit_bits(unit, CGB2));
-    }
-    Ok(())
+/// An access outside the memory.
+#[derive(Clone, Copy, Drop)]
+struct Access {
+    /// The number of its unit.
+    unit: u32,
+    /// What the unit begins.
+    work: Work,
 }
 
-/// Returns the work that `unit` of `run`, with the fields `fields`, begins in the last cycle of `sim`, which is in
-/// round `round`; None if it begins none.
+/// Returns the first access outside the memory that a unit of `run` begins under `view` in `cycle`, the last cycle of
+/// `sim`.
+fn access_in(
+    run: Run<'_>,
+    view: &ConfigView<'_>,
+    sim: &Sim<'_, ConfigView<'_>>,
+    cycle: u64,
+) -> Option<Access>
+    requires canonical { IsCanonical run.arch.now view.now }
+    requires arch { sim.now.arch ≡ run.arch.now }
+{
+    let ii = u64::from(view.ii());
+    if ii == 0 {
+        return None;
+    }
+    let slot = (cycle % ii) as u32;
+    let units = run.arch.units().len() as u32;
+    for unit in 0..units {
+        let fields = view.unit(unit, slot);
+        if let Some(work) = work_of(run, sim, unit, fields, cycle / ii) {
+            if work.missed(run.image.memory().len()) > 0 {
+                return Some(Access { unit, work });
+            }
+        }
+    }
+    None
+}
+
+/// Returns the work that unit number `unit` of `run`, with the fields `fields`, begins in the last cycle of `sim`, which
+/// is in round `round`; None if it begins none.
 fn work_of(
     run: Run<'_>,
     sim: &Sim<'_, ConfigView<'_>>,
-    unit: &Unit,
+    unit: u32,
     fields: UnitFields,
     round: u64,
 ) -> Option<Work>
@@ -175,45 +193,49 @@ fn work_of(
     if turn >= u64::from(run.turns) {
         return None;
     }
-    let turn = turn as u32;
-    let ports = unit.ports.as_slice();
+    let begun = Begun {
+        unit: run.arch.units().get(unit as usize)?,
+        fields,
+        turn: turn as u32,
+    };
     Some(Work {
         op: fields.op?,
         port: fields.port,
-        turn,
+        turn: begun.turn,
         args: [
-            argument(run, sim, ports, fields, 0, turn),
-            argument(run, sim, ports, fields, 1, turn),
-            argument(run, sim, ports, fields, 2, turn),
+            argument(run, sim, begun, 0),
+            argument(run, sim, begun, 1),
+            argument(run, sim, begun, 2),
         ],
     })
 }
 
-/// Returns argument `number` of a unit of `run` with the ports `ports` and the fields `fields` in iteration `turn`, in
-/// the last cycle of `sim`.
-fn argument(
-    run: Run<'_>,
-    sim: &Sim<'_, ConfigView<'_>>,
-    ports: &[u32],
+/// What a unit begins.
+#[derive(Clone, Copy, Drop)]
+struct Begun<'a> {
+    unit: &'a Unit,
     fields: UnitFields,
-    number: usize,
+    /// The iteration.
     turn: u32,
-) -> u32
+}
+
+/// Returns argument `number` of `begun`, in the last cycle of `sim`, which simulates `run`.
+fn argument(run: Run<'_>, sim: &Sim<'_, ConfigView<'_>>, begun: Begun<'_>, number: usize) -> u32
     requires { sim.now.arch ≡ run.arch.now }
 {
-    let Some(arg) = fields.args.get(number) else {
+    let Some(arg) = begun.fields.args.get(number) else {
         return 0;
     };
     if arg.fixed {
-        return fields.immediate;
+        return begun.fields.immediate;
     }
-    if turn < arg.count {
-        return match arg.init.get(turn as usize) {
+    if begun.turn < arg.count {
+        return match arg.init.get(begun.turn as usize) {
             Some(word) => *word,
             None => 0,
         };
     }
-    match ports.get(number) {
+    match begun.unit.ports.as_slice().get(number) {
         Some(port) => word_on(run, sim, *port),
         None => 0,
     }
@@ -230,16 +252,19 @@ fn word_on(run: Run<'_>, sim: &Sim<'_, ConfigView<'_>>, resource: u32) -> u32
     }
 }
 
-/// Adds to `notes` that `work` of `unit` is an access outside the memory of the image of `run`.
+/// Adds to `notes` that `access` is outside the memory of the image of `run`.
 fn add_access(
     alloc: Global,
     run: Run<'_>,
-    unit: &Unit,
-    work: Work,
+    access: Access,
     notes: &mut Vec<String>,
 ) -> Result<(), AllocError> {
+    let Access { unit, work } = access;
     let words = run.image.memory().len();
-    let name = unit.name.as_str();
+    let name = match run.arch.units().get(unit as usize) {
+        Some(unit) => unit.name.as_str(),
+        None => "",
+    };
     let op = work.op.name();
     let turn = work.turn;
     let address = work.address();

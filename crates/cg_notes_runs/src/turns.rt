@@ -34,29 +34,38 @@ pub fn turns_notes(
     Ok(())
 }
 
-/// Adds to `notes` the notes on a run of `turns` iterations of the kernel whose file has the bytes `kernel`, from the
-/// image `image`: on its first access outside the memory if `reaches_outside` is true, and on the inputs that read past
-/// their streams.
+/// A run of a kernel, by the bytes of its files.
+#[derive(Clone, Copy, Drop)]
+pub struct KernelRun<'a> {
+    /// The kernel.
+    pub kernel: &'a [u8],
+    /// The image from which it runs.
+    pub image: &'a [u8],
+    /// The number of iterations.
+    pub turns: u32,
+    /// Whether the first access outside the memory is sought.
+    pub reaches_outside: bool,
+}
+
+/// Adds to `notes` the notes on `run`: on its first access outside the memory, if that is sought, and on the inputs that
+/// read past their streams.
 pub fn image_notes(
     alloc: Global,
-    kernel: &[u8],
-    image: &[u8],
-    turns: u32,
-    reaches_outside: bool,
+    run: KernelRun<'_>,
     notes: &mut Vec<String>,
 ) -> Result<(), AllocError> {
-    let Ok(kernel) = read_kernel(alloc, kernel) else {
+    let Ok(kernel) = read_kernel(alloc, run.kernel) else {
         return Ok(());
     };
-    let Ok(image) = read_image(alloc, image) else {
+    let Ok(image) = read_image(alloc, run.image) else {
         return Ok(());
     };
-    if reaches_outside {
-        if let Some(access) = first_outside(alloc, &kernel, &image, turns)? {
+    if run.reaches_outside {
+        if let Some(access) = first_outside(alloc, &kernel, &image, run.turns)? {
             add_access(alloc, &kernel, &image, access, notes)?;
         }
     }
-    add_short_streams(alloc, &image, turns, &inputs_of(&kernel), notes)
+    add_short_streams(alloc, &image, run.turns, &inputs_of(&kernel), notes)
 }
 
 /// Returns which ports the inputs of `kernel` read.

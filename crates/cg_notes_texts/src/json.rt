@@ -1,7 +1,7 @@
 //! Faults of texts that aren't JSON.
 
-use crate::finding::{Finding, Place};
 use crate::quotes::missing_quote;
+use cg_spans::{Finding, Place, blanks_at_end, last_byte};
 use serde_json::Value;
 use std::alloc::{AllocError, Global};
 
@@ -27,14 +27,20 @@ fn of_json_error(
     };
     let at = offset_of(bytes, place);
     if let Some(text) = missing_quote(alloc, bytes, at, false)? {
-        return Ok(Finding { place, text });
+        return Ok(with_place(place, text));
     }
     let place = match wrong_bracket(alloc, bytes, at)? {
         Some(at) => Place::at(bytes, at),
         None => place,
     };
     let text = error_text(alloc, bytes, place, error)?;
-    Ok(Finding { place, text })
+    Ok(with_place(place, text))
+}
+
+/// Returns the finding with the sentence `text` at `place`.
+fn with_place(place: Place, text: String) -> Finding {
+    let place = Some(place);
+    Finding { place, text }
 }
 
 /// Returns the message of `error` without its place, and a hint on what may be wrong at `place` of `bytes`.
@@ -77,7 +83,7 @@ fn wrong_bracket(alloc: Global, bytes: &[u8], at: usize) -> Result<Option<usize>
     let Some(Open { byte, .. }) = open_bracket(alloc, before)? else {
         return Ok(None);
     };
-    let last = before.iter().rev().find(|byte| !byte.is_ascii_whitespace());
+    let last = last_byte(before);
     let is_wrong = match (byte, *bracket) {
         (b'{', b']') | (b'[', b'}') => true,
         (b'{', b'{' | b'[') => matches!(last, Some(b'{' | b',')),
@@ -100,12 +106,12 @@ fn json_hint(
     let at = offset_of(bytes, place);
     if message == "invalid JSON" {
         let before = bytes.get(..at).unwrap_or(&[]);
-        let last = before.iter().rev().find(|byte| !byte.is_ascii_whitespace());
+        let last = last_byte(before);
         let rest = bytes.get(at..).unwrap_or(&[]);
-        if let Some(hint) = missing_mark(alloc, before, last.copied(), rest)? {
+        if let Some(hint) = missing_mark(alloc, before, last, rest)? {
             return Ok(hint);
         }
-        let hint = byte_hint(last.copied(), rest);
+        let hint = byte_hint(last, rest);
         return String::from_str(alloc, hint);
     }
     if at < before_last(bytes) {
@@ -247,12 +253,10 @@ fn offset_of(bytes: &[u8], place: Place) -> usize {
 
 /// Returns the number of bytes of `bytes` before the last one that is neither a blank nor a line end.
 fn before_last(bytes: &[u8]) -> usize {
-    let blanks = bytes
-        .iter()
-        .rev()
-        .take_while(|byte| byte.is_ascii_whitespace())
-        .count();
-    bytes.len().saturating_sub(blanks).saturating_sub(1)
+    bytes
+        .len()
+        .saturating_sub(blanks_at_end(bytes))
+        .saturating_sub(1)
 }
 
 /// A bracket that isn't closed.

@@ -1,18 +1,20 @@
-//! Notes on texts: findings and their places, and the faults of JSON, TOML and texts of words.
+//! Notes on texts: what is wrong in texts that aren't JSON or TOML, in loop bodies and in netlists.
 #![tactic(auto)]
 
-mod finding;
-mod headers;
+mod arrays;
+mod cells;
+mod conditions;
+mod foreign;
+mod hints;
 mod json;
-mod list;
+mod loops;
+mod netlists;
 mod quotes;
+mod scope;
+mod statements;
 mod syntax;
-mod texts;
-mod words;
+mod token;
 
-pub use finding::{Finding, Place};
-pub use headers::table_line;
-pub use list::short_list;
-pub use syntax::{MOST_PARSED, find_in_json, find_in_toml};
-pub use texts::find_in_text;
-pub use words::{is_word_byte, last_word, words_of};
+pub use loops::find_in_loop;
+pub use netlists::{find_in_gates, find_in_netlist};
+pub use syntax::{find_in_json, find_in_toml};

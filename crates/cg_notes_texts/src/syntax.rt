@@ -1,19 +1,13 @@
 //! Faults of texts that aren't JSON or aren't TOML.
 
-use crate::finding::{Finding, Place};
-use crate::headers::{header_tile, last_tile, table_line};
 use crate::json::{json_error, within};
 use crate::quotes::missing_quote;
-use crate::words::is_word_byte;
 use cg_json::{JsonFault, json_value, text_at};
 use cg_lints::shown;
+use cg_spans::{Finding, MOST_PARSED, header_tile, is_word_byte, last_tile, table_line};
 use cg_toml::{TomlFault, toml_table};
 use serde_json::Value;
 use std::alloc::{AllocError, Global};
-
-/// The maximum number of bytes of a text that is parsed again for a note: parsing takes as long as judging the text
-/// did, or twice as long.
-pub const MOST_PARSED: usize = 1_000_000;
 
 /// The maximum number of bytes of a key that are shown.
 const MOST_KEY: usize = 40;
@@ -33,35 +27,23 @@ pub fn find_in_json(
     if bytes.len() > MOST_PARSED {
         return Ok(None);
     }
-    find_in_small_json(alloc, bytes, what)
-}
-
-/// Returns why `bytes`, which aren't many, are not a JSON text, where `what` names the file that should be one.
-fn find_in_small_json(
-    alloc: Global,
-    bytes: &[u8],
-    what: &str,
-) -> Result<Option<Finding>, AllocError> {
     if toml_table(alloc, bytes).is_ok() {
         let text = format!(in alloc; "this is TOML, but a {what} is JSON")?;
-        return Ok(Some(Finding {
-            place: Place::START,
-            text,
-        }));
+        return Ok(Some(Finding::at_start(text)));
     }
     if let Some(text) = other_text(bytes) {
-        return Ok(Some(Finding::new(alloc, Place::START, text)?));
+        return at_start(alloc, text);
     }
-    find_in_syntax(alloc, bytes)
-}
-
-/// Returns the error of the JSON parser on `bytes`, if there is one.
-fn find_in_syntax(alloc: Global, bytes: &[u8]) -> Result<Option<Finding>, AllocError> {
     match json_value(alloc, bytes) {
         Ok(_) => Ok(None),
         Err(JsonFault::NotJson) => json_error(alloc, bytes),
         Err(JsonFault::Memory) => Err(AllocError),
     }
+}
+
+/// Returns the finding with the sentence `text` at the first byte of a file.
+fn at_start(alloc: Global, text: &str) -> Result<Option<Finding>, AllocError> {
+    Ok(Some(Finding::at_start(String::from_str(alloc, text)?)))
 }
 
 /// Returns why `bytes` are not a TOML document, which the file of an architecture should be. Returns `None` if they are
@@ -75,16 +57,8 @@ pub fn find_in_toml(alloc: Global, bytes: &[u8]) -> Result<Option<Finding>, Allo
     if bytes.len() > MOST_PARSED {
         return Ok(None);
     }
-    find_in_small_toml(alloc, bytes)
-}
-
-/// Returns why `bytes`, which aren't many, are not a TOML document.
-fn find_in_small_toml(alloc: Global, bytes: &[u8]) -> Result<Option<Finding>, AllocError> {
-    if let Some(text) = json_in(alloc, bytes) {
-        return Ok(Some(Finding::new(alloc, Place::START, text)?));
-    }
-    if let Some(text) = other_text(bytes) {
-        return Ok(Some(Finding::new(alloc, Place::START, text)?));
+    if let Some(text) = json_in(alloc, bytes).or(other_text(bytes)) {
+        return at_start(alloc, text);
     }
     match toml_table(alloc, bytes) {
         Ok(_) => Ok(None),
@@ -128,18 +102,17 @@ fn other_text(bytes: &[u8]) -> Option<&'static str> {
 fn find_in_bytes(alloc: Global, bytes: &[u8], what: &str) -> Result<Option<Finding>, AllocError> {
     if let Some(is) = no_text(bytes) {
         let text = format!(in alloc; "{is}, but the file of the {what} is expected")?;
-        let place = Place::START;
-        return Ok(Some(Finding { place, text }));
+        return Ok(Some(Finding::at_start(text)));
     }
     if let Err(error) = std::str::from_utf8(bytes) {
-        let place = Place::at(bytes, error.valid_up_to());
-        return Ok(Some(Finding::new(alloc, place, "this byte is not valid UTF-8")?));
+        let text = String::from_str(alloc, "this byte is not valid UTF-8")?;
+        return Ok(Some(Finding::at(bytes, error.valid_up_to(), text)));
     }
     if bytes
         .iter()
         .all(|byte| matches!(*byte, b' ' | b'\t' | b'\r' | b'\n'))
     {
-        return Ok(Some(Finding::new(alloc, Place::START, "the file is empty")?));
+        return at_start(alloc, "the file is empty");
     }
     Ok(None)
 }
@@ -183,8 +156,7 @@ fn of_toml_error(
         }
     }
     let text = error_text(alloc, bytes, at, message)?;
-    let place = Place::at(bytes, at);
-    Ok(Finding { place, text })
+    Ok(Finding::at(bytes, at, text))
 }
 
 /// Returns what is wrong at byte `at` of `bytes`, where the parser reports `message`.
@@ -210,8 +182,7 @@ fn table_for_list(alloc: Global, bytes: &[u8], at: usize) -> Result<Option<Findi
         return Ok(None);
     };
     let text = list_text(alloc, tile)?;
-    let place = Place::at(bytes, begins);
-    Ok(Some(Finding { place, text }))
+    Ok(Some(Finding::at(bytes, begins, text)))
 }
 
 /// Returns the message that the parts of `tile` are a list.

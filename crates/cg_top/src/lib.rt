@@ -13,7 +13,7 @@ ghost use Rattle.cg_top.specs.TopCall.{IsPlannedBytes, Ends, IsCall, Asks, Makes
 
 mod laws;
 
-use cg_cause::conclude;
+use cg_cause::{Stop, conclude};
 pub use cg_command::{Command, MapperCall, plan_words};
 use cg_command::{fill, inputs};
 use cg_commands::answer;
@@ -22,7 +22,7 @@ pub use cg_effects::Status;
 use cg_effects::{File, Outcome, Unread, finish, read_all, usage};
 use cg_files::{Sink, Store};
 use cg_help::note_words;
-use cg_notes_calls::{note_call, note_files};
+use cg_notes::{note_call, note_files};
 pub use cg_trial::{TrialParts, trial_parts};
 pub use cg_trial_run::trial;
 pub use laws::always_defined;
@@ -155,18 +155,17 @@ fn answered<'a, S: Store>(
     match read_all(alloc, names.as_slice(), store) {
         Ok(files) => {
             let files = files.as_slice();
-            answer_to(alloc, &fill(command, files), files, aside)
+            answer_to(alloc, &fill(command, files), aside)
         }
         Err(Unread::Ended(outcome)) => Ok(outcome),
         Err(Unread::Memory) => Err(AllocError),
     }
 }
 
-/// Returns the outcome of `command`, and notes what is wrong with `files`, its input files in the order of reading.
+/// Returns the outcome of `command`, and notes what is wrong with its input files, and what the outcome means.
 fn answer_to(
     alloc: Global,
     command: &Command<&File, &str>,
-    files: &[File],
     aside: &mut dyn Aside,
 ) -> Result<Outcome, AllocError>
     requires { IsRanged command.now }
@@ -174,21 +173,19 @@ fn answer_to(
 {
     let ended = answer(alloc, command, aside);
     aside.end_progress();
-    let outcome = conclude(alloc, ended)?;
-    Ok(noted(alloc, command, outcome, files, aside))
+    conclude(alloc, noted(alloc, command, ended, aside))
 }
 
-/// Returns `outcome`, the outcome of `command` for `files`, and gives notes on it for the user.
+/// Returns `ended`, how `command` ended, and gives notes on it for the user.
 fn noted(
     alloc: Global,
     command: &Command<&File, &str>,
-    outcome: Outcome,
-    files: &[File],
+    ended: Result<Outcome, Stop>,
     aside: &mut dyn Aside,
-) -> Outcome
-    ensures { result ≡ outcome }
+) -> Result<Outcome, Stop>
+    ensures { result ≡ ended }
 {
     // Where memory for the notes runs out, the outcome is the same.
-    let _ = note_call(alloc, command, &outcome, files, aside);
-    outcome
+    let _ = note_call(alloc, command, &ended, aside);
+    ended
 }
