@@ -1,5 +1,6 @@
 //! The fault for which a file is refused.
 ghost use Rattle.std.specs.Prelude.{◌≡◌, IfOk, string_bytes};
+ghost use Rattle.cg_cause.specs.Cause as spec;
 ghost use Rattle.cg_cause.specs.Cause.{cause_text};
 
 use cg_bits::{BitsFault, bits_fault_text, first_fault_text};
@@ -42,6 +43,11 @@ pub enum Cause {
     Depend(DependFault),
     /// The array can't be run from the image in the file.
     Run(SimFault),
+    /// The architecture in the file has fewer contexts than the interval that is asked for has cycles.
+    IntervalAboveContexts {
+        /// The number of contexts.
+        contexts: u32,
+    },
 }
 
 impl Cause {
@@ -62,6 +68,14 @@ impl Cause {
             Cause::Gates(fault) => gate_fault_text(alloc, fault),
             Cause::Depend(fault) => depend_fault_text(alloc, *fault),
             Cause::Run(fault) => sim_fault_text(alloc, *fault),
+            Cause::IntervalAboveContexts { contexts } => interval_fault_text(alloc, *contexts),
         }
     }
+}
+
+/// Returns the text of the fault of an interval above `contexts`, the number of contexts.
+fn interval_fault_text(alloc: Global, contexts: u32) -> Result<String, AllocError>
+    ensures { IfOk result (λ s. string_bytes s ≡ spec.interval_fault_text contexts) }
+{
+    format!(in alloc; "G2 IntervalAboveContexts contexts {contexts}")
 }

@@ -1,10 +1,11 @@
 -- Laws of commands whose files are read by functions.
 use Rattle.std.proofs.Common.{◌≡◌, List, [], ◌∷◌, map, All, Option, Some, None, option_map, refl, ◌∙◌, ap}
 use Rattle.std.proofs.lemmas.List.Elements.{All-head, All-tail}
+use Rattle.cg_command.specs.declared.command.ArrayCall.{ArrayCall}
 use Rattle.cg_command.specs.declared.command.MapperCall.{MapperCall}
 use Rattle.cg_command.specs.declared.command.Command.{Command}
 use Rattle.cg_command.specs.declared.command.Command.TheVariants.{Turns, TurnsOnImage, Flat, Run, Bound, Check, Emit, Map, Search, Show, Trial, Verilog, Loop, Depend, Migrate, Bench, Image, Words, Violations, Why}
-use Rattle.cg_command.specs.Command.{listed, inputs_of, outputs_of, call_map, command_map, IsRanged}
+use Rattle.cg_command.specs.Command.{listed, inputs_of, outputs_of, call_map, array_map, command_map, IsRanged}
 
 -- the input files are those of the command, each read by the function
 map_listed : {X Y : Type 0} (f : X → Y) (o : Option X) → listed (option_map f o) ≡ map f (listed o)
@@ -15,8 +16,8 @@ pub map_inputs : {F G N M : Type 0} (f : F → G) (g : N → M) (c : Command F N
 map_inputs f g (Turns kernel turns) = refl
 map_inputs f g (TurnsOnImage kernel turns image out) = refl
 map_inputs f g (Flat arch out) = refl
-map_inputs f g (Run arch bits turns image out None) = refl
-map_inputs f g (Run arch bits turns image out (Some netlist)) = refl
+map_inputs f g (Run call None) = refl
+map_inputs f g (Run call (Some netlist)) = refl
 map_inputs f g (Bound arch kernel) = refl
 map_inputs f g (Check arch kernel mapping) = refl
 map_inputs f g (Emit arch kernel mapping out) = refl
@@ -28,7 +29,7 @@ map_inputs f g (Verilog arch out) = refl
 map_inputs f g (Loop source out) = refl
 map_inputs f g (Depend kernel out) = refl
 map_inputs f g (Migrate arch bits out) = refl
-map_inputs f g (Bench arch bits turns image out) = refl
+map_inputs f g (Bench call) = refl
 map_inputs f g (Image text out) = refl
 map_inputs f g (Words image) = refl
 map_inputs f g (Violations arch kernel mapping) = refl
@@ -46,7 +47,7 @@ pub map_twice : {F G H N M L : Type 0} (f : G → H) (h : F → G) (g : M → L)
 map_twice f h g k (Turns kernel turns) = refl
 map_twice f h g k (TurnsOnImage kernel turns image out) = refl
 map_twice f h g k (Flat arch out) = refl
-map_twice f h g k (Run arch bits turns image out netlist) = ap (λ n. Run (f (h arch)) (f (h bits)) turns (f (h image)) (g (k out)) n) (twice_option f h netlist)
+map_twice f h g k (Run call netlist) = ap (λ n. Run (array_map (λ x. f (h x)) (λ y. g (k y)) call) n) (twice_option f h netlist)
 map_twice f h g k (Bound arch kernel) = refl
 map_twice f h g k (Check arch kernel mapping) = refl
 map_twice f h g k (Emit arch kernel mapping out) = refl
@@ -58,7 +59,7 @@ map_twice f h g k (Verilog arch out) = refl
 map_twice f h g k (Loop source out) = refl
 map_twice f h g k (Depend kernel out) = refl
 map_twice f h g k (Migrate arch bits out) = refl
-map_twice f h g k (Bench arch bits turns image out) = refl
+map_twice f h g k (Bench call) = refl
 map_twice f h g k (Image text out) = refl
 map_twice f h g k (Words image) = refl
 map_twice f h g k (Violations arch kernel mapping) = refl
@@ -80,6 +81,16 @@ same_call h c all =
     ∙ ap (λ k. record { arch = c.arch; kernel = k; out = c.out; mapping = option_map (λ n. n) c.mapping; request = c.request }) e1
     ∙ ap (λ m. record { arch = c.arch; kernel = c.kernel; out = c.out; mapping = m; request = c.request }) (same_option c.mapping)
 
+same_array : {F N : Type 0} (h : F → F) (c : ArrayCall F N) (rest : List F) → All (IsKept h) (c.arch ∷ c.bits ∷ c.image ∷ rest) → array_map h (λ n. n) c ≡ c
+same_array h c rest all =
+    let tail = All-tail (IsKept h) c.arch (c.bits ∷ c.image ∷ rest) all in
+    let e0 = All-head (IsKept h) c.arch (c.bits ∷ c.image ∷ rest) all in
+    let e1 = All-head (IsKept h) c.bits (c.image ∷ rest) tail in
+    let e2 = All-head (IsKept h) c.image rest (All-tail (IsKept h) c.bits (c.image ∷ rest) tail) in
+    ap (λ z. record { arch = z; bits = h c.bits; turns = c.turns; image = h c.image; out = c.out }) e0
+    ∙ ap (λ z. record { arch = c.arch; bits = z; turns = c.turns; image = h c.image; out = c.out }) e1
+    ∙ ap (λ z. record { arch = c.arch; bits = c.bits; turns = c.turns; image = z; out = c.out }) e2
+
 pub map_same : {F N : Type 0} (h : F → F) (c : Command F N) → All (IsKept h) (inputs_of c) → command_map h (λ n. n) c ≡ c
 map_same h (Turns kernel turns) all =
     let e0 = All-head (IsKept h) kernel [] all in
@@ -92,22 +103,13 @@ map_same h (TurnsOnImage kernel turns image out) all =
 map_same h (Flat arch out) all =
     let e0 = All-head (IsKept h) arch [] all in
     ap (λ z. Flat z out) e0
-map_same h (Run arch bits turns image out None) all =
-    let e0 = All-head (IsKept h) arch (bits ∷ image ∷ []) all in
-    let e1 = All-head (IsKept h) bits (image ∷ []) (All-tail (IsKept h) arch (bits ∷ image ∷ []) all) in
-    let e2 = All-head (IsKept h) image [] (All-tail (IsKept h) bits (image ∷ []) (All-tail (IsKept h) arch (bits ∷ image ∷ []) all)) in
-    ap (λ z. Run z (h bits) turns (h image) out None) e0
-    ∙ ap (λ z. Run arch z turns (h image) out None) e1
-    ∙ ap (λ z. Run arch bits turns z out None) e2
-map_same h (Run arch bits turns image out (Some netlist)) all =
-    let e0 = All-head (IsKept h) arch (bits ∷ image ∷ netlist ∷ []) all in
-    let e1 = All-head (IsKept h) bits (image ∷ netlist ∷ []) (All-tail (IsKept h) arch (bits ∷ image ∷ netlist ∷ []) all) in
-    let e2 = All-head (IsKept h) image (netlist ∷ []) (All-tail (IsKept h) bits (image ∷ netlist ∷ []) (All-tail (IsKept h) arch (bits ∷ image ∷ netlist ∷ []) all)) in
-    let e3 = All-head (IsKept h) netlist [] (All-tail (IsKept h) image (netlist ∷ []) (All-tail (IsKept h) bits (image ∷ netlist ∷ []) (All-tail (IsKept h) arch (bits ∷ image ∷ netlist ∷ []) all))) in
-    ap (λ z. Run z (h bits) turns (h image) out (Some (h netlist))) e0
-    ∙ ap (λ z. Run arch z turns (h image) out (Some (h netlist))) e1
-    ∙ ap (λ z. Run arch bits turns z out (Some (h netlist))) e2
-    ∙ ap (λ z. Run arch bits turns image out (Some z)) e3
+map_same h (Run call None) all = ap (λ z. Run z None) (same_array h call [] all)
+map_same h (Run call (Some netlist)) all =
+    let rest = netlist ∷ [] in
+    let tail = All-tail (IsKept h) call.arch (call.bits ∷ call.image ∷ rest) all in
+    let e3 = All-head (IsKept h) netlist [] (All-tail (IsKept h) call.image rest (All-tail (IsKept h) call.bits (call.image ∷ rest) tail)) in
+    ap (λ z. Run z (Some (h netlist))) (same_array h call rest all)
+    ∙ ap (λ z. Run call (Some z)) e3
 map_same h (Bound arch kernel) all =
     let e0 = All-head (IsKept h) arch (kernel ∷ []) all in
     let e1 = All-head (IsKept h) kernel [] (All-tail (IsKept h) arch (kernel ∷ []) all) in
@@ -152,13 +154,7 @@ map_same h (Migrate arch bits out) all =
     let e1 = All-head (IsKept h) bits [] (All-tail (IsKept h) arch (bits ∷ []) all) in
     ap (λ z. Migrate z (h bits) out) e0
     ∙ ap (λ z. Migrate arch z out) e1
-map_same h (Bench arch bits turns image out) all =
-    let e0 = All-head (IsKept h) arch (bits ∷ image ∷ []) all in
-    let e1 = All-head (IsKept h) bits (image ∷ []) (All-tail (IsKept h) arch (bits ∷ image ∷ []) all) in
-    let e2 = All-head (IsKept h) image [] (All-tail (IsKept h) bits (image ∷ []) (All-tail (IsKept h) arch (bits ∷ image ∷ []) all)) in
-    ap (λ z. Bench z (h bits) turns (h image) out) e0
-    ∙ ap (λ z. Bench arch z turns (h image) out) e1
-    ∙ ap (λ z. Bench arch bits turns z out) e2
+map_same h (Bench call) all = ap Bench (same_array h call [] all)
 map_same h (Image text out) all =
     let e0 = All-head (IsKept h) text [] all in
     ap (λ z. Image z out) e0
@@ -183,7 +179,7 @@ pub outputs_kept : {F G N : Type 0} (f : F → G) (c : Command F N) → outputs_
 outputs_kept f (Turns kernel turns) = refl
 outputs_kept f (TurnsOnImage kernel turns image out) = refl
 outputs_kept f (Flat arch out) = refl
-outputs_kept f (Run arch bits turns image out netlist) = refl
+outputs_kept f (Run call netlist) = refl
 outputs_kept f (Bound arch kernel) = refl
 outputs_kept f (Check arch kernel mapping) = refl
 outputs_kept f (Emit arch kernel mapping out) = refl
@@ -195,7 +191,7 @@ outputs_kept f (Verilog arch out) = refl
 outputs_kept f (Loop source out) = refl
 outputs_kept f (Depend kernel out) = refl
 outputs_kept f (Migrate arch bits out) = refl
-outputs_kept f (Bench arch bits turns image out) = refl
+outputs_kept f (Bench call) = refl
 outputs_kept f (Image text out) = refl
 outputs_kept f (Words image) = refl
 outputs_kept f (Violations arch kernel mapping) = refl
@@ -206,7 +202,7 @@ pub map_ranged : {F G N M : Type 0} (f : F → G) (g : N → M) (c : Command F N
 map_ranged f g (Turns kernel turns) r = r
 map_ranged f g (TurnsOnImage kernel turns image out) r = r
 map_ranged f g (Flat arch out) r = r
-map_ranged f g (Run arch bits turns image out netlist) r = r
+map_ranged f g (Run call netlist) r = r
 map_ranged f g (Bound arch kernel) r = r
 map_ranged f g (Check arch kernel mapping) r = r
 map_ranged f g (Emit arch kernel mapping out) r = r
@@ -218,7 +214,7 @@ map_ranged f g (Verilog arch out) r = r
 map_ranged f g (Loop source out) r = r
 map_ranged f g (Depend kernel out) r = r
 map_ranged f g (Migrate arch bits out) r = r
-map_ranged f g (Bench arch bits turns image out) r = r
+map_ranged f g (Bench call) r = r
 map_ranged f g (Image text out) r = r
 map_ranged f g (Words image) r = r
 map_ranged f g (Violations arch kernel mapping) r = r

@@ -4,6 +4,7 @@ use Rattle.std.specs.Borrow.{Bor}
 use Rattle.cg_model.specs.Limits.{most_turns}
 use Rattle.cg_model.specs.Request.{IsInRange}
 use Rattle.cg_command.specs.Numbers.{Text}
+use Rattle.cg_command.specs.declared.command.ArrayCall.{ArrayCall}
 use Rattle.cg_command.specs.declared.command.MapperCall.{MapperCall}
 use Rattle.cg_command.specs.declared.command.Command.{Command}
 use Rattle.cg_command.specs.declared.command.Command.TheVariants.{Turns, TurnsOnImage, Flat, Run, Bound, Check, Emit, Map, Search, Show, Trial, Verilog, Loop, Depend, Migrate, Bench, Image, Words, Violations, Why}
@@ -18,7 +19,7 @@ abbrev pub inputs_of : {F N : Type 0} → Command F N → List F
 inputs_of (Turns kernel turns) = kernel ∷ []
 inputs_of (TurnsOnImage kernel turns image out) = kernel ∷ image ∷ []
 inputs_of (Flat arch out) = arch ∷ []
-inputs_of (Run arch bits turns image out netlist) = arch ∷ bits ∷ image ∷ listed netlist
+inputs_of (Run call netlist) = call.arch ∷ call.bits ∷ call.image ∷ listed netlist
 inputs_of (Bound arch kernel) = arch ∷ kernel ∷ []
 inputs_of (Check arch kernel mapping) = arch ∷ kernel ∷ mapping ∷ []
 inputs_of (Emit arch kernel mapping out) = arch ∷ kernel ∷ mapping ∷ []
@@ -30,7 +31,7 @@ inputs_of (Verilog arch out) = arch ∷ []
 inputs_of (Loop source out) = source ∷ []
 inputs_of (Depend kernel out) = kernel ∷ []
 inputs_of (Migrate arch bits out) = arch ∷ bits ∷ []
-inputs_of (Bench arch bits turns image out) = arch ∷ bits ∷ image ∷ []
+inputs_of (Bench call) = call.arch ∷ call.bits ∷ call.image ∷ []
 inputs_of (Image text out) = text ∷ []
 inputs_of (Words image) = image ∷ []
 inputs_of (Violations arch kernel mapping) = arch ∷ kernel ∷ mapping ∷ []
@@ -41,7 +42,7 @@ abbrev pub outputs_of : {F N : Type 0} → Command F N → List N
 outputs_of (Turns kernel turns) = []
 outputs_of (TurnsOnImage kernel turns image out) = out ∷ []
 outputs_of (Flat arch out) = out ∷ []
-outputs_of (Run arch bits turns image out netlist) = out ∷ []
+outputs_of (Run call netlist) = call.out ∷ []
 outputs_of (Bound arch kernel) = []
 outputs_of (Check arch kernel mapping) = []
 outputs_of (Emit arch kernel mapping out) = out ∷ []
@@ -53,7 +54,7 @@ outputs_of (Verilog arch out) = out ∷ []
 outputs_of (Loop source out) = out ∷ []
 outputs_of (Depend kernel out) = out ∷ []
 outputs_of (Migrate arch bits out) = out ∷ []
-outputs_of (Bench arch bits turns image out) = out ∷ []
+outputs_of (Bench call) = call.out ∷ []
 outputs_of (Image text out) = out ∷ []
 outputs_of (Words image) = []
 outputs_of (Violations arch kernel mapping) = []
@@ -69,12 +70,16 @@ call_map f g s = record {
   request = s.request;
 }
 
+-- a call of a command that runs an array, likewise
+abbrev pub array_map : {F G N M : Type 0} → (F → G) → (N → M) → ArrayCall F N → ArrayCall G M
+array_map f g s = record { arch = f s.arch; bits = f s.bits; turns = s.turns; image = f s.image; out = g s.out }
+
 -- a command with its input and output files read by these functions
 abbrev pub command_map : {F G N M : Type 0} → (F → G) → (N → M) → Command F N → Command G M
 command_map f g (Turns kernel turns) = Turns (f kernel) turns
 command_map f g (TurnsOnImage kernel turns image out) = TurnsOnImage (f kernel) turns (f image) (g out)
 command_map f g (Flat arch out) = Flat (f arch) (g out)
-command_map f g (Run arch bits turns image out netlist) = Run (f arch) (f bits) turns (f image) (g out) (option_map f netlist)
+command_map f g (Run call netlist) = Run (array_map f g call) (option_map f netlist)
 command_map f g (Bound arch kernel) = Bound (f arch) (f kernel)
 command_map f g (Check arch kernel mapping) = Check (f arch) (f kernel) (f mapping)
 command_map f g (Emit arch kernel mapping out) = Emit (f arch) (f kernel) (f mapping) (g out)
@@ -86,7 +91,7 @@ command_map f g (Verilog arch out) = Verilog (f arch) (g out)
 command_map f g (Loop source out) = Loop (f source) (g out)
 command_map f g (Depend kernel out) = Depend (f kernel) (g out)
 command_map f g (Migrate arch bits out) = Migrate (f arch) (f bits) (g out)
-command_map f g (Bench arch bits turns image out) = Bench (f arch) (f bits) turns (f image) (g out)
+command_map f g (Bench call) = Bench (array_map f g call)
 command_map f g (Image text out) = Image (f text) (g out)
 command_map f g (Words image) = Words (f image)
 command_map f g (Violations arch kernel mapping) = Violations (f arch) (f kernel) (f mapping)
@@ -104,8 +109,8 @@ denoted command = command_map (λ name. name.now) (λ name. name.now) command
 abbrev pub IsRanged : {F N : Type 0} → Command F N → Type 0
 IsRanged (Turns kernel turns) = turns ≤ most_turns
 IsRanged (TurnsOnImage kernel turns image out) = turns ≤ most_turns
-IsRanged (Run arch bits turns image out netlist) = turns ≤ most_turns
-IsRanged (Bench arch bits turns image out) = turns ≤ most_turns
+IsRanged (Run call netlist) = call.turns ≤ most_turns
+IsRanged (Bench call) = call.turns ≤ most_turns
 IsRanged (Map call) = IsInRange call.request
 IsRanged (Search call) = IsInRange call.request
 IsRanged _ = Unit {0}

@@ -164,7 +164,7 @@ trial_command _ = None
 
 -- bench ARCH BITS TURNS IN OUT
 abbrev pub bench_command : List Text → Option (Command Text Text)
-bench_command (arch ∷ bits ∷ turns ∷ image ∷ out ∷ []) = option_map (λ n. Bench arch bits n image out) (turns_of turns)
+bench_command (arch ∷ bits ∷ turns ∷ image ∷ out ∷ []) = option_map (λ n. Bench (record { arch = arch; bits = bits; turns = n; image = image; out = out })) (turns_of turns)
 bench_command _ = None
 
 -- the values of an option among those given, in order
@@ -232,7 +232,7 @@ mapper_call usual said =
 
 -- a run of an array, or of the netlist in a file
 abbrev pub array_command : List Text → Option Text → Option (Command Text Text)
-array_command (arch ∷ bits ∷ turns ∷ image ∷ out ∷ []) netlist = option_map (λ n. Run arch bits n image out netlist) (turns_of turns)
+array_command (arch ∷ bits ∷ turns ∷ image ∷ out ∷ []) netlist = option_map (λ n. Run (record { arch = arch; bits = bits; turns = n; image = image; out = out }) netlist) (turns_of turns)
 array_command _ netlist = None
 
 -- run ARCH BITS TURNS IN OUT [--netlist FILE]

@@ -20,6 +20,21 @@ pub struct MapperCall<F, N> {
     pub request: Request,
 }
 
+/// A call of a command that runs an array: its input files as `F`, and the name of its output file as `N`.
+#[derive(Clone, Copy, Debug, PartialEq, Eq)]
+pub struct ArrayCall<F, N> {
+    /// The architecture.
+    pub arch: F,
+    /// The configuration.
+    pub bits: F,
+    /// The number of iterations.
+    pub turns: u32,
+    /// The image at the start.
+    pub image: F,
+    /// The file that is written.
+    pub out: N,
+}
+
 /// A command, with its numbers and its files. Input files are of type `F`: names before they are read, and contents
 /// afterwards. Output files are named, by `N`.
 #[derive(Clone, Copy, Debug, PartialEq, Eq)]
@@ -44,11 +59,7 @@ pub enum Command<F, N> {
     /// `run ARCH BITS TURNS IN OUT [--netlist FILE]`: a number of iterations of the array, or of a netlist in its
     /// place, under a configuration, from an image, and the result image.
     Run {
-        arch: F,
-        bits: F,
-        turns: u32,
-        image: F,
-        out: N,
+        call: ArrayCall<F, N>,
         netlist: Option<F>,
     },
     /// `bound ARCH KERNEL`: the least interval that nothing forbids, and what forbids the one below it.
@@ -110,13 +121,7 @@ pub enum Command<F, N> {
         out: N,
     },
     /// `bench ARCH BITS TURNS IN OUT`: a test bench of the array under a configuration, for a simulator of Verilog.
-    Bench {
-        arch: F,
-        bits: F,
-        turns: u32,
-        image: F,
-        out: N,
-    },
+    Bench(ArrayCall<F, N>),
     /// `image TEXT OUT`: the image that a text encodes.
     Image {
         text: F,
@@ -180,22 +185,15 @@ pub fn inputs(alloc: Global, command: &Command<&str, &str>) -> Result<Vec<String
             mapping,
             ..
         } => copies(alloc, &[arch, kernel, mapping]),
-        Command::Bench {
-            arch,
-            bits,
-            image,
-            ..
-        } => copies(alloc, &[arch, bits, image]),
+        Command::Bench(call)
+        | Command::Run {
+            call,
+            netlist: None,
+        } => copies(alloc, &[call.arch, call.bits, call.image]),
         Command::Run {
-            arch,
-            bits,
-            image,
-            netlist,
-            ..
-        } => match netlist {
-            None => copies(alloc, &[arch, bits, image]),
-            Some(netlist) => copies(alloc, &[arch, bits, image, netlist]),
-        },
+            call,
+            netlist: Some(netlist),
+        } => copies(alloc, &[call.arch, call.bits, call.image, netlist]),
     }
 }
 

@@ -4,7 +4,7 @@ ghost use Rattle.cg_effects.specs.Outcome.{file_of, names_of};
 ghost use Rattle.cg_command.specs.Command.{IsRanged, denoted, inputs_of};
 ghost use Rattle.cg_command.specs.Files.{filled, names_only};
 
-use crate::command::{Command, MapperCall};
+use crate::command::{ArrayCall, Command, MapperCall};
 use cg_effects::File;
 
 /// Returns `command` with its input files `files`, which were read in the order of their names.
@@ -37,34 +37,25 @@ pub fn fill<'a, 'b>(
             out,
         },
         Command::Run {
-            turns,
-            out,
+            call,
             netlist: None,
-            ..
-        } => {
-            let (arch, bits, image) = three(files);
-            Command::Run {
-                arch,
-                bits,
-                turns,
-                image,
-                out,
-                netlist: None,
-            }
-        }
+        } => Command::Run {
+            call: array_call_with(&call, files),
+            netlist: None,
+        },
         Command::Run {
-            turns,
-            out,
+            call,
             netlist: Some(_),
-            ..
         } => {
             let (arch, bits, image, netlist) = four(files);
             Command::Run {
-                arch,
-                bits,
-                turns,
-                image,
-                out,
+                call: ArrayCall {
+                    arch,
+                    bits,
+                    turns: call.turns,
+                    image,
+                    out: call.out,
+                },
                 netlist: Some(netlist),
             }
         }
@@ -117,16 +108,7 @@ pub fn fill<'a, 'b>(
             let (arch, bits) = two(files);
             Command::Migrate { arch, bits, out }
         }
-        Command::Bench { turns, out, .. } => {
-            let (arch, bits, image) = three(files);
-            Command::Bench {
-                arch,
-                bits,
-                turns,
-                image,
-                out,
-            }
-        }
+        Command::Bench(call) => Command::Bench(array_call_with(&call, files)),
         Command::Image { out, .. } => Command::Image {
             text: one(files),
             out,
@@ -163,6 +145,25 @@ fn call_with<'a, 'b>(
         out: call.out,
         mapping: call.mapping,
         request: call.request,
+    }
+}
+
+/// Returns `call` with its input files `files`: an architecture, a configuration and an image.
+fn array_call_with<'a, 'b>(
+    call: &ArrayCall<&'a str, &'a str>,
+    files: &'b [File],
+) -> ArrayCall<&'b File, &'a str>
+    requires { length files.now ≡ 3 }
+    ensures files { file_of result.arch.now ∷ file_of result.bits.now ∷ file_of result.image.now ∷ [] ≡ map file_of files.now }
+    ensures rest { result ≡ record { arch = result.arch; bits = result.bits; turns = call.now.turns; image = result.image; out = call.now.out } }
+{
+    let (arch, bits, image) = three(files);
+    ArrayCall {
+        arch,
+        bits,
+        turns: call.turns,
+        image,
+        out: call.out,
     }
 }
 

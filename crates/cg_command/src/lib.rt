@@ -11,7 +11,7 @@ mod words;
 
 pub use arguments::{Arguments, Given, arguments_of};
 pub use cg_model::Request;
-pub use command::{Command, MapperCall, copies, inputs};
+pub use command::{ArrayCall, Command, MapperCall, copies, inputs};
 pub use filling::fill;
 pub use numbers::{interval_of, moves_of, seed_of};
 pub use words::plan_words;

@@ -8,7 +8,7 @@ ghost use Rattle.cg_command.specs.Command.{IsRanged, call_denoted, denoted};
 ghost use Rattle.cg_command.specs.Words as spec;
 
 use crate::arguments::{Arguments, arguments_of};
-use crate::command::{Command, MapperCall};
+use crate::command::{ArrayCall, Command, MapperCall};
 use crate::numbers::{USUAL_MOVES, USUAL_RESPONSES, seed_of, turns_of};
 use crate::requests::{file_said, request_of};
 use std::alloc::{AllocError, Global};
@@ -79,11 +79,13 @@ fn array_command<'a>(
         [arch, bits, turns, image, out] => {
             let turns = turns_of(turns)?;
             Some(Command::Run {
-                arch: *arch,
-                bits: *bits,
-                turns,
-                image: *image,
-                out: *out,
+                call: ArrayCall {
+                    arch: *arch,
+                    bits: *bits,
+                    turns,
+                    image: *image,
+                    out: *out,
+                },
                 netlist,
             })
         }
@@ -360,13 +362,13 @@ fn bench_command<'a>(words: &[&'a str]) -> Option<Command<&'a str, &'a str>>
     match words {
         [arch, bits, turns, image, out] => {
             let turns = turns_of(turns)?;
-            Some(Command::Bench {
+            Some(Command::Bench(ArrayCall {
                 arch: *arch,
                 bits: *bits,
                 turns,
                 image: *image,
                 out: *out,
-            })
+            }))
         }
         _ => None,
     }

@@ -19,7 +19,7 @@ use Rattle.cg_kernel_text.specs.Printed.{kernel_text}
 use Rattle.cg_pad.specs.Bytes as images
 use Rattle.cg_tiles.specs.Answer.{AreValidBytes}
 use Rattle.cg_inputs.proofs.Arrays.{same_array}
-use Rattle.cg_run_answers.specs.Run.{LeavesTurns}
+use Rattle.cg_command_run.specs.Run.{LeavesTurns}
 use Rattle.cg_commands.specs.Chain.{AreThreeCalls, DoesTheLoop}
 
 -- what is held under a name

@@ -7,36 +7,36 @@ use Rattle.cg_command.specs.declared.command.Command.{Command}
 use Rattle.cg_command.specs.declared.command.Command.TheVariants.{Turns, TurnsOnImage, Flat, Run, Bound, Check, Emit, Map, Search, Show, Trial, Verilog, Loop, Depend, Migrate, Bench, Image, Words, Violations, Why}
 use Rattle.cg_command.specs.Command.{listed, outputs_of, command_map}
 use Rattle.cg_inputs.proofs.Sound.{owns, IsSound, IsNamed}
-use Rattle.cg_run_answers.proofs.TurnsAnswers.{sound_turns, quiet_turns, accepted_turns}
-use Rattle.cg_run_answers.proofs.OnImage.{same_on_image, sound_on_image, accepted_on_image, named_on_image}
-use Rattle.cg_run_answers.proofs.FlatAnswers.{same_flat, sound_flat, accepted_flat, named_flat}
-use Rattle.cg_run_answers.proofs.RunAnswers.{same_run, sound_run, accepted_run, named_run}
-use Rattle.cg_gates_answers.proofs.NetlistAnswers.{same_netlist_run, sound_netlist_run, accepted_netlist_run, named_netlist_run}
-use Rattle.cg_bench_answers.proofs.Benched.{same_bench, sound_bench, accepted_bench, named_bench}
-use Rattle.cg_image_answers.proofs.Imaged.{same_image, sound_image, accepted_image, named_image}
-use Rattle.cg_image_answers.proofs.Worded.{same_words, sound_words, accepted_words, quiet_words}
-use Rattle.cg_violations_answers.proofs.Listed.{same_violations, sound_violations, accepted_violations, quiet_violations}
-use Rattle.cg_why_answers.proofs.Explained.{same_why, sound_why, accepted_why, quiet_why}
-use Rattle.cg_mapping_answers.proofs.Bounded.{same_bound, sound_bound, accepted_bound, quiet_bound}
-use Rattle.cg_mapping_answers.proofs.Checked.{same_check, sound_check, accepted_check, quiet_check}
-use Rattle.cg_mapping_answers.proofs.Bitstream.{same_emit, sound_emit, accepted_emit, named_emit}
-use Rattle.cg_map_answers.proofs.Searched.{same_map, sound_map, accepted_map, forbidden_map, named_map}
-use Rattle.cg_search_answers.proofs.Searched.{agree_search, sound_search, accepted_search, forbidden_search, named_search}
-use Rattle.cg_show_answers.proofs.Shown.{same_show, sound_show, accepted_show, named_show}
-use Rattle.cg_loop_answers.proofs.Looped.{same_loop, sound_loop, accepted_loop, named_loop}
+use Rattle.cg_command_run.proofs.TurnsAnswers.{sound_turns, quiet_turns, accepted_turns}
+use Rattle.cg_command_run.proofs.OnImage.{same_on_image, sound_on_image, accepted_on_image, named_on_image}
+use Rattle.cg_command_run.proofs.FlatAnswers.{same_flat, sound_flat, accepted_flat, named_flat}
+use Rattle.cg_command_run.proofs.RunAnswers.{same_run, sound_run, accepted_run, named_run}
+use Rattle.cg_command_run.proofs.NetlistAnswers.{same_netlist_run, sound_netlist_run, accepted_netlist_run, named_netlist_run}
+use Rattle.cg_command_run.proofs.Benched.{same_bench, sound_bench, accepted_bench, named_bench}
+use Rattle.cg_command_files.proofs.Imaged.{same_image, sound_image, accepted_image, named_image}
+use Rattle.cg_command_files.proofs.Worded.{same_words, sound_words, accepted_words, quiet_words}
+use Rattle.cg_command_judge.proofs.Listed.{same_violations, sound_violations, accepted_violations, quiet_violations}
+use Rattle.cg_command_judge.proofs.Explained.{same_why, sound_why, accepted_why, quiet_why}
+use Rattle.cg_command_judge.proofs.Bounded.{same_bound, sound_bound, accepted_bound, quiet_bound}
+use Rattle.cg_command_judge.proofs.Checked.{same_check, sound_check, accepted_check, quiet_check}
+use Rattle.cg_command_judge.proofs.Bitstream.{same_emit, sound_emit, accepted_emit, named_emit}
+use Rattle.cg_command_map.proofs.MapAnswers.{same_map, sound_map, accepted_map, forbidden_map, named_map}
+use Rattle.cg_command_map.proofs.SearchAnswers.{agree_search, sound_search, accepted_search, forbidden_search, named_search}
+use Rattle.cg_command_judge.proofs.Shown.{same_show, sound_show, accepted_show, named_show}
+use Rattle.cg_command_files.proofs.Looped.{same_loop, sound_loop, accepted_loop, named_loop}
 use Rattle.cg_commands.specs.Commands.{IsAnswer, Accepts, Forbids, AgreeIn}
 use Rattle.cg_commands.proofs.Trialed.{same_trial, sound_trial, accepted_trial, quiet_trial}
-use Rattle.cg_commands.proofs.Netlisted.{same_verilog, sound_verilog, accepted_verilog, named_verilog}
-use Rattle.cg_commands.proofs.Depended.{same_depend, sound_depend, accepted_depend, named_depend}
-use Rattle.cg_commands.proofs.Migrated.{same_migrate, sound_migrate, accepted_migrate, named_migrate}
+use Rattle.cg_command_files.proofs.Netlisted.{same_verilog, sound_verilog, accepted_verilog, named_verilog}
+use Rattle.cg_command_files.proofs.Depended.{same_depend, sound_depend, accepted_depend, named_depend}
+use Rattle.cg_command_files.proofs.Migrated.{same_migrate, sound_migrate, accepted_migrate, named_migrate}
 
 -- where the outcome may be chosen, its status may not, but that of `search`
 pub agree_in : (c : Command File Name) (a b : Outcome) → IsAnswer c a → IsAnswer c b → AgreeIn c a.status b.status
 agree_in (Turns f n) a b p q = ap (λ o. o.status) (p ∙ sym q)
 agree_in (TurnsOnImage f n g out) a b p q = same_on_image n f g out a b p q
 agree_in (Flat f out) a b p q = same_flat f out a b p q
-agree_in (Run f g n h out None) a b p q = same_run n f g h out a b p q
-agree_in (Run f g n h out (Some k)) a b p q = same_netlist_run n f g h k out a b p q
+agree_in (Run call None) a b p q = same_run call.turns call.arch call.bits call.image call.out a b p q
+agree_in (Run call (Some k)) a b p q = same_netlist_run call.turns call.arch call.bits call.image k call.out a b p q
 agree_in (Bound f g) a b p q = same_bound f g a b p q
 agree_in (Check f g h) a b p q = same_check f g h a b p q
 agree_in (Emit f g h out) a b p q = same_emit f g h out a b p q
@@ -48,7 +48,7 @@ agree_in (Verilog f out) a b p q = same_verilog f out a b p q
 agree_in (Loop f out) a b p q = same_loop f out a b p q
 agree_in (Depend f out) a b p q = same_depend f out a b p q
 agree_in (Migrate f g out) a b p q = same_migrate f g out a b p q
-agree_in (Bench f g n h out) a b p q = same_bench n f g h out a b p q
+agree_in (Bench call) a b p q = same_bench call.turns call.arch call.bits call.image call.out a b p q
 agree_in (Image f out) a b p q = same_image f out a b p q
 agree_in (Words f) a b p q = same_words f a b p q
 agree_in (Violations f g h) a b p q = same_violations f g h a b p q
@@ -76,8 +76,8 @@ pub sound : (c : Command File Name) (o : Outcome) → IsAnswer c o → IsSound (
 sound (Turns f n) o p = sound_turns n f o p
 sound (TurnsOnImage f n g out) o p = sound_on_image n f g out o p
 sound (Flat f out) o p = sound_flat f out o p
-sound (Run f g n h out None) o p = sound_run n f g h out o p
-sound (Run f g n h out (Some k)) o p = sound_netlist_run n f g h k out o p
+sound (Run call None) o p = sound_run call.turns call.arch call.bits call.image call.out o p
+sound (Run call (Some k)) o p = sound_netlist_run call.turns call.arch call.bits call.image k call.out o p
 sound (Bound f g) o p = sound_bound f g o p
 sound (Check f g h) o p = sound_check f g h o p
 sound (Emit f g h out) o p = sound_emit f g h out o p
@@ -89,7 +89,7 @@ sound (Verilog f out) o p = sound_verilog f out o p
 sound (Loop f out) o p = sound_loop f out o p
 sound (Depend f out) o p = sound_depend f out o p
 sound (Migrate f g out) o p = sound_migrate f g out o p
-sound (Bench f g n h out) o p = sound_bench n f g h out o p
+sound (Bench call) o p = sound_bench call.turns call.arch call.bits call.image call.out o p
 sound (Image f out) o p = sound_image f out o p
 sound (Words f) o p = sound_words f o p
 sound (Violations f g h) o p = sound_violations f g h o p
@@ -100,8 +100,8 @@ pub accepted : (c : Command File Name) (o : Outcome) → Accepts c → IsAnswer 
 accepted (Turns f n) o a p = accepted_turns n f a.0 o a.1 p
 accepted (TurnsOnImage f n g out) o a p = accepted_on_image n a.kernel a.image f g out o a.kernel_is a.image_is a.unaliased p
 accepted (Flat f out) o a p = accepted_flat f out a.0 o a.1 p
-accepted (Run f g n h out None) o a p = accepted_run n f g h out o a p
-accepted (Run f g n h out (Some k)) o a p = accepted_netlist_run n f g h k out o a p
+accepted (Run call None) o a p = accepted_run call.turns call.arch call.bits call.image call.out o a p
+accepted (Run call (Some k)) o a p = accepted_netlist_run call.turns call.arch call.bits call.image k call.out o a p
 accepted (Bound f g) o a p = accepted_bound f g o a p
 accepted (Check f g h) o a p = accepted_check f g h o a p
 accepted (Emit f g h out) o a p = accepted_emit f g h out o a p
@@ -113,7 +113,7 @@ accepted (Verilog f out) o a p = accepted_verilog f out a.0 o a.1 p
 accepted (Loop f out) o a p = accepted_loop f out o a p
 accepted (Depend f out) o a p = accepted_depend f out o a p
 accepted (Migrate f g out) o a p = accepted_migrate f g out o a p
-accepted (Bench f g n h out) o a p = accepted_bench n f g h out o a p
+accepted (Bench call) o a p = accepted_bench call.turns call.arch call.bits call.image call.out o a p
 accepted (Image f out) o a p = accepted_image f out o a p
 accepted (Words f) o a p = accepted_words f o a p
 accepted (Violations f g h) o a p = accepted_violations f g h o a p
@@ -130,8 +130,8 @@ pub named : (c : Command File Name) (o : Outcome) → IsAnswer c o → IsNamed (
 named (Turns f n) o p = inr (quiet_turns n f o p)
 named (TurnsOnImage f n g out) o p = named_on_image n f g out o p
 named (Flat f out) o p = named_flat f out o p
-named (Run f g n h out None) o p = named_run n f g h out o p
-named (Run f g n h out (Some k)) o p = named_netlist_run n f g h k out o p
+named (Run call None) o p = named_run call.turns call.arch call.bits call.image call.out o p
+named (Run call (Some k)) o p = named_netlist_run call.turns call.arch call.bits call.image k call.out o p
 named (Bound f g) o p = inr (quiet_bound f g o p)
 named (Check f g h) o p = inr (quiet_check f g h o p)
 named (Emit f g h out) o p = named_emit f g h out o p
@@ -143,7 +143,7 @@ named (Verilog f out) o p = named_verilog f out o p
 named (Loop f out) o p = named_loop f out o p
 named (Depend f out) o p = named_depend f out o p
 named (Migrate f g out) o p = named_migrate f g out o p
-named (Bench f g n h out) o p = named_bench n f g h out o p
+named (Bench call) o p = named_bench call.turns call.arch call.bits call.image call.out o p
 named (Image f out) o p = named_image f out o p
 named (Words f) o p = inr (quiet_words f o p)
 named (Violations f g h) o p = inr (quiet_violations f g h o p)
@@ -167,7 +167,7 @@ pub agree_kept : {F G N M : Type 0} (f : F → G) (g : N → M) (c : Command F N
 agree_kept f g (Turns kernel turns) a b e = e
 agree_kept f g (TurnsOnImage kernel turns image out) a b e = e
 agree_kept f g (Flat arch out) a b e = e
-agree_kept f g (Run arch bits turns image out netlist) a b e = e
+agree_kept f g (Run call netlist) a b e = e
 agree_kept f g (Bound arch kernel) a b e = e
 agree_kept f g (Check arch kernel mapping) a b e = e
 agree_kept f g (Emit arch kernel mapping out) a b e = e
@@ -179,7 +179,7 @@ agree_kept f g (Verilog arch out) a b e = e
 agree_kept f g (Loop source out) a b e = e
 agree_kept f g (Depend kernel out) a b e = e
 agree_kept f g (Migrate arch bits out) a b e = e
-agree_kept f g (Bench arch bits turns image out) a b e = e
+agree_kept f g (Bench call) a b e = e
 agree_kept f g (Image text out) a b e = e
 agree_kept f g (Words image) a b e = e
 agree_kept f g (Violations arch kernel mapping) a b e = e
@@ -190,7 +190,7 @@ pub equal : {F N : Type 0} (c : Command F N) (a b : Status) → a ≡ b → Agre
 equal (Turns kernel turns) a b e = e
 equal (TurnsOnImage kernel turns image out) a b e = e
 equal (Flat arch out) a b e = e
-equal (Run arch bits turns image out netlist) a b e = e
+equal (Run call netlist) a b e = e
 equal (Bound arch kernel) a b e = e
 equal (Check arch kernel mapping) a b e = e
 equal (Emit arch kernel mapping out) a b e = e
@@ -202,7 +202,7 @@ equal (Verilog arch out) a b e = e
 equal (Loop source out) a b e = e
 equal (Depend kernel out) a b e = e
 equal (Migrate arch bits out) a b e = e
-equal (Bench arch bits turns image out) a b e = e
+equal (Bench call) a b e = e
 equal (Image text out) a b e = e
 equal (Words image) a b e = e
 equal (Violations arch kernel mapping) a b e = e

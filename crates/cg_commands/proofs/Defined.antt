@@ -4,36 +4,36 @@ use Rattle.cg_effects.specs.Outcome.{Name, File, Outcome}
 use Rattle.cg_command.specs.declared.command.Command.{Command}
 use Rattle.cg_command.specs.declared.command.Command.TheVariants.{Turns, TurnsOnImage, Flat, Run, Bound, Check, Emit, Map, Search, Show, Trial, Verilog, Loop, Depend, Migrate, Bench, Image, Words, Violations, Why}
 use Rattle.cg_command.specs.Command.{IsRanged, listed}
-use Rattle.cg_run_answers.specs.Turns.{turns_of}
-use Rattle.cg_run_answers.proofs.OnImage.{some_on_image}
-use Rattle.cg_run_answers.proofs.FlatAnswers.{some_flat}
-use Rattle.cg_run_answers.proofs.RunAnswers.{some_run}
-use Rattle.cg_bench_answers.proofs.Benched.{some_bench}
-use Rattle.cg_image_answers.specs.Image.{image_of}
-use Rattle.cg_image_answers.specs.Words.{words_of}
-use Rattle.cg_violations_answers.proofs.Listed.{some_violations}
-use Rattle.cg_gates_answers.proofs.NetlistAnswers.{some_netlist_run}
-use Rattle.cg_why_answers.proofs.Explained.{some_whying}
-use Rattle.cg_mapping_answers.proofs.Bounded.{some_bounding}
-use Rattle.cg_mapping_answers.proofs.Checked.{some_check}
-use Rattle.cg_mapping_answers.proofs.Bitstream.{some_emit}
-use Rattle.cg_map_answers.proofs.Searched.{some_map}
-use Rattle.cg_search_answers.proofs.Searched.{some_search_outcome}
-use Rattle.cg_show_answers.proofs.Shown.{some_show}
-use Rattle.cg_loop_answers.proofs.Looped.{some_loop}
+use Rattle.cg_command_run.specs.Turns.{turns_of}
+use Rattle.cg_command_run.proofs.OnImage.{some_on_image}
+use Rattle.cg_command_run.proofs.FlatAnswers.{some_flat}
+use Rattle.cg_command_run.proofs.RunAnswers.{some_run}
+use Rattle.cg_command_run.proofs.Benched.{some_bench}
+use Rattle.cg_command_files.specs.Image.{image_of}
+use Rattle.cg_command_files.specs.Words.{words_of}
+use Rattle.cg_command_judge.proofs.Listed.{some_violations}
+use Rattle.cg_command_run.proofs.NetlistAnswers.{some_netlist_run}
+use Rattle.cg_command_judge.proofs.Explained.{some_whying}
+use Rattle.cg_command_judge.proofs.Bounded.{some_bounding}
+use Rattle.cg_command_judge.proofs.Checked.{some_check}
+use Rattle.cg_command_judge.proofs.Bitstream.{some_emit}
+use Rattle.cg_command_map.proofs.MapAnswers.{some_map}
+use Rattle.cg_command_map.proofs.SearchAnswers.{some_search_outcome}
+use Rattle.cg_command_judge.proofs.Shown.{some_show}
+use Rattle.cg_command_files.proofs.Looped.{some_loop}
 use Rattle.cg_commands.specs.Commands.{IsAnswer}
 use Rattle.cg_commands.proofs.Trialed.{some_trial}
-use Rattle.cg_commands.proofs.Netlisted.{some_verilog}
-use Rattle.cg_commands.proofs.Depended.{some_depend}
-use Rattle.cg_commands.proofs.Migrated.{some_migrate}
+use Rattle.cg_command_files.proofs.Netlisted.{some_verilog}
+use Rattle.cg_command_files.proofs.Depended.{some_depend}
+use Rattle.cg_command_files.proofs.Migrated.{some_migrate}
 
 -- a command whose numbers are in their ranges has an outcome for its files
 pub some_outcome : (c : Command File Name) → IsRanged c → (o : Outcome) × IsAnswer c o
 some_outcome (Turns f n) range = (turns_of n f, refl)
 some_outcome (TurnsOnImage f n g out) range = some_on_image n f g out
 some_outcome (Flat f out) range = some_flat f out
-some_outcome (Run f g n h out None) range = some_run n f g h out
-some_outcome (Run f g n h out (Some k)) range = some_netlist_run n f g h k out
+some_outcome (Run call None) range = some_run call.turns call.arch call.bits call.image call.out
+some_outcome (Run call (Some k)) range = some_netlist_run call.turns call.arch call.bits call.image k call.out
 some_outcome (Bound f g) range = some_bounding f g
 some_outcome (Check f g h) range = some_check f g h
 some_outcome (Emit f g h out) range = some_emit f g h out
@@ -45,7 +45,7 @@ some_outcome (Verilog f out) range = some_verilog f out
 some_outcome (Loop f out) range = some_loop f out
 some_outcome (Depend f out) range = some_depend f out
 some_outcome (Migrate f g out) range = some_migrate f g out
-some_outcome (Bench f g n h out) range = some_bench n f g h out
+some_outcome (Bench call) range = some_bench call.turns call.arch call.bits call.image call.out
 some_outcome (Image f out) range = (image_of f out, refl)
 some_outcome (Words f) range = (words_of f, refl)
 some_outcome (Violations f g h) range = some_violations f g h

@@ -1,14 +1,14 @@
 -- A command that judges a mapping writes nothing where the answer is No.
-use Rattle.std.proofs.Common.{◌≡◌, true, false, [], refl, sym, ◌∙◌, ap}
+use Rattle.std.proofs.Common.{◌≡◌, true, false, [], refl}
 use Rattle.cg_effects.specs.declared.outcome.Status.TheVariants.{No}
 use Rattle.cg_effects.specs.Outcome.{Name, File, Outcome}
 use Rattle.cg_command.specs.declared.command.Command.{Command}
 use Rattle.cg_command.specs.declared.command.Command.TheVariants.{Turns, TurnsOnImage, Flat, Run, Bound, Check, Emit, Map, Search, Show, Trial, Verilog, Loop, Depend, Migrate, Bench, Image, Words, Violations, Why}
 use Rattle.cg_command.specs.Command.{listed, command_map}
-use Rattle.cg_mapping_answers.proofs.Bitstream.{unwritten_emit}
-use Rattle.cg_mapping_answers.proofs.Checked.{quiet_check}
-use Rattle.cg_show_answers.proofs.Shown.{unwritten_show}
-use Rattle.cg_violations_answers.proofs.Listed.{quiet_violations}
+use Rattle.cg_command_judge.proofs.Bitstream.{unwritten_emit}
+use Rattle.cg_command_judge.proofs.Checked.{quiet_check}
+use Rattle.cg_command_judge.proofs.Shown.{unwritten_show}
+use Rattle.cg_command_judge.proofs.Listed.{quiet_violations}
 use Rattle.cg_commands.specs.Commands.{IsAnswer, judges}
 
 not_judging : false ≡ true → ⊥
@@ -26,7 +26,7 @@ pub judges_kept : {F G N M : Type 0} (f : F → G) (g : N → M) (c : Command F 
 judges_kept f g (Turns kernel turns) = refl
 judges_kept f g (TurnsOnImage kernel turns image out) = refl
 judges_kept f g (Flat arch out) = refl
-judges_kept f g (Run arch bits turns image out netlist) = refl
+judges_kept f g (Run call netlist) = refl
 judges_kept f g (Bound arch kernel) = refl
 judges_kept f g (Check arch kernel mapping) = refl
 judges_kept f g (Emit arch kernel mapping out) = refl
@@ -38,7 +38,7 @@ judges_kept f g (Verilog arch out) = refl
 judges_kept f g (Loop source out) = refl
 judges_kept f g (Depend kernel out) = refl
 judges_kept f g (Migrate arch bits out) = refl
-judges_kept f g (Bench arch bits turns image out) = refl
+judges_kept f g (Bench call) = refl
 judges_kept f g (Image text out) = refl
 judges_kept f g (Words image) = refl
 judges_kept f g (Violations arch kernel mapping) = refl

@@ -10,34 +10,34 @@ use Rattle.cg_command.specs.declared.command.Command.TheVariants.{Turns, TurnsOn
 use Rattle.cg_command.specs.Files.{names_only}
 use Rattle.cg_command.proofs.Maps.{same_option}
 use Rattle.cg_command.specs.Command.{inputs_of, listed}
-use Rattle.cg_run_answers.proofs.TurnsAnswers.{turned_left}
-use Rattle.cg_run_answers.proofs.OnImage.{ordered_left, unordered_left}
-use Rattle.cg_run_answers.proofs.FlatAnswers.{flattened_left}
-use Rattle.cg_run_answers.proofs.RunAnswers.{run_left}
-use Rattle.cg_bench_answers.proofs.Benched.{bench_left}
-use Rattle.cg_image_answers.proofs.Imaged.{imaged_left}
-use Rattle.cg_image_answers.proofs.Worded.{worded_left}
-use Rattle.cg_violations_answers.proofs.Listed.{unviolated_left, violated_left}
-use Rattle.cg_gates_answers.proofs.NetlistAnswers.{netlist_run_left}
-use Rattle.cg_why_answers.proofs.Explained.{why_left}
-use Rattle.cg_mapping_answers.proofs.Bounded.{bound_left}
-use Rattle.cg_mapping_answers.proofs.Checked.{legal_left, illegal_left}
-use Rattle.cg_mapping_answers.proofs.Bitstream.{emitted_left, unemitted_left}
-use Rattle.cg_map_answers.proofs.Searched.{map_left, impossible_left, spent_left}
-use Rattle.cg_search_answers.proofs.Searched.{search_left, search_impossible_left, search_spent_left}
-use Rattle.cg_show_answers.proofs.Shown.{shown_left, unshown_left}
-use Rattle.cg_loop_answers.proofs.Looped.{looped_left}
+use Rattle.cg_command_run.proofs.TurnsAnswers.{turned_left}
+use Rattle.cg_command_run.proofs.OnImage.{ordered_left, unordered_left}
+use Rattle.cg_command_run.proofs.FlatAnswers.{flattened_left}
+use Rattle.cg_command_run.proofs.RunAnswers.{run_left}
+use Rattle.cg_command_run.proofs.Benched.{bench_left}
+use Rattle.cg_command_files.proofs.Imaged.{imaged_left}
+use Rattle.cg_command_files.proofs.Worded.{worded_left}
+use Rattle.cg_command_judge.proofs.Listed.{unviolated_left, violated_left}
+use Rattle.cg_command_run.proofs.NetlistAnswers.{netlist_run_left}
+use Rattle.cg_command_judge.proofs.Explained.{why_left}
+use Rattle.cg_command_judge.proofs.Bounded.{bound_left}
+use Rattle.cg_command_judge.proofs.Checked.{legal_left, illegal_left}
+use Rattle.cg_command_judge.proofs.Bitstream.{emitted_left, unemitted_left}
+use Rattle.cg_command_map.proofs.MapAnswers.{map_left, impossible_left, spent_left}
+use Rattle.cg_command_map.proofs.SearchAnswers.{search_left, search_impossible_left, search_spent_left}
+use Rattle.cg_command_judge.proofs.Shown.{shown_left, unshown_left}
+use Rattle.cg_command_files.proofs.Looped.{looped_left}
 use Rattle.cg_commands.proofs.InputsRead.{first, second, third, fourth, first_bytes, second_bytes}
 use Rattle.cg_commands.specs.Commands.{IsAnswer, Leaves, LeavesDone, LeavesNo, LeavesImpossible, LeavesSpent}
-use Rattle.cg_map_answers.specs.Map.{IsMapRun}
-use Rattle.cg_search_answers.specs.Search.{IsSearchRun}
-use Rattle.cg_show_answers.specs.Show.{IsShownRun}
+use Rattle.cg_command_map.specs.Map.{IsMapRun}
+use Rattle.cg_command_map.specs.Search.{IsSearchRun}
+use Rattle.cg_command_judge.specs.Show.{IsShownRun}
 use Rattle.cg_inputs.proofs.Sound.{never}
 use Rattle.cg_commands.proofs.Commands.{owns_of, sound}
 use Rattle.cg_commands.proofs.Trialed.{trial_left}
-use Rattle.cg_commands.proofs.Netlisted.{netlisted_left}
-use Rattle.cg_commands.proofs.Depended.{depended_left}
-use Rattle.cg_commands.proofs.Migrated.{migrated_left}
+use Rattle.cg_command_files.proofs.Netlisted.{netlisted_left}
+use Rattle.cg_command_files.proofs.Depended.{depended_left}
+use Rattle.cg_command_files.proofs.Migrated.{migrated_left}
 
 -- nothing is said of what a command leaves at a fault or out of memory, or where it refuses a file
 abbrev pub is_silent : Status → Bool
@@ -64,12 +64,12 @@ module _ (o : Outcome) (before after : Moment) where
   left_done (TurnsOnImage f n g out) read bytes answer is done =
       ordered_left n f.name g.name out f g o before after (first before.held f (g ∷ []) read) (second before.held f g [] read) answer is done
   left_done (Flat f out) read bytes answer is done = flattened_left f.name out f o before after (first before.held f [] read) answer is done
-  left_done (Run f g n h out None) read bytes answer is done =
-      run_left n f.name g.name h.name out f g h o before after (first before.held f (g ∷ h ∷ []) read) (second before.held f g (h ∷ []) read)
-      (second_bytes f g (h ∷ []) bytes) (third before.held f g h [] read) answer is done
-  left_done (Run f g n h out (Some k)) read bytes answer is done =
-      netlist_run_left n f.name g.name h.name k.name out f g h k o before after (first before.held f (g ∷ h ∷ k ∷ []) read) (second before.held f g (h ∷ k ∷ []) read)
-      (second_bytes f g (h ∷ k ∷ []) bytes) (third before.held f g h (k ∷ []) read) (fourth before.held f g h k [] read) answer is done
+  left_done (Run call None) read bytes answer is done =
+      run_left call.turns call.arch.name call.bits.name call.image.name call.out call.arch call.bits call.image o before after (first before.held call.arch (call.bits ∷ call.image ∷ []) read) (second before.held call.arch call.bits (call.image ∷ []) read)
+      (second_bytes call.arch call.bits (call.image ∷ []) bytes) (third before.held call.arch call.bits call.image [] read) answer is done
+  left_done (Run call (Some k)) read bytes answer is done =
+      netlist_run_left call.turns call.arch.name call.bits.name call.image.name k.name call.out call.arch call.bits call.image k o before after (first before.held call.arch (call.bits ∷ call.image ∷ k ∷ []) read) (second before.held call.arch call.bits (call.image ∷ k ∷ []) read)
+      (second_bytes call.arch call.bits (call.image ∷ k ∷ []) bytes) (third before.held call.arch call.bits call.image (k ∷ []) read) (fourth before.held call.arch call.bits call.image k [] read) answer is done
   left_done (Bound f g) read bytes answer is done =
       bound_left f.name g.name f g before after (first before.held f (g ∷ []) read) (second before.held f g [] read) o answer is done
   left_done (Check f g h) read bytes answer is done =
@@ -93,9 +93,9 @@ module _ (o : Outcome) (before after : Moment) where
   left_done (Depend f out) read bytes answer is done = depended_left f.name out f o before after (first before.held f [] read) is done answer
   left_done (Migrate f g out) read bytes answer is done =
       migrated_left f.name g.name out f g o before after (first before.held f (g ∷ []) read) (second before.held f g [] read) (second_bytes f g [] bytes) is done answer
-  left_done (Bench f g n h out) read bytes answer is done =
-      bench_left n f.name g.name h.name out f g h o before after (first before.held f (g ∷ h ∷ []) read) (second before.held f g (h ∷ []) read)
-      (second_bytes f g (h ∷ []) bytes) (third before.held f g h [] read) answer is done
+  left_done (Bench call) read bytes answer is done =
+      bench_left call.turns call.arch.name call.bits.name call.image.name call.out call.arch call.bits call.image o before after (first before.held call.arch (call.bits ∷ call.image ∷ []) read) (second before.held call.arch call.bits (call.image ∷ []) read)
+      (second_bytes call.arch call.bits (call.image ∷ []) bytes) (third before.held call.arch call.bits call.image [] read) answer is done
   left_done (Image f out) read bytes answer is done = imaged_left f.name out f o before after (first before.held f [] read) answer is done
   left_done (Words f) read bytes answer is done = worded_left f.name f o before after (first before.held f [] read) (first_bytes f [] bytes) answer is done
   left_done (Violations f g h) read bytes answer is done =

@@ -1,12 +1,8 @@
 pub mod InputsRead
 pub mod Trialed
-pub mod Netlisted
-pub mod Depended
-pub mod Migrated
 pub mod Commands
 pub mod Judged
 pub mod Left
 pub mod Defined
-pub mod Allowed
 pub mod Written
 pub mod Chain

@@ -7,10 +7,10 @@ use Rattle.cg_effects.specs.Refusals.{reports}
 use Rattle.cg_files.specs.Held.{Appends}
 use Rattle.cg_inputs.proofs.Sound.{IsSound, plain}
 use Rattle.cg_inputs.proofs.Wholes.{whole}
-use Rattle.cg_mapping_answers.proofs.Bitstream.{runs}
+use Rattle.cg_command_judge.proofs.Bitstream.{runs}
 use Rattle.cg_trial.proofs.Sound.{trial_sound}
-use Rattle.cg_trial_run.specs.Report.{trial_mapped, trial_report}
-use Rattle.cg_trial_run.proofs.Trials.{valid_arch, legal, same_image, some_trial_bits}
+use Rattle.cg_command_run.specs.Report.{trial_mapped, trial_report}
+use Rattle.cg_command_run.proofs.Trials.{valid_arch, legal, same_image, some_trial_bits}
 use Rattle.cg_commands.specs.Trial.{IsTrialOf, IsTrialRun}
 
 pub same_trial : (seed : ℕ) (a b : Outcome) → IsTrialOf seed a → IsTrialOf seed b → a.status ≡ b.status

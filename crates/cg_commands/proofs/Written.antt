@@ -9,11 +9,11 @@ use Rattle.cg_command.specs.declared.command.MapperCall.{MapperCall}
 use Rattle.cg_command.specs.Files.{names_only}
 use Rattle.cg_command.specs.Command.{inputs_of, listed}
 use Rattle.cg_commands.proofs.InputsRead.{first, second, third}
-use Rattle.cg_task_answers.specs.Runs.{FirstRuns}
-use Rattle.cg_mapping_answers.specs.Emit.{FirstRunsRead}
-use Rattle.cg_mapping_answers.proofs.Bitstream.{emit_writes_run}
-use Rattle.cg_map_answers.proofs.Searched.{map_writes_run}
-use Rattle.cg_search_answers.proofs.Searched.{search_writes_run}
+use Rattle.cg_command_map.specs.Runs.{FirstRuns}
+use Rattle.cg_command_judge.specs.Emit.{FirstRunsRead}
+use Rattle.cg_command_judge.proofs.Bitstream.{emit_writes_run}
+use Rattle.cg_command_map.proofs.MapAnswers.{map_writes_run}
+use Rattle.cg_command_map.proofs.SearchAnswers.{search_writes_run}
 use Rattle.cg_commands.specs.Commands.{IsAnswer, RunWrites}
 
 of_map : (c : MapperCall Name Name) (before : Moment) (ws : List File) → FirstRuns c.arch c.kernel before ws → RunWrites ws (Map c) before

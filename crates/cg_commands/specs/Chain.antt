@@ -11,9 +11,9 @@ use Rattle.cg_loop_syntax.specs.Loop.{Body}
 use Rattle.cg_loop_reader.specs.Answer.{Spells}
 use Rattle.cg_loop_laws.specs.Translate.{loop_kernel_of}
 use Rattle.cg_loop_laws.specs.Laws.{HasRoom, LeavesLoop}
-use Rattle.cg_loop_answers.specs.Loop.{IsLooped}
-use Rattle.cg_search_answers.specs.Search.{IsSearchRun}
-use Rattle.cg_run_answers.specs.Run.{IsArrayRun}
+use Rattle.cg_command_files.specs.Loop.{IsLooped}
+use Rattle.cg_command_map.specs.Search.{IsSearchRun}
+use Rattle.cg_command_run.specs.Run.{IsArrayRun}
 
 -- `loop SOURCE KERNEL`, `search ARCH KERNEL BITS` and `run ARCH BITS TURNS IN OUT` each ended with 0, and each began with
 -- what the one before it left. The store tells what it holds, and the search didn't write over the architecture

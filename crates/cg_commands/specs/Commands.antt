@@ -14,37 +14,37 @@ use Rattle.cg_model.specs.Work as works
 use Rattle.cg_model.specs.Array.{Arch}
 use Rattle.cg_tiles.specs.Answer.{AreValidBytes}
 use Rattle.cg_model.specs.Order.{IsUnaliased}
-use Rattle.cg_run_answers.specs.Turns.{turns_of, IsTurned}
-use Rattle.cg_run_answers.specs.TurnsOnImage.{IsTurnsOnImage, IsOrderedRun, IsUnorderedRun}
-use Rattle.cg_run_answers.specs.Flat.{IsFlat, IsFlattened}
-use Rattle.cg_run_answers.specs.Run.{IsRun, IsRunnable, IsArrayRun}
-use Rattle.cg_gates_answers.specs.Netlist.{IsNetlistRun, IsNetlistRunnable, IsGatesRun}
-use Rattle.cg_bench_answers.specs.Bench.{IsBench, IsBenchRun}
-use Rattle.cg_image_answers.specs.Image.{image_of, IsImageText, IsImaged}
-use Rattle.cg_image_answers.specs.Words.{words_of, IsImageFile, IsWorded}
-use Rattle.cg_mapping_answers.specs.Bound.{IsBoundOf, IsPairInput, IsBoundRun}
-use Rattle.cg_mapping_answers.specs.Check.{IsCheck, IsLegalInput, IsLegalCheck, IsIllegalCheck}
-use Rattle.cg_mapping_answers.specs.Emit.{IsEmit, RunsRead, IsEmittedRun}
-use Rattle.cg_violations_answers.specs.Violations.{IsViolations, IsViolatedRun}
-use Rattle.cg_why_answers.specs.Why.{IsWhyOf, IsWhyRun}
-use Rattle.cg_map_answers.specs.Map.{IsMap, IsMappable, IsMapRun, IsSpentRun}
-use Rattle.cg_task_answers.specs.Searches.{IsForbiddenInput, IsImpossibleRun}
-use Rattle.cg_task_answers.specs.Runs.{RunsOfPair}
-use Rattle.cg_search_answers.specs.Search.{IsSearch, IsSearchable, IsSearchRun, IsSearchSpentRun, AreAgreed}
-use Rattle.cg_show_answers.specs.Show.{IsShow, IsShownRun}
+use Rattle.cg_command_run.specs.Turns.{turns_of, IsTurned}
+use Rattle.cg_command_run.specs.TurnsOnImage.{IsTurnsOnImage, IsOrderedRun, IsUnorderedRun}
+use Rattle.cg_command_run.specs.Flat.{IsFlat, IsFlattened}
+use Rattle.cg_command_run.specs.Run.{IsRun, IsRunnable, IsArrayRun}
+use Rattle.cg_command_run.specs.Netlist.{IsNetlistRun, IsNetlistRunnable, IsGatesRun}
+use Rattle.cg_command_run.specs.Bench.{IsBench, IsBenchRun}
+use Rattle.cg_command_files.specs.Image.{image_of, IsImageText, IsImaged}
+use Rattle.cg_command_files.specs.Words.{words_of, IsImageFile, IsWorded}
+use Rattle.cg_command_judge.specs.Bound.{IsBoundOf, IsPairInput, IsBoundRun}
+use Rattle.cg_command_judge.specs.Check.{IsCheck, IsLegalInput, IsLegalCheck, IsIllegalCheck}
+use Rattle.cg_command_judge.specs.Emit.{IsEmit, RunsRead, IsEmittedRun}
+use Rattle.cg_command_judge.specs.Violations.{IsViolations, IsViolatedRun}
+use Rattle.cg_command_judge.specs.Why.{IsWhyOf, IsWhyRun}
+use Rattle.cg_command_map.specs.Map.{IsMap, IsMappable, IsMapRun, IsSpentRun}
+use Rattle.cg_command_map.specs.Searches.{IsForbiddenInput, IsImpossibleRun}
+use Rattle.cg_command_map.specs.Runs.{RunsOfPair}
+use Rattle.cg_command_map.specs.Search.{IsSearch, IsSearchable, IsSearchRun, IsSearchSpentRun, AreAgreed}
+use Rattle.cg_command_judge.specs.Show.{IsShow, IsShownRun}
 use Rattle.cg_commands.specs.Trial.{IsTrialOf, IsTrialRun}
-use Rattle.cg_commands.specs.Verilog.{IsVerilog, IsNetlisted}
-use Rattle.cg_loop_answers.specs.Loop.{IsLoopOf, IsTranslatable, IsLooped}
-use Rattle.cg_commands.specs.Depend.{IsDependOf, IsDependable, IsDepended}
-use Rattle.cg_commands.specs.Migrate.{IsMigrate, IsMigratable, IsMigrated}
+use Rattle.cg_command_files.specs.Verilog.{IsVerilog, IsNetlisted}
+use Rattle.cg_command_files.specs.Loop.{IsLoopOf, IsTranslatable, IsLooped}
+use Rattle.cg_command_files.specs.Depend.{IsDependOf, IsDependable, IsDepended}
+use Rattle.cg_command_files.specs.Migrate.{IsMigrate, IsMigratable, IsMigrated}
 
 -- the outcomes that the command allows
 abbrev pub IsAnswer : Command File Name → Outcome → Type 0
 IsAnswer (Turns file n) o = o ≡ turns_of n file
 IsAnswer (TurnsOnImage file n input out) o = IsTurnsOnImage n file input out o
 IsAnswer (Flat file out) o = IsFlat file out o
-IsAnswer (Run arch file n input out None) o = IsRun n arch file input out o
-IsAnswer (Run arch file n input out (Some netlist)) o = IsNetlistRun n arch file input netlist out o
+IsAnswer (Run call None) o = IsRun call.turns call.arch call.bits call.image call.out o
+IsAnswer (Run call (Some netlist)) o = IsNetlistRun call.turns call.arch call.bits call.image netlist call.out o
 IsAnswer (Bound arch kernel) o = IsBoundOf arch kernel o
 IsAnswer (Check arch kernel mapping) o = IsCheck arch kernel mapping o
 IsAnswer (Emit arch kernel mapping out) o = IsEmit arch kernel mapping out o
@@ -56,7 +56,7 @@ IsAnswer (Verilog file out) o = IsVerilog file out o
 IsAnswer (Loop file out) o = IsLoopOf file out o
 IsAnswer (Depend file out) o = IsDependOf file out o
 IsAnswer (Migrate arch file out) o = IsMigrate arch file out o
-IsAnswer (Bench arch file n input out) o = IsBench n arch file input out o
+IsAnswer (Bench call) o = IsBench call.turns call.arch call.bits call.image call.out o
 IsAnswer (Image file out) o = o ≡ image_of file out
 IsAnswer (Words file) o = o ≡ words_of file
 IsAnswer (Violations arch kernel mapping) o = IsViolations arch kernel mapping o
@@ -89,8 +89,8 @@ abbrev pub Accepts : Command File Name → Type 0
 Accepts (Turns file n) = SpellsKernel file
 Accepts (TurnsOnImage file n input out) = IsUnaliasedRun n file input
 Accepts (Flat file out) = GivesArch file
-Accepts (Run arch file n input out None) = IsRunnable arch file input
-Accepts (Run arch file n input out (Some netlist)) = IsNetlistRunnable arch file input netlist
+Accepts (Run call None) = IsRunnable call.arch call.bits call.image
+Accepts (Run call (Some netlist)) = IsNetlistRunnable call.arch call.bits call.image netlist
 Accepts (Bound arch kernel) = IsPairInput arch kernel
 Accepts (Check arch kernel mapping) = IsLegalInput arch kernel mapping
 Accepts (Emit arch kernel mapping out) = IsLegalInput arch kernel mapping
@@ -102,7 +102,7 @@ Accepts (Verilog file out) = GivesArch file
 Accepts (Loop file out) = IsTranslatable file
 Accepts (Depend file out) = IsDependable file
 Accepts (Migrate arch file out) = IsMigratable arch file
-Accepts (Bench arch file n input out) = IsRunnable arch file input
+Accepts (Bench call) = IsRunnable call.arch call.bits call.image
 Accepts (Image file out) = IsImageText file
 Accepts (Words file) = IsImageFile file
 Accepts (Violations arch kernel mapping) = IsLegalInput arch kernel mapping
@@ -128,8 +128,8 @@ abbrev pub LeavesDone : Command Name Name → Moment → Moment → Type 0
 LeavesDone (Turns file n) before after = IsTurned n file before after
 LeavesDone (TurnsOnImage file n input out) before after = IsOrderedRun n file input out before after
 LeavesDone (Flat file out) before after = IsFlattened file out before after
-LeavesDone (Run arch file n input out None) before after = IsArrayRun n arch file input out before after
-LeavesDone (Run arch file n input out (Some netlist)) before after = IsGatesRun n arch file input netlist out before after
+LeavesDone (Run call None) before after = IsArrayRun call.turns call.arch call.bits call.image call.out before after
+LeavesDone (Run call (Some netlist)) before after = IsGatesRun call.turns call.arch call.bits call.image netlist call.out before after
 LeavesDone (Bound arch kernel) before after = IsBoundRun arch kernel before after
 LeavesDone (Check arch kernel mapping) before after = IsLegalCheck arch kernel mapping before after
 LeavesDone (Emit arch kernel mapping out) before after = IsEmittedRun arch kernel mapping out before after
@@ -141,7 +141,7 @@ LeavesDone (Verilog file out) before after = IsNetlisted file out before after
 LeavesDone (Loop file out) before after = IsLooped file out before after
 LeavesDone (Depend file out) before after = IsDepended file out before after
 LeavesDone (Migrate arch file out) before after = IsMigrated arch file out before after
-LeavesDone (Bench arch file n input out) before after = IsBenchRun n arch file input out before after
+LeavesDone (Bench call) before after = IsBenchRun call.turns call.arch call.bits call.image call.out before after
 LeavesDone (Image file out) before after = IsImaged file out before after
 LeavesDone (Words file) before after = IsWorded file before after
 LeavesDone (Violations arch kernel mapping) before after = IsLegalCheck arch kernel mapping before after

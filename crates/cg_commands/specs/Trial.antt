@@ -5,9 +5,9 @@ use Rattle.cg_files.specs.Held.{Appends}
 use Rattle.cg_effects.specs.Outcome.{Bytes, Outcome}
 use Rattle.cg_effects.specs.Ends.{Moment}
 use Rattle.cg_effects.specs.Refusals.{reports}
-use Rattle.cg_mapping_answers.specs.Emit.{RunsMapping}
-use Rattle.cg_trial_run.specs.Report.{IsTrial, trial_mapped, trial_report}
-use Rattle.cg_trial_run.specs.Laws.{LeavesSame}
+use Rattle.cg_command_judge.specs.Emit.{RunsMapping}
+use Rattle.cg_command_run.specs.Report.{IsTrial, trial_mapped, trial_report}
+use Rattle.cg_command_run.specs.Laws.{LeavesSame}
 
 -- the report of the seed's trial
 pub record IsTrialOf (seed : ℕ) (o : Outcome) : Type 0 where

@@ -3,10 +3,7 @@
 #![tactic(auto)]
 
 mod answering;
-mod depending;
 mod laws;
-mod migrating;
-mod netlisting;
 
 pub use answering::answer;
 pub use laws::calls_compose;

@@ -5,12 +5,12 @@
 mod readers;
 
 pub use cg_arch::Arch;
+pub use cg_bits::Config;
 pub use cg_cause::Stop;
 pub use cg_check::LegalMapping;
 pub use cg_effects::{File, Outcome};
 pub use cg_model::{Kernel, Mapping};
 pub use cg_pad::Image;
-pub use cg_view::ConfigView;
 pub use readers::{
     Instance, Sources, arch_in, config_in, image_in, instance_in, kernel_in, mapping_in, sources_in,
 };

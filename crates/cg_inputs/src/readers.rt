@@ -16,6 +16,7 @@ ghost use Rattle.cg_inputs.specs.Sources.{AreMapped, ArePaired};
 ghost use Rattle.cg_inputs.specs.Refused.{RefusesArch, RefusesBits, RefusesImage, RefusesKernel, RefusesMapping};
 
 use cg_arch::Arch;
+use cg_bits::{BitsFault, Config, read_bits};
 use cg_cause::{Cause, Stop};
 use cg_effects::File;
 use cg_kernel::{KernelFault, read_kernel};
@@ -23,7 +24,6 @@ use cg_mapping::{MappingFault, read_mapping};
 use cg_model::{Kernel, Mapping};
 use cg_pad::{Image, ImageFault, read_image};
 use cg_tiles::{TilesFault, read_arch};
-use cg_view::{BitsFault, ConfigView};
 use std::alloc::Global;
 
 /// Reads the architecture in `file`. A fault in it ends the call with status 3.
@@ -79,14 +79,13 @@ pub fn image_in(alloc: Global, file: &File) -> Result<Image, Stop>
     }
 }
 
-/// Reads the configuration of `arch` in `file`, as a view over the bytes of `file`. A fault in it ends the call with
-/// status 3.
-pub fn config_in<'a>(alloc: Global, arch: &'a Arch, file: &'a File) -> Result<ConfigView<'a>, Stop>
+/// Reads the configuration of `arch` in `file`. A fault in it ends the call with status 3.
+pub fn config_in(alloc: Global, arch: &Arch, file: &File) -> Result<Config, Stop>
     ensures given { IfOk result (λ config. bits.answer_of arch.now (file_of file.now).bytes ≡ Ok config) }
     ensures refused { IfErr result (EndsBy (RefusesBits arch.now (file_of file.now))) }
     ensures canonical { IfOk result (IsCanonical arch.now) }
 {
-    match ConfigView::of(arch, file.bytes.as_slice()) {
+    match read_bits(alloc, arch, file.bytes.as_slice()) {
         Ok(config) => Ok(config),
         Err(BitsFault::Memory) => Err(Stop::Memory),
         Err(fault) => Err(Stop::refused(alloc, file, Cause::Bits(fault))),

@@ -4,19 +4,19 @@ use Rattle.cg_model.specs.Kernel.{Kernel}
 use Rattle.cg_model.specs.Array.{Arch}
 use Rattle.cg_bound.specs.Bound.{IsOpen, Shows}
 use Rattle.cg_intervals.specs.declared.answering.Answer.{Answer}
-use Rattle.cg_intervals.specs.declared.answering.Answer.TheVariants.{Impossible, Mapped, Spent}
+use Rattle.cg_intervals.specs.declared.answering.Answer.TheVariants.{Impossible, Mapped, Unmapped}
 use Rattle.cg_intervals.specs.Intervals.{last_tried, IsFirst}
 
 -- the answer is a mapping
-abbrev pub IsMapping : Answer → Type 0
+abbrev pub IsMapping : {L : Type 0} → Answer L → Type 0
 IsMapping (Impossible certificate) = ⊥
 IsMapping (Mapped m found_by) = Unit {0}
-IsMapping (Spent first left) = ⊥
+IsMapping (Unmapped left) = ⊥
 
 -- `Comes first answer` says that the answer is a possible outcome of the intervals from the first one on
-module _ (A : Arch) (K : Kernel) (asked : Option ℕ) (Comes : ℕ → Answer → Type 0) where
+module _ {L : Type 0} (A : Arch) (K : Kernel) (asked : Option ℕ) (Comes : ℕ → Answer L → Type 0) where
   -- nothing forbids the last interval, and the answer is an outcome of the intervals that are tried
-  pub record IsSearched (answer : Answer) : Type 0 where
+  pub record IsSearched (answer : Answer L) : Type 0 where
     pub free : IsOpen A K (last_tried A asked)
     pub first : ℕ
     pub is_first : IsFirst A K asked first
@@ -24,7 +24,7 @@ module _ (A : Arch) (K : Kernel) (asked : Option ℕ) (Comes : ℕ → Answer �
 
   -- why the last interval is impossible, if a recurrence or an overfull set forbids it; else an outcome of the
   -- intervals
-  abbrev pub IsAnswer : Answer → Type 0
+  abbrev pub IsAnswer : Answer L → Type 0
   IsAnswer (Impossible certificate) = Shows A K (last_tried A asked) certificate
   IsAnswer (Mapped m found_by) = IsSearched (Mapped m found_by)
-  IsAnswer (Spent first left) = IsSearched (Spent first left)
+  IsAnswer (Unmapped left) = IsSearched (Unmapped left)

@@ -12,18 +12,13 @@ pub enum FoundBy {
     Moves(u32),
 }
 
-/// The answer of a search for a mapping.
+/// The answer of a search for a mapping. `L` is what the search leaves where it finds none.
 #[derive(Drop)]
-pub enum Answer<'a> {
+pub enum Answer<'a, L> {
     /// The last interval that would be tried is impossible, and this is why.
     Impossible(Certificate),
     /// A mapping of an interval that was tried.
     Mapped(LegalMapping<'a>, FoundBy),
-    /// No mapping: the first interval that was tried, and the remaining costs or faults at each interval from there on.
-    Spent {
-        /// The first interval that was tried, in cycles.
-        first: u32,
-        /// The remaining costs, or faults.
-        left: Vec<u64>,
-    },
+    /// No mapping, and what the search leaves.
+    Unmapped(L),
 }

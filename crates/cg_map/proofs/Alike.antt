@@ -9,10 +9,11 @@ use Rattle.cg_check.specs.Legal.{Mapped as MappedValue}
 use Rattle.cg_intervals.specs.declared.answering.FoundBy.{FoundBy}
 use Rattle.cg_map.specs.declared.trying.Attempt.TheVariants as at
 use Rattle.cg_intervals.specs.declared.answering.Answer.{Answer}
-use Rattle.cg_intervals.specs.declared.answering.Answer.TheVariants.{Impossible, Mapped, Spent}
+use Rattle.cg_intervals.specs.declared.answering.Answer.TheVariants.{Impossible, Mapped, Unmapped}
 use Rattle.cg_intervals.specs.Intervals.{IsAsked, last_tried}
 use Rattle.cg_intervals.specs.Answers.{IsMapping, IsSearched}
 use Rattle.cg_intervals.proofs.Answers.{not_impossible}
+use Rattle.cg_map.specs.declared.answering.Costs.{Costs}
 use Rattle.cg_map.specs.Tried.{IsAttempt, IsTried, IsFirstMapping, AreAllLeft, IsAnswer}
 use Rattle.cg_map.specs.Laws.{AreAlike}
 use Rattle.cg_hub.proofs.Legal.{hub_legal}
@@ -47,37 +48,37 @@ module _ (A : Arch) (K : Kernel) (arch : IsArch A) (kernel : IsKernel K) (asked 
 
   -- ---- answers
 
-  abbrev Answered : Answer → Type 0
+  abbrev Answered : Answer Costs → Type 0
   Answered a = IsAnswer A K asked seed moves a
 
   -- what comes of one first interval
-  same_tried : (first : ℕ) (a b : Answer) → IsTried A K asked seed moves first a → IsTried A K asked seed moves first b → AreAlike a b
+  same_tried : (first : ℕ) (a b : Answer Costs) → IsTried A K asked seed moves first a → IsTried A K asked seed moves first b → AreAlike a b
   same_tried first (Impossible c) b p q = absurd p
   same_tried first (Mapped m way) (Impossible d) p q = absurd q
   same_tried first (Mapped m way) (Mapped n by) p q = same_mapping first m n way by p q
-  same_tried first (Mapped m way) (Spent g ds) p q = absurd (none_left first m way ds.items p q.1)
-  same_tried first (Spent f cs) (Impossible d) p q = absurd q
-  same_tried first (Spent f cs) (Mapped n by) p q = absurd (none_left first n by cs.items q p.1)
-  same_tried first (Spent f cs) (Spent g ds) p q = (p.0 ∙ sym q.0, same_costs first cs.items ds.items p.1 q.1)
+  same_tried first (Mapped m way) (Unmapped d) p q = absurd (none_left first m way d.costs.items p q.1)
+  same_tried first (Unmapped c) (Impossible d) p q = absurd q
+  same_tried first (Unmapped c) (Mapped n by) p q = absurd (none_left first n by c.costs.items q p.1)
+  same_tried first (Unmapped c) (Unmapped d) p q = (p.0 ∙ sym q.0, same_costs first c.costs.items d.costs.items p.1 q.1)
 
-  abbrev Comes : ℕ → Answer → Type 0
+  abbrev Comes : ℕ → Answer Costs → Type 0
   Comes = IsTried A K asked seed moves
 
-  same_search : (a b : Answer) → IsSearched A K asked Comes a → IsSearched A K asked Comes b → AreAlike a b
+  same_search : (a b : Answer Costs) → IsSearched A K asked Comes a → IsSearched A K asked Comes b → AreAlike a b
   same_search a b p q =
       let e : p.first ≡ q.first = one_first A K asked p.first q.first p.is_first q.is_first in
       same_tried q.first a b (subst (λ z. IsTried A K asked seed moves z a) e p.tried) q.tried
 
-  pub alike : (a b : Answer) → Answered a → Answered b → AreAlike a b
+  pub alike : (a b : Answer Costs) → Answered a → Answered b → AreAlike a b
   alike (Impossible c) (Impossible d) p q = tt
   alike (Impossible c) (Mapped n by) p q = absurd (not_impossible A K asked Comes (Mapped n by) q c p)
-  alike (Impossible c) (Spent g ds) p q = absurd (not_impossible A K asked Comes (Spent g ds) q c p)
+  alike (Impossible c) (Unmapped d) p q = absurd (not_impossible A K asked Comes (Unmapped d) q c p)
   alike (Mapped m way) (Impossible d) p q = absurd (not_impossible A K asked Comes (Mapped m way) p d q)
   alike (Mapped m way) (Mapped n by) p q = same_search (Mapped m way) (Mapped n by) p q
-  alike (Mapped m way) (Spent g ds) p q = same_search (Mapped m way) (Spent g ds) p q
-  alike (Spent f cs) (Impossible d) p q = absurd (not_impossible A K asked Comes (Spent f cs) p d q)
-  alike (Spent f cs) (Mapped n by) p q = same_search (Spent f cs) (Mapped n by) p q
-  alike (Spent f cs) (Spent g ds) p q = same_search (Spent f cs) (Spent g ds) p q
+  alike (Mapped m way) (Unmapped d) p q = same_search (Mapped m way) (Unmapped d) p q
+  alike (Unmapped c) (Impossible d) p q = absurd (not_impossible A K asked Comes (Unmapped c) p d q)
+  alike (Unmapped c) (Mapped n by) p q = same_search (Unmapped c) (Mapped n by) p q
+  alike (Unmapped c) (Unmapped d) p q = same_search (Unmapped c) (Unmapped d) p q
 
   -- a mapping that is answered is legal
   pub legal : IsAsked A asked → (m : MappedValue) (way : FoundBy) → Answered (Mapped m way) → (m.arch ≡ A) × (m.kernel ≡ K) × IsLegal A K m.mapping
@@ -91,15 +92,15 @@ module _ (A : Arch) (K : Kernel) (arch : IsArch A) (kernel : IsKernel K) (asked 
       (open_from A K asked p.first ii p.free p.is_first (omega arith) w) t.attempt
 
   -- where the hub suffices at the last interval a mapping is answered
-  pub by_hub : IsAsked A asked → HubEnough A K (last_tried A asked) → (a : Answer) → Answered a → IsMapping a
+  pub by_hub : IsAsked A asked → HubEnough A K (last_tried A asked) → (a : Answer Costs) → Answered a → IsMapping a
   by_hub is enough (Mapped m way) p = tt
   by_hub is enough (Impossible c) p =
       let ii = last_tried A asked in
       excluded A K ii kernel (shown_forbids A K ii c p) (hub_map A K ii) (hub_interval A K ii) (hub_legal A K ii arch kernel enough)
-  by_hub is enough (Spent f cs) p =
+  by_hub is enough (Unmapped c) p =
       let (positive, l) = first_within A K asked p.first arch is p.free p.is_first in
       let all = p.tried.1.all in
       let n = last_tried A asked - p.first in
       let e : p.first + n ≡ last_tried A asked = omega (arith, l) in
-      let left = left_at A K arch kernel seed moves p.first cs.items n p.tried.1.left (omega (arith, all, l)) in
+      let left = left_at A K arch kernel seed moves p.first c.costs.items n p.tried.1.left (omega (arith, all, l)) in
       left.0 (subst (HubEnough A K) (sym e) enough)

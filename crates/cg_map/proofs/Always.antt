@@ -7,8 +7,9 @@ use Rattle.cg_bound.specs.Bound.{IsOpen}
 use Rattle.cg_map.specs.declared.trying.Attempt.{Attempt}
 use Rattle.cg_map.specs.declared.trying.Attempt.TheVariants as at
 use Rattle.cg_intervals.specs.declared.answering.Answer.{Answer}
-use Rattle.cg_intervals.specs.declared.answering.Answer.TheVariants.{Mapped, Spent}
+use Rattle.cg_intervals.specs.declared.answering.Answer.TheVariants.{Mapped, Unmapped}
 use Rattle.cg_intervals.specs.Intervals.{IsAsked, last_tried, IsFirst}
+use Rattle.cg_map.specs.declared.answering.Costs.{Costs}
 use Rattle.cg_map.specs.Tried.{IsAttempt, AreLeft, IsTried, IsAnswer}
 use Rattle.cg_intervals.proofs.Intervals.{first_within, last_positive, open_from}
 use Rattle.cg_intervals.proofs.Answers as answers
@@ -18,7 +19,7 @@ use Rattle.cg_map.proofs.Attempts.{some_attempt, left_more}
 module _ (A : Arch) (K : Kernel) (arch : IsArch A) (kernel : IsKernel K) (asked : Option ℕ) (seed moves : ℕ) (is : IsAsked A asked) where
   module _ (free : IsOpen A K (last_tried A asked)) (first : ℕ) (is_first : IsFirst A K asked first) where
     abbrev Comes : Type 0
-    Comes = (a : Answer) × IsAnswer A K asked seed moves a
+    Comes = (a : Answer Costs) × IsAnswer A K asked seed moves a
 
     -- a mapping comes, or one cost more is left
     on_from : (costs : List ℕ) → AreLeft A K seed moves first costs → first + length costs ≤ last_tried A asked
@@ -34,7 +35,7 @@ module _ (A : Arch) (K : Kernel) (arch : IsArch A) (kernel : IsKernel K) (asked 
         let few = arch.small.contexts.1 in
         let all : first + length costs ≡ last_tried A asked + 1 = omega (arith, e) in
         let v = held costs (omega (arith, all, most, few)) in
-        (Spent first v, record { free = free; first = first; is_first = is_first; tried = (refl, record { left = left; all = all }) })
+        (Unmapped (record { first = first; costs = v }), record { free = free; first = first; is_first = is_first; tried = (refl, record { left = left; all = all }) })
     upwards (suc fuel) costs left e =
         let (some, most) = last_positive A K asked arch is in
         let (positive, l) = first_within A K asked first arch is free is_first in
@@ -47,7 +48,7 @@ module _ (A : Arch) (K : Kernel) (arch : IsArch A) (kernel : IsKernel K) (asked 
         upwards fuel (costs ++ c ∷ []) left' (omega (arith, e, longer)))
         a p
 
-  pub some_answer : (a : Answer) × IsAnswer A K asked seed moves a
+  pub some_answer : (a : Answer Costs) × IsAnswer A K asked seed moves a
   some_answer =
       answers.some_answer A K asked (IsTried A K asked seed moves) arch kernel
       (λ first free is_first.

@@ -6,30 +6,31 @@ use Rattle.cg_model.specs.Mapping.{IsLegal}
 use Rattle.cg_check.specs.Legal.{Mapped as MappedValue}
 use Rattle.cg_intervals.specs.declared.answering.FoundBy.{FoundBy}
 use Rattle.cg_intervals.specs.declared.answering.Answer.{Answer}
-use Rattle.cg_intervals.specs.declared.answering.Answer.TheVariants.{Impossible, Mapped, Spent}
+use Rattle.cg_intervals.specs.declared.answering.Answer.TheVariants.{Impossible, Mapped, Unmapped}
 use Rattle.cg_hub.specs.Hub.{HubEnough}
 use Rattle.cg_intervals.specs.Intervals.{IsAsked, last_tried}
 use Rattle.cg_intervals.specs.Answers.{IsMapping}
+use Rattle.cg_map.specs.declared.answering.Costs.{Costs}
 use Rattle.cg_map.specs.Tried.{IsAnswer}
 
 -- two answers that differ at most in the certificate that is shown
-abbrev pub AreAlike : Answer → Answer → Type 0
+abbrev pub AreAlike : Answer Costs → Answer Costs → Type 0
 AreAlike (Impossible c) (Impossible d) = Unit {0}
 AreAlike (Mapped m found_by) (Mapped n by) = (m ≡ n) × (found_by ≡ by)
-AreAlike (Spent first left) (Spent other others) = (first ≡ other) × (left.items ≡ others.items)
+AreAlike (Unmapped c) (Unmapped d) = (c.first ≡ d.first) × (c.costs.items ≡ d.costs.items)
 AreAlike _ _ = ⊥
 
 -- all answers are alike
 abbrev pub IsOneAnswer : Type 0
 IsOneAnswer =
-    (A : Arch) (K : Kernel) (asked : Option ℕ) (seed moves : ℕ) (a b : Answer) → IsArch A → IsKernel K →
+    (A : Arch) (K : Kernel) (asked : Option ℕ) (seed moves : ℕ) (a b : Answer Costs) → IsArch A → IsKernel K →
     IsAnswer A K asked seed moves a → IsAnswer A K asked seed moves b → AreAlike a b
 
 -- there is an answer
 abbrev pub IsAlwaysAnswered : Type 0
 IsAlwaysAnswered =
     (A : Arch) (K : Kernel) (asked : Option ℕ) (seed moves : ℕ) → IsArch A → IsKernel K → IsAsked A asked →
-    (a : Answer) × IsAnswer A K asked seed moves a
+    (a : Answer Costs) × IsAnswer A K asked seed moves a
 
 -- a mapping in an answer is one of the kernel on the architecture, and legal
 abbrev pub IsLegalAnswer : Type 0
@@ -41,5 +42,5 @@ IsLegalAnswer =
 -- where the hub suffices at the last interval, the answer is a mapping
 abbrev pub IsMappedByHub : Type 0
 IsMappedByHub =
-    (A : Arch) (K : Kernel) (asked : Option ℕ) (seed moves : ℕ) (a : Answer) → IsArch A → IsKernel K → IsAsked A asked →
+    (A : Arch) (K : Kernel) (asked : Option ℕ) (seed moves : ℕ) (a : Answer Costs) → IsArch A → IsKernel K → IsAsked A asked →
     HubEnough A K (last_tried A asked) → IsAnswer A K asked seed moves a → IsMapping a

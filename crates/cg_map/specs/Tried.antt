@@ -13,7 +13,8 @@ use Rattle.cg_intervals.specs.declared.answering.FoundBy.TheVariants.{Hub, Moves
 use Rattle.cg_map.specs.declared.trying.Attempt.{Attempt}
 use Rattle.cg_map.specs.declared.trying.Attempt.TheVariants as at
 use Rattle.cg_intervals.specs.declared.answering.Answer.{Answer}
-use Rattle.cg_intervals.specs.declared.answering.Answer.TheVariants.{Impossible, Mapped, Spent}
+use Rattle.cg_intervals.specs.declared.answering.Answer.TheVariants.{Impossible, Mapped, Unmapped}
+use Rattle.cg_map.specs.declared.answering.Costs.{Costs}
 
 module _ (A : Arch) (K : Kernel) (seed moves : ℕ) where
   -- the result of an interval: the hub's mapping where the hub suffices, else the result of the walk with that seed and
@@ -44,12 +45,12 @@ module _ (A : Arch) (K : Kernel) (asked : Option ℕ) (seed moves : ℕ) where
     pub all : first + length costs ≡ last_tried A asked + 1
 
   -- the result of the intervals from the first one on
-  abbrev pub IsTried : ℕ → Answer → Type 0
+  abbrev pub IsTried : ℕ → Answer Costs → Type 0
   IsTried first (Impossible certificate) = ⊥
   IsTried first (Mapped m found_by) = IsFirstMapping first m found_by
-  IsTried first (Spent f left) = (f ≡ first) × AreAllLeft first left.items
+  IsTried first (Unmapped c) = (c.first ≡ first) × AreAllLeft first c.costs.items
 
   -- why the last interval is impossible, where a recurrence or an overfull set forbids it; else the result of the
   -- intervals
-  abbrev pub IsAnswer : Answer → Type 0
+  abbrev pub IsAnswer : Answer Costs → Type 0
   IsAnswer = answers.IsAnswer A K asked IsTried

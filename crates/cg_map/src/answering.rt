@@ -15,6 +15,15 @@ use cg_model::{Kernel, Request};
 use cg_place::Task;
 use std::alloc::{AllocError, Global};
 
+/// The costs that are left at the intervals that were tried.
+#[derive(Drop)]
+pub struct Costs {
+    /// The first interval, in cycles.
+    pub first: u32,
+    /// The cost at each interval from the first one on.
+    pub costs: Vec<u64>,
+}
+
 /// Searches a mapping of `kernel` on `arch`, at the interval that `request` asks for, or at each interval from the
 /// least one that no bound forbids up to the number of the architecture's contexts. `aside` takes the progress.
 pub fn map_answer<'a>(
@@ -23,7 +32,7 @@ pub fn map_answer<'a>(
     kernel: &'a Kernel,
     request: Request,
     aside: &mut dyn Aside,
-) -> Result<Answer<'a>, AllocError>
+) -> Result<Answer<'a, Costs>, AllocError>
     requires within { IsAsked arch.now request.ii }
     requires few { request.moves ≤ most_moves }
     ensures { IfOk result (IsAnswer arch.now kernel.now request.ii request.seed request.moves) }
@@ -45,7 +54,7 @@ fn tried<'a>(
     first: u32,
     request: Request,
     aside: &mut dyn Aside,
-) -> Result<Answer<'a>, AllocError>
+) -> Result<Answer<'a, Costs>, AllocError>
     requires within { IsAsked arch.now request.ii }
     requires few { request.moves ≤ most_moves }
     requires first { IsFirst arch.now kernel.now request.ii first }
@@ -53,13 +62,13 @@ fn tried<'a>(
     ensures { IfOk result (IsTried arch.now kernel.now request.ii request.seed request.moves first) }
 {
     arch.contexts();
-    let mut left = Vec::new(alloc);
+    let mut costs = Vec::new(alloc);
     for ii in first..last_tried(arch, request.ii) + 1 {
         let task = Task::new(alloc, arch, kernel, ii)?;
         match try_task(alloc, &task, request, aside)? {
             Attempt::Mapped(mapping, found_by) => return Ok(Answer::Mapped(mapping, found_by)),
-            Attempt::Left(cost) => left.push(cost)?,
+            Attempt::Left(cost) => costs.push(cost)?,
         }
     }
-    Ok(Answer::Spent { first, left })
+    Ok(Answer::Unmapped(Costs { first, costs }))
 }

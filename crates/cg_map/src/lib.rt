@@ -5,6 +5,6 @@ mod answering;
 mod laws;
 mod trying;
 
-pub use answering::map_answer;
+pub use answering::{Costs, map_answer};
 pub use laws::{always_answered, complete_by_hub, one_answer};
 pub use trying::{Attempt, try_task};

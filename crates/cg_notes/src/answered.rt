@@ -94,61 +94,28 @@ fn add_turns(
     }
 }
 
-/// Adds to `notes` what `command`, a run of an array with that `report`, left out.
+/// Adds to `notes` what `command`, a run of an array with that `report`, left out. Where it reached outside of the memory
+/// the notes say where; for a run of a netlist they don't.
 fn add_run(
     alloc: Global,
     command: &Command<&File, &str>,
     report: &[u8],
     notes: &mut Vec<String>,
 ) -> Result<(), AllocError> {
-    match *command {
-        Command::Run {
-            arch,
-            bits,
-            turns,
-            image,
-            netlist,
-            ..
-        } => {
-            let outside = netlist.is_none() && reaches_outside(report);
-            add_array(alloc, [arch, bits, image], turns, outside, notes)
-        }
-        Command::Bench {
-            arch,
-            bits,
-            turns,
-            image,
-            ..
-        } => add_array(
-            alloc,
-            [arch, bits, image],
-            turns,
-            reaches_outside(report),
-            notes,
-        ),
-        _ => Ok(()),
-    }
-}
-
-/// Adds to `notes` what a run of `turns` iterations left out: `files` are the architecture, the bits that configure it
-/// and the image. Where it reached `outside` of the memory the notes say where; for a run of a netlist they don't.
-fn add_array(
-    alloc: Global,
-    files: [&File; 3],
-    turns: u32,
-    outside: bool,
-    notes: &mut Vec<String>,
-) -> Result<(), AllocError> {
-    let [arch, bits, image] = files;
-    if !is_short(arch) {
+    let (call, is_netlist) = match *command {
+        Command::Run { call, netlist } => (call, netlist.is_some()),
+        Command::Bench(call) => (call, false),
+        _ => return Ok(()),
+    };
+    if !is_short(call.arch) {
         return Ok(());
     }
     let run = ArrayRun {
-        arch: arch.bytes.as_slice(),
-        bits: bits.bytes.as_slice(),
-        image: image.bytes.as_slice(),
-        turns,
-        reaches_outside: outside,
+        arch: call.arch.bytes.as_slice(),
+        bits: call.bits.bytes.as_slice(),
+        image: call.image.bytes.as_slice(),
+        turns: call.turns,
+        reaches_outside: !is_netlist && reaches_outside(report),
     };
     array_notes(alloc, run, notes)
 }

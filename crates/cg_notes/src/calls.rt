@@ -8,7 +8,6 @@ use cg_cause::Stop;
 use cg_command::Command;
 use cg_diagnostics::Aside;
 use cg_effects::{File, Outcome, Status};
-use cg_tiles::read_arch;
 use std::alloc::{AllocError, Global};
 
 /// Writes to `aside` the notes for the user on `command`, which `ended` so: where in a file a fault lies, what an answer
@@ -54,30 +53,6 @@ fn add_answered(
     match outcome.status {
         Status::Done => add_done(alloc, command, report, notes),
         Status::No => add_no(alloc, command, report, notes),
-        Status::Malformed => add_interval(alloc, command, notes),
         _ => note_answer(alloc, report, kernel_of(command), notes),
-    }
-}
-
-/// Adds to `notes` that the interval for which `command` asks is above the number of contexts.
-fn add_interval(
-    alloc: Global,
-    command: &Command<&File, &str>,
-    notes: &mut Vec<String>,
-) -> Result<(), AllocError> {
-    let arch = match *command {
-        Command::Map(call) | Command::Search(call) => call.arch,
-        _ => return Ok(()),
-    };
-    let name = arch.name.as_str();
-    match read_arch(alloc, arch.bytes.as_slice()) {
-        Ok(arch) if !name.contains('\n') => {
-            let contexts = arch.contexts();
-            notes.push(format!(in alloc;
-                "{name}: the interval given by --ii is greater than the number of contexts of the architecture, {contexts}"
-            )?)?;
-            Ok(())
-        }
-        _ => Ok(()),
     }
 }

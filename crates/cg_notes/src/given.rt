@@ -10,7 +10,7 @@ pub(crate) fn refused_file<'a>(
     cause: &Cause,
 ) -> Option<&'a File> {
     match cause {
-        Cause::Arch(_) => arch_of(command),
+        Cause::Arch(_) | Cause::IntervalAboveContexts { .. } => arch_of(command),
         Cause::Kernel(_) | Cause::Depend(_) => kernel_of(command),
         Cause::Mapping(_) => mapping_of(command),
         Cause::Bits(_) | Cause::FirstBits(_) => bits_of(command),
@@ -24,17 +24,16 @@ pub(crate) fn refused_file<'a>(
 pub(crate) fn arch_of<'a>(command: &Command<&'a File, &str>) -> Option<&'a File> {
     match *command {
         Command::Flat { arch, .. }
-        | Command::Run { arch, .. }
         | Command::Bound { arch, .. }
         | Command::Check { arch, .. }
         | Command::Emit { arch, .. }
         | Command::Show { arch, .. }
         | Command::Verilog { arch, .. }
         | Command::Migrate { arch, .. }
-        | Command::Bench { arch, .. }
         | Command::Violations { arch, .. }
         | Command::Why { arch, .. } => Some(arch),
         Command::Map(call) | Command::Search(call) => Some(call.arch),
+        Command::Run { call, .. } | Command::Bench(call) => Some(call.arch),
         _ => None,
     }
 }
@@ -70,9 +69,8 @@ fn mapping_of<'a>(command: &Command<&'a File, &str>) -> Option<&'a File> {
 /// Returns the file of bits of `command`.
 fn bits_of<'a>(command: &Command<&'a File, &str>) -> Option<&'a File> {
     match *command {
-        Command::Run { bits, .. } | Command::Migrate { bits, .. } | Command::Bench { bits, .. } => {
-            Some(bits)
-        }
+        Command::Run { call, .. } | Command::Bench(call) => Some(call.bits),
+        Command::Migrate { bits, .. } => Some(bits),
         _ => None,
     }
 }
@@ -80,10 +78,8 @@ fn bits_of<'a>(command: &Command<&'a File, &str>) -> Option<&'a File> {
 /// Returns the image's file of `command`.
 fn image_of<'a>(command: &Command<&'a File, &str>) -> Option<&'a File> {
     match *command {
-        Command::TurnsOnImage { image, .. }
-        | Command::Run { image, .. }
-        | Command::Bench { image, .. }
-        | Command::Words { image } => Some(image),
+        Command::TurnsOnImage { image, .. } | Command::Words { image } => Some(image),
+        Command::Run { call, .. } | Command::Bench(call) => Some(call.image),
         _ => None,
     }
 }

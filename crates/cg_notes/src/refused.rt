@@ -112,6 +112,12 @@ fn find_in_other(
             )?;
             Ok(Some(Finding { place: None, text }))
         }
+        Cause::IntervalAboveContexts { contexts } => {
+            let text = format!(in alloc;
+                "the interval given by --ii is greater than the number of contexts of the architecture, {contexts}"
+            )?;
+            Ok(Some(Finding { place: None, text }))
+        }
         _ => Ok(None),
     }
 }

@@ -1,15 +1,14 @@
-//! Rows that no command reaches: worked out by hand, each printed on a line with its result.
+//! Rows that no command reaches: worked out by hand, each printed on a line with its result. Then, for each pair of an
+//! architecture and a kernel that the arguments name, the least interval that no reason excludes, and what excludes
+//! those below it.
 #![tactic(auto)]
 
-mod alike;
 mod archs;
-mod bits;
 mod graphs;
-mod netlists;
 mod places;
+mod reasons;
 mod routes;
 mod texts;
-mod trial;
 mod walks;
 mod ways;
 
@@ -18,13 +17,20 @@ use cg_hub::serial;
 use cg_kernel::read_kernel;
 use cg_model::Kernel;
 use cg_tiles::read_arch;
-use cg_trial::TrialParts;
 use std::rt::Files;
-use std::{fs, io};
-use trial::{digest_text, trial_of};
+use std::{env, fs, io};
 
 fn main(rt: HostRuntime) -> io::Result<()> {
-    rows(&rt)
+    rows(&rt)?;
+    let mut arch = String::new(rt.alloc());
+    for (place, name) in env::args(&rt)?.skip(1).enumerate() {
+        if place % 2 == 0 {
+            arch = name;
+        } else {
+            reasons::run_pair(&rt, arch.as_str(), name.as_str())?;
+        }
+    }
+    Ok(())
 }
 
 /// Prints all rows: those of one unit, and the others.
@@ -37,8 +43,8 @@ fn rows(rt: &(impl Files + Print + AllocGlobal)) -> io::Result<()> {
 
 /// Prints the rows that begin with one unit.
 fn rows_of_one_unit(rt: &(impl Files + Print + AllocGlobal), arch: &Arch) -> io::Result<()> {
-    let Some(sum) = kernel_in(rt, "sum.json")? else {
-        return rt.print("sum.json is no kernel\n");
+    let Some(sum) = kernel_in(rt, "running_sum.json")? else {
+        return rt.print("running_sum.json is no kernel\n");
     };
     first_rows(rt, arch, &sum)?;
     last_rows(rt, arch)
@@ -51,19 +57,17 @@ fn first_rows(
     sum: &Kernel,
 ) -> io::Result<()> {
     rows_of_texts(rt, arch, sum)?;
-    rows_of_bits(rt, arch, sum)?;
-    rows_of_tests(rt, arch, sum)?;
+    row_of_shape(rt, arch, sum)?;
     rows_of_routes(rt, arch)?;
     rows_of_sum(rt, arch, sum)
 }
 
-/// Prints the rows of two outputs, of moves, of a filter, and of a trial.
+/// Prints the rows of two outputs, of moves, and of a filter.
 fn last_rows(rt: &(impl Files + Print + AllocGlobal), arch: &Arch) -> io::Result<()> {
     row_of_outputs(rt, arch)?;
     rows_of_two_units(rt)?;
     row_of_ways(rt)?;
-    rows_of_filter(rt, arch)?;
-    rows_of_trial(rt)
+    rows_of_filter(rt, arch)
 }
 
 /// Reads the architecture in the file `name`, if there is one.
@@ -121,50 +125,6 @@ fn row_of_mapping(
     say(rt, "mapping as text", holds)
 }
 
-/// Prints the rows of the bits of configurations, and of runs of too many iterations.
-fn rows_of_bits(
-    rt: &(impl Files + Print + AllocGlobal),
-    arch: &Arch,
-    sum: &Kernel,
-) -> io::Result<()> {
-    let off = bits::two_slots_that_are_off(rt.alloc(), arch)?;
-    say(rt, "two slots that are off", off)?;
-    let bits = fs::read(rt, "sum.bits")?;
-    row_of_cuts(rt, arch, bits.as_slice())?;
-    row_of_turned_bits(rt, arch, bits.as_slice())?;
-    row_of_turns(rt, arch, sum, bits.as_slice())?;
-    row_of_nets(rt, arch, bits.as_slice())
-}
-
-fn row_of_cuts(rt: &(impl Print + AllocGlobal), arch: &Arch, bits: &[u8]) -> io::Result<()> {
-    let holds = bits::cut_bytes_are_truncated(rt.alloc(), arch, bits)?;
-    say(rt, "cut bytes are truncated", holds)
-}
-
-fn row_of_turned_bits(rt: &(impl Print + AllocGlobal), arch: &Arch, bits: &[u8]) -> io::Result<()> {
-    let count = bits.len();
-    let (unlike, taken) = bits::bits_turned_over(rt.alloc(), arch, bits)?;
-    let line = format!(in rt.alloc();
-        "{count} bytes, each bit turned over: {unlike} unlike, {taken} taken\n"
-    )?;
-    rt.print(line.as_str())
-}
-
-fn row_of_turns(
-    rt: &(impl Print + AllocGlobal),
-    arch: &Arch,
-    sum: &Kernel,
-    bits: &[u8],
-) -> io::Result<()> {
-    let holds = bits::too_many_turns(rt.alloc(), arch, sum, bits)?;
-    say(rt, "too many turns", holds)
-}
-
-fn row_of_nets(rt: &(impl Print + AllocGlobal), arch: &Arch, bits: &[u8]) -> io::Result<()> {
-    let holds = netlists::bits_alike(rt.alloc(), arch, bits)?;
-    say(rt, "netlist, each word by tables and view", holds)
-}
-
 /// Prints the rows of the graph of one unit, and of the least paths in it.
 fn rows_of_routes(rt: &(impl Print + AllocGlobal), arch: &Arch) -> io::Result<()> {
     let links = graphs::links_of_one_unit(rt.alloc(), arch)?;
@@ -183,18 +143,7 @@ fn rows_of_sum(rt: &(impl Print + AllocGlobal), arch: &Arch, sum: &Kernel) -> io
     say(rt, "running sum at its first places", first)
 }
 
-/// Prints the rows of the tests that a caller can make: whether a configuration is canonical, and of which shape a
-/// mapping is.
-fn rows_of_tests(
-    rt: &(impl Files + Print + AllocGlobal),
-    arch: &Arch,
-    sum: &Kernel,
-) -> io::Result<()> {
-    let canonical = bits::tells_canonical(rt.alloc(), arch)?;
-    say(rt, "canonical, or not", canonical)?;
-    row_of_shape(rt, arch, sum)
-}
-
+/// Prints the row of the test of which shape a mapping is.
 fn row_of_shape(
     rt: &(impl Files + Print + AllocGlobal),
     arch: &Arch,
@@ -277,58 +226,4 @@ fn row_of_walks(
     let alike = walks::end_alike(rt.alloc(), arch, kernel, 2, seed, 70)?;
     let row = format!(in rt.alloc(); "filter, seed {seed}, 70 moves, as the plain walk")?;
     say(rt, row.as_str(), alike)
-}
-
-/// Prints the rows of the trial of seed 1.
-fn rows_of_trial(rt: &(impl Print + AllocGlobal)) -> io::Result<()> {
-    let trial = trial_of(rt.alloc(), 1)?;
-    rows_of_parts(rt, &trial.parts, trial.bits.as_slice())
-}
-
-/// Prints the rows of the trial's parts, its bits, and the images that the array and the iterations leave.
-fn rows_of_parts(
-    rt: &(impl Print + AllocGlobal),
-    parts: &TrialParts,
-    bits: &[u8],
-) -> io::Result<()> {
-    say(rt, "trial, its parts", trial::are_parts_of_seed_1(parts))?;
-    row_of_bytes(rt, bits)?;
-    row_of_readers(rt, &parts.arch, bits)?;
-    row_of_run(rt, parts, bits)?;
-    row_of_trial_turns(rt, parts)
-}
-
-fn row_of_readers(rt: &(impl Print + AllocGlobal), arch: &Arch, bits: &[u8]) -> io::Result<()> {
-    let alike = trial::reads_alike(rt.alloc(), arch, bits)?;
-    say(rt, "trial, each select and field by tables and view", alike)
-}
-
-fn row_of_run(rt: &(impl Print + AllocGlobal), parts: &TrialParts, bits: &[u8]) -> io::Result<()> {
-    let run = trial::run_image(rt.alloc(), &parts.arch, bits, &parts.image)?;
-    row_of_digest(rt, "run-image", run)
-}
-
-fn row_of_trial_turns(rt: &(impl Print + AllocGlobal), parts: &TrialParts) -> io::Result<()> {
-    let turns = trial::turns_image(rt.alloc(), &parts.kernel, &parts.image)?;
-    row_of_digest(rt, "turns-image", turns)
-}
-
-fn row_of_bytes(rt: &(impl Print + AllocGlobal), bits: &[u8]) -> io::Result<()> {
-    let count = bits.len();
-    let line = format!(in rt.alloc(); "trial of seed 1: {count} bytes\n")?;
-    rt.print(line.as_str())
-}
-
-/// Prints the digest of the bytes of `image`, labelled `row`.
-fn row_of_digest(
-    rt: &(impl Print + AllocGlobal),
-    row: &str,
-    image: Option<Vec<u8>>,
-) -> io::Result<()> {
-    let Some(image) = image else {
-        return say(rt, row, false);
-    };
-    let digest = digest_text(rt.alloc(), image.as_slice())?;
-    let line = format!(in rt.alloc(); "{row} {digest}\n")?;
-    rt.print(line.as_str())
 }

@@ -1,5 +1,5 @@
 -- Where a search begins: there is such an interval, and what it says of those below it and above.
-use Rattle.std.proofs.Common.{◌≡◌, ℕ, ◌+◌, ◌<◌, ◌≤◌, Option, Some, None, sym, subst, arith, inl, inr, ⊎_elim}
+use Rattle.std.proofs.Common.{◌≡◌, ℕ, ◌+◌, ◌<◌, ◌≤◌, Option, Some, None, refl, sym, subst, arith, inl, inr, ⊎_elim}
 use Rattle.std.specs.Prelude.{◌⊎◌}
 use Rattle.std.proofs.lemmas.Bool.{cases_lt}
 use Rattle.cg_model.specs.Kernel.{Kernel, IsKernel}
@@ -7,7 +7,7 @@ use Rattle.cg_model.specs.Array.{Arch, IsArch}
 use Rattle.cg_model.specs.Mapping.{Mapping, IsLegal}
 use Rattle.cg_recur.specs.Recurrences.{HasNoRecurrence}
 use Rattle.cg_bound.proofs.Intervals.{free_above}
-use Rattle.cg_distance.proofs.Searches.{Decided, IsFirst as IsFirstOf, first_below}
+use Rattle.cg_distance.proofs.Searches.{Decided, first_below}
 use Rattle.cg_intervals.specs.Intervals.{IsAsked, last_tried}
 use Rattle.cg_bound_all.specs.declared.reason.Kind.{Kind}
 use Rattle.cg_bound_all.specs.declared.reason.Kind.TheVariants as kinds
@@ -67,7 +67,7 @@ module _ (A : Arch) (K : Kernel) where
   pub begins_at : (f : HopTables) (ii : ℕ) → AreAllNumbers A K f → (IsImpossible A K f ii → ⊥) → Begins A K (Some ii) (At ii)
   begins_at f ii all free = (record { tables = f; numbers = all; from = omega arith; within = omega arith; excluded = λ i from below. absurd (omega (arith, from, below)); free = λ l h. free h }, omega arith)
 
-  pub nowhere_at : (f : HopTables) (ii : ℕ) (r : Reason) → AreAllNumbers A K f → Shows A K (hops_at f ii) ii r → Begins A K (Some ii) (Nowhere (record { tables = f; reason = r }))
+  pub nowhere_at : (f : HopTables) (ii : ℕ) (r : Reason) → AreAllNumbers A K f → Shows A K (hops_at f ii) ii r → Begins A K (Some ii) (Nowhere (record { interval = ii; tables = f; reason = r }))
   nowhere_at f ii r all h = (
     record {
       tables = f;
@@ -77,15 +77,15 @@ module _ (A : Arch) (K : Kernel) where
       excluded = λ i from below. (let same : ii ≡ i = omega (arith, from, below) in subst (IsImpossible A K f) same (impossible_by f ii r h));
       free = λ l. absurd (omega (arith, l));
     },
-    record { numbers = all; shown = h },
+    record { interval = refl; numbers = all; shown = h },
   )
 
   pub begins_least : (f : HopTables) (l : ℕ) → AreAllNumbers A K f → IsLeastWithout (IsImpossible A K f) A.contexts (Some l) → Begins A K None (At l)
   begins_least f l all (some, most, free, below) = (record { tables = f; numbers = all; from = some; within = omega (arith, most); excluded = below; free = λ m h. free h }, most)
 
-  pub nowhere_least : (f : HopTables) (r : Reason) → AreAllNumbers A K f → ((ii : ℕ) → 1 ≤ ii → ii ≤ A.contexts → IsImpossible A K f ii) → Shows A K (hops_at f A.contexts) A.contexts r
-      → Begins A K None (Nowhere (record { tables = f; reason = r }))
-  nowhere_least f r all each h = (
+  pub nowhere_least : (f : HopTables) (r : Reason) (last : ℕ) → last ≡ A.contexts → AreAllNumbers A K f → ((ii : ℕ) → 1 ≤ ii → ii ≤ A.contexts → IsImpossible A K f ii) → Shows A K (hops_at f A.contexts) A.contexts r
+      → Begins A K None (Nowhere (record { interval = last; tables = f; reason = r }))
+  nowhere_least f r last same all each h = (
     record {
       tables = f;
       numbers = all;
@@ -94,7 +94,7 @@ module _ (A : Arch) (K : Kernel) where
       excluded = λ i from below. each i from (omega (arith, below));
       free = λ l. absurd (omega (arith, l));
     },
-    record { numbers = all; shown = h },
+    record { interval = same; numbers = all; shown = h },
   )
 
 -- ---- a reason excludes an interval, or none does
@@ -200,7 +200,7 @@ module _ (A : Arch) (K : Kernel) (arch : IsArch A) (kernel : IsKernel K) (asked 
 
   -- where each interval is excluded there is a reason for the last one
   reason_of : (f : HopTables) → AreAllNumbers A K f → IsImpossible A K f (last_tried A asked) → (o : Option Reason) → IsExclusion A K f (last_tried A asked) o → (x : Exclusion) × ExcludesAt A K (last_tried A asked) x
-  reason_of f all impossible (Some r) h = (record { tables = f; reason = r }, record { numbers = all; shown = h })
+  reason_of f all impossible (Some r) h = (record { interval = last_tried A asked; tables = f; reason = r }, record { interval = refl; numbers = all; shown = h })
   reason_of f all impossible None h = absurd (h impossible)
 
   pub some_exclusion : IsBegin A K asked (last_tried A asked + 1) → (x : Exclusion) × ExcludesAt A K (last_tried A asked) x

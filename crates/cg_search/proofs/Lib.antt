@@ -1,4 +1,4 @@
 pub mod Missed
 pub mod Begins
+pub mod Displaced
 pub mod Answers
-pub mod Concluded

@@ -1,5 +1,5 @@
 -- Where a search begins: at the first interval that no reason excludes.
-use Rattle.std.specs.Prelude.{ℕ, ◌+◌, ◌<◌, ◌≤◌, Option, Some, None}
+use Rattle.std.specs.Prelude.{◌≡◌, ℕ, ◌+◌, ◌<◌, ◌≤◌, Option, Some, None}
 use Rattle.cg_model.specs.Kernel.{Kernel}
 use Rattle.cg_model.specs.Array.{Arch}
 use Rattle.cg_intervals.specs.Intervals.{last_tried}
@@ -26,6 +26,7 @@ pub record IsBegin (A : Arch) (K : Kernel) (asked : Option ℕ) (first : ℕ) : 
 
 -- a reason that excludes interval ii
 pub record ExcludesAt (A : Arch) (K : Kernel) (ii : ℕ) (x : Exclusion) : Type 0 where
+  pub interval : x.interval ≡ ii
   pub numbers : AreAllNumbers A K x.tables
   pub shown : Shows A K (hops_at x.tables ii) ii x.reason
 

@@ -1,5 +1,5 @@
 -- The preconditions of the searches of a call, and their results.
-use Rattle.std.specs.Prelude.{◌≡◌, ℕ, ◌+◌, ◌<◌, ◌≤◌, length, All, Option}
+use Rattle.std.specs.Prelude.{◌≡◌, ℕ, ◌+◌, ◌≤◌, List, length, Option}
 use Rattle.cg_model.specs.Kernel.{Kernel}
 use Rattle.cg_model.specs.Array.{Arch}
 use Rattle.cg_bound.specs.Bound.{IsOpen}
@@ -10,11 +10,11 @@ use Rattle.cg_search_respond.specs.declared.responding.Responded.TheVariants as 
 use Rattle.cg_search_respond.specs.Faults.{faults_of}
 use Rattle.cg_search_respond.specs.Responded.{IsMissed}
 use Rattle.cg_search.specs.declared.trying.Found.{Found as FoundMapping}
-use Rattle.cg_search.specs.declared.misses.Misses.{Misses}
+use Rattle.cg_search.specs.declared.misses.Miss.{Miss}
 use Rattle.cg_search.specs.declared.trying.Outcome.{Outcome}
 use Rattle.cg_search.specs.declared.trying.Outcome.TheVariants.{Found, Left}
 use Rattle.cg_search.specs.Begin.{IsBegin}
-use Rattle.cg_search.specs.Search.{IsFound, AreMissed}
+use Rattle.cg_search.specs.Search.{IsFound, AreMissedFrom}
 
 -- the interval may be asked for, nothing forbids the last one that is tried, and the first one that no reason excludes
 -- is among them
@@ -23,11 +23,6 @@ pub record IsPosed (A : Arch) (K : Kernel) (asked : Option ℕ) (first : ℕ) : 
   pub free : IsOpen A K (last_tried A asked)
   pub begin : IsBegin A K asked first
   pub some : first ≤ last_tried A asked
-
--- some faults at each interval from the first one on, those of a mapping that isn't legal
-pub record AreMisses (A : Arch) (K : Kernel) (first : ℕ) (left : Misses) : Type 0 where
-  pub some : All (λ n. 0 < n) left.faults.items
-  pub missed : AreMissed A K first left.faults.items left.missed.items
 
 module _ (A : Arch) (K : Kernel) (asked : Option ℕ) (moves : ℕ) (first : ℕ) where
   -- a mapping is found at an interval that is tried, by no more moves than `moves`
@@ -39,7 +34,11 @@ module _ (A : Arch) (K : Kernel) (asked : Option ℕ) (moves : ℕ) (first : ℕ
   IsSearched ii (responded.Mapped m count) = IsFound A K asked moves first m (found_by.Moves count)
   IsSearched ii (responded.Spent faults M) = (faults ≡ faults_of A K M) × IsMissed A K ii M
 
-  -- the result of searches at all intervals: a legal mapping, or faults at each interval
+  -- these are left at all intervals
+  abbrev pub AreLeft : List Miss → Type 0
+  AreLeft misses = AreMissedFrom A K first misses × (first + length misses ≡ last_tried A asked + 1)
+
+  -- the result of searches at all intervals: a legal mapping, or what is left at each interval
   abbrev pub Comes : Outcome → Type 0
   Comes (Found found) = IsLegalFound found
-  Comes (Left left) = AreMisses A K first left × (first + length left.faults.items ≡ last_tried A asked + 1)
+  Comes (Left misses) = AreLeft misses.items

@@ -1,8 +1,8 @@
 -- The answer of a search by best responses. How it finds a mapping is left open: every mapping in an answer is legal.
-use Rattle.std.specs.Prelude.{◌≡◌, ℕ, ◌+◌, ◌-◌, ◌<◌, ◌≤◌, List, [], ◌∷◌, length, map, All, Option, Some, None}
+use Rattle.std.specs.Prelude.{◌≡◌, ℕ, ◌+◌, ◌<◌, ◌≤◌, List, [], ◌∷◌, length, Option}
 use Rattle.cg_model.specs.Kernel.{Kernel}
 use Rattle.cg_model.specs.Array.{Arch}
-use Rattle.cg_model.specs.Mapping.{Mapping, IsLegal}
+use Rattle.cg_model.specs.Mapping.{IsLegal}
 use Rattle.cg_check.specs.Legal.{Mapped as MappedValue}
 use Rattle.cg_bound.specs.Bound.{IsOpen, Shows}
 use Rattle.cg_hub.specs.Hub.{HubEnough, hub_map}
@@ -10,11 +10,25 @@ use Rattle.cg_intervals.specs.Intervals.{last_tried}
 use Rattle.cg_intervals.specs.declared.answering.FoundBy.{FoundBy}
 use Rattle.cg_intervals.specs.declared.answering.FoundBy.TheVariants.{Hub, Moves}
 use Rattle.cg_intervals.specs.declared.answering.Answer.{Answer}
-use Rattle.cg_intervals.specs.declared.answering.Answer.TheVariants.{Impossible, Mapped, Spent}
+use Rattle.cg_intervals.specs.declared.answering.Answer.TheVariants.{Impossible, Mapped, Unmapped}
 use Rattle.cg_search_respond.specs.Faults.{faults_of}
 use Rattle.cg_search_respond.specs.Responded.{IsMissed}
-use Rattle.cg_search.specs.declared.begin.Exclusion.{Exclusion}
+use Rattle.cg_search.specs.declared.misses.Miss.{Miss}
+use Rattle.cg_search.specs.declared.answering.Failure.{Failure}
+use Rattle.cg_search.specs.declared.answering.Failure.TheVariants.{Excluded, Missed}
 use Rattle.cg_search.specs.Begin.{IsBegin, ExcludesAt}
+
+module _ (A : Arch) (K : Kernel) where
+  -- what a search at interval ii leaves: a mapping of the kernel's shape that isn't legal, and its number of faults
+  pub record IsMiss (ii : ℕ) (miss : Miss) : Type 0 where
+    pub missed : IsMissed A K ii miss.mapping
+    pub counted : miss.faults ≡ faults_of A K miss.mapping
+    pub some : 0 < miss.faults
+
+  -- one at each interval from that one on, in order
+  abbrev pub AreMissedFrom : ℕ → List Miss → Type 0
+  AreMissedFrom ii [] = Unit {0}
+  AreMissedFrom ii (miss ∷ misses) = IsMiss ii miss × AreMissedFrom (ii + 1) misses
 
 module _ (A : Arch) (K : Kernel) (asked : Option ℕ) (moves : ℕ) where
   -- the hub suffices at no interval from the first one on that is less than this one
@@ -36,21 +50,28 @@ module _ (A : Arch) (K : Kernel) (asked : Option ℕ) (moves : ℕ) where
     pub to : m.mapping.ii ≤ last_tried A asked
     pub by : IsBy first m found_by
 
-  -- no mapping is found at any interval: some faults are left at each, and the hub suffices at none
-  pub record AreAllFaulty (first : ℕ) (faults : List ℕ) : Type 0 where
-    pub each : All (λ n. 0 < n) faults
-    pub all : first + length faults ≡ last_tried A asked + 1
+  -- no mapping is found at any of the intervals that are tried, and the hub suffices at none
+  pub record AreAllMissed (first : ℕ) (misses : List Miss) : Type 0 where
+    pub some : first ≤ last_tried A asked
+    pub each : AreMissedFrom A K first misses
+    pub all : first + length misses ≡ last_tried A asked + 1
     pub no_hub : HasNoHub first (last_tried A asked + 1)
 
+  -- why no mapping is found, where the first interval that no reason excludes is this one: each interval is excluded; or
+  -- none of those that are tried has a mapping
+  abbrev pub IsFailure : ℕ → Failure → Type 0
+  IsFailure first (Excluded x) = (first ≡ last_tried A asked + 1) × ExcludesAt A K (last_tried A asked) x
+  IsFailure first (Missed f misses) = (f ≡ first) × AreAllMissed first misses.items
+
   -- a possible result of the intervals from the first one on
-  abbrev pub IsTried : ℕ → Answer → Type 0
+  abbrev pub IsTried : ℕ → Answer Failure → Type 0
   IsTried first (Impossible certificate) = ⊥
   IsTried first (Mapped m found_by) = IsFound first m found_by
-  IsTried first (Spent f left) = (f ≡ first) × AreAllFaulty first left.items
+  IsTried first (Unmapped failure) = IsFailure first failure
 
   -- nothing forbids the last interval, and this is the result of the intervals from the first one on that no reason
   -- excludes
-  pub record IsBegun (answer : Answer) : Type 0 where
+  pub record IsBegun (answer : Answer Failure) : Type 0 where
     pub free : IsOpen A K (last_tried A asked)
     pub first : ℕ
     pub is_first : IsBegin A K asked first
@@ -58,36 +79,7 @@ module _ (A : Arch) (K : Kernel) (asked : Option ℕ) (moves : ℕ) where
 
   -- why the last interval is impossible, where a recurrence or an overfull set forbids it; else the result of the
   -- intervals
-  abbrev pub IsAnswer : Answer → Type 0
+  abbrev pub IsAnswer : Answer Failure → Type 0
   IsAnswer (Impossible certificate) = Shows A K (last_tried A asked) certificate
   IsAnswer (Mapped m found_by) = IsBegun (Mapped m found_by)
-  IsAnswer (Spent first left) = IsBegun (Spent first left)
-
-module _ (A : Arch) (K : Kernel) where
-  -- one mapping at each interval from that one on, in order: of the kernel's shape, and not legal
-  abbrev pub AreMissedFrom : ℕ → List Mapping → Type 0
-  AreMissedFrom ii [] = Unit {0}
-  AreMissedFrom ii (M ∷ missed) = IsMissed A K ii M × AreMissedFrom (ii + 1) missed
-
-  -- and these are their numbers of faults
-  pub record AreMissed (first : ℕ) (faults : List ℕ) (missed : List Mapping) : Type 0 where
-    pub each : AreMissedFrom first missed
-    pub counted : faults ≡ map (faults_of A K) missed
-
-  -- one at each interval at which faults are left; none where the answer is another one
-  abbrev pub AreMissedBy : Answer → List Mapping → Type 0
-  AreMissedBy (Impossible certificate) missed = missed ≡ []
-  AreMissedBy (Mapped m found_by) missed = missed ≡ []
-  AreMissedBy (Spent first left) missed = AreMissed first left.items missed
-
-  -- where no interval is tried, the exclusion of the last one, which is the one before the first; None where some are
-  -- tried
-  abbrev pub IsExcludedFrom : ℕ → List ℕ → Option Exclusion → Type 0
-  IsExcludedFrom first left (Some x) = (length left ≡ 0) × ExcludesAt A K (first - 1) x
-  IsExcludedFrom first left None = 0 < length left
-
-  -- the exclusion for an answer with faults left; None for any other answer
-  abbrev pub IsExcludedBy : Answer → Option Exclusion → Type 0
-  IsExcludedBy (Impossible certificate) excluded = excluded ≡ None
-  IsExcludedBy (Mapped m found_by) excluded = excluded ≡ None
-  IsExcludedBy (Spent first left) excluded = IsExcludedFrom first left.items excluded
+  IsAnswer (Unmapped failure) = IsBegun (Unmapped failure)

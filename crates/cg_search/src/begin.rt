@@ -12,6 +12,8 @@ use std::alloc::{AllocError, Global};
 /// The exclusion of an interval.
 #[derive(Drop)]
 pub struct Exclusion {
+    /// The interval, in cycles.
+    pub interval: u32,
     /// The registers on the ways of the data edges, on which the reason relies.
     pub tables: HopTables,
     /// The reason.
@@ -52,7 +54,11 @@ fn begin_at(alloc: Global, arch: &Arch, kernel: &Kernel, ii: u32) -> Result<Begi
 {
     let tables = find_hops(alloc, arch, kernel)?;
     match find_exclusion(alloc, arch, kernel, &tables, ii)? {
-        Some(reason) => Ok(Begin::Nowhere(Exclusion { tables, reason })),
+        Some(reason) => Ok(Begin::Nowhere(Exclusion {
+            interval: ii,
+            tables,
+            reason,
+        })),
         None => Ok(Begin::At(ii)),
     }
 }
@@ -81,7 +87,11 @@ fn nowhere(
 {
     let last = arch.contexts();
     match find_exclusion(alloc, arch, kernel, &tables, last)? {
-        Some(reason) => Ok(Begin::Nowhere(Exclusion { tables, reason })),
+        Some(reason) => Ok(Begin::Nowhere(Exclusion {
+            interval: last,
+            tables,
+            reason,
+        })),
         None => unreachable!(),
     }
 }

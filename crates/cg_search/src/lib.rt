@@ -12,5 +12,6 @@ mod retrying;
 mod schedule;
 mod trying;
 
-pub use answering::{Conclusion, search_answer};
+pub use answering::{Failure, search_answer};
 pub use begin::Exclusion;
+pub use misses::Miss;

@@ -2,68 +2,54 @@
 ghost use Rattle.std.specs.Prelude.{◌≡◌, ◌+◌, ◌<◌, OnOk, length};
 ghost use Rattle.cg_search_respond.specs.Faults.{faults_of};
 ghost use Rattle.cg_search_respond.specs.Responded.{IsMissed};
-ghost use Rattle.cg_search.specs.Course.{AreMisses};
+ghost use Rattle.cg_search.specs.Search.{AreMissedFrom};
 
 use crate::trying::Call;
 use cg_model::Mapping;
-use std::alloc::{AllocError, Global};
+use std::alloc::AllocError;
 
-/// The faults and mappings left at each interval from the first one on.
+/// The result at an interval at which no mapping was found.
 #[derive(Drop)]
-pub(crate) struct Misses {
-    /// The least numbers of faults.
-    pub(crate) faults: Vec<u64>,
-    /// The mappings with these numbers of faults.
-    pub(crate) missed: Vec<Mapping>,
+pub struct Miss {
+    /// The least number of faults that was reached.
+    pub faults: u32,
+    /// The mapping with that number of faults. It isn't legal.
+    pub mapping: Mapping,
 }
 
-/// Returns the empty result for `call`, before any interval.
-pub(crate) fn nothing(alloc: Global, call: &Call<'_, '_>) -> Misses
-    ensures none { length result.faults.items ≡ 0 }
-    ensures misses { AreMisses call.now.arch.now call.now.kernel.now call.now.first result }
-{
-    Misses {
-        faults: Vec::new(alloc),
-        missed: Vec::new(alloc),
-    }
-}
-
-/// Adds to `left` that `mapping` has `faults` faults at its next interval of `call`.
+/// Adds to `misses` that `mapping` has `faults` faults at its next interval of `call`.
 pub(crate) fn add(
     call: &Call<'_, '_>,
-    left: &mut Misses,
+    misses: &mut Vec<Miss>,
     faults: u32,
     mapping: Mapping,
 ) -> Result<(), AllocError>
-    requires misses { AreMisses call.now.arch.now call.now.kernel.now call.now.first left.old }
+    requires misses { AreMissedFrom call.now.arch.now call.now.kernel.now call.now.first misses.old.items }
     requires counted { faults ≡ faults_of call.now.arch.now call.now.kernel.now mapping }
-    requires missed { IsMissed call.now.arch.now call.now.kernel.now (call.now.first + length left.old.faults.items) mapping }
-    ensures more { OnOk result (length left.new.faults.items ≡ length left.old.faults.items + 1) }
-    ensures misses { OnOk result (AreMisses call.now.arch.now call.now.kernel.now call.now.first left.new) }
+    requires missed { IsMissed call.now.arch.now call.now.kernel.now (call.now.first + length misses.old.items) mapping }
+    ensures more { OnOk result (length misses.new.items ≡ length misses.old.items + 1) }
+    ensures misses { OnOk result (AreMissedFrom call.now.arch.now call.now.kernel.now call.now.first misses.new.items) }
 {
-    left.faults.push(u64::from(faults))?;
-    left.missed.push(mapping)?;
+    misses.push(Miss { faults, mapping })?;
     Ok(())
 }
 
-/// Replaces the faults of interval number `at` of `left` by `faults`, and the mapping by `mapping`, where these faults
-/// are fewer.
+/// Replaces interval number `at` of `misses` by `mapping` with `faults` faults, where these are fewer.
 pub(crate) fn lessen(
     call: &Call<'_, '_>,
-    left: &mut Misses,
+    misses: &mut Vec<Miss>,
     at: usize,
     faults: u32,
     mapping: Mapping,
 )
-    requires misses { AreMisses call.now.arch.now call.now.kernel.now call.now.first left.old }
-    requires at { at < length left.old.faults.items }
+    requires misses { AreMissedFrom call.now.arch.now call.now.kernel.now call.now.first misses.old.items }
+    requires at { at < length misses.old.items }
     requires counted { faults ≡ faults_of call.now.arch.now call.now.kernel.now mapping }
     requires missed { IsMissed call.now.arch.now call.now.kernel.now (call.now.first + at) mapping }
-    ensures same { length left.new.faults.items ≡ length left.old.faults.items }
-    ensures misses { AreMisses call.now.arch.now call.now.kernel.now call.now.first left.new }
+    ensures same { length misses.new.items ≡ length misses.old.items }
+    ensures misses { AreMissedFrom call.now.arch.now call.now.kernel.now call.now.first misses.new.items }
 {
-    if u64::from(faults) < left.faults[at] {
-        left.faults[at] = u64::from(faults);
-        left.missed[at] = mapping;
+    if faults < misses[at].faults {
+        misses[at] = Miss { faults, mapping };
     }
 }

@@ -3,7 +3,7 @@ ghost use Rattle.std.specs.Prelude.{◌≤◌, IfOk};
 ghost use Rattle.cg_model.specs.Limits.{most_moves};
 ghost use Rattle.cg_search.specs.Course.{IsPosed, Comes};
 
-use crate::misses::{add, nothing};
+use crate::misses::add;
 use crate::plan::probe;
 use crate::trying::{Call, Found, Outcome, search_at};
 use cg_diagnostics::Aside;
@@ -23,14 +23,14 @@ pub(crate) fn probe_upwards<'a>(
     ensures { IfOk result (Comes call.now.arch.now call.now.kernel.now call.now.request.ii call.now.request.moves call.now.first) }
 {
     call.arch.contexts();
-    let mut left = nothing(alloc, call);
+    let mut misses = Vec::new(alloc);
     for ii in call.first..last_tried(call.arch, call.request.ii) + 1 {
         match search_at(alloc, call, ii, probe(call.request, ii), aside)? {
             Responded::Mapped(mapping, moves) => {
                 return Ok(Outcome::Found(Found { mapping, moves }));
             }
-            Responded::Spent { faults, mapping } => add(call, &mut left, faults, mapping)?,
+            Responded::Spent { faults, mapping } => add(call, &mut misses, faults, mapping)?,
         }
     }
-    Ok(Outcome::Left(left))
+    Ok(Outcome::Left(misses))
 }

@@ -2,9 +2,10 @@
 ghost use Rattle.std.specs.Prelude.{◌≡◌, ◌+◌, ◌<◌, ◌≤◌, ◌^◌, IfOk, IfSome, length};
 ghost use Rattle.cg_model.specs.Limits.{most_moves};
 ghost use Rattle.cg_intervals.specs.Intervals.{last_tried};
-ghost use Rattle.cg_search.specs.Course.{IsPosed, AreMisses, Comes};
+ghost use Rattle.cg_search.specs.Search.{AreMissedFrom};
+ghost use Rattle.cg_search.specs.Course.{IsPosed, Comes};
 
-use crate::misses::{Misses, lessen};
+use crate::misses::{Miss, lessen};
 use crate::trying::{Call, Found, Outcome, search_long};
 use cg_diagnostics::Aside;
 use cg_search_respond::Responded;
@@ -23,24 +24,24 @@ pub(crate) struct Retried<'a> {
 }
 
 /// Makes long searches at the intervals of `call` at which the fewest faults are left, one after the other, until one
-/// finds a mapping. `left` is the result of the probes at each interval, and `aside` takes the progress.
+/// finds a mapping. The probes left `misses` at each interval; `aside` takes the progress.
 pub(crate) fn retry<'a>(
     alloc: Global,
     call: &Call<'a, '_>,
-    left: Misses,
+    misses: Vec<Miss>,
     aside: &mut dyn Aside,
 ) -> Result<Retried<'a>, AllocError>
     requires posed { IsPosed call.now.arch.now call.now.kernel.now call.now.request.ii call.now.first }
     requires few { call.now.request.moves ≤ most_moves }
-    requires misses { AreMisses call.now.arch.now call.now.kernel.now call.now.first left }
-    requires all { call.now.first + length left.faults.items ≡ last_tried call.now.arch.now call.now.request.ii + 1 }
+    requires misses { AreMissedFrom call.now.arch.now call.now.kernel.now call.now.first misses.items }
+    requires all { call.now.first + length misses.items ≡ last_tried call.now.arch.now call.now.request.ii + 1 }
     ensures { IfOk result (λ r. Comes call.now.arch.now call.now.kernel.now call.now.request.ii call.now.request.moves call.now.first r.outcome) }
 {
     call.arch.contexts();
-    let mut left = left;
+    let mut misses = misses;
     let mut failed = Vec::new(alloc);
     for _number in 0..NEAREST {
-        let Some(at) = nearest(call.first, left.faults.as_slice(), failed.as_slice()) else {
+        let Some(at) = nearest(call.first, misses.as_slice(), failed.as_slice()) else {
             break;
         };
         let ii = call.first + at as u32;
@@ -50,27 +51,28 @@ pub(crate) fn retry<'a>(
                 return Ok(Retried { outcome, failed });
             }
             Responded::Spent { faults, mapping } => {
-                lessen(call, &mut left, at, faults, mapping);
+                lessen(call, &mut misses, at, faults, mapping);
                 failed.push(ii)?;
             }
         }
     }
-    let outcome = Outcome::Left(left);
+    let outcome = Outcome::Left(misses);
     Ok(Retried { outcome, failed })
 }
 
-/// Returns the position in `left` of the first least number of faults, except at the `failed` intervals; None where
+/// Returns the position in `misses` of the first least number of faults, except at the `failed` intervals; None where
 /// there are no other intervals. The list begins with the interval `first`.
-fn nearest(first: u32, left: &[u64], failed: &[u32]) -> Option<usize>
-    requires { first + length left.now < 2 ^ 32 }
-    ensures { IfSome result (λ at. at < length left.now) }
+fn nearest(first: u32, misses: &[Miss], failed: &[u32]) -> Option<usize>
+    requires { first + length misses.now < 2 ^ 32 }
+    ensures { IfSome result (λ at. at < length misses.now) }
 {
     let mut nearest = None;
     let mut least = u64::MAX;
-    for (at, faults) in left.iter().enumerate() {
-        if *faults < least && !failed.contains(&(first + at as u32)) {
+    for (at, miss) in misses.iter().enumerate() {
+        let faults = u64::from(miss.faults);
+        if faults < least && !failed.contains(&(first + at as u32)) {
             nearest = Some(at);
-            least = *faults;
+            least = faults;
         }
     }
     nearest

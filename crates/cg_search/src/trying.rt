@@ -4,7 +4,7 @@ ghost use Rattle.cg_model.specs.Limits.{most_moves};
 ghost use Rattle.cg_intervals.specs.Intervals.{last_tried};
 ghost use Rattle.cg_search.specs.Course.{IsPosed, IsSearched};
 
-use crate::misses::Misses;
+use crate::misses::Miss;
 use crate::plan::long;
 use cg_arch::Arch;
 use cg_diagnostics::Aside;
@@ -43,8 +43,8 @@ pub(crate) struct Found<'a> {
 pub(crate) enum Outcome<'a> {
     /// A mapping.
     Found(Found<'a>),
-    /// No mapping: the faults and mappings left at each interval, from the first one on.
-    Left(Misses),
+    /// No mapping, and what is left at each interval, from the first one on.
+    Left(Vec<Miss>),
 }
 
 /// Makes a long search at the interval `ii` of `call`. `aside` takes the progress.

@@ -10,7 +10,7 @@ use Rattle.cg_netlist.specs.declared.forms.Form.{Form}
 use Rattle.cg_netlist.specs.declared.parts.Cell.{Cell}
 use Rattle.cg_netlist.specs.Forms.{form_of}
 use Rattle.cg_list_laws.specs.Below.{lists_below}
-use Rattle.cg_testbench_cells.specs.Cells.{cell_text}
+use Rattle.cg_testbench.specs.Cells.{cell_text}
 
 -- ---- the modules of cells, each where its form is used first
 

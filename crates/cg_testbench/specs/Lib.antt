@@ -1,3 +1,6 @@
+pub mod Pieces
+pub mod Unit
+pub mod Cells
 pub mod Sizes
 pub mod Lines
 pub mod Setup

@@ -11,7 +11,7 @@ use Rattle.cg_model.specs.declared.config.UnitFields.{UnitFields}
 use Rattle.cg_model.specs.declared.config.ArgFields.{ArgFields}
 use Rattle.cg_model.specs.Config.{Config, arg, select, fields}
 use Rattle.cg_list_laws.specs.Below.{lists_below}
-use Rattle.cg_testbench_cells.specs.Pieces.{port_letter}
+use Rattle.cg_testbench.specs.Pieces.{port_letter}
 use Rattle.cg_testbench.specs.Sizes.{stream, taken, sent}
 use Rattle.cg_testbench.specs.Lines.{number_line, word_line, memory_line, left_memory_line, input_line, left_output_line, length_line}
 

@@ -5,9 +5,9 @@ ghost use Rattle.std.specs.List.{list_any};
 ghost use Rattle.cg_netlist.specs.Forms.{form_of};
 ghost use Rattle.cg_testbench.specs.Array as spec;
 
+use crate::cells::cell_text;
 use cg_arch::Arch;
 use cg_netlist::{Cell, form_of};
-use cg_testbench_cells::cell_text;
 use cg_word::{Op, OpSet};
 use std::alloc::{AllocError, Global};
 

@@ -3,9 +3,12 @@
 
 mod array;
 mod bench;
+mod cells;
 mod frame;
 mod lines;
+mod pieces;
 mod setup;
 mod sizes;
+mod unit;
 
 pub use bench::{RunEnd, bench_of};

@@ -4,7 +4,7 @@ ghost use Rattle.cg_model.specs.Canonical.{IsCanonical};
 ghost use Rattle.cg_model.specs.Config.{arg};
 ghost use Rattle.cg_model.specs.Limits.{most_contexts, port_count};
 ghost use Rattle.cg_list_laws.specs.Below.{lists_below};
-ghost use Rattle.cg_testbench_cells.specs.Pieces.{port_letter};
+ghost use Rattle.cg_testbench.specs.Pieces.{port_letter};
 ghost use Rattle.cg_testbench.specs.Sizes.{sent};
 ghost use Rattle.cg_testbench.specs.Lines.{number_line};
 ghost use Rattle.cg_testbench.specs.Setup as spec;

@@ -16,6 +16,7 @@ mod laws;
 use cg_cause::{Stop, conclude};
 pub use cg_command::{Command, MapperCall, plan_words};
 use cg_command::{fill, inputs};
+pub use cg_command_run::trial;
 use cg_commands::answer;
 use cg_diagnostics::{Aside, Silent};
 pub use cg_effects::Status;
@@ -24,7 +25,6 @@ use cg_files::{Sink, Store};
 use cg_help::note_words;
 use cg_notes::{note_call, note_files};
 pub use cg_trial::{TrialParts, trial_parts};
-pub use cg_trial_run::trial;
 pub use laws::always_defined;
 use std::alloc::{AllocError, Global};
 

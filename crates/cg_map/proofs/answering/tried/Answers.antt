@@ -15,7 +15,7 @@ pub returns-in-Mapped : goal.returns-in-Mapped
 returns-in-Mapped g c =
     let (left, at_ii) = c.loop-ii.invariant in
     record {
-      costs = c.loop-ii.left.items;
+      costs = c.loop-ii.costs.items;
       left = left;
       within = omega (arith, at_ii, c.loop-ii-test.true, c.last_tried-ii-end.ensures);
       attempt =
@@ -29,7 +29,7 @@ loop-ii-preserved g c =
     let (left, at_ii) = c.loop-ii.invariant in
     let A = c.args.arch.now in
     let K = c.args.kernel.now in
-    let costs = c.loop-ii.left.items in
+    let costs = c.loop-ii.costs.items in
     let a = subst (λ a. IsAttempt c.in_ok-task.task.arch c.in_ok-task.task.kernel c.args.request.seed c.args.request.moves c.in_ok-task.task.ii a) c.in-Left.is c.in_ok-mapping.ensures in
     let here = subst (λ (T : Posed). IsAttempt T.arch T.kernel c.args.request.seed c.args.request.moves T.ii (at.Left c.in-Left.cost)) c.in_ok-task.ensures a in
     let more = left_more A K c.args.request.seed c.args.request.moves c.args.first costs c.in-Left.cost left (subst (λ z. IsAttempt A K c.args.request.seed c.args.request.moves z (at.Left c.in-Left.cost)) (sym at_ii) here) in

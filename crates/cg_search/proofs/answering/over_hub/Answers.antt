@@ -8,13 +8,14 @@ use Rattle.cg_intervals.specs.declared.answering.FoundBy.TheVariants.{Hub}
 use Rattle.cg_search.specs.Search.{HasNoHub, IsFound}
 use Rattle.cg_search.proofs.answering.over_hub.Goals as goal
 
-pub returns-then-hub_enough-clause-tried : goal.returns-then-hub_enough-clause-tried
-returns-then-hub_enough-clause-tried c =
-    let A = c.args.arch.now in
-    let K = c.args.kernel.now in
-    let asked = c.args.request.ii in
-    let moves = c.args.request.moves in
-    let first = c.args.first in
+pub returns-then-hub_enough : goal.returns-then-hub_enough
+returns-then-hub_enough c =
+    let call = c.args.call.now in
+    let A = call.arch.now in
+    let K = call.kernel.now in
+    let asked = call.request.ii in
+    let moves = call.request.moves in
+    let first = call.first in
     let ii = c.loop-ii.ii in
     let is = c.in_ok-mapping.ensures in
     let same = sym (hub_interval A K ii) in
@@ -37,16 +38,17 @@ loop-ii-preserved c =
     ⊎_elim {C = ⊥} (λ (l : j < ii). c.loop-ii.invariant j from l enough)
     (λ (l : ii ≤ j).
     let same : j ≡ ii = omega (arith, l, less) in
-    let yes = c.hub_enough.ensures.1 (subst (HubEnough c.args.arch.now c.args.kernel.now) same enough) in
+    let yes = c.hub_enough.ensures.1 (subst (HubEnough c.args.call.now.arch.now c.args.call.now.kernel.now) same enough) in
     let no = c.if-hub_enough.false in
     absurd (cc))
     (cases_lt j ii)
 
-pub returns-clause-tried : goal.returns-clause-tried
-returns-clause-tried c = (
+pub returns : goal.returns
+returns c = (
   refl,
   record {
-    each = c.requires.misses.some;
+    some = c.requires.posed.some;
+    each = c.requires.misses;
     all = c.requires.all;
     no_hub = λ j from less enough. c.loop-ii.invariant j from (omega (arith, less, c.loop-ii-test.false, c.last_tried-ii-end.ensures)) enough;
   },

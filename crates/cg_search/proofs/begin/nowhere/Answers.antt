@@ -1,4 +1,4 @@
-use Rattle.std.proofs.Common.{◌≤◌, Some, subst, arith}
+use Rattle.std.proofs.Common.{Some, subst, arith}
 use Rattle.cg_bound_all.specs.Why.{IsExclusion}
 use Rattle.cg_search.proofs.Begins.{nowhere_least}
 use Rattle.cg_search.proofs.begin.nowhere.Goals as goal
@@ -9,7 +9,7 @@ returns c =
     let K = c.args.kernel.now in
     let f = c.args.tables in
     let is = subst (IsExclusion A K f c.contexts-last.result) c.in-Some.is c.in_ok-reason.ensures in
-    nowhere_least A K f c.in-Some.reason c.requires.numbers c.requires.each
+    nowhere_least A K f c.in-Some.reason c.contexts-last.result c.contexts-last.ensures.contexts c.requires.numbers c.requires.each
     (subst (λ ii. IsExclusion A K f ii (Some c.in-Some.reason)) c.contexts-last.ensures.contexts is)
 
 pub unreachable-requires : goal.unreachable-requires

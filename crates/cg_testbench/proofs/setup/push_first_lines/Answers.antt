@@ -1,6 +1,6 @@
 use Rattle.std.proofs.Common.{◌≡◌, ◌+◌, ◌*◌, ◌++◌, ◌∙◌, ap}
 use Rattle.std.specs.Prelude.{codes, slice_index}
-use Rattle.cg_testbench_cells.specs.Pieces.{port_letter}
+use Rattle.cg_testbench.specs.Pieces.{port_letter}
 use Rattle.cg_testbench.specs.Lines.{word_line}
 use Rattle.cg_testbench.specs.Setup.{first_line}
 use Rattle.cg_testbench.proofs.Steps.{renamed, unbegun, grown}

@@ -1,0 +1,12 @@
+mod Loops
+mod LoopGiven
+pub mod Looped
+pub mod Stored
+pub mod Spelled
+pub mod ImageGiven
+pub mod Imaged
+pub mod Worded
+pub mod VerilogAllowed
+pub mod Netlisted
+pub mod Depended
+pub mod Migrated

@@ -1,0 +1,6 @@
+pub mod Loop
+pub mod Image
+pub mod Words
+pub mod Verilog
+pub mod Depend
+pub mod Migrate

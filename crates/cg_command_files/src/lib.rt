@@ -1,0 +1,17 @@
+//! The commands that translate a file: `loop`, `depend`, `image`, `words`, `verilog`, `migrate`.
+#![tactic(auto)]
+
+mod depending;
+mod imaging;
+mod looping;
+mod migrating;
+mod netlisting;
+mod reading_loop;
+mod wording;
+
+pub use depending::depend;
+pub use imaging::image;
+pub use looping::loop_answer;
+pub use migrating::migrate;
+pub use netlisting::verilog;
+pub use wording::words;

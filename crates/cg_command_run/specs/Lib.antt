@@ -1,0 +1,9 @@
+pub mod Turns
+pub mod TurnsOnImage
+pub mod Flat
+pub mod Run
+pub mod Netlist
+pub mod Refused
+pub mod Bench
+pub mod Report
+pub mod Laws

@@ -1,2 +1,0 @@
-mod Allowed
-pub mod NetlistAnswers

@@ -1,5 +1,0 @@
-pub mod Stored
-pub mod Spelled
-pub mod Given
-pub mod Imaged
-pub mod Worded

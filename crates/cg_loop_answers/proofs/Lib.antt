@@ -1,3 +1,0 @@
-mod Loops
-mod Given
-pub mod Looped

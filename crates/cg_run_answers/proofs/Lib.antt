@@ -1,8 +1,0 @@
-pub mod Reports
-pub mod Turned
-pub mod Imaged
-pub mod TurnsAnswers
-pub mod OnImage
-pub mod FlatAnswers
-pub mod RunAnswers
-pub mod Allowed

@@ -1,4 +1,0 @@
-pub mod Turns
-pub mod TurnsOnImage
-pub mod Flat
-pub mod Run

@@ -1,2 +1,0 @@
-pub mod Margins
-pub mod Shown

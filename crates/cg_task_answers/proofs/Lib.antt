@@ -1,5 +1,0 @@
-pub mod Over
-pub mod Left
-pub mod Named
-pub mod MappingText
-pub mod Searched

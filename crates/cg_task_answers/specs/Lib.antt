@@ -1,3 +1,0 @@
-pub mod Searches
-pub mod Answered
-pub mod Runs

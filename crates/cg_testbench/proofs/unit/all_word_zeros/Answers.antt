@@ -1,0 +1,9 @@
+use Rattle.cg_testbench.specs.Unit.{word_zeros}
+use Rattle.cg_testbench.proofs.Grown.{none_below, one_more}
+use Rattle.cg_testbench.proofs.unit.all_word_zeros.Goals as goal
+
+pub loop-argument-init : goal.loop-argument-init
+loop-argument-init c = none_below word_zeros _ c.new-text.ensures.bytes
+
+pub loop-argument-preserved : goal.loop-argument-preserved
+loop-argument-preserved c = one_more word_zeros c.loop-argument.argument _ _ _ c.as_str.result.now c.loop-argument.invariant c.in_ok-zeros.ensures c.as_str.ensures.value c.in_ok-push_str.ensures.bytes

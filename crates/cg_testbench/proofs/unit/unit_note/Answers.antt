@@ -1,0 +1,4 @@
+use Rattle.cg_testbench.proofs.unit.unit_note.Goals as goal
+
+pub returns : goal.returns
+returns c = rw c.in_ok-words.ensures at c.format.ensures.ok

@@ -1,7 +1,0 @@
-use Rattle.std.proofs.Common.{◌≡◌, string_bytes}
-use Rattle.cg_list_laws.specs.Below.{lists_below}
-use Rattle.cg_testbench_cells.specs.Pieces.{driver_choice}
-use Rattle.cg_testbench_cells.proofs.pieces.driver_choices.Given as goal
-
-abbrev pub invariant-loop-driver : goal.invariant-loop-driver
-invariant-loop-driver l = string_bytes l.text ≡ lists_below driver_choice l.driver

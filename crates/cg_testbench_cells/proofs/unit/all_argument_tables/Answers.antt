@@ -1,9 +1,0 @@
-use Rattle.cg_testbench_cells.specs.Unit.{argument_tables}
-use Rattle.cg_testbench_cells.proofs.Grown.{none_below, one_more}
-use Rattle.cg_testbench_cells.proofs.unit.all_argument_tables.Goals as goal
-
-pub loop-argument-init : goal.loop-argument-init
-loop-argument-init c = none_below argument_tables _ c.new-text.ensures.bytes
-
-pub loop-argument-preserved : goal.loop-argument-preserved
-loop-argument-preserved c = one_more argument_tables c.loop-argument.argument _ _ _ c.as_str.result.now c.loop-argument.invariant c.in_ok-tables.ensures c.as_str.ensures.value c.in_ok-push_str.ensures.bytes

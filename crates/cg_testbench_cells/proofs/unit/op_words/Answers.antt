@@ -1,6 +1,0 @@
-use Rattle.cg_testbench_cells.specs.Unit.{op_word}
-use Rattle.cg_testbench_cells.proofs.Grown.{one_more_op}
-use Rattle.cg_testbench_cells.proofs.unit.op_words.Goals as goal
-
-pub loop-op-preserved : goal.loop-op-preserved
-loop-op-preserved c = one_more_op (op_word c.args.operations) c.loop-op.op-index _ _ _ c.as_str.result.now c.loop-op-test.true c.loop-op.invariant c.in_ok-word.ensures c.as_str.ensures.value c.in_ok-push_str.ensures.bytes

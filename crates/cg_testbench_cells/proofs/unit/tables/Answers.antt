@@ -1,4 +1,0 @@
-use Rattle.cg_testbench_cells.proofs.unit.tables.Goals as goal
-
-pub returns : goal.returns
-returns c = rw (c.in_ok-tables.ensures, c.in_ok-zeros.ensures, c.in_ok-words.ensures) at c.format.ensures.ok

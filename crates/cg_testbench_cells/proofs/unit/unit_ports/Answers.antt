@@ -1,4 +1,0 @@
-use Rattle.cg_testbench_cells.proofs.unit.unit_ports.Goals as goal
-
-pub returns : goal.returns
-returns c = rw c.in_ok-names.ensures at c.format.ensures.ok

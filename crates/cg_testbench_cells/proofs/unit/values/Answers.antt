@@ -1,4 +1,0 @@
-use Rattle.cg_testbench_cells.proofs.unit.values.Goals as goal
-
-pub returns : goal.returns
-returns c = rw c.in_ok-lines.ensures at c.format.ensures.ok
