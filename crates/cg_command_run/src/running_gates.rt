@@ -13,11 +13,11 @@ use cg_arch::Arch;
 use cg_bits::Config;
 use cg_cause::Stop;
 use cg_command::ArrayCall;
+use cg_datapath::RunEnd;
 use cg_effects::{File, Outcome};
 use cg_gates_run::{GateRun, Gates};
 use cg_inputs::{arch_in, config_in, image_in};
 use cg_pad::Image;
-use cg_testbench::RunEnd;
 use std::alloc::Global;
 
 /// Returns the outcome of `run`, called by `call`, with the netlist in `netlist` in place of the array.

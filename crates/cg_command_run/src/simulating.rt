@@ -17,11 +17,11 @@ use cg_arch::Arch;
 use cg_bits::Config;
 use cg_cause::{Cause, Stop};
 use cg_command::ArrayCall;
+use cg_datapath::RunEnd;
 use cg_effects::{File, Outcome, Status};
 use cg_inputs::{arch_in, config_in, image_in};
 use cg_pad::{Image, write_image};
 use cg_sim::{Sim, SimFault};
-use cg_testbench::RunEnd;
 use std::alloc::{AllocError, Global};
 
 /// Returns the outcome of `run`, called by `call`: the image that the array leaves, and the report on the run.

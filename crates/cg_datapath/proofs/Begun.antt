@@ -1,11 +1,11 @@
 -- What a unit begins.
-use Rattle.std.proofs.Common.{◌≡◌, ℕ, ◌+◌, ◌-◌, ◌<◌, ◌≤◌, List, [], ◌∷◌, ◌++◌, length, Some, None, refl, sym, ap, subst, ◌∙◌, arith, ◌⊎◌, ⊎_elim, append-nil, add-zero}
-use Rattle.std.specs.Prelude.{slice_index, slice_set, vec_len, vec_capacity}
+use Rattle.std.proofs.Common.{◌≡◌, ℕ, ◌+◌, ◌-◌, ◌<◌, ◌≤◌, List, [], ◌∷◌, ◌++◌, length, Option, Some, None, refl, sym, ap, subst, ◌∙◌, arith, ◌⊎◌, ⊎_elim, append-nil, add-zero}
+use Rattle.std.specs.Prelude.{slice_index, slice_set}
 use Rattle.std.proofs.lemmas.Bool.{le-leb, lt-leb, lt-ltb, le-ltb}
 use Rattle.cg_word.specs.declared.op.Op.{Op}
 use Rattle.cg_word.specs.Word.{arity}
 use Rattle.cg_model.specs.declared.config.UnitFields.{UnitFields}
-use Rattle.cg_model.specs.Work.{Image, Work, value, stored, sent, missed}
+use Rattle.cg_model.specs.Work.{Image, Work}
 use Rattle.cg_model.specs.Machine.{arguments, begun, begun_by}
 use Rattle.cg_config.specs.declared.head.UnitHead.{UnitHead}
 use Rattle.cg_config.specs.Told.{head_of}
@@ -42,6 +42,10 @@ pub applied-push : (memory : List ℕ) (ss : List Store) (s : Store) → applied
 applied-push memory [] s = refl
 applied-push memory (t ∷ ss) s = applied-push (slice_set memory t.address t.value) ss s
 
+-- the same, of what is equal to that work
+pub begins_by : (image : Image) (o p : Option Work) (e g : Effects) (x : ℕ) → o ≡ p → Begins image p e g x → Begins image o e g x
+begins_by image o p e g x same h = subst (λ (z : Option Work). Begins image z e g x) (sym same) h
+
 pub begins_nothing : (image : Image) (e : Effects) → Begins image None e e 0
 begins_nothing image e =
     record {
@@ -61,27 +65,18 @@ module _ (op : Op) (port turn : ℕ) (args : List ℕ) (a b c : ℕ) (ea : a ≡
   args_are : a ∷ b ∷ c ∷ [] ≡ three args
   args_are = rw (ea, eb, ec) refl
 
-  pub begins_work : (image : Image) (e g : Effects) (x y : ℕ) →
-      x ≡ value image e.memory (on op port turn (a ∷ b ∷ c ∷ [])) →
-      y ≡ missed (length e.memory) (on op port turn (a ∷ b ∷ c ∷ [])) →
-      g.memory ≡ e.memory →
-      ((m : List ℕ) → applied m g.pending.items ≡ stored (applied m e.pending.items) (on op port turn (a ∷ b ∷ c ∷ []))) →
-      vec_len g.pending ≤ vec_len e.pending + 1 →
-      vec_capacity e.pending ≤ vec_capacity g.pending →
-      length g.streams.items ≡ length e.streams.items →
-      ((p : ℕ) → (stream g.streams.items p).words ≡ (stream e.streams.items p).words ++ sent p (on op port turn (a ∷ b ∷ c ∷ []))) →
-      ((p : ℕ) → (stream e.streams.items p).room ≤ (stream g.streams.items p).room) →
-      g.outside ≡ e.outside + y →
-      Begins image (Some (on op port turn args)) e g x
-  begins_work image e g x y ex ey em ep el er es ew eroom eo =
+  -- a work on the first three arguments does what the work on all does
+  pub begins_three : (image : Image) (e g : Effects) (x : ℕ) → Begins image (Some (on op port turn (a ∷ b ∷ c ∷ []))) e g x → Begins image (Some (on op port turn args)) e g x
+  begins_three image e g x all =
+      let by : Begins image (Some (on op port turn (three args))) e g x = subst (λ (z : List ℕ). Begins image (Some (on op port turn z)) e g x) args_are all in
       record {
-        result_is = ex ∙ ap (λ z. value image e.memory (on op port turn z)) args_are ∙ value-three image e.memory op port turn args;
-        memory = em;
-        pending = λ m. ep m ∙ ap (λ z. stored (applied m e.pending.items) (on op port turn z)) args_are ∙ stored-three (applied m e.pending.items) op port turn args;
-        pending_few = el;
-        pending_room = er;
-        streams_long = es;
-        streams = λ p. ew p ∙ ap (λ z. (stream e.streams.items p).words ++ sent p (on op port turn z)) args_are ∙ ap (λ z. (stream e.streams.items p).words ++ z) (sent-three p op port turn args);
-        room = eroom;
-        outside = eo ∙ ap (λ z. e.outside + z) (ey ∙ ap (λ z. missed (length e.memory) (on op port turn z)) args_are ∙ missed-three (length e.memory) op port turn args);
+        result_is = by.result_is ∙ value-three image e.memory op port turn args;
+        memory = by.memory;
+        pending = λ m. by.pending m ∙ stored-three (applied m e.pending.items) op port turn args;
+        pending_few = by.pending_few;
+        pending_room = by.pending_room;
+        streams_long = by.streams_long;
+        streams = λ p. by.streams p ∙ ap (λ (z : List ℕ). (stream e.streams.items p).words ++ z) (sent-three p op port turn args);
+        room = by.room;
+        outside = by.outside ∙ ap (λ (z : ℕ). e.outside + z) (missed-three (length e.memory) op port turn args);
       }

@@ -1,12 +1,12 @@
 pub mod Kept
-mod Arguments
-mod Begun
+pub mod Arguments
+pub mod Begun
 mod Marked
-mod EachUnit
+pub mod EachUnit
 pub mod Facts
 pub mod Slots
-mod Rooms
-mod Next
+pub mod Rooms
+pub mod Next
 mod Given
 mod Advanced
 pub mod Carried

@@ -1,18 +1,18 @@
 //! The effects of the units of a cycle: words in streams, and stores that are pending until the cycle's end.
-ghost use Rattle.std.specs.Prelude.{◌≡◌, ◌<◌, ◌≤◌, ◌+◌, ◌++◌, ℕ, List, true, length, vec_len, vec_capacity};
+ghost use Rattle.std.specs.Prelude.{◌≡◌, ◌<◌, ◌≤◌, ◌+◌, ◌++◌, ◌^◌, ℕ, List, Some, true, length, vec_len, vec_capacity};
 ghost use Rattle.cg_word.specs.Word.{is_output};
 ghost use Rattle.cg_model.specs.Work.{stored, sent};
 ghost use Rattle.cg_pad.specs.Work.{work_of};
 ghost use Rattle.cg_datapath.specs.Reserved.{stream};
-ghost use Rattle.cg_datapath.specs.Effects.{applied};
+ghost use Rattle.cg_datapath.specs.Effects.{applied, Begins};
 
 use cg_model::Words;
-use cg_pad::{Scratchpad, Work};
+use cg_pad::{Image, Scratchpad, Work};
 use std::marker::Model;
 
-/// A stream with room reserved.
+/// A stream with room reserved. Contracts see its words and its room.
 #[derive(Drop)]
-pub(crate) struct Stream {
+pub struct Stream {
     pub(crate) words: Vec<u32>,
 }
 
@@ -48,26 +48,30 @@ impl Stream {
 
 /// A store that is to take effect at the end of the cycle.
 #[derive(Clone, Copy)]
-pub(crate) struct Store {
-    pub(crate) address: u32,
-    pub(crate) value: u32,
+pub struct Store {
+    pub address: u32,
+    pub value: u32,
 }
 
 /// The effects of a run so far, and the pending stores of the current cycle.
 #[derive(Drop)]
-pub(crate) struct Effects {
-    pub(crate) memory: Scratchpad,
-    pub(crate) pending: Vec<Store>,
-    pub(crate) streams: Vec<Stream>,
-    pub(crate) outside: u64,
+pub struct Effects {
+    /// The memory at the start of the current cycle.
+    pub memory: Scratchpad,
+    /// The stores of the current cycle, in the order of the units.
+    pub pending: Vec<Store>,
+    /// The words sent so far to each of the sixteen ports.
+    pub streams: Vec<Stream>,
+    /// The number of accesses outside the memory so far.
+    pub outside: u64,
 }
 
 impl Effects {
     ghost use Rattle.std.specs.Prelude.{◌≡◌, ◌≤◌, [], vec_capacity};
     ghost use Rattle.cg_datapath.specs.Effects.{applied};
 
-    /// Applies the pending stores to the memory, in order.
-    pub(crate) fn store_pending(&mut self)
+    /// Ends the cycle: applies the pending stores to the memory, in order.
+    pub fn store_pending(&mut self)
         ensures memory { self.new.memory ≡ applied self.old.memory self.old.pending.items }
         ensures pending { self.new.pending.items ≡ [] }
         ensures room { vec_capacity self.old.pending ≤ vec_capacity self.new.pending }
@@ -79,9 +83,25 @@ impl Effects {
     }
 }
 
+/// Begins `work` in a run from `image`, and returns its result. In `effects` its access outside the memory is counted, the
+/// word that it sends is in its stream, and its store is pending until the end of the cycle.
+pub fn begin_work(work: Work, image: &Image, effects: &mut Effects) -> u32
+    requires port { is_output work.op ≡ true → (work.port < length effects.old.streams.items) × (length (stream effects.old.streams.items work.port).words < (stream effects.old.streams.items work.port).room) }
+    requires pending { vec_len effects.old.pending < vec_capacity effects.old.pending }
+    requires outside { effects.old.outside < 2 ^ 63 }
+    ensures work { Begins image.now (Some (work_of work)) effects.old effects.new result }
+    ensures few { effects.new.outside ≤ effects.old.outside + 1 }
+{
+    let value = work.value(image, &effects.memory);
+    effects.outside += work.missed(effects.memory.size());
+    send(work, &mut effects.streams);
+    hold(work, &mut effects.pending);
+    value
+}
+
 /// Appends the word that the operation of `work` sends, if any, to its stream of `streams`.
 #[tactic(auto, unfolding(cg_model::specs::Work::sent))]
-pub(crate) fn send(work: Work, streams: &mut [Stream])
+fn send(work: Work, streams: &mut [Stream])
     requires { is_output work.op ≡ true → (work.port < length streams.old) × (length (stream streams.old work.port).words < (stream streams.old work.port).room) }
     ensures words { (port : ℕ) → (stream streams.new port).words ≡ (stream streams.old port).words ++ sent port (work_of work) }
     ensures room { (port : ℕ) → (stream streams.old port).room ≤ (stream streams.new port).room }
@@ -94,7 +114,7 @@ pub(crate) fn send(work: Work, streams: &mut [Stream])
 
 /// Adds the store of `work` to those in `pending`, if it is a store that takes effect.
 #[tactic(auto, unfolding(cg_model::specs::Work::stored))]
-pub(crate) fn hold(work: Work, pending: &mut Vec<Store>)
+fn hold(work: Work, pending: &mut Vec<Store>)
     requires { vec_len pending.old < vec_capacity pending.old }
     ensures stores { (memory : List ℕ) → applied memory pending.new.items ≡ stored (applied memory pending.old.items) (work_of work) }
     ensures few { vec_len pending.new ≤ vec_len pending.old + 1 }

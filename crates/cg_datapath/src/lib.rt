@@ -6,6 +6,7 @@ mod effects;
 mod fault;
 mod moment;
 mod outs;
+mod run_end;
 mod start;
 mod streams;
 mod terminals;
@@ -14,6 +15,10 @@ mod unit_in_slot;
 mod units;
 
 pub use course::{Course, check_run};
+pub use effects::{Effects, Store, Stream, begin_work};
 pub use fault::SimFault;
+pub use run_end::RunEnd;
+pub use start::{length_in_cycles, no_effects};
+pub use streams::all_words;
 pub use terminals::Terminals;
 pub use texts::sim_fault_text;

@@ -15,7 +15,7 @@ use std::alloc::{AllocError, Global};
 
 /// Returns the effects of a run of `n` iterations from `image` before its first cycle, with room for all effects of the
 /// units of `arch` under `contexts`.
-pub(crate) fn no_effects<C: Contexts>(
+pub fn no_effects<C: Contexts>(
     alloc: Global,
     arch: &Arch,
     contexts: &C,
@@ -37,7 +37,7 @@ pub(crate) fn no_effects<C: Contexts>(
 }
 
 /// Returns the number of cycles of a run of `n` iterations, of `stages` stages at the interval `ii`.
-pub(crate) fn length_in_cycles(n: u32, stages: u32, ii: u32) -> u64
+pub fn length_in_cycles(n: u32, stages: u32, ii: u32) -> u64
     requires turns { n ≤ most_turns }
     requires stages { (0 < stages) × (stages ≤ 65535) }
     requires ii { ii ≤ 64 }

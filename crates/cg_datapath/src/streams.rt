@@ -78,7 +78,7 @@ fn gives_output(op: Option<Op>) -> bool
 }
 
 /// Moves the words of all `streams` into `room`, an empty list that has room for them.
-pub(crate) fn all_words(streams: Vec<Stream>, room: Vec<Words>) -> Vec<Words>
+pub fn all_words(streams: Vec<Stream>, room: Vec<Words>) -> Vec<Words>
     requires empty { room.items ≡ [] }
     requires enough { length streams.items ≤ vec_capacity room }
     ensures { result.items ≡ all_words streams.items }

@@ -8,7 +8,7 @@ ghost use Rattle.cg_config.specs.Known.{HasUnit};
 ghost use Rattle.cg_datapath.specs.Terminals.{terminals, on_ports, works_on};
 ghost use Rattle.cg_datapath.specs.Effects.{HasRoom, AreRoomy, Begins, BeginsAll, HasRow};
 
-use crate::effects::{Effects, hold, send};
+use crate::effects::{Effects, begin_work};
 use crate::moment::Moment;
 use crate::terminals::Terminals;
 use crate::unit_in_slot::UnitInSlot;
@@ -99,11 +99,7 @@ fn begin<C: Contexts>(
         turn,
         args: [a, b, c],
     };
-    let value = work.value(image, &effects.memory);
-    effects.outside += work.missed(effects.memory.size());
-    send(work, &mut effects.streams);
-    hold(work, &mut effects.pending);
-    value
+    begin_work(work, image, effects)
 }
 
 /// Begins the `units` of the cycle at `moment` in order, on `words`. Their results are written to the cycle's row of

@@ -38,11 +38,11 @@ net_now Port a b g h = refl
 net_now Register a b g h = absurd (true≢false (sym h))
 net_now Out a b g h = absurd (true≢false (sym h))
 
-driven_nothing : (f : ℕ → ℕ) (j : ℕ) → driven f (driver [] j) ≡ 0
+pub driven_nothing : (f : ℕ → ℕ) (j : ℕ) → driven f (driver [] j) ≡ 0
 driven_nothing f zero = refl
 driven_nothing f (suc j) = refl
 
-ago_more : (x : Cycle) (past : List Cycle) (d : ℕ) → ago (x ∷ past) (suc (suc d)) ≡ ago past (suc d)
+pub ago_more : (x : Cycle) (past : List Cycle) (d : ℕ) → ago (x ∷ past) (suc (suc d)) ≡ ago past (suc d)
 ago_more x past d = let e : suc (suc d) - 1 ≡ suc d = omega arith in let f : suc d - 1 ≡ d = omega arith in rw (e, f) refl
 
 -- past the last resource there is no word

@@ -1,5 +1,5 @@
 mod Listed
 mod Chosen
-mod Cycles
+pub mod Cycles
 mod Left
 pub mod First

@@ -17,20 +17,10 @@ use crate::setup::{push_configuration, push_image, push_left};
 use crate::sizes::{depth, room};
 use cg_arch::Arch;
 use cg_config::Contexts;
+use cg_datapath::RunEnd;
 use cg_netlist::netlist;
 use cg_pad::Image;
 use std::alloc::{AllocError, Global};
-
-/// The result of a run of the array.
-#[derive(Drop)]
-pub struct RunEnd {
-    /// The number of cycles of the run.
-    pub cycles: u64,
-    /// The memory and the output streams.
-    pub image: Image,
-    /// The number of accesses outside the memory.
-    pub outside: u64,
-}
 
 /// A run of an array under a configuration.
 #[derive(Drop)]

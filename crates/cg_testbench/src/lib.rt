@@ -11,4 +11,4 @@ mod setup;
 mod sizes;
 mod unit;
 
-pub use bench::{RunEnd, bench_of};
+pub use bench::bench_of;

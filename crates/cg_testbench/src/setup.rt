@@ -9,7 +9,6 @@ ghost use Rattle.cg_testbench.specs.Sizes.{sent};
 ghost use Rattle.cg_testbench.specs.Lines.{number_line};
 ghost use Rattle.cg_testbench.specs.Setup as spec;
 
-use crate::bench::RunEnd;
 use crate::lines::{
     Place, push_input_line, push_left_memory_line, push_left_output_line, push_length_line,
     push_memory_line, push_number_line, push_word_line,
@@ -17,6 +16,7 @@ use crate::lines::{
 use crate::sizes::{sent, stream, taken};
 use cg_arch::Arch;
 use cg_config::Contexts;
+use cg_datapath::RunEnd;
 use cg_model::{ArgFields, Kind, UnitFields};
 use cg_pad::{Image, PORTS};
 use cg_word::Op;

@@ -4,7 +4,7 @@ ghost use Rattle.cg_model.specs.Limits.{most_stream, most_turns};
 ghost use Rattle.cg_pad.specs.Bytes.{IsStorable};
 ghost use Rattle.cg_testbench.specs.Sizes as spec;
 
-use crate::bench::RunEnd;
+use cg_datapath::RunEnd;
 use cg_pad::{Image, PORTS};
 
 /// Returns the words of stream `port` of `image`.

@@ -1,15 +1,10 @@
-use Rattle.std.proofs.Common.{◌≡◌, ◌<◌, ◌≤◌, ◌-◌, ◌+◌, ◌⊎◌, inl, inr, None, ℕ, List, [], ◌∷◌, ◌++◌, length, Option, Some, sym, ap, subst, ◌∙◌, refl, rules}
+use Rattle.std.proofs.Common.{◌≡◌, ◌<◌, ◌≤◌, ◌-◌, ◌+◌, ◌⊎◌, inl, inr, None, ℕ, Option, Some, sym, ap, subst, ◌∙◌}
 use Rattle.std.specs.Prelude.{slice_index}
-use Rattle.std.specs.Vec.{with_items}
-use Rattle.std.proofs.lemmas.List.{with_items_is}
-use Rattle.cg_model.specs.Work.{Work, sent}
+use Rattle.cg_model.specs.Work.{Work}
 use Rattle.cg_model.specs.Machine.{arguments, begun}
-use Rattle.cg_pad.proofs.Args.{on}
-use Rattle.cg_datapath.specs.Reserved.{Reserved, stream}
 use Rattle.cg_datapath.specs.Terminals.{on_ports}
 use Rattle.cg_datapath.specs.Effects.{Begins}
-use Rattle.cg_datapath.specs.declared.effects.Effects.{Effects}
-use Rattle.cg_datapath.proofs.Begun.{work_by, begun_is, not_begun, begins_nothing, begins_work}
+use Rattle.cg_datapath.proofs.Begun.{work_by, begun_is, not_begun, begins_by, begins_nothing, begins_three}
 use Rattle.cg_datapath.proofs.units.begin.Goals.{then-round-head-via-then-round-head, then-round-head-via-else-round-head+then-round-head-2}
 use Rattle.cg_datapath.proofs.units.begin.Goals as goal
 
@@ -23,18 +18,10 @@ returns-clause-work g c =
     let on_port : ℕ → ℕ = on_ports c.args.ports c.args.words.now in
     let w : Work = work_by h f c.args.round on_port op in
     let is : begun f c.args.n c.args.round on_port ≡ Some w = begun_is f c.args.n c.args.round on_port op h c.head-head.ensures c.in-Some.is c.if-round-head.false c.if-round-head-2.false in
-    let args = c.operand-a.result ∷ c.operand-b.result ∷ c.operand-c.result ∷ [] in
-    let g : Effects = record { memory = e.memory; pending = c.hold.new.pending; streams = with_items e.streams c.send.new.streams; outside = e.outside + c.missed.result } in
     let at : (k : ℕ) → slice_index (arguments f turn on_port c.arity-count.result) k ≡ slice_index w.args k = λ k. ap (λ (m : ℕ). slice_index (arguments f turn on_port m) k) c.arity-count.ensures.count in
-    let long : length c.send.new.streams ≡ length e.streams.items = search rules in
-    let streams_is : g.streams.items ≡ c.send.new.streams = with_items_is e.streams c.send.new.streams (search rules) in
-    let words : (port : ℕ) → (stream g.streams.items port).words ≡ (stream e.streams.items port).words ++ sent port (on op h.port turn args) =
-    λ port. ap (λ (xs : List Reserved). (stream xs port).words) streams_is ∙ c.send.ensures.words port ∙ ap (λ (xs : List Reserved). (stream xs port).words ++ sent port (on op h.port turn args)) c.deref_mut.ensures.value in
-    let room : (port : ℕ) → (stream e.streams.items port).room ≤ (stream g.streams.items port).room =
-    λ port. subst (λ (xs : List Reserved). (stream e.streams.items port).room ≤ (stream xs port).room) (sym streams_is) (subst (λ (xs : List Reserved). (stream xs port).room ≤ (stream c.send.new.streams port).room) c.deref_mut.ensures.value (c.send.ensures.room port)) in
-    subst (λ (o : Option Work). Begins c.args.image.now o e g c.value-value.result) (sym is)
-    (begins_work op h.port turn w.args c.operand-a.result c.operand-b.result c.operand-c.result (c.operand-a.ensures ∙ at 0) (c.operand-b.ensures ∙ at 1) (c.operand-c.ensures ∙ at 2)
-    c.args.image.now e g c.value-value.result c.missed.result (search rules) (search rules) refl c.hold.ensures.stores c.hold.ensures.few c.hold.ensures.room (ap length streams_is ∙ long) words room refl)
+    begins_by c.args.image.now _ (Some w) e c.begin_work.new.effects c.begin_work.result is
+    (begins_three op h.port turn w.args c.operand-a.result c.operand-b.result c.operand-c.result (c.operand-a.ensures ∙ at 0) (c.operand-b.ensures ∙ at 1) (c.operand-c.ensures ∙ at 2)
+    c.args.image.now e c.begin_work.new.effects c.begin_work.result c.begin_work.ensures.work)
 
 pub returns-then-round-head-clause-work : goal.returns-then-round-head-clause-work
 returns-then-round-head-clause-work g c =
