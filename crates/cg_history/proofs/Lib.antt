@@ -1,0 +1,6 @@
+mod Operands
+mod Plain
+mod Gaps
+mod Rows
+mod Rounds
+mod Ends

@@ -1,0 +1,4 @@
+pub mod Source
+pub mod Indexed
+pub mod Tasks
+pub mod Walk
