@@ -2,7 +2,7 @@
 use Rattle.std.proofs.Common.{◌≡◌, [], ◌∷◌, Result, Ok, Err, refl, sym, ◌∙◌, ap, subst, inl, inr}
 use Rattle.cg_model.specs.Work.{Image}
 use Rattle.cg_files.specs.Held.{Holds, Appends}
-use Rattle.cg_effects.specs.declared.outcome.Status.TheVariants.{Done, Malformed}
+use Rattle.cg_effects.specs.declared.outcome.Status.TheVariants.{Done}
 use Rattle.cg_effects.specs.Outcome.{Name, File, Outcome}
 use Rattle.cg_effects.specs.Ends.{Moment, Completed, Wrote}
 use Rattle.cg_pad.specs.Bytes.{image_bytes}
@@ -10,7 +10,8 @@ use Rattle.cg_pad.proofs.Roundtrip.{written}
 use Rattle.cg_image_text.specs.declared.fault.TextFault.{TextFault}
 use Rattle.cg_image_text.specs.Sections as texts
 use Rattle.cg_inputs.proofs.Sound.{IsSound, plain, IsNamed}
-use Rattle.cg_inputs.proofs.Wholes.{whole, one_write, differ}
+use Rattle.cg_inputs.proofs.Answered.{not_done}
+use Rattle.cg_inputs.proofs.Wholes.{whole, one_write}
 use Rattle.cg_command_files.specs.Image.{image_by, image_of, IsImageText, IsImaged}
 use Rattle.cg_command_files.proofs.Stored.{is_image, is_storable}
 use Rattle.cg_command_files.proofs.Spelled.{spelled_stored}
@@ -52,7 +53,7 @@ imaged_by file out f (Ok image) o before after held spelled is done c =
       written = one_write before.held after.held out (image_bytes image) (subst (λ fs. Wrote before.held fs after.held) (ap (λ x. x.writes) is) c.held);
       put = subst (λ report. Appends before.taken report after.taken) (ap (λ x. x.report) is) (whole o.status o.report before after done c.put);
     }
-imaged_by file out f (Err e) o before after held spelled is done c = absurd (let z : Malformed ≡ Done = differ o Done (ap (λ x. x.status) is) done in cc)
+imaged_by file out f (Err e) o before after held spelled is done c = absurd (not_done o done (ap (λ x. x.status) is))
 
 pub imaged_left : (file out : Name) (f : File) (o : Outcome) (before after : Moment) → Holds before.held file f.bytes → o ≡ image_of f out → o.status ≡ Done → Completed o before after Done → IsImaged file out before after
 imaged_left file out f o before after held answer is c = imaged_by file out f (texts.answer_of f.bytes) o before after held refl answer is c

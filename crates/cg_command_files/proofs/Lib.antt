@@ -6,7 +6,6 @@ pub mod Spelled
 pub mod ImageGiven
 pub mod Imaged
 pub mod Worded
-pub mod VerilogAllowed
 pub mod Netlisted
 pub mod Depended
 pub mod Migrated

@@ -11,7 +11,7 @@ use Rattle.cg_loop_text_spec.specs.Grammar.{Text, IsFile}
 use Rattle.cg_loop_text_spec.specs.Meaning.{text_body, text_uses}
 use Rattle.cg_loop_text_spec.specs.Rules.{rule, start}
 use Rattle.cg_loop_text_spec.proofs.OneText.{one_text}
-use Rattle.cg_loop_text_spec.proofs.Whole.{solid, whole_file, rest_ends, whole_fault, no_file, one_fault}
+use Rattle.cg_loop_text_spec.proofs.Whole.{solid, whole_file, rest_ends, whole_fault, no_file}
 use Rattle.cg_loop_reader.specs.Doubled.{double}
 use Rattle.cg_loop_reader.specs.Left.{last_token}
 use Rattle.cg_loop_reader.specs.Answer.{IsTree, Spells, FaultIn, IsUseFault, IsFault}
@@ -41,17 +41,6 @@ sorted bytes (fault.CarryAssign place) known f = inr f
 sorted bytes (fault.BadArray place) known f = inr f
 sorted bytes (fault.BadPort place) known f = inr f
 sorted bytes (fault.TooLarge x) known f = absurd f
-
-same_fault : (bytes : List ℕ) (d e : LoopFault) → IsSorted bytes d → IsSorted bytes e → d ≡ e
-same_fault bytes d e (inl (p, is, f)) (inl (q, is', g)) =
-    is ∙ ap fault.Text (f.at ∙ ap (place_of (length bytes)) (one_fault (tokens_of double bytes) f.rest g.rest f.fault g.fault) ∙ sym g.at) ∙ sym is'
-same_fault bytes d e (inl (p, is, f)) (inr g) = absurd (no_file (tokens_of double bytes) f.rest f.fault (tree_file bytes g.text g.tree))
-same_fault bytes d e (inr f) (inl (q, is, g)) = absurd (no_file (tokens_of double bytes) g.rest g.fault (tree_file bytes f.text f.tree))
-same_fault bytes d e (inr f) (inr g) =
-    let same : Some d ≡ Some e = sym f.fault ∙ ap (λ t. fault_of (text_uses t)) (same_tree bytes f.text g.text f.tree g.tree) ∙ g.fault in cc
-
-pub one_loop_fault : (bytes : List ℕ) (d e : LoopFault) → d ≢ fault.Memory → e ≢ fault.Memory → IsFault d bytes → IsFault e bytes → d ≡ e
-one_loop_fault bytes d e m n f g = same_fault bytes d e (sorted bytes d m f) (sorted bytes e n g)
 
 unspelled : (bytes : List ℕ) (P : Body) (e : LoopFault) → Spells bytes P → IsSorted bytes e → ⊥
 unspelled bytes P e s (inl (place, is, f)) = no_file (tokens_of double bytes) f.rest f.fault (tree_file bytes s.text s.tree)

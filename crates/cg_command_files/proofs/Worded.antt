@@ -3,7 +3,7 @@ use Rattle.std.proofs.Common.{◌≡◌, [], Result, Ok, Err, refl, sym, ◌∙�
 use Rattle.std.specs.Prelude.{slice_index_or}
 use Rattle.cg_model.specs.Work.{Image}
 use Rattle.cg_files.specs.Held.{Holds, Appends}
-use Rattle.cg_effects.specs.declared.outcome.Status.TheVariants.{Done, Malformed}
+use Rattle.cg_effects.specs.declared.outcome.Status.TheVariants.{Done}
 use Rattle.cg_effects.specs.Outcome.{Name, File, Outcome}
 use Rattle.cg_effects.specs.Reads.{HoldsBytes}
 use Rattle.cg_effects.specs.Ends.{Moment, Completed}
@@ -11,7 +11,8 @@ use Rattle.cg_pad.specs.declared.fault.ImageFault.{ImageFault}
 use Rattle.cg_pad.specs.Bytes.{answer_of}
 use Rattle.cg_image_text.proofs.Streamed.{reads_back}
 use Rattle.cg_inputs.proofs.Sound.{IsSound, plain}
-use Rattle.cg_inputs.proofs.Wholes.{whole, differ}
+use Rattle.cg_inputs.proofs.Answered.{not_done}
+use Rattle.cg_inputs.proofs.Wholes.{whole}
 use Rattle.cg_command_files.specs.Words.{words_by, words_of, IsImageFile, IsWorded}
 use Rattle.cg_command_files.proofs.Stored.{is_storable, stream_at, word_anywhere}
 use Rattle.cg_command_files.proofs.ImageGiven.{given_stored}
@@ -52,7 +53,7 @@ worded_by file f (Ok image) o before after held bytes spelled is done c =
       read_back = reads_back image (is_storable image stored) stored.sixteen (word_anywhere image.memory stored.memory) (λ port. word_anywhere (slice_index_or image.streams port []) (stream_at image.streams stored.streams port).0);
       put = subst (λ report. Appends before.taken report after.taken) (ap (λ x. x.report) is) (whole o.status o.report before after done c.put);
     }
-worded_by file f (Err e) o before after held bytes spelled is done c = absurd (let z : Malformed ≡ Done = differ o Done (ap (λ x. x.status) is) done in cc)
+worded_by file f (Err e) o before after held bytes spelled is done c = absurd (not_done o done (ap (λ x. x.status) is))
 
 pub worded_left : (file : Name) (f : File) (o : Outcome) (before after : Moment) → Holds before.held file f.bytes → HoldsBytes f → o ≡ words_of f → o.status ≡ Done → Completed o before after Done → IsWorded file before after
 worded_left file f o before after held bytes answer is c = worded_by file f (answer_of f.bytes) o before after held bytes refl answer is c

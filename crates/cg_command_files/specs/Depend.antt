@@ -1,5 +1,5 @@
 -- `depend KERNEL OUT`.
-use Rattle.std.specs.Prelude.{◌≡◌, ℕ, ◌≤◌, ◌+◌, nat_lt, if◌then◌else◌, List, length, Result, Ok, Err, codes, decimal, [], ◌∷◌}
+use Rattle.std.specs.Prelude.{◌≡◌, ℕ, ◌≤◌, ◌+◌, nat_lt, if◌then◌else◌, List, length, Ok, codes, decimal, [], ◌∷◌}
 use Rattle.cg_model.specs.Limits.{most_order_edges}
 use Rattle.cg_model.specs.Kernel.{Kernel, IsKernel}
 use Rattle.cg_model.specs.declared.kernel.OrderEdge.{OrderEdge}
@@ -11,13 +11,13 @@ use Rattle.cg_files.specs.Held.{Holds, Appends}
 use Rattle.cg_effects.specs.Outcome.{Name, Bytes, File, Outcome, line_of, line_then}
 use Rattle.cg_effects.specs.Ends.{Moment}
 use Rattle.cg_effects.specs.Refusals.{malformed_of, writes_one}
-use Rattle.cg_kernel.specs.declared.fault.KernelFault.{KernelFault}
 use Rattle.cg_kernel.specs.Answer.{answer_of}
-use Rattle.cg_kernel.specs.Texts.{kernel_fault_text}
 use Rattle.cg_kernel_text.specs.Printed.{kernel_text}
 use Rattle.cg_depend.specs.declared.fault.DependFault.TheVariants.{TooManyEdges}
 use Rattle.cg_depend.specs.Depend.{AreNeeded, with_order}
 use Rattle.cg_depend.specs.Texts.{depend_fault_text}
+use Rattle.cg_inputs.specs.Answered.{ReadThen}
+use Rattle.cg_inputs.specs.Readings.{ReadsKernel}
 
 -- the report: `added` order edges were added, and the kernel has `all`
 abbrev pub depend_report : ℕ → ℕ → Bytes
@@ -47,13 +47,8 @@ depend_by_edges file out K es = if nat_lt most_order_edges (order_with K es) the
 abbrev pub DependOf : Name → Name → Kernel → Outcome → Type 0
 DependOf file out K o = (es : List OrderEdge) × AreNeeded K es × (o ≡ depend_by_edges file out K es)
 
--- given the result of parsing the file: a kernel, or a fault
-abbrev pub DependBy : File → Name → Outcome → Result Kernel KernelFault → Type 0
-DependBy file out o (Ok K) = DependOf file.name out K o
-DependBy file out o (Err f) = o ≡ malformed_of file.name (kernel_fault_text f)
-
 abbrev pub IsDependOf : File → Name → Outcome → Type 0
-IsDependOf file out o = DependBy file out o (answer_of file.bytes)
+IsDependOf file out o = ReadThen (ReadsKernel file) (DependOf file.name out) o
 
 -- the bytes describe a kernel whose order edges, with those that its accesses need, are within the limit
 pub record IsDependable (file : File) : Type 0 where

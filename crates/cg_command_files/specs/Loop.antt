@@ -1,5 +1,5 @@
 -- `loop SOURCE OUT`.
-use Rattle.std.specs.Prelude.{◌≡◌, ◌≢◌, ℕ, ◌≤◌, length, Option, Some, None, Result, Ok, Err, codes, decimal, [], ◌∷◌}
+use Rattle.std.specs.Prelude.{◌≡◌, ℕ, ◌≤◌, length, Option, Some, None, Result, Ok, Err, codes, decimal, [], ◌∷◌}
 use Rattle.cg_model.specs.Limits.{most_nodes, most_order_edges}
 use Rattle.cg_model.specs.Kernel.{Kernel, IsKernel, size}
 use Rattle.cg_model.specs.Order.{IsUnaliased}
@@ -20,6 +20,7 @@ use Rattle.cg_loop_laws.specs.Laws.{HasRoom, LeavesLoop}
 use Rattle.cg_loop_reader.specs.Answer.{Spells, IsFault}
 use Rattle.cg_loop_reader.specs.FaultText.{loop_fault_text}
 use Rattle.cg_loop.specs.Excess.{excess_of}
+use Rattle.cg_inputs.specs.Answered.{Parsed, ReadThen, WithMemory}
 use Rattle.cg_inputs.specs.Refused.{Tells}
 
 -- the result of parsing the bytes: the loop body that they describe, or a fault in them
@@ -30,6 +31,9 @@ IsReading bytes (Err e) = IsFault e bytes
 -- the file contains no valid loop body
 abbrev pub RefusesLoop : File → Outcome → Type 0
 RefusesLoop file o = Tells (IsReading file.bytes) Memory loop_fault_text file.name o
+
+abbrev pub ReadsLoop : File → Result Body Outcome → Type 0
+ReadsLoop file r = Parsed (WithMemory (IsReading file.bytes) Memory) loop_fault_text file.name r
 
 -- the report: the numbers of nodes and order edges
 abbrev pub loop_report : Kernel → Bytes
@@ -51,16 +55,11 @@ kernel_outcome_by file out K (Some x) = kernel_refused file x
 abbrev pub kernel_outcome : Name → Name → Kernel → Outcome
 kernel_outcome file out K = kernel_outcome_by file out K (excess_of K)
 
--- the outcome for the result of parsing the file: a loop body, or a fault
-abbrev pub loop_outcome : File → Name → Result Body LoopFault → Outcome
-loop_outcome file out (Ok P) = kernel_outcome file.name out (loop_kernel_of P)
-loop_outcome file out (Err e) = malformed_of file.name (loop_fault_text e)
+abbrev pub IsTranslation : Name → Name → Body → Outcome → Type 0
+IsTranslation file out P o = o ≡ kernel_outcome file out (loop_kernel_of P)
 
-pub record IsLoopOf (file : File) (out : Name) (o : Outcome) : Type 0 where
-  pub given : Result Body LoopFault
-  pub is_given : IsReading file.bytes given
-  pub no_memory : given ≢ Err Memory
-  pub outcome : o ≡ loop_outcome file out given
+abbrev pub IsLoopOf : File → Name → Outcome → Type 0
+IsLoopOf file out o = ReadThen (ReadsLoop file) (IsTranslation file.name out) o
 
 -- the bytes describe a loop body whose kernel is within the limits on kernels
 pub record IsTranslatable (file : File) : Type 0 where

@@ -1,5 +1,5 @@
 -- `migrate ARCH BITS OUT`.
-use Rattle.std.specs.Prelude.{◌≡◌, ◌≢◌, ℕ, [], ◌∷◌, length, Result, Ok, Err, codes, decimal}
+use Rattle.std.specs.Prelude.{◌≡◌, ℕ, [], ◌∷◌, length, Result, Ok, Err, codes, decimal}
 use Rattle.cg_model.specs.Array.{Arch}
 use Rattle.cg_model.specs.Config.{Config}
 use Rattle.cg_model.specs.Configured.{configuration_of}
@@ -12,10 +12,6 @@ use Rattle.cg_files.specs.Held.{Holds, Appends}
 use Rattle.cg_effects.specs.Outcome.{Name, Bytes, File, Outcome, line_of, line_then}
 use Rattle.cg_effects.specs.Ends.{Moment}
 use Rattle.cg_effects.specs.Refusals.{malformed_of}
-use Rattle.cg_grid.specs.declared.fault.TilesFault.{TilesFault}
-use Rattle.cg_grid.specs.declared.fault.TilesFault.TheVariants as fault
-use Rattle.cg_grid.specs.Texts.{tiles_fault_text}
-use Rattle.cg_tiles.specs.Answer as tiles
 use Rattle.cg_tiles.specs.Answer.{AreValidBytes}
 use Rattle.cg_bits.specs.declared.fault.BitsFault.{BitsFault}
 use Rattle.cg_bits.specs.Answers.{answer_in}
@@ -23,6 +19,8 @@ use Rattle.cg_bits.specs.Format.{cgb1}
 use Rattle.cg_bits.specs.Spelling.{AreBits, AreFirstBits}
 use Rattle.cg_bits.specs.Texts.{first_fault_text}
 use Rattle.cg_sim.specs.FirstMachine.{first_left}
+use Rattle.cg_inputs.specs.Answered.{Parsed, ReadBoth, ReadThen}
+use Rattle.cg_inputs.specs.Readings.{ReadsArch}
 use Rattle.cg_command_judge.specs.Emit.{RunsMapping}
 
 -- the interval and the stages of a configuration, and the number of bytes that are written
@@ -42,17 +40,18 @@ abbrev pub MigrateBits : Arch → Name → Name → Outcome → Result Config Bi
 MigrateBits A file out o (Ok C) = IsRewritten A C out o
 MigrateBits A file out o (Err f) = o ≡ malformed_of file (first_fault_text f)
 
--- given the result of parsing the architecture, which is read first: an architecture, or a fault
-abbrev pub MigrateBy : File → File → Name → Outcome → Result Arch TilesFault → Type 0
-MigrateBy arch file out o (Ok A) = MigrateBits A file.name out o (answer_in cgb1 A file.bytes)
-MigrateBy arch file out o (Err f) = o ≡ malformed_of arch.name (tiles_fault_text f)
+-- the architecture and then a configuration of it in the first format are read
+abbrev pub ReadsFirst : Arch → File → Result Config Outcome → Type 0
+ReadsFirst A file r = Parsed (λ a. answer_in cgb1 A file.bytes ≡ a) first_fault_text file.name r
 
--- the result of parsing the first file: an architecture, or a fault, of which only the loop may be chosen
-pub record IsMigrate (arch file : File) (out : Name) (o : Outcome) : Type 0 where
-  pub given : Result Arch TilesFault
-  pub is_given : tiles.IsAnswer arch.bytes given
-  pub no_memory : given ≢ Err fault.Memory
-  pub outcome : MigrateBy arch file out o given
+abbrev pub ReadsMigration : File → File → Result (Arch × Config) Outcome → Type 0
+ReadsMigration arch file r = ReadBoth (ReadsArch arch) (λ A. ReadsFirst A file) r
+
+abbrev pub IsMigration : Name → Arch × Config → Outcome → Type 0
+IsMigration out a o = IsRewritten a.0 a.1 out o
+
+abbrev pub IsMigrate : File → File → Name → Outcome → Type 0
+IsMigrate arch file out o = ReadThen (ReadsMigration arch file) (IsMigration out) o
 
 -- the files contain an architecture and a configuration of it in the first format
 pub record IsMigratable (arch file : File) : Type 0 where

@@ -1,20 +1,17 @@
 -- `verilog ARCH OUT`.
-use Rattle.std.specs.Prelude.{◌≡◌, ◌≢◌, [], ◌∷◌, length, Result, Ok, Err, codes, decimal}
+use Rattle.std.specs.Prelude.{◌≡◌, [], ◌∷◌, length, codes, decimal}
 use Rattle.cg_model.specs.Array.{Arch}
-use Rattle.cg_grid.specs.declared.fault.TilesFault.{TilesFault}
-use Rattle.cg_grid.specs.declared.fault.TilesFault.TheVariants as fault
-use Rattle.cg_grid.specs.Texts.{tiles_fault_text}
-use Rattle.cg_tiles.specs.Answer as tiles
 use Rattle.cg_tiles.specs.Answer.{AreValidBytes}
 use Rattle.cg_effects.specs.declared.outcome.Status.TheVariants.{Done}
 use Rattle.cg_files.specs.Held.{Holds, Appends}
 use Rattle.cg_effects.specs.Outcome.{Name, Bytes, File, Outcome, line_of, line_then}
 use Rattle.cg_effects.specs.Ends.{Moment}
-use Rattle.cg_effects.specs.Refusals.{malformed_of}
 use Rattle.cg_verilog.specs.Printed.{module_text}
 use Rattle.cg_netlist.specs.Graph.{IsNetGraph}
 use Rattle.cg_netlist.specs.Netlist.{NetGraph, netlist_of}
 use Rattle.cg_netlist.specs.Text.{module_of}
+use Rattle.cg_inputs.specs.Answered.{ReadThen}
+use Rattle.cg_inputs.specs.Readings.{ReadsArch}
 
 -- the numbers of nets and cells
 abbrev pub verilog_report : NetGraph → Bytes
@@ -33,16 +30,11 @@ netlisted A out = record {
   writes = record { name = out; bytes = verilog_text (netlist_of A) } ∷ [];
 }
 
-abbrev pub verilog_by : File → Name → Result Arch TilesFault → Outcome
-verilog_by file out (Ok A) = netlisted A out
-verilog_by file out (Err f) = malformed_of file.name (tiles_fault_text f)
+abbrev pub IsNetlisting : Name → Arch → Outcome → Type 0
+IsNetlisting out A o = o ≡ netlisted A out
 
--- the result of parsing the file: an architecture, or a fault, of which only the loop may be chosen
-pub record IsVerilog (file : File) (out : Name) (o : Outcome) : Type 0 where
-  pub given : Result Arch TilesFault
-  pub is_given : tiles.IsAnswer file.bytes given
-  pub no_memory : given ≢ Err fault.Memory
-  pub outcome : o ≡ verilog_by file out given
+abbrev pub IsVerilog : File → Name → Outcome → Type 0
+IsVerilog file out o = ReadThen (ReadsArch file) (IsNetlisting out) o
 
 -- Done: an architecture was read, the text of its netlist is held under the other name, and its counts were reported. The
 -- netlist is valid, so what is said of a netlist that is read holds of it

@@ -26,7 +26,7 @@ use Rattle.cg_inputs.proofs.Sound.{IsSound, judging, IsNamed}
 use Rattle.cg_inputs.proofs.Wholes.{whole, one_write}
 use Rattle.cg_inputs.proofs.Arrays.{sized}
 use Rattle.cg_inputs.proofs.Answered.{sound_answer, named_answer, unwritten_answer, same_answer, done_answer, some_answer, left_answer, writes_answer, not_done, not_no}
-use Rattle.cg_inputs.proofs.Mapped.{given_of, valid_given, IsValid, mapped_reading}
+use Rattle.cg_inputs.proofs.Mapped.{valid_given, IsValid, mapped_reading}
 use Rattle.cg_command_judge.proofs.Checked.{given_legal, no_violation, legal_without, hold_mapped, illegal_by}
 
 -- ---- what the bytes do
@@ -108,7 +108,7 @@ some_by out m (Some v) e valid = (reports No (illegal_report m.arch m.kernel v),
 pub some_emit : (arch kernel mapping : File) (out : Name) → (o : Outcome) × IsEmit arch kernel mapping out o
 some_emit arch kernel mapping out =
     some_answer (AreMapped arch kernel mapping) (IsEmission out) (mapped_reading arch kernel mapping)
-    (λ m given. some_by out m (violation m.arch m.kernel m.mapping) refl (valid_given arch.bytes kernel.bytes mapping.bytes m (given_of arch kernel mapping m given)))
+    (λ m given. some_by out m (violation m.arch m.kernel m.mapping) refl (valid_given arch.bytes kernel.bytes mapping.bytes m given))
 
 -- ---- what is left
 
@@ -142,14 +142,14 @@ module _ (arch kernel mapping out : Name) (f g h : File) (before after : Moment)
   pub emit_writes_run : (o : Outcome) → IsEmit f g h out o → FirstRunsRead arch kernel mapping before o.writes
   emit_writes_run o p =
       writes_answer (AreMapped f g h) (IsEmission out) (mapped_reading f g h) (FirstRunsRead arch kernel mapping before) tt o
-      (λ m given is. made_by m (violation m.arch m.kernel m.mapping) o refl (given_of f g h m given) is) p
+      (λ m given is. made_by m (violation m.arch m.kernel m.mapping) o refl given is) p
 
   pub emitted_left : (o : Outcome) → IsEmit f g h out o → o.status ≡ Done → Completed o before after Done → IsEmittedRun arch kernel mapping out before after
   emitted_left o p done c =
       left_answer (AreMapped f g h) (IsEmission out) (mapped_reading f g h) (IsEmittedRun arch kernel mapping out before after) o
-      (λ m given is. emitted_by m (violation m.arch m.kernel m.mapping) o refl (given_of f g h m given) is done c) p (not_done o done)
+      (λ m given is. emitted_by m (violation m.arch m.kernel m.mapping) o refl given is done c) p (not_done o done)
 
   pub unemitted_left : (o : Outcome) → IsEmit f g h out o → o.status ≡ No → Completed o before after No → IsIllegalCheck arch kernel mapping before after
   unemitted_left o p refused c =
       left_answer (AreMapped f g h) (IsEmission out) (mapped_reading f g h) (IsIllegalCheck arch kernel mapping before after) o
-      (λ m given is. unemitted_by m (violation m.arch m.kernel m.mapping) o refl (given_of f g h m given) is refused c) p (not_no o refused)
+      (λ m given is. unemitted_by m (violation m.arch m.kernel m.mapping) o refl given is refused c) p (not_no o refused)

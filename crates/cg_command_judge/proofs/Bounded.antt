@@ -18,7 +18,7 @@ use Rattle.cg_command_judge.specs.Bound.{IsBoundOf, IsBounded, IsPairInput, IsBe
 use Rattle.cg_inputs.proofs.Sound.{IsSound, plain}
 use Rattle.cg_inputs.proofs.Wholes.{whole}
 use Rattle.cg_inputs.proofs.Answered.{sound_answer, quiet_answer, same_answer, done_answer, some_answer, left_answer, not_done}
-use Rattle.cg_inputs.proofs.Paired.{given_pair, pair_is, valid_pair, pair_reading}
+use Rattle.cg_inputs.proofs.Paired.{pair_is, valid_pair, pair_reading}
 
 -- ---- status and writes
 
@@ -43,7 +43,7 @@ accepted_bound arch kernel o a b =
 
 pub some_bounding : (arch kernel : File) → (o : Outcome) × IsBoundOf arch kernel o
 some_bounding arch kernel = some_answer (ArePaired arch kernel) IsBounded (pair_reading arch kernel) (λ p given.
-    let (valid, good) = valid_pair arch.bytes kernel.bytes p (given_pair arch kernel p given) in
+    let (valid, good) = valid_pair arch.bytes kernel.bytes p given in
     let b = some_bound p.arch p.kernel valid good in
     (reports Done (bound_report p b.0), record { least = b.0; is_least = b.1; outcome = refl }))
 
@@ -62,13 +62,12 @@ below_forbidden A K None None b ii p l = absurd b
 module _ (arch kernel : Name) (f g : File) (before after : Moment) (arch_held : Holds before.held arch f.bytes) (kernel_held : Holds before.held kernel g.bytes) where
   left_by : (p : Pair) (o : Outcome) → ArePaired f g (Ok p) → IsBounded p o → o.status ≡ Done → Completed o before after Done → IsBoundRun arch kernel before after
   left_by p o given b done c =
-      let from = given_pair f g p given in
       record {
         pair = p;
-        read = record { arch_bytes = f.bytes; arch_held = arch_held; kernel_bytes = g.bytes; kernel_held = kernel_held; given = from };
+        read = record { arch_bytes = f.bytes; arch_held = arch_held; kernel_bytes = g.bytes; kernel_held = kernel_held; given = given };
         least = b.least;
         is_least = b.is_least;
-        excludes = λ ii some low M at legal. excluded p.arch p.kernel ii (valid_pair f.bytes g.bytes p from).1 (below_forbidden p.arch p.kernel b.least.mii b.least.below b.is_least ii some low) M at legal;
+        excludes = λ ii some low M at legal. excluded p.arch p.kernel ii (valid_pair f.bytes g.bytes p given).1 (below_forbidden p.arch p.kernel b.least.mii b.least.below b.is_least ii some low) M at legal;
         put = subst (λ report. Appends before.taken report after.taken) (ap (λ x. x.report) b.outcome) (whole o.status o.report before after done c.put);
       }
 

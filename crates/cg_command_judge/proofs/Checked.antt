@@ -15,7 +15,7 @@ use Rattle.cg_command_judge.specs.Check.{IsCheck, IsChecked, checked_by, illegal
 use Rattle.cg_inputs.proofs.Sound.{IsSound, judging}
 use Rattle.cg_inputs.proofs.Wholes.{whole}
 use Rattle.cg_inputs.proofs.Answered.{sound_answer, quiet_answer, same_answer, done_answer, some_answer, left_answer, not_done, not_no}
-use Rattle.cg_inputs.proofs.Mapped.{given_of, valid_given, IsValid, mapped_is, mapped_reading}
+use Rattle.cg_inputs.proofs.Mapped.{valid_given, IsValid, mapped_is, mapped_reading}
 
 -- ---- status and writes
 
@@ -116,9 +116,9 @@ module _ (arch kernel mapping : Name) (f g h : File) (before after : Moment) (ar
   pub legal_left : (o : Outcome) → IsCheck f g h o → o.status ≡ Done → Completed o before after Done → IsLegalCheck arch kernel mapping before after
   legal_left o p done c =
       left_answer (AreMapped f g h) IsChecked (mapped_reading f g h) (IsLegalCheck arch kernel mapping before after) o
-      (λ m given is. legal_by m (violation m.arch m.kernel m.mapping) o refl (given_of f g h m given) is done c) p (not_done o done)
+      (λ m given is. legal_by m (violation m.arch m.kernel m.mapping) o refl given is done c) p (not_done o done)
 
   pub illegal_left : (o : Outcome) → IsCheck f g h o → o.status ≡ No → Completed o before after No → IsIllegalCheck arch kernel mapping before after
   illegal_left o p refused c =
       left_answer (AreMapped f g h) IsChecked (mapped_reading f g h) (IsIllegalCheck arch kernel mapping before after) o
-      (λ m given is. illegal_if m (violation m.arch m.kernel m.mapping) o refl (given_of f g h m given) is refused c) p (not_no o refused)
+      (λ m given is. illegal_if m (violation m.arch m.kernel m.mapping) o refl given is refused c) p (not_no o refused)

@@ -20,7 +20,7 @@ use Rattle.cg_command_judge.specs.Why.{IsWhyOf, IsExplained, IsWhyRun}
 use Rattle.cg_inputs.proofs.Sound.{IsSound, plain}
 use Rattle.cg_inputs.proofs.Wholes.{whole}
 use Rattle.cg_inputs.proofs.Answered.{sound_answer, quiet_answer, same_answer, done_answer, some_answer, left_answer, not_done}
-use Rattle.cg_inputs.proofs.Paired.{given_pair, pair_is, valid_pair, pair_reading}
+use Rattle.cg_inputs.proofs.Paired.{pair_is, valid_pair, pair_reading}
 
 -- ---- status and writes
 
@@ -45,7 +45,7 @@ accepted_why arch kernel o a w =
 
 pub some_whying : (arch kernel : File) → (o : Outcome) × IsWhyOf arch kernel o
 some_whying arch kernel = some_answer (ArePaired arch kernel) IsExplained (pair_reading arch kernel) (λ p given.
-    let (valid, good) = valid_pair arch.bytes kernel.bytes p (given_pair arch kernel p given) in
+    let (valid, good) = valid_pair arch.bytes kernel.bytes p given in
     let (w, is) = some_why p.arch p.kernel valid good in
     (reports Done (why_text p.arch p.kernel w), record { why = w; is_why = is; outcome = refl }))
 
@@ -67,13 +67,12 @@ module _ (A : Arch) (K : Kernel) (M : Mapping) (good : IsKernel K) (legal : IsLe
 module _ (arch kernel : Name) (f g : File) (before after : Moment) (arch_held : Holds before.held arch f.bytes) (kernel_held : Holds before.held kernel g.bytes) where
   left_by : (p : Pair) (o : Outcome) → ArePaired f g (Ok p) → IsExplained p o → o.status ≡ Done → Completed o before after Done → IsWhyRun arch kernel before after
   left_by p o given e done c =
-      let from = given_pair f g p given in
       record {
         pair = p;
-        read = record { arch_bytes = f.bytes; arch_held = arch_held; kernel_bytes = g.bytes; kernel_held = kernel_held; given = from };
+        read = record { arch_bytes = f.bytes; arch_held = arch_held; kernel_bytes = g.bytes; kernel_held = kernel_held; given = given };
         why = e.why;
         is_why = e.is_why;
-        excludes = λ M low legal. not_below p.arch p.kernel M (valid_pair f.bytes g.bytes p from).1 legal e.why e.is_why low;
+        excludes = λ M low legal. not_below p.arch p.kernel M (valid_pair f.bytes g.bytes p given).1 legal e.why e.is_why low;
         put = subst (λ report. Appends before.taken report after.taken) (ap (λ x. x.report) e.outcome) (whole o.status o.report before after done c.put);
       }
 

@@ -10,7 +10,7 @@ use Rattle.cg_inputs.specs.Sources.{AreGiven, AreMapped, HoldMapped}
 use Rattle.cg_inputs.proofs.Sound.{IsSound, judging}
 use Rattle.cg_inputs.proofs.Wholes.{whole}
 use Rattle.cg_inputs.proofs.Answered.{sound_answer, quiet_answer, same_answer, done_answer, some_answer, left_answer, not_done, not_no}
-use Rattle.cg_inputs.proofs.Mapped.{given_of, valid_given, IsValid, mapped_reading}
+use Rattle.cg_inputs.proofs.Mapped.{valid_given, IsValid, mapped_reading}
 use Rattle.cg_command_judge.specs.Check.{IsLegalInput, IsLegalCheck}
 use Rattle.cg_command_judge.proofs.Checked.{given_legal, hold_mapped}
 use Rattle.cg_violations.specs.Violations.{violations_of, AreAll}
@@ -96,9 +96,9 @@ module _ (arch kernel mapping : Name) (f g h : File) (before after : Moment) (ar
   pub unviolated_left : (o : Outcome) → IsViolations f g h o → o.status ≡ Done → Completed o before after Done → IsLegalCheck arch kernel mapping before after
   unviolated_left o p done c =
       left_answer (AreMapped f g h) IsListed (mapped_reading f g h) (IsLegalCheck arch kernel mapping before after) o
-      (λ m given is. legal_by m (violations_of m.arch m.kernel m.mapping) o refl (given_of f g h m given) is done c) p (not_done o done)
+      (λ m given is. legal_by m (violations_of m.arch m.kernel m.mapping) o refl given is done c) p (not_done o done)
 
   pub violated_left : (o : Outcome) → IsViolations f g h o → o.status ≡ No → Completed o before after No → IsViolatedRun arch kernel mapping before after
   violated_left o p refused c =
       left_answer (AreMapped f g h) IsListed (mapped_reading f g h) (IsViolatedRun arch kernel mapping before after) o
-      (λ m given is. violated_by m (violations_of m.arch m.kernel m.mapping) o refl (given_of f g h m given) is refused c) p (not_no o refused)
+      (λ m given is. violated_by m (violations_of m.arch m.kernel m.mapping) o refl given is refused c) p (not_no o refused)

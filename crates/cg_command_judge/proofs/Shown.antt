@@ -12,7 +12,7 @@ use Rattle.cg_inputs.specs.Sources.{AreGiven, AreMapped}
 use Rattle.cg_inputs.proofs.Sound.{IsSound, judging, IsNamed}
 use Rattle.cg_inputs.proofs.Wholes.{whole, one_write}
 use Rattle.cg_inputs.proofs.Answered.{sound_answer, named_answer, unwritten_answer, same_answer, done_answer, some_answer, left_answer, not_done, not_no}
-use Rattle.cg_inputs.proofs.Mapped.{given_of, valid_given, IsValid, mapped_reading}
+use Rattle.cg_inputs.proofs.Mapped.{valid_given, IsValid, mapped_reading}
 use Rattle.cg_command_judge.specs.Check.{illegal_report, IsLegalInput, IsIllegalCheck}
 use Rattle.cg_command_judge.proofs.Checked.{given_legal, no_violation, legal_without, hold_mapped, illegal_by}
 use Rattle.cg_occupancy.proofs.Shown.{are_exact}
@@ -83,7 +83,7 @@ some_by outs m (Some v) e valid = (reports No (illegal_report m.arch m.kernel v)
 pub some_show : (arch kernel mapping : File) (outs : List Name) → (o : Outcome) × IsShow arch kernel mapping outs o
 some_show arch kernel mapping outs =
     some_answer (AreMapped arch kernel mapping) (IsShowing outs) (mapped_reading arch kernel mapping)
-    (λ m given. some_by outs m (violation m.arch m.kernel m.mapping) refl (valid_given arch.bytes kernel.bytes mapping.bytes m (given_of arch kernel mapping m given)))
+    (λ m given. some_by outs m (violation m.arch m.kernel m.mapping) refl (valid_given arch.bytes kernel.bytes mapping.bytes m given))
 
 -- ---- what is left
 
@@ -115,9 +115,9 @@ module _ (arch kernel mapping : Name) (outs : List Name) (f g h : File) (before 
   pub shown_left : (o : Outcome) → IsShow f g h outs o → o.status ≡ Done → Completed o before after Done → IsShownRun arch kernel mapping outs before after
   shown_left o p done c =
       left_answer (AreMapped f g h) (IsShowing outs) (mapped_reading f g h) (IsShownRun arch kernel mapping outs before after) o
-      (λ m given is. shown_by m (violation m.arch m.kernel m.mapping) o refl (given_of f g h m given) is done c) p (not_done o done)
+      (λ m given is. shown_by m (violation m.arch m.kernel m.mapping) o refl given is done c) p (not_done o done)
 
   pub unshown_left : (o : Outcome) → IsShow f g h outs o → o.status ≡ No → Completed o before after No → IsIllegalCheck arch kernel mapping before after
   unshown_left o p refused c =
       left_answer (AreMapped f g h) (IsShowing outs) (mapped_reading f g h) (IsIllegalCheck arch kernel mapping before after) o
-      (λ m given is. unshown_by m (violation m.arch m.kernel m.mapping) o refl (given_of f g h m given) is refused c) p (not_no o refused)
+      (λ m given is. unshown_by m (violation m.arch m.kernel m.mapping) o refl given is refused c) p (not_no o refused)

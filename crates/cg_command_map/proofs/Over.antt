@@ -1,5 +1,5 @@
 -- What holds of a search over two files, where it holds of what comes of the pair that they give.
-use Rattle.std.proofs.Common.{◌≡◌, Bool, true, false, List, [], Option, Some, None, Result, Ok, Err, refl, sym, ◌∙◌, ap, subst, inr, arith}
+use Rattle.std.proofs.Common.{◌≡◌, Bool, true, false, List, [], Option, Some, None, Result, Ok, Err, refl, sym, ◌∙◌, ap, subst, inl, inr, arith}
 use Rattle.std.specs.Prelude.{◌≤◌, ℕ, IfSome}
 use Rattle.std.proofs.lemmas.Bool.{ltb-false}
 use Rattle.cg_model.specs.Array.{Arch, IsArch}
@@ -17,11 +17,10 @@ use Rattle.cg_cause.proofs.Allowed.{ends_weaker}
 use Rattle.cg_tiles.specs.Answer.{AreValidBytes}
 use Rattle.cg_kernel.specs.Answer as kernels
 use Rattle.cg_inputs.specs.Refused.{RefusesArch, RefusesKernel}
-use Rattle.cg_inputs.specs.Sources.{Pair, ArePaired, GivesPair, pair_by}
+use Rattle.cg_inputs.specs.Sources.{Pair, ArePaired, GivesPair}
 use Rattle.cg_inputs.proofs.Sound.{IsSound, searching, IsNamed}
 use Rattle.cg_inputs.proofs.Refusals.{IsRefusal, AreRefused, IsAlike, equal, refusals, sound_refusal}
-use Rattle.cg_inputs.proofs.Paired as paired
-use Rattle.cg_inputs.proofs.Paired.{refused_pair, given_pair, pair_is, some_paired, valid_pair}
+use Rattle.cg_inputs.proofs.Paired.{pair_is, pair_reading, valid_pair}
 use Rattle.cg_command_map.specs.Searches.{IsWithin, IsOverPair, IsSearchOver, is_above, above_contexts}
 
 -- an interval that isn't above the contexts may be searched
@@ -44,7 +43,7 @@ module _ (defines : Pair → Outcome → Type 0) (s : Request) (arch kernel : Fi
   sound_by each (Err x) o r e = subst (IsSound searching) (sym e) (sound_refusal searching x refl r)
 
   pub sound_over : ((p : Pair) (o : Outcome) → defines p o → IsSound searching o) → (o : Outcome) → IsSearchOver defines s arch kernel o → IsSound searching o
-  sound_over each o e = sound_by each e.pair o (refused_pair arch kernel e.pair e.given) e.outcome
+  sound_over each o e = sound_by each e.pair o ((pair_reading arch kernel).refused e.pair e.given) e.outcome
 
   named_within : (outs : List Name) → ((p : Pair) (o : Outcome) → defines p o → IsNamed outs o) → (p : Pair) (b : Bool) (o : Outcome) → IsWithin defines arch.name p b o → IsNamed outs o
   named_within outs each p true o e = inr (ap (λ x. x.writes) e)
@@ -55,7 +54,7 @@ module _ (defines : Pair → Outcome → Type 0) (s : Request) (arch kernel : Fi
   named_by outs each (Err x) o r e = inr (ap (λ z. z.writes) e ∙ r.quiet)
 
   pub named_over : (outs : List Name) → ((p : Pair) (o : Outcome) → defines p o → IsNamed outs o) → (o : Outcome) → IsSearchOver defines s arch kernel o → IsNamed outs o
-  named_over outs each o e = named_by outs each e.pair o (refused_pair arch kernel e.pair e.given) e.outcome
+  named_over outs each o e = named_by outs each e.pair o ((pair_reading arch kernel).refused e.pair e.given) e.outcome
 
   -- ---- by the readers of both files
 
@@ -67,7 +66,7 @@ module _ (defines : Pair → Outcome → Type 0) (s : Request) (arch kernel : Fi
         (λ o t. record {
           range = range;
           pair = Err o;
-          given = record { given = Err t.fault; is_given = t.is_fault; no_memory = λ e. t.no_memory (cc); pair_is = ap (λ z. Err z) t.outcome };
+          given = inl (t.fault, (t.is_fault, t.no_memory), t.outcome);
           outcome = refl;
         })
 
@@ -79,7 +78,7 @@ module _ (defines : Pair → Outcome → Type 0) (s : Request) (arch kernel : Fi
           (λ o t. record {
             range = range;
             pair = Err o;
-            given = record { given = Ok A; is_given = valid; no_memory = λ e. absurd (cc); pair_is = ap (λ z. Err z) t.outcome ∙ sym (ap (pair_by A kernel.name) t.is_fault) };
+            given = inr (A, valid, (t.fault, t.is_fault, t.outcome));
             outcome = refl;
           })
 
@@ -88,7 +87,7 @@ module _ (defines : Pair → Outcome → Type 0) (s : Request) (arch kernel : Fi
       pair_given K answer o within = record {
         range = range;
         pair = Ok (record { arch = A; kernel = K });
-        given = record { given = Ok A; is_given = valid; no_memory = λ e. absurd (cc); pair_is = sym (ap (pair_by A kernel.name) answer) };
+        given = record { arch_is = valid; kernel_is = answer };
         outcome = within;
       }
 
@@ -104,7 +103,7 @@ module _ (defines : Pair → Outcome → Type 0) (s : Request) (arch kernel : Fi
 
       agree_pair : (pair : Result Pair Outcome) (x y : Outcome) → ArePaired arch kernel pair → IsOverPair defines s.ii arch.name pair x → IsOverPair defines s.ii arch.name pair y → Agree x.status y.status
       agree_pair (Ok p) x y given f g =
-          let (valid, good) = valid_pair arch.bytes kernel.bytes p (given_pair arch kernel p given) in
+          let (valid, good) = valid_pair arch.bytes kernel.bytes p given in
           agree_within p (is_above s.ii p.arch) refl valid good x y f g
       agree_pair (Err o) x y given f g = equals x.status y.status (ap (λ z. z.status) (f ∙ sym g))
 
@@ -120,8 +119,8 @@ module _ (defines : Pair → Outcome → Type 0) (s : Request) (arch kernel : Fi
 
       pub agree_over : (x y : Outcome) → IsSearchOver defines s arch kernel x → IsSearchOver defines s arch kernel y → Agree x.status y.status
       agree_over x y f g =
-          agree_by f.pair g.pair x y g.given (refused_pair arch kernel f.pair f.given) (refused_pair arch kernel g.pair g.given)
-          (paired.alike arch kernel f.pair g.pair f.given g.given) f.outcome g.outcome
+          agree_by f.pair g.pair x y g.given ((pair_reading arch kernel).refused f.pair f.given) ((pair_reading arch kernel).refused g.pair g.given)
+          ((pair_reading arch kernel).alike f.pair g.pair f.given g.given) f.outcome g.outcome
 
   -- ---- what is accepted
 
@@ -148,13 +147,13 @@ module _ (defines : Pair → Outcome → Type 0) (s : Request) (arch kernel : Fi
   some_by : ((p : Pair) → IsArch p.arch → IsKernel p.kernel → IsAsked p.arch s.ii → (o : Outcome) × defines p o)
       → (pair : Result Pair Outcome) → IsInRange s → ArePaired arch kernel pair → (o : Outcome) × IsOverPair defines s.ii arch.name pair o
   some_by each (Ok p) range given =
-      let (valid, good) = valid_pair arch.bytes kernel.bytes p (given_pair arch kernel p given) in
+      let (valid, good) = valid_pair arch.bytes kernel.bytes p given in
       some_within each p (is_above s.ii p.arch) range valid good refl
   some_by each (Err e) range given = (e, refl)
 
   pub some_over : ((p : Pair) → IsArch p.arch → IsKernel p.kernel → IsAsked p.arch s.ii → (o : Outcome) × defines p o) → IsInRange s → (o : Outcome) × IsSearchOver defines s arch kernel o
   some_over each range =
-      let (pair, given) = some_paired arch kernel in
+      let (pair, given) = (pair_reading arch kernel).some in
       let (o, f) = some_by each pair range given in
       (o, record { range = range; pair = pair; given = given; outcome = f })
 
@@ -169,8 +168,8 @@ module _ (defines : Pair → Outcome → Type 0) (s : Request) (arch kernel : Fi
   left_by : {X : Type 0} (status : Status) (before after : Moment) → (status ≡ Malformed → ⊥)
       → ((p : Pair) → GivesPair arch.bytes kernel.bytes p → IsAsked p.arch s.ii → (o : Outcome) → defines p o → o.status ≡ status → Completed o before after status → X)
       → (pair : Result Pair Outcome) (o : Outcome) → IsInRange s → ArePaired arch kernel pair → IsOverPair defines s.ii arch.name pair o → o.status ≡ status → Completed o before after status → X
-  left_by status before after other each (Ok p) o range given is at done = left_within status before after other each p (is_above s.ii p.arch) o refl range (given_pair arch kernel p given) is at done
-  left_by status before after other each (Err e) o range given is at done = absurd (let r = refused_pair arch kernel (Err e) given in other (sym at ∙ ap (λ x. x.status) is ∙ r.status))
+  left_by status before after other each (Ok p) o range given is at done = left_within status before after other each p (is_above s.ii p.arch) o refl range given is at done
+  left_by status before after other each (Err e) o range given is at done = absurd (let r = (pair_reading arch kernel).refused (Err e) given in other (sym at ∙ ap (λ x. x.status) is ∙ r.status))
 
   -- what is left at a status that no refusal of the files has
   pub left_over : {X : Type 0} (status : Status) (before after : Moment) → (status ≡ Malformed → ⊥)
@@ -186,8 +185,8 @@ module _ (defines : Pair → Outcome → Type 0) (s : Request) (arch kernel : Fi
 
   made_by : (P : List File → Type 0) → P [] → ((p : Pair) → GivesPair arch.bytes kernel.bytes p → IsAsked p.arch s.ii → (o : Outcome) → defines p o → P o.writes)
       → (pair : Result Pair Outcome) (o : Outcome) → IsInRange s → ArePaired arch kernel pair → IsOverPair defines s.ii arch.name pair o → P o.writes
-  made_by P none each (Ok p) o range given is = made_within P none p (each p (given_pair arch kernel p given)) (is_above s.ii p.arch) o refl range is
-  made_by P none each (Err e) o range given is = let r = refused_pair arch kernel (Err e) given in subst P (sym (ap (λ x. x.writes) is ∙ r.quiet)) none
+  made_by P none each (Ok p) o range given is = made_within P none p (each p given) (is_above s.ii p.arch) o refl range is
+  made_by P none each (Err e) o range given is = let r = (pair_reading arch kernel).refused (Err e) given in subst P (sym (ap (λ x. x.writes) is ∙ r.quiet)) none
 
   -- what holds of no writes and of those that are defined for each pair that the files may give
   pub made_over : (P : List File → Type 0) → P [] → ((p : Pair) → GivesPair arch.bytes kernel.bytes p → IsAsked p.arch s.ii → (o : Outcome) → defines p o → P o.writes)

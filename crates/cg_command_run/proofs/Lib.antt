@@ -5,8 +5,6 @@ pub mod TurnsAnswers
 pub mod OnImage
 pub mod FlatAnswers
 pub mod RunAnswers
-pub mod Allowed
-mod NetlistAllowed
 pub mod NetlistAnswers
 pub mod Benched
 pub mod Trials

@@ -1,5 +1,5 @@
 -- `turns KERNEL TURNS`.
-use Rattle.std.specs.Prelude.{◌≡◌, ℕ, ◌&&◌, Bool, eqb, List, [], ◌∷◌, ◌++◌, Result, Ok, Err, slice_index_or, replicate, flat_map, if◌then◌else◌, codes, decimal}
+use Rattle.std.specs.Prelude.{◌≡◌, ℕ, ◌&&◌, Bool, eqb, List, [], ◌∷◌, ◌++◌, Ok, slice_index_or, replicate, flat_map, if◌then◌else◌, codes, decimal}
 use Rattle.std.specs.List.{list_any, range_with_len}
 use Rattle.cg_word.specs.Word.{is_output}
 use Rattle.cg_model.specs.Kernel.{Kernel}
@@ -9,10 +9,10 @@ use Rattle.cg_effects.specs.declared.outcome.Status.TheVariants.{Done}
 use Rattle.cg_files.specs.Held.{Holds, Appends}
 use Rattle.cg_effects.specs.Outcome.{Name, Bytes, File, Outcome}
 use Rattle.cg_effects.specs.Ends.{Moment}
-use Rattle.cg_kernel.specs.declared.fault.KernelFault.{KernelFault}
 use Rattle.cg_kernel.specs.Answer.{answer_of}
-use Rattle.cg_effects.specs.Refusals.{reports, malformed_of}
-use Rattle.cg_kernel.specs.Texts.{kernel_fault_text}
+use Rattle.cg_effects.specs.Refusals.{reports}
+use Rattle.cg_inputs.specs.Answered.{ReadThen}
+use Rattle.cg_inputs.specs.Readings.{ReadsKernel}
 
 -- some node gives output to the port
 abbrev pub outputs_to : Kernel → ℕ → Bool
@@ -43,13 +43,11 @@ blank = record { memory = []; streams = replicate 16 [] }
 abbrev pub turned : ℕ → Kernel → Outcome
 turned n K = reports Done (streams_report K (turns_left K n blank).image.streams)
 
-abbrev pub turns_by : ℕ → File → Result Kernel KernelFault → Outcome
-turns_by n file (Ok K) = turned n K
-turns_by n file (Err f) = malformed_of file.name (kernel_fault_text f)
+abbrev pub IsTurning : ℕ → Kernel → Outcome → Type 0
+IsTurning n K o = o ≡ turned n K
 
--- what the command defines for the file
-unfoldable pub turns_of : ℕ → File → Outcome
-turns_of n file = turns_by n file (answer_of file.bytes)
+abbrev pub IsTurns : ℕ → File → Outcome → Type 0
+IsTurns n file o = ReadThen (ReadsKernel file) (IsTurning n) o
 
 -- Done: a kernel was read, and the words that its iterations send to each of its output ports were reported
 pub record IsTurned (n : ℕ) (file : Name) (before after : Moment) : Type 0 where

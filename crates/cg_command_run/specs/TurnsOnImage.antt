@@ -1,5 +1,5 @@
 -- `turns KERNEL TURNS IN OUT`.
-use Rattle.std.specs.Prelude.{◌≡◌, ℕ, [], ◌∷◌, Option, Some, None, Result, Ok, Err, codes, decimal}
+use Rattle.std.specs.Prelude.{◌≡◌, ℕ, [], ◌∷◌, Option, Some, None, Result, Ok, codes, decimal}
 use Rattle.cg_model.specs.Kernel.{Kernel, node}
 use Rattle.cg_model.specs.Work.{Image}
 use Rattle.cg_model.specs.Turns.{turns_left}
@@ -9,15 +9,12 @@ use Rattle.cg_effects.specs.declared.outcome.Status.TheVariants.{Done, No}
 use Rattle.cg_files.specs.Held.{Holds, Appends}
 use Rattle.cg_effects.specs.Outcome.{Name, Bytes, File, Outcome, line_of, line_then}
 use Rattle.cg_effects.specs.Ends.{Moment, IsPut}
-use Rattle.cg_kernel.specs.declared.fault.KernelFault.{KernelFault}
 use Rattle.cg_kernel.specs.Answer as kernels
-use Rattle.cg_pad.specs.declared.fault.ImageFault.{ImageFault}
 use Rattle.cg_pad.specs.Bytes as images
 use Rattle.cg_turns.specs.declared.pair.UnorderedPair.{UnorderedPair}
 use Rattle.cg_turns.specs.Pairs.{IsPairOf}
-use Rattle.cg_effects.specs.Refusals.{malformed_of}
-use Rattle.cg_kernel.specs.Texts.{kernel_fault_text}
-use Rattle.cg_pad.specs.Texts.{image_fault_text}
+use Rattle.cg_inputs.specs.Answered.{ReadBoth, ReadThen}
+use Rattle.cg_inputs.specs.Readings.{ReadsImage, ReadsKernel}
 
 -- the pair that no edges order: node and iteration of the earlier access, and then of the later
 abbrev pub pair_line : Kernel → Option UnorderedPair → Bytes
@@ -46,18 +43,15 @@ pub record IsImaged (n : ℕ) (K : Kernel) (image : Image) (out : Name) (o : Out
   pub first : IsPairOf K n image pair
   pub outcome : o ≡ imaged n K image out pair
 
--- after the kernel the image is parsed
-abbrev pub IsOnImage : ℕ → Kernel → File → Name → Result Image ImageFault → Outcome → Type 0
-IsOnImage n K input out (Ok image) o = IsImaged n K image out o
-IsOnImage n K input out (Err f) o = o ≡ malformed_of input.name (image_fault_text f)
+-- the kernel and then the image are read
+abbrev pub ReadsTurns : File → File → Result (Kernel × Image) Outcome → Type 0
+ReadsTurns file input r = ReadBoth (ReadsKernel file) (λ K. ReadsImage input) r
 
-abbrev pub IsOnKernel : ℕ → File → File → Name → Result Kernel KernelFault → Outcome → Type 0
-IsOnKernel n file input out (Ok K) o = IsOnImage n K input out (images.answer_of input.bytes) o
-IsOnKernel n file input out (Err f) o = o ≡ malformed_of file.name (kernel_fault_text f)
+abbrev pub IsImaging : ℕ → Name → Kernel × Image → Outcome → Type 0
+IsImaging n out s o = IsImaged n s.0 s.1 out o
 
--- what the command defines for the files
-unfoldable pub IsTurnsOnImage : ℕ → File → File → Name → Outcome → Type 0
-IsTurnsOnImage n file input out o = IsOnKernel n file input out (kernels.answer_of file.bytes) o
+abbrev pub IsTurnsOnImage : ℕ → File → File → Name → Outcome → Type 0
+IsTurnsOnImage n file input out o = ReadThen (ReadsTurns file input) (IsImaging n out) o
 
 -- a kernel and an image were read, and the image that the iterations leave is held under the last name
 pub record IsRunOnImage (n : ℕ) (file input out : Name) (before after : Moment) : Type 0 where

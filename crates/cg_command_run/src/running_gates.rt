@@ -4,8 +4,9 @@ ghost use Rattle.cg_model.specs.Canonical.{IsCanonical};
 ghost use Rattle.cg_model.specs.Limits.{most_turns};
 ghost use Rattle.cg_cause.specs.Allowed.{Allows};
 ghost use Rattle.cg_effects.specs.Outcome.{file_of};
-ghost use Rattle.cg_pad.specs.Bytes as images;
-ghost use Rattle.cg_command_run.specs.Netlist.{IsNetlistRun, OfImage, gates_ran, run_by_size};
+ghost use Rattle.cg_inputs.specs.Answered.{ReadThen};
+ghost use Rattle.cg_command_run.specs.Run.{run_by_size};
+ghost use Rattle.cg_command_run.specs.Netlist.{IsNetlistRun, ReadsOn, RunsGates, gates_ran};
 
 use crate::reading_netlist::{gates_in, netlist_in};
 use crate::simulating::{left_outcome, too_large};
@@ -16,7 +17,7 @@ use cg_command::ArrayCall;
 use cg_datapath::RunEnd;
 use cg_effects::{File, Outcome};
 use cg_gates_run::{GateRun, Gates};
-use cg_inputs::{arch_in, config_in, image_in};
+use cg_inputs::{array_in, image_in};
 use cg_pad::Image;
 use std::alloc::Global;
 
@@ -29,9 +30,8 @@ pub fn run_netlist(
     requires { call.now.turns ≤ most_turns }
     ensures { Allows (IsNetlistRun call.now.turns (file_of call.now.arch.now) (file_of call.now.bits.now) (file_of call.now.image.now) (file_of netlist.now) call.now.out.now) result }
 {
-    let arch = arch_in(alloc, call.arch)?;
-    let config = config_in(alloc, &arch, call.bits)?;
-    run_configured(alloc, call, netlist, &arch, &config)
+    let array = array_in(alloc, call.arch, call.bits)?;
+    run_configured(alloc, call, netlist, &array.arch, &array.config)
 }
 
 /// Returns the outcome of the netlist in `netlist` over `arch` under `config`, which were read from files of `call`.
@@ -44,8 +44,8 @@ fn run_configured(
 ) -> Result<Outcome, Stop>
     requires turns { call.now.turns ≤ most_turns }
     requires canonical { IsCanonical arch.now config.now }
-    ensures { Allows (λ o. OfImage call.now.turns arch.now config.now (file_of call.now.image.now).name (file_of netlist.now) call.now.out.now o
-        (images.answer_of (file_of call.now.image.now).bytes)) result }
+    ensures { Allows (ReadThen (ReadsOn (file_of call.now.image.now) (file_of netlist.now) arch.now)
+        (λ s. RunsGates call.now.turns (file_of call.now.image.now).name call.now.out.now ((arch.now, config.now), s))) result }
 {
     let image = image_in(alloc, call.image)?;
     let graph = netlist_in(alloc, netlist)?;
@@ -64,7 +64,8 @@ fn run_gates(
 ) -> Result<Outcome, Stop>
     requires turns { call.now.turns ≤ most_turns }
     requires canonical { IsCanonical gates.now.arch config.now }
-    ensures { Allows (λ o. o ≡ run_by_size call.now.turns gates.now.arch gates.now.netlist config.now image.now (file_of call.now.image.now).name call.now.out.now) result }
+    ensures { Allows (λ o. o ≡ run_by_size gates.now.arch (file_of call.now.image.now).name image.now
+        (gates_ran call.now.turns gates.now.arch gates.now.netlist config.now image.now call.now.out.now)) result }
 {
     match GateRun::new(alloc, gates, config, call.turns, image) {
         Ok(run) => gates_ran(alloc, run, call.out),

@@ -7,21 +7,22 @@ ghost use Rattle.cg_cause.specs.Allowed.{Allows, EndsBy};
 ghost use Rattle.cg_effects.specs.Outcome.{file_of, outcome_of};
 ghost use Rattle.cg_effects.specs.Refusals.{malformed_of};
 ghost use Rattle.cg_effects.specs.declared.outcome.Status.TheVariants as status;
-ghost use Rattle.cg_pad.specs.Bytes as images;
 ghost use Rattle.cg_pad.specs.Bytes.{IsStorable};
 ghost use Rattle.cg_datapath.specs.Texts.{sim_fault_text};
+ghost use Rattle.cg_inputs.specs.Answered.{ReadThen};
+ghost use Rattle.cg_inputs.specs.Readings.{ReadsImage};
 ghost use Rattle.cg_command_run.specs.Run as spec;
-ghost use Rattle.cg_command_run.specs.Run.{IsRun, array_by_image, left_outcome, ran, run_report};
+ghost use Rattle.cg_command_run.specs.Run.{IsRun, RunsFrom, left_outcome, ran, run_report};
 
 use cg_arch::Arch;
 use cg_bits::Config;
 use cg_cause::{Cause, Stop};
 use cg_command::ArrayCall;
-use cg_datapath::RunEnd;
+use cg_datapath::{RunEnd, SimFault};
 use cg_effects::{File, Outcome, Status};
-use cg_inputs::{arch_in, config_in, image_in};
+use cg_history::run as run_array;
+use cg_inputs::{array_in, image_in};
 use cg_pad::{Image, write_image};
-use cg_sim::{Sim, SimFault};
 use std::alloc::{AllocError, Global};
 
 /// Returns the outcome of `run`, called by `call`: the image that the array leaves, and the report on the run.
@@ -29,9 +30,8 @@ pub fn run(alloc: Global, call: &ArrayCall<&File, &str>) -> Result<Outcome, Stop
     requires { call.now.turns ≤ most_turns }
     ensures { Allows (IsRun call.now.turns (file_of call.now.arch.now) (file_of call.now.bits.now) (file_of call.now.image.now) call.now.out.now) result }
 {
-    let arch = arch_in(alloc, call.arch)?;
-    let config = config_in(alloc, &arch, call.bits)?;
-    run_on(alloc, call, &arch, &config)
+    let array = array_in(alloc, call.arch, call.bits)?;
+    run_on(alloc, call, &array.arch, &array.config)
 }
 
 /// Returns the outcome of `run`, called by `call`, on `arch` under `config`, which were read from its files.
@@ -43,8 +43,8 @@ fn run_on(
 ) -> Result<Outcome, Stop>
     requires turns { call.now.turns ≤ most_turns }
     requires canonical { IsCanonical arch.now config.now }
-    ensures { Allows (λ o. o ≡ array_by_image (ran call.now.turns call.now.out.now) arch.now config.now (file_of call.now.image.now).name
-        (images.answer_of (file_of call.now.image.now).bytes)) result }
+    ensures { Allows (ReadThen (ReadsImage (file_of call.now.image.now))
+        (RunsFrom (ran call.now.turns call.now.out.now) (file_of call.now.image.now).name arch.now config.now)) result }
 {
     let image = image_in(alloc, call.image)?;
     let end = end_of(alloc, call, arch, config, &image)?;
@@ -69,8 +69,8 @@ pub(crate) fn end_of(
     ensures large { IfErr result (EndsBy (λ o. (arch.now.memory < length image.now.memory)
         × (o ≡ spec.too_large (file_of call.now.image.now).name image.now))) }
 {
-    match Sim::new(alloc, arch, config, call.turns, image) {
-        Ok(sim) => Ok(run_end(sim)),
+    match run_array(alloc, arch, config, call.turns, image) {
+        Ok(end) => Ok(end),
         Err(fault) => Err(too_large(alloc, fault, call.image)),
     }
 }
@@ -86,25 +86,6 @@ pub(crate) fn too_large(alloc: Global, fault: SimFault, input: &File) -> Stop
         SimFault::Memory => Stop::Memory,
         SimFault::TooManyTurns(_) => unreachable!(),
         SimFault::ImageTooLarge(_) => Stop::refused(alloc, input, Cause::Run(fault)),
-    }
-}
-
-/// Runs all cycles of `sim`, and returns the end of the run.
-fn run_end(sim: Sim<'_, Config>) -> RunEnd
-    requires { sim.done ≡ 0 }
-    ensures cycles { result.cycles ≡ cycles sim.entry.config sim.entry.n }
-    ensures left { record { image = result.image; outside = result.outside } ≡ machine_left sim.entry.arch sim.entry.config sim.entry.n sim.entry.image }
-    ensures storable { IsStorable result.image }
-{
-    let mut sim = sim;
-    let cycles = sim.left();
-    sim.finish();
-    let outside = sim.outside();
-    let image = sim.into_image();
-    RunEnd {
-        cycles,
-        image,
-        outside,
     }
 }
 

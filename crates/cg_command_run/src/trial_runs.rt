@@ -13,9 +13,10 @@ ghost use Rattle.cg_command_run.specs.Report.{trial_turns};
 
 use cg_arch::Arch;
 use cg_check::LegalMapping;
+use cg_datapath::SimFault;
+use cg_history::run;
 use cg_model::Kernel;
 use cg_pad::{Image, write_image};
-use cg_sim::{Sim, SimFault};
 use cg_turns::{TurnsDone, TurnsFault, run_turns};
 use cg_view::ConfigView;
 use sha2::{Digest, Sha256};
@@ -64,8 +65,8 @@ fn config_digest(
     requires fits { length image.now.memory ≤ arch.now.memory }
     ensures { IfOk result (λ s. string_bytes s ≡ spec.image_digest (machine_left arch.now config.now trial_turns image.now).image) }
 {
-    match Sim::new(alloc, arch, config, TURNS, image) {
-        Ok(sim) => left_digest(alloc, sim),
+    match run(alloc, arch, config, TURNS, image) {
+        Ok(end) => image_digest(alloc, &end.image),
         Err(fault) => Err(want_of_run(fault)),
     }
 }
@@ -81,18 +82,6 @@ fn want_of_run(fault: SimFault) -> AllocError
         SimFault::TooManyTurns(_) => unreachable!(),
         SimFault::ImageTooLarge(_) => unreachable!(),
     }
-}
-
-/// Runs all cycles of `sim`, and returns the digest of the image that is left.
-fn left_digest(alloc: Global, sim: Sim<'_, ConfigView<'_>>) -> Result<String, AllocError>
-    requires { sim.done ≡ 0 }
-    ensures { IfOk result (λ s. string_bytes s
-        ≡ spec.image_digest (machine_left sim.entry.arch sim.entry.config sim.entry.n sim.entry.image).image) }
-{
-    let mut sim = sim;
-    sim.finish();
-    let image = sim.into_image();
-    image_digest(alloc, &image)
 }
 
 /// Runs the iterations of the kernel of `mapping`, one after the other, from `image`, and returns the digest of the

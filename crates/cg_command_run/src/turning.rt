@@ -3,7 +3,7 @@ ghost use Rattle.std.specs.Prelude.{◌≡◌, ◌≤◌};
 ghost use Rattle.cg_model.specs.Limits.{most_turns};
 ghost use Rattle.cg_cause.specs.Allowed.{Allows};
 ghost use Rattle.cg_effects.specs.Outcome.{file_of};
-ghost use Rattle.cg_command_run.specs.Turns.{turned, turns_of};
+ghost use Rattle.cg_command_run.specs.Turns.{IsTurns, turned};
 
 use crate::running::run;
 use crate::streams::streams_report;
@@ -18,7 +18,7 @@ use std::alloc::Global;
 /// output ports, from an image without words.
 pub fn turns(alloc: Global, turns: u32, file: &File) -> Result<Outcome, Stop>
     requires { turns ≤ most_turns }
-    ensures { Allows (λ o. o ≡ turns_of turns (file_of file.now)) result }
+    ensures { Allows (IsTurns turns (file_of file.now)) result }
 {
     let kernel = kernel_in(alloc, file)?;
     turned(alloc, turns, &kernel)

@@ -54,26 +54,26 @@ compose source kernel arch bits input out s n first second third last c =
     (held_as second.held c.files kernel (kernel_text looped.kernel) c.files_are looped.written) in
     let same_kernel : searched.pair.kernel ≡ looped.kernel =
     one_kernel searched.read.kernel_bytes (kernel_text looped.kernel) searched.pair.kernel looped.kernel text searched.read.given.kernel_is looped.read_back in
-    let arch_file = one_file c.files arch searched.read.arch_bytes ran.arch_bytes
+    let arch_file = one_file c.files arch searched.read.arch_bytes ran.read.arch_bytes
     (held_as second.held c.files arch searched.read.arch_bytes c.files_are searched.read.arch_held)
-    (sym c.arch_kept ∙ held_as third.held c.later_files arch ran.arch_bytes c.later_files_are ran.arch_held) in
-    let same_arch : searched.pair.arch ≡ ran.array =
-    same_array ran.arch_bytes searched.pair.arch ran.array (subst (λ z. AreValidBytes z searched.pair.arch) arch_file searched.read.given.arch_is) ran.given in
-    let same_bits : searched.bytes ≡ ran.bytes = one_file c.later_files bits searched.bytes ran.bytes
+    (sym c.arch_kept ∙ held_as third.held c.later_files arch ran.read.arch_bytes c.later_files_are ran.read.arch_held) in
+    let same_arch : searched.pair.arch ≡ ran.read.array =
+    same_array ran.read.arch_bytes searched.pair.arch ran.read.array (subst (λ z. AreValidBytes z searched.pair.arch) arch_file searched.read.given.arch_is) ran.read.given in
+    let same_bits : searched.bytes ≡ ran.read.bytes = one_file c.later_files bits searched.bytes ran.read.bytes
     (held_as third.held c.later_files bits searched.bytes c.later_files_are searched.written)
-    (held_as third.held c.later_files bits ran.bytes c.later_files_are ran.held) in
-    let left : machine_left ran.array ran.config n ran.image ≡ turns_left looped.kernel n ran.image =
-    leaves searched.pair.arch ran.array searched.pair.kernel looped.kernel searched.mapping n ran.image ran.config searched.bytes ran.bytes
-    same_arch same_kernel same_bits looped.valid (looped.free n ran.image) searched.runs.legal searched.runs.spelled ran.turns in
+    (held_as third.held c.later_files bits ran.read.bytes c.later_files_are ran.read.held) in
+    let left : machine_left ran.read.array ran.read.config n ran.read.image ≡ turns_left looped.kernel n ran.read.image =
+    leaves searched.pair.arch ran.read.array searched.pair.kernel looped.kernel searched.mapping n ran.read.image ran.read.config searched.bytes ran.read.bytes
+    same_arch same_kernel same_bits looped.valid (looped.free n ran.read.image) searched.runs.legal searched.runs.spelled ran.turns in
     record {
       bytes = looped.bytes;
       held = looped.held;
       body = looped.body;
       spelled = looped.spelled;
-      image_bytes = ran.image_bytes;
-      image_held = ran.image_held;
-      image = ran.image;
-      image_is = ran.image_is;
-      written = subst (λ z. Holds last.held out (images.image_bytes z.image)) (left ∙ ap (λ K. turns_left K n ran.image) looped.is) ran.written;
-      same = λ room. looped.same n ran.image room;
+      image_bytes = ran.read.image_bytes;
+      image_held = ran.read.image_held;
+      image = ran.read.image;
+      image_is = ran.read.image_is;
+      written = subst (λ z. Holds last.held out (images.image_bytes z.image)) (left ∙ ap (λ K. turns_left K n ran.read.image) looped.is) ran.written;
+      same = λ room. looped.same n ran.read.image room;
     }

@@ -1,5 +1,5 @@
 -- Facts of the commands' definitions. A command is a case of each.
-use Rattle.std.proofs.Common.{◌≡◌, Bool, true, false, List, [], ◌∷◌, Some, None, refl, sym, ◌∙◌, ap, subst, inl, inr}
+use Rattle.std.proofs.Common.{◌≡◌, Bool, true, false, List, [], ◌∷◌, Some, None, refl, subst, inl, inr}
 use Rattle.cg_effects.specs.declared.outcome.Status.{Status}
 use Rattle.cg_effects.specs.declared.outcome.Status.TheVariants.{Done, Impossible}
 use Rattle.cg_effects.specs.Outcome.{Name, File, Outcome, names_of}
@@ -7,7 +7,7 @@ use Rattle.cg_command.specs.declared.command.Command.{Command}
 use Rattle.cg_command.specs.declared.command.Command.TheVariants.{Turns, TurnsOnImage, Flat, Run, Bound, Check, Emit, Map, Search, Show, Trial, Verilog, Loop, Depend, Migrate, Bench, Image, Words, Violations, Why}
 use Rattle.cg_command.specs.Command.{listed, outputs_of, command_map}
 use Rattle.cg_inputs.proofs.Sound.{owns, IsSound, IsNamed}
-use Rattle.cg_command_run.proofs.TurnsAnswers.{sound_turns, quiet_turns, accepted_turns}
+use Rattle.cg_command_run.proofs.TurnsAnswers.{same_turns, sound_turns, quiet_turns, accepted_turns}
 use Rattle.cg_command_run.proofs.OnImage.{same_on_image, sound_on_image, accepted_on_image, named_on_image}
 use Rattle.cg_command_run.proofs.FlatAnswers.{same_flat, sound_flat, accepted_flat, named_flat}
 use Rattle.cg_command_run.proofs.RunAnswers.{same_run, sound_run, accepted_run, named_run}
@@ -32,7 +32,7 @@ use Rattle.cg_command_files.proofs.Migrated.{same_migrate, sound_migrate, accept
 
 -- where the outcome may be chosen, its status may not, but that of `search`
 pub agree_in : (c : Command File Name) (a b : Outcome) → IsAnswer c a → IsAnswer c b → AgreeIn c a.status b.status
-agree_in (Turns f n) a b p q = ap (λ o. o.status) (p ∙ sym q)
+agree_in (Turns f n) a b p q = same_turns n f a b p q
 agree_in (TurnsOnImage f n g out) a b p q = same_on_image n f g out a b p q
 agree_in (Flat f out) a b p q = same_flat f out a b p q
 agree_in (Run call None) a b p q = same_run call.turns call.arch call.bits call.image call.out a b p q
@@ -98,7 +98,7 @@ sound (Why f g) o p = sound_why f g o p
 -- what a command accepts it does
 pub accepted : (c : Command File Name) (o : Outcome) → Accepts c → IsAnswer c o → o.status ≡ Done
 accepted (Turns f n) o a p = accepted_turns n f a.0 o a.1 p
-accepted (TurnsOnImage f n g out) o a p = accepted_on_image n a.kernel a.image f g out o a.kernel_is a.image_is a.unaliased p
+accepted (TurnsOnImage f n g out) o a p = accepted_on_image n f g out a.kernel a.image o a.kernel_is a.image_is a.unaliased p
 accepted (Flat f out) o a p = accepted_flat f out a.0 o a.1 p
 accepted (Run call None) o a p = accepted_run call.turns call.arch call.bits call.image call.out o a p
 accepted (Run call (Some k)) o a p = accepted_netlist_run call.turns call.arch call.bits call.image k call.out o a p

@@ -4,7 +4,7 @@ use Rattle.cg_effects.specs.Outcome.{Name, File, Outcome}
 use Rattle.cg_command.specs.declared.command.Command.{Command}
 use Rattle.cg_command.specs.declared.command.Command.TheVariants.{Turns, TurnsOnImage, Flat, Run, Bound, Check, Emit, Map, Search, Show, Trial, Verilog, Loop, Depend, Migrate, Bench, Image, Words, Violations, Why}
 use Rattle.cg_command.specs.Command.{IsRanged, listed}
-use Rattle.cg_command_run.specs.Turns.{turns_of}
+use Rattle.cg_command_run.proofs.TurnsAnswers.{some_turns}
 use Rattle.cg_command_run.proofs.OnImage.{some_on_image}
 use Rattle.cg_command_run.proofs.FlatAnswers.{some_flat}
 use Rattle.cg_command_run.proofs.RunAnswers.{some_run}
@@ -29,7 +29,7 @@ use Rattle.cg_command_files.proofs.Migrated.{some_migrate}
 
 -- a command whose numbers are in their ranges has an outcome for its files
 pub some_outcome : (c : Command File Name) → IsRanged c → (o : Outcome) × IsAnswer c o
-some_outcome (Turns f n) range = (turns_of n f, refl)
+some_outcome (Turns f n) range = some_turns n f
 some_outcome (TurnsOnImage f n g out) range = some_on_image n f g out
 some_outcome (Flat f out) range = some_flat f out
 some_outcome (Run call None) range = some_run call.turns call.arch call.bits call.image call.out

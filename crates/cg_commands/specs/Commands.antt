@@ -14,7 +14,7 @@ use Rattle.cg_model.specs.Work as works
 use Rattle.cg_model.specs.Array.{Arch}
 use Rattle.cg_tiles.specs.Answer.{AreValidBytes}
 use Rattle.cg_model.specs.Order.{IsUnaliased}
-use Rattle.cg_command_run.specs.Turns.{turns_of, IsTurned}
+use Rattle.cg_command_run.specs.Turns.{IsTurns, IsTurned}
 use Rattle.cg_command_run.specs.TurnsOnImage.{IsTurnsOnImage, IsOrderedRun, IsUnorderedRun}
 use Rattle.cg_command_run.specs.Flat.{IsFlat, IsFlattened}
 use Rattle.cg_command_run.specs.Run.{IsRun, IsRunnable, IsArrayRun}
@@ -40,7 +40,7 @@ use Rattle.cg_command_files.specs.Migrate.{IsMigrate, IsMigratable, IsMigrated}
 
 -- the outcomes that the command allows
 abbrev pub IsAnswer : Command File Name → Outcome → Type 0
-IsAnswer (Turns file n) o = o ≡ turns_of n file
+IsAnswer (Turns file n) o = IsTurns n file o
 IsAnswer (TurnsOnImage file n input out) o = IsTurnsOnImage n file input out o
 IsAnswer (Flat file out) o = IsFlat file out o
 IsAnswer (Run call None) o = IsRun call.turns call.arch call.bits call.image call.out o

@@ -35,6 +35,10 @@ module _ {X : Type 0} (Reads : Result X Outcome → Type 0) (Does : X → Outcom
   pub given_answer : (x : X) (r : Result OutcomeValue Stop) → Reads (Ok x) → Allows (Does x) r → Allows (ReadThen Reads Does) r
   given_answer x r is = allows_weaker (Does x) (ReadThen Reads Does) r (λ o d. record { read = Ok x; is_read = is; answer = d })
 
+  -- a command that refuses what its files contain
+  pub given_stop : (x : X) (s : Stop) → Reads (Ok x) → EndsBy (Does x) s → EndsBy (ReadThen Reads Does) s
+  given_stop x s is = ends_weaker (Does x) (ReadThen Reads Does) s (λ o d. record { read = Ok x; is_read = is; answer = d })
+
   module _ (reading : IsReading Reads) where
     -- ---- status and writes
 

@@ -3,6 +3,8 @@ pub mod Wholes
 pub mod Refusals
 pub mod Answered
 pub mod Arrays
+pub mod Both
+pub mod Parsed
+pub mod Readings
 pub mod Paired
 pub mod Mapped
-pub mod Read

@@ -1,3 +1,4 @@
 pub mod Sources
 pub mod Refused
 pub mod Answered
+pub mod Readings

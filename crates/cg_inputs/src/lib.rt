@@ -12,5 +12,6 @@ pub use cg_effects::{File, Outcome};
 pub use cg_model::{Kernel, Mapping};
 pub use cg_pad::Image;
 pub use readers::{
-    Instance, Sources, arch_in, config_in, image_in, instance_in, kernel_in, mapping_in, sources_in,
+    Array, Instance, Sources, arch_in, array_in, config_in, image_in, instance_in, kernel_in,
+    mapping_in, sources_in,
 };

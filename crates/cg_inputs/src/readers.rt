@@ -12,6 +12,7 @@ ghost use Rattle.cg_kernel.specs.Answer as kernels;
 ghost use Rattle.cg_mapping.specs.Answer as mappings;
 ghost use Rattle.cg_pad.specs.Bytes as images;
 ghost use Rattle.cg_bits.specs.Answers as bits;
+ghost use Rattle.cg_inputs.specs.Readings.{ReadsArray};
 ghost use Rattle.cg_inputs.specs.Sources.{AreMapped, ArePaired};
 ghost use Rattle.cg_inputs.specs.Refused.{RefusesArch, RefusesBits, RefusesImage, RefusesKernel, RefusesMapping};
 
@@ -90,6 +91,28 @@ pub fn config_in(alloc: Global, arch: &Arch, file: &File) -> Result<Config, Stop
         Err(BitsFault::Memory) => Err(Stop::Memory),
         Err(fault) => Err(Stop::refused(alloc, file, Cause::Bits(fault))),
     }
+}
+
+/// An architecture and a configuration of it.
+#[derive(Drop)]
+pub struct Array {
+    pub arch: Arch,
+    pub config: Config,
+}
+
+/// Reads the architecture in the file `arch` and its configuration in `bits`. A fault in one ends the command with
+/// status 3.
+pub fn array_in(alloc: Global, arch: &File, bits: &File) -> Result<Array, Stop>
+    ensures given { IfOk result (λ a. ReadsArray (file_of arch.now) (file_of bits.now) (Ok (a.arch, a.config))) }
+    ensures refused { IfErr result (EndsBy (λ o. ReadsArray (file_of arch.now) (file_of bits.now) (Err o))) }
+    ensures canonical { IfOk result (λ a. IsCanonical a.arch a.config) }
+{
+    let array = arch_in(alloc, arch)?;
+    let config = config_in(alloc, &array, bits)?;
+    Ok(Array {
+        arch: array,
+        config,
+    })
 }
 
 /// An architecture and a kernel.

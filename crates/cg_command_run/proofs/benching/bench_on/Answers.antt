@@ -1,40 +1,24 @@
-use Rattle.std.proofs.Common.{◌≡◌, ◌<◌, ℕ, length, ap, ◌∙◌}
+use Rattle.std.proofs.Common.{◌≡◌, ℕ, [], ◌∷◌, Ok, sym, ap, ◌∙◌}
 use Rattle.cg_model.specs.Machine.{cycles, machine_left}
 use Rattle.cg_model.specs.Work.{Left}
-use Rattle.cg_effects.specs.Outcome.{file_of}
-use Rattle.cg_cause.proofs.Allowed.{ends_weaker, stopped}
-use Rattle.cg_pad.specs.Bytes as images
-use Rattle.std.specs.Prelude.{[], ◌∷◌}
-use Rattle.cg_effects.specs.Outcome.{Bytes, Outcome, outcome_of}
+use Rattle.cg_effects.specs.Outcome.{Bytes, Outcome, file_of}
 use Rattle.cg_effects.specs.declared.outcome.Status.TheVariants.{Done}
 use Rattle.cg_testbench.specs.Bench.{bench_text}
-use Rattle.cg_command_run.specs.Run.{array_by_image, run_report, too_large}
+use Rattle.cg_command_run.specs.Run.{run_report}
 use Rattle.cg_command_run.specs.Bench.{benched}
-use Rattle.cg_command_run.proofs.Allowed.{array_image_refused, array_done, array_too_large}
+use Rattle.cg_command_run.proofs.RunAnswers.{image_stopped, run_fits, size_stopped}
 use Rattle.cg_command_run.proofs.benching.bench_on.Goals as goal
 
 pub returns-in_err-image : goal.returns-in_err-image
 returns-in_err-image c =
     let call = c.args.call.now in
-    let input = file_of call.image.now in
-    let out = call.out.now in
-    let A = c.args.arch.now in
-    let C = c.args.config.now in
-    stopped (λ o. o ≡ array_by_image (benched call.turns out) A C input.name (images.answer_of input.bytes)) c.in_err-image.field-0.0 _ c.from_residual.ensures.1
-    (array_image_refused (benched call.turns out) A C input _ c.in_err-image.ensures.refused)
+    image_stopped (benched call.turns call.out.now) c.args.arch.now c.args.config.now (file_of call.image.now) c.in_err-image.field-0.0 _ c.from_residual.ensures.1 c.in_err-image.ensures.refused
 
 pub returns-in_err-end : goal.returns-in_err-end
 returns-in_err-end c =
     let call = c.args.call.now in
-    let input = file_of call.image.now in
-    let out = call.out.now in
-    let A = c.args.arch.now in
-    let C = c.args.config.now in
-    let image = c.in_ok-image.image in
-    stopped (λ o. o ≡ array_by_image (benched call.turns out) A C input.name (images.answer_of input.bytes)) c.in_err-end.field-0.0 _ c.from_residual-in_err-end.ensures.1
-    (ends_weaker (λ o. (A.memory < length image.memory) × (o ≡ too_large input.name image)) (λ o. o ≡ array_by_image (benched call.turns out) A C input.name (images.answer_of input.bytes)) _
-    (λ o h. array_too_large (benched call.turns out) A C input image o c.in_ok-image.ensures.given h.0 h.1)
-    c.in_err-end.ensures.large)
+    size_stopped (benched call.turns call.out.now) c.args.arch.now c.args.config.now (file_of call.image.now) c.in_err-end.field-0.0 _ c.from_residual-in_err-end.ensures.1
+    c.in_ok-image.image c.in_ok-image.ensures.given c.in_err-end.ensures.large
 
 pub returns : goal.returns
 returns c =
@@ -49,6 +33,10 @@ returns c =
     let same : made ≡ machine_left A C call.turns image = c.in_ok-end.ensures.left in
     let cycles_is : end.cycles ≡ cycles C call.turns = c.in_ok-end.ensures.cycles in
     let written : ℕ → Left → Bytes → Outcome = λ k l text. record { status = Done; report = run_report k l.outside; writes = record { name = out; bytes = text } ∷ [] } in
-    array_done (benched call.turns out) A C input image (outcome_of c.in_ok-ended.field-0) c.in_ok-image.ensures.given c.in_ok-end.ensures.fits
-    (c.in_ok-ended.ensures ∙ ap (λ text. written end.cycles made text) c.in_ok-text.ensures ∙ ap (λ k. written k made (bench_text A C call.turns image made)) cycles_is
-    ∙ ap (λ l. written (cycles C call.turns) l (bench_text A C call.turns image l)) same)
+    record {
+      read = Ok image;
+      is_read = c.in_ok-image.ensures.given;
+      answer =
+          c.in_ok-ended.ensures ∙ ap (λ text. written end.cycles made text) c.in_ok-text.ensures ∙ ap (λ k. written k made (bench_text A C call.turns image made)) cycles_is
+          ∙ ap (λ l. written (cycles C call.turns) l (bench_text A C call.turns image l)) same ∙ sym (run_fits A input.name image (benched call.turns out A C image) c.in_ok-end.ensures.fits);
+    }

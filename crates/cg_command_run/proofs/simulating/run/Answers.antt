@@ -1,38 +1,25 @@
-use Rattle.std.proofs.Common.{◌≡◌}
 use Rattle.cg_effects.specs.Outcome.{file_of}
-use Rattle.cg_cause.proofs.Allowed.{allows_weaker, stopped}
-use Rattle.cg_pad.specs.Bytes as images
-use Rattle.cg_command_run.specs.Run.{IsRun, array_by_image, ran}
-use Rattle.cg_command_run.proofs.Allowed.{array_arch_refused, array_bits_refused, array_given}
+use Rattle.cg_cause.proofs.Allowed.{stopped}
+use Rattle.cg_inputs.specs.Readings.{ReadsArray, ReadsImage}
+use Rattle.cg_inputs.proofs.Answered.{refused_answer}
+use Rattle.cg_inputs.proofs.Both.{first_refused, next_answer}
+use Rattle.cg_command_run.specs.Run.{IsRun, ReadsStart, RunsArray, ran}
 use Rattle.cg_command_run.proofs.simulating.run.Goals as goal
 
-pub returns-in_err-arch : goal.returns-in_err-arch
-returns-in_err-arch c =
+pub returns-in_err-array : goal.returns-in_err-array
+returns-in_err-array c =
     let call = c.args.call.now in
     let arch = file_of call.arch.now in
     let file = file_of call.bits.now in
     let input = file_of call.image.now in
-    let out = call.out.now in
-    stopped (IsRun call.turns arch file input out) c.in_err-arch.field-0.0 _ c.from_residual.ensures.1
-    (array_arch_refused (ran call.turns out) arch file input _ c.in_err-arch.ensures.refused)
-
-pub returns-in_err-config : goal.returns-in_err-config
-returns-in_err-config c =
-    let call = c.args.call.now in
-    let arch = file_of call.arch.now in
-    let file = file_of call.bits.now in
-    let input = file_of call.image.now in
-    let out = call.out.now in
-    stopped (IsRun call.turns arch file input out) c.in_err-config.field-0.0 _ c.from_residual-in_err-config.ensures.1
-    (array_bits_refused (ran call.turns out) arch file input c.in_ok-arch.arch _ c.in_ok-arch.ensures.given c.in_err-config.ensures.refused)
+    let s = c.in_err-array.field-0.0 in
+    stopped (IsRun call.turns arch file input call.out.now) s _ c.from_residual.ensures.1
+    (refused_answer (ReadsStart arch file input) (RunsArray (ran call.turns call.out.now) input.name) s (first_refused (ReadsArray arch file) (λ a. ReadsImage input) s c.in_err-array.ensures.refused))
 
 pub returns : goal.returns
 returns c =
     let call = c.args.call.now in
-    let arch = file_of call.arch.now in
-    let file = file_of call.bits.now in
     let input = file_of call.image.now in
-    let out = call.out.now in
-    allows_weaker (λ o. o ≡ array_by_image (ran call.turns out) c.in_ok-arch.arch c.in_ok-config.config input.name (images.answer_of input.bytes)) (IsRun call.turns arch file input out) c.run_on.result
-    (λ o e. array_given (ran call.turns out) arch file input c.in_ok-arch.arch c.in_ok-config.config o c.in_ok-arch.ensures.given c.in_ok-config.ensures.given e)
+    let a = c.in_ok-array.array in
+    next_answer (ReadsArray (file_of call.arch.now) (file_of call.bits.now)) (λ a. ReadsImage input) (RunsArray (ran call.turns call.out.now) input.name) (a.arch, a.config) c.in_ok-array.ensures.given c.run_on.result
     c.run_on.ensures

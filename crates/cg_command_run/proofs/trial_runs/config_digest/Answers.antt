@@ -1,12 +1,11 @@
 use Rattle.std.proofs.Common.{◌≡◌, ◌<◌, IfOk, Err, string_bytes, ap, arith, subst}
-use Rattle.cg_model.specs.Machine.{machine_left}
-use Rattle.cg_sim.specs.Run.{Run}
+use Rattle.cg_model.specs.Work.{Image, Left}
 use Rattle.cg_command_run.specs.Report as spec
 use Rattle.cg_command_run.proofs.trial_runs.config_digest.Goals as goal
 
 pub returns-in-Ok : goal.returns-in-Ok
 returns-in-Ok c =
-    subst (λ (r : Run). IfOk c.left_digest.result (λ s. string_bytes s ≡ spec.image_digest (machine_left r.arch r.config r.n r.image).image)) c.in-Ok.ensures.ok c.left_digest.ensures
+    subst (λ (i : Image). IfOk c.image_digest.result (λ s. string_bytes s ≡ spec.image_digest i)) (ap (λ (l : Left). l.image) c.in-Ok.ensures.left) c.image_digest.ensures
 
 pub want_of_run-requires-clause-many : goal.want_of_run-requires-clause-many
 want_of_run-requires-clause-many c = λ t is.
