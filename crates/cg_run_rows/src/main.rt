@@ -4,20 +4,24 @@
 
 mod alike;
 mod bits;
+mod histories;
 mod netlists;
 mod trial;
 
 use cg_arch::Arch;
 use cg_kernel::read_kernel;
 use cg_model::Kernel;
+use cg_pad::{Image, read_image};
 use cg_tiles::read_arch;
 use cg_trial::TrialParts;
+use histories::{Found, Setting, found_of};
 use std::rt::Files;
 use std::{fs, io};
 use trial::{digest_text, trial_of};
 
 fn main(rt: HostRuntime) -> io::Result<()> {
     rows_of_one_unit(&rt)?;
+    rows_of_histories(&rt)?;
     rows_of_trial(&rt)
 }
 
@@ -95,6 +99,46 @@ fn row_of_turns(
 fn row_of_nets(rt: &(impl Print + AllocGlobal), arch: &Arch, bits: &[u8]) -> io::Result<()> {
     let holds = netlists::bits_alike(rt.alloc(), arch, bits)?;
     say(rt, "netlist, each word by tables and view", holds)
+}
+
+/// Reads the image in the file `name`, if there is one.
+fn image_in(rt: &(impl Files + AllocGlobal), name: &str) -> io::Result<Option<Image>> {
+    let bytes = fs::read(rt, name)?;
+    Ok(read_image(rt.alloc(), bytes.as_slice()).ok())
+}
+
+/// Prints the rows of a thousand configurations that are run by results and by words.
+fn rows_of_histories(rt: &(impl Files + Print + AllocGlobal)) -> io::Result<()> {
+    let Some(arch) = arch_in(rt, "runs.toml")? else {
+        return rt.print("runs.toml is no architecture\n");
+    };
+    let Some(image) = image_in(rt, "runs.img")? else {
+        return rt.print("runs.img is no image\n");
+    };
+    let setting = Setting {
+        arch: &arch,
+        image: &image,
+    };
+    let found = found_of(rt.alloc(), &setting, 1000)?;
+    rows_of_found(rt, &found)
+}
+
+/// Prints what was found of a thousand configurations.
+fn rows_of_found(rt: &(impl Print + AllocGlobal), found: &Found) -> io::Result<()> {
+    let unlike = found.unlike;
+    let line = format!(in rt.alloc();
+        "1000 configurations, by results and by words: {unlike} unlike\n"
+    )?;
+    rt.print(line.as_str())?;
+    say_part(rt, "of them by results", found.by_results)?;
+    say_part(rt, "that leave something", found.leaving)
+}
+
+/// Prints `row` and whether `count` is more than half of a thousand.
+fn say_part(rt: &(impl Print + AllocGlobal), row: &str, count: u32) -> io::Result<()> {
+    let said = if count > 500 { "most" } else { "few" };
+    let line = format!(in rt.alloc(); "{row}: {said}\n")?;
+    rt.print(line.as_str())
 }
 
 /// Prints the rows of the trial of seed 1.
