@@ -1,0 +1,4 @@
+mod Folds
+mod Counts
+mod Steps
+mod Turns
