@@ -1,4 +1,5 @@
 mod Folds
 mod Counts
 mod Steps
+pub mod Itself
 mod Turns

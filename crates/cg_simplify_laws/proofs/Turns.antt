@@ -12,7 +12,7 @@ use Rattle.cg_model.specs.Turns.{before, work, work_of, val, turns}
 use Rattle.cg_model.proofs.Elements.{map_same}
 use Rattle.cg_model.proofs.Sums.{total_same}
 use Rattle.cg_overlap.proofs.Sequence.{step_node}
-use Rattle.cg_simplify_laws.specs.Follows.{Follows, HasWords}
+use Rattle.cg_simplify_laws.specs.Follows.{Follows, RunsAlike}
 use Rattle.cg_simplify_laws.proofs.Folds.{run, run_same, runs_on, Thins, Cut, folded}
 use Rattle.cg_simplify_laws.proofs.Counts.{total_some}
 use Rattle.cg_simplify_laws.proofs.Steps.{value_anywhere, access_store, stored_idle, stored_other, opens, opens_sends, sent_idle, sent_other, next, counted, work_known}
@@ -37,7 +37,7 @@ module _ (K L : Kernel) (image : Image) (n : ℕ) (f : ℕ → ℕ) (W : ℕ →
   is_store_of v = is_store (node L v).op
 
   store_plain : (i v : ℕ) → i < n → v < size L → is_store_of v ≡ false → (s : List ℕ) → stored s (given i (f v)) ≡ s
-  store_plain i v li l e s = sym (h.stores_same v i l li s) ∙ stored_other (does i v) e s
+  store_plain i v li l e s = sym ((h.does v i l li).writes s) ∙ stored_other (does i v) e s
 
   store_rest : (i u : ℕ) → i < n → u < size K → ((v : ℕ) × (v < size L) × (f v ≡ u) × (is_store_of v ≡ true)) ⊎ ((s : List ℕ) → stored s (given i u) ≡ s)
   store_rest i u li l =
@@ -51,7 +51,7 @@ module _ (K L : Kernel) (image : Image) (n : ℕ) (f : ℕ → ℕ) (W : ℕ →
   stores_thin : (i : ℕ) → i < n → Thins (store_K i) (store_L i) f is_store_of (size L) (size K)
   stores_thin i li =
       record {
-        same = λ v l s. h.stores_same v i l li s;
+        same = λ v l s. (h.does v i l li).writes s;
         plain = λ v l e s. store_plain i v li l e s;
         rest = λ u l. store_rest i u li l;
         ordered = λ v w b l e g. h.ordered v w b l (access_store (node L v).op e) (access_store (node L w).op g) (inl e);
@@ -110,7 +110,7 @@ module _ (K L : Kernel) (image : Image) (n : ℕ) (f : ℕ → ℕ) (W : ℕ →
   sends_thin : (port i : ℕ) → i < n → Thins (send_K port i) (send_L port i) f (opens_at port i) (size L) (size K)
   sends_thin port i li =
       record {
-        same = λ v l s. ap (λ z. s ++ z) (h.sends_same v i l li port);
+        same = λ v l s. ap (λ z. s ++ z) ((h.does v i l li).appends port);
         plain = λ v l e s. appends_none s (sent port (given i (f v))) (sent_other port (given i (f v)) e);
         rest = λ u l. send_rest port i u li l;
         ordered = λ v w b l e g. absurd (let z : v ≡ w = one_sends port i v w (omega arith) l e g in omega arith);
@@ -164,7 +164,7 @@ module _ (K L : Kernel) (image : Image) (n : ℕ) (f : ℕ → ℕ) (W : ℕ →
 
   value_here : (i v : ℕ) → i < n → v < size L → Known i v → SameMemory i → val L image v i ≡ W v i
   value_here i v li l k same =
-      ap (value image (before L image (i * size L + v)).memory) (work_is_does i v k l) ∙ value_same i v li l k same ∙ h.value_is v i l li
+      ap (value image (before L image (i * size L + v)).memory) (work_is_does i v k l) ∙ value_same i v li l k same ∙ (h.does v i l li).gives
 
   known_more : (i v : ℕ) → i < n → v < size L → Known i v → SameMemory i → Known i (suc v)
   known_more i v li l k same u j lu e =
@@ -228,7 +228,7 @@ module _ (K L : Kernel) (image : Image) (n : ℕ) (f : ℕ → ℕ) (W : ℕ →
       let end_L = ap (λ p. p.outside) (turn_end L i) in
       let end_K = ap (λ p. p.outside) (turn_end K i) in
       let words = total_same (size L) (λ v. missed (length image.memory) (work L image (i * size L + v))) (λ v. missed (length image.memory) (does i v)) (λ v l. ap (missed (length image.memory)) (work_is_does i v (known_less i v (size L) (omega arith) k) l)) in
-      let some = total_some (size L) (size K) f (λ v. missed (length image.memory) (does i v)) (λ u. missed (length image.memory) (given i u)) h.inside h.apart (λ v l. h.misses_less v i l li (length image.memory)) in
+      let some = total_some (size L) (size K) f (λ v. missed (length image.memory) (does i v)) (λ u. missed (length image.memory) (given i u)) h.inside h.apart (λ v l. (h.does v i l li).strays (length image.memory)) in
       omega arith
 
   goes_on : (i : ℕ) → i < n → Agrees i → Agrees (suc i)
@@ -250,11 +250,17 @@ module _ (K L : Kernel) (image : Image) (n : ℕ) (f : ℕ → ℕ) (W : ℕ →
       let a = agrees i (omega arith) in
       value_here i v li l (known_turn i li a.known a.memory v (omega arith)) a.memory
 
-  pub has_words : HasWords K L image n W
-  has_words =
+  work_now : (v i : ℕ) → v < size L → i < n → work L image (i * size L + v) ≡ work_of (node L v) i W
+  work_now v i l li =
+      let a = agrees i (omega arith) in
+      work_is_does i v (known_turn i li a.known a.memory v (omega arith)) l
+
+  pub runs_alike : RunsAlike K L image n W
+  runs_alike =
       let a = agrees n (omega arith) in
       record {
         values = value_now;
+        works = work_now;
         memory = a.memory;
         streams = a.streams;
         outside = a.outside;

@@ -1,5 +1,6 @@
-use Rattle.cg_simplify_laws.proofs.Turns.{has_words}
+use Rattle.cg_simplify_laws.proofs.Itself.{follows_itself}
+use Rattle.cg_simplify_laws.proofs.Turns.{runs_alike}
 use Rattle.cg_simplify_laws.proofs.followed.Goals as goal
 
 pub returns : goal.returns
-returns c = has_words
+returns c = record { alike = runs_alike; itself = follows_itself }
