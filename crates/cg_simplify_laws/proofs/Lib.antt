@@ -1,5 +1,6 @@
 mod Folds
 mod Counts
 mod Steps
-pub mod Itself
+pub mod Stands
 mod Turns
+mod Rows

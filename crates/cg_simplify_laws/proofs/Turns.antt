@@ -228,7 +228,7 @@ module _ (K L : Kernel) (image : Image) (n : ℕ) (f : ℕ → ℕ) (W : ℕ →
       let end_L = ap (λ p. p.outside) (turn_end L i) in
       let end_K = ap (λ p. p.outside) (turn_end K i) in
       let words = total_same (size L) (λ v. missed (length image.memory) (work L image (i * size L + v))) (λ v. missed (length image.memory) (does i v)) (λ v l. ap (missed (length image.memory)) (work_is_does i v (known_less i v (size L) (omega arith) k) l)) in
-      let some = total_some (size L) (size K) f (λ v. missed (length image.memory) (does i v)) (λ u. missed (length image.memory) (given i u)) h.inside h.apart (λ v l. (h.does v i l li).strays (length image.memory)) in
+      let some = total_some (size L) (size K) f (λ v. missed (length image.memory) (does i v)) (λ u. missed (length image.memory) (given i u)) h.inside h.apart (λ v l. (h.does v i l li).misses (length image.memory)) in
       omega arith
 
   goes_on : (i : ℕ) → i < n → Agrees i → Agrees (suc i)

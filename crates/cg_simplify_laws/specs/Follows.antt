@@ -16,7 +16,7 @@ pub record StandsFor (K : Kernel) (image : Image) (k : ℕ) (w : Work) (x : ℕ)
   pub gives : value image (before K image k).memory w ≡ x
   pub writes : (memory : List ℕ) → stored memory w ≡ stored memory (work K image k)
   pub appends : (port : ℕ) → sent port w ≡ sent port (work K image k)
-  pub strays : (room : ℕ) → missed room w ≤ missed room (work K image k)
+  pub misses : (room : ℕ) → missed room w ≤ missed room (work K image k)
 
 -- K is the given kernel and L the rewritten one. Node v of L stands for node f v of K, and W v i is a word for it in
 -- turn i.

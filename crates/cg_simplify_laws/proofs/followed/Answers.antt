@@ -1,4 +1,4 @@
-use Rattle.cg_simplify_laws.proofs.Itself.{follows_itself}
+use Rattle.cg_simplify_laws.proofs.Stands.{follows_itself}
 use Rattle.cg_simplify_laws.proofs.Turns.{runs_alike}
 use Rattle.cg_simplify_laws.proofs.followed.Goals as goal
 
