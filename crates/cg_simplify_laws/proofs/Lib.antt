@@ -2,5 +2,6 @@ mod Folds
 mod Counts
 mod Steps
 pub mod Stands
-mod Turns
+pub mod Turns
 mod Rows
+mod Twice

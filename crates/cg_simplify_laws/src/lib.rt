@@ -1,6 +1,6 @@
-//! The law of rewritten kernels: what has to be seen of each node of a rewritten kernel in each turn for the kernel to
-//! leave what the given kernel leaves. The function here has an empty body, and its contract is about the definitions
-//! of `cg_model` alone.
+//! The laws of rewritten kernels: what has to be seen of each node of a rewritten kernel in each turn for the kernel to
+//! leave what the given kernel leaves, and that this holds of one rewriting after another. The functions here have empty
+//! bodies, and their contracts are about definitions alone.
 #![tactic(auto)]
 
 ghost use Rattle.std.specs.Prelude.{List, ℕ};
@@ -9,6 +9,7 @@ ghost use Rattle.cg_model.specs.Kernel.{Kernel, IsKernel, IsWired};
 ghost use Rattle.cg_model.specs.Turns.{val};
 ghost use Rattle.cg_model.specs.Work.{Image};
 ghost use Rattle.cg_simplify_laws.specs.Follows.{Follows, RunsAlike};
+ghost use Rattle.cg_simplify_laws.specs.Rewritten.{IsRewritten};
 
 /// States that a kernel that follows a valid kernel leaves the same memory and streams, with at most as many accesses
 /// outside the memory.
@@ -20,4 +21,13 @@ pub fn followed()
         IsKernel K → IsWired L → Follows K L image n f W → RunsAlike K L image n W }
     ensures itself { (K : Kernel) (order : List OrderEdge) (image : Image) (n : ℕ) → IsWired K →
         Follows K (record { nodes = K.nodes; order = order }) image n (λ v. v) (val K image) }
+{}
+
+/// States that what a pass gives can be given to another pass.
+///
+/// `composed`: a kernel rewritten twice is rewritten. `itself`: a kernel with other order edges is rewritten.
+pub fn composed()
+    ensures composed { (K L M : Kernel) → IsRewritten K L → IsRewritten L M → IsRewritten K M }
+    ensures itself { (K : Kernel) (order : List OrderEdge) → IsWired K →
+        IsRewritten K (record { nodes = K.nodes; order = order }) }
 {}
