@@ -6,10 +6,9 @@ ghost use Rattle.cg_model.specs.Turns.{turns_left};
 ghost use Rattle.cg_model.specs.Work.{Image};
 ghost use Rattle.cg_depend.specs.Depend.{BeginsWith, IsDepend, NeedsOrder, with_order};
 
-use crate::copy::copy_of;
 use crate::fault::DependFault;
 use crate::gather::needed_edges;
-use cg_model::{Kernel, MOST_ORDER_EDGES, OrderEdge};
+use cg_model::{Kernel, MOST_ORDER_EDGES, OrderEdge, copy_nodes};
 use std::alloc::{AllocError, Global};
 
 /// A kernel with the order edges that its accesses need.
@@ -55,7 +54,7 @@ fn with_order(alloc: Global, kernel: &Kernel, added: &[OrderEdge]) -> Result<Dep
     ensures kernel { IfOk result (λ d. d.kernel ≡ with_order kernel.now added.now) }
     ensures added { IfOk result (λ d. d.added ≡ length added.now) }
 {
-    let nodes = copy_of(alloc, kernel.nodes())?;
+    let nodes = copy_nodes(alloc, kernel.nodes())?;
     let mut order = Vec::from_slice(alloc, kernel.order())?;
     order.extend_from_slice(added)?;
     Ok(DependDone {

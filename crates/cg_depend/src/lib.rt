@@ -3,7 +3,6 @@
 
 mod accesses;
 mod adding;
-mod copy;
 mod fault;
 mod gap;
 mod gather;

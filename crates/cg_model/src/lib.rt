@@ -5,6 +5,7 @@
 
 mod array;
 mod config;
+mod copy;
 mod kernel;
 mod limits;
 mod lists;
@@ -14,6 +15,7 @@ mod request;
 
 pub use array::{Kind, Resource, Unit};
 pub use config::{ArgFields, UnitFields};
+pub use copy::{copy_node, copy_nodes, copy_operand, copy_operands};
 pub use kernel::{Kernel, Node, Operand, OrderEdge};
 pub use limits::{
     LAST_PORT, LATEST_TIME, LONGEST_NAME, LONGEST_NODE_NAME, MOST_CONTEXTS, MOST_DISTANCE,

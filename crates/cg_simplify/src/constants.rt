@@ -8,7 +8,7 @@ ghost use Rattle.cg_simplify_laws.specs.Rewritten.{IsRewritten};
 ghost use Rattle.cg_simplify.specs.Operands.{AreKept, ArePlaced, InPlace, IsKnown, IsPlace, WithConstants};
 
 use crate::operands_exchanged;
-use cg_model::{Kernel, Name, Node, Operand, Operands, Words};
+use cg_model::{Kernel, Name, Node, Operand, Operands, copy_operands};
 use cg_word::Op;
 use std::alloc::{AllocError, Global};
 
@@ -62,35 +62,6 @@ fn operands_in_place(
         copies[place.at] = Operand::Const(place.word);
     }
     Ok(Operands::new(copies))
-}
-
-/// Returns a copy of `operands`.
-fn copy_operands(alloc: Global, operands: &[Operand]) -> Result<Vec<Operand>, AllocError>
-    ensures { IfOk result (λ copy. copy.items ≡ operands.now) }
-{
-    let mut copies = Vec::new(alloc);
-    for operand in operands {
-        copies.push(copy_operand(alloc, operand)?)?;
-    }
-    Ok(copies)
-}
-
-/// Returns a copy of `operand`.
-fn copy_operand(alloc: Global, operand: &Operand) -> Result<Operand, AllocError>
-    ensures { IfOk result (λ copy. copy ≡ operand.now) }
-{
-    match operand {
-        Operand::Const(word) => Ok(Operand::Const(*word)),
-        Operand::Edge {
-            from,
-            distance,
-            init,
-        } => Ok(Operand::Edge {
-            from: *from,
-            distance: *distance,
-            init: Words::new(Vec::from_slice(alloc, init.as_slice())?),
-        }),
-    }
 }
 
 /// Returns the first of `operands` that is known in `kernel`, where none is a constant.

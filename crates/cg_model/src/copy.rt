@@ -1,12 +1,13 @@
-//! Copies of nodes.
+//! Copies of nodes, with their names, operands and initial words.
 ghost use Rattle.std.specs.Prelude.{◌≡◌, IfOk};
 
-use cg_model::{Name, Node, Operand, Operands, Words};
+use crate::kernel::{Node, Operand};
+use crate::lists::{Name, Operands, Words};
 use std::alloc::{AllocError, Global};
 
-/// Returns a copy of `nodes`, with their names, operands and initial words.
-pub(crate) fn copy_of(alloc: Global, nodes: &[Node]) -> Result<Vec<Node>, AllocError>
-    ensures { IfOk result (λ copy. copy.items ≡ nodes.now) }
+/// Returns copies of `nodes`.
+pub fn copy_nodes(alloc: Global, nodes: &[Node]) -> Result<Vec<Node>, AllocError>
+    ensures { IfOk result (λ copies. copies.items ≡ nodes.now) }
 {
     let mut copies = Vec::new(alloc);
     for node in nodes {
@@ -16,30 +17,30 @@ pub(crate) fn copy_of(alloc: Global, nodes: &[Node]) -> Result<Vec<Node>, AllocE
 }
 
 /// Returns a copy of `node`.
-fn copy_node(alloc: Global, node: &Node) -> Result<Node, AllocError>
+pub fn copy_node(alloc: Global, node: &Node) -> Result<Node, AllocError>
     ensures { IfOk result (λ copy. copy ≡ node.now) }
 {
     Ok(Node {
         name: Name::copy_of(alloc, node.name.as_str())?,
         op: node.op,
         port: node.port,
-        operands: copy_operands(alloc, node.operands.as_slice())?,
+        operands: Operands::new(copy_operands(alloc, node.operands.as_slice())?),
     })
 }
 
-/// Returns a copy of `operands`.
-fn copy_operands(alloc: Global, operands: &[Operand]) -> Result<Operands, AllocError>
-    ensures { IfOk result (λ copy. copy ≡ operands.now) }
+/// Returns copies of `operands`.
+pub fn copy_operands(alloc: Global, operands: &[Operand]) -> Result<Vec<Operand>, AllocError>
+    ensures { IfOk result (λ copies. copies.items ≡ operands.now) }
 {
     let mut copies = Vec::new(alloc);
     for operand in operands {
         copies.push(copy_operand(alloc, operand)?)?;
     }
-    Ok(Operands::new(copies))
+    Ok(copies)
 }
 
 /// Returns a copy of `operand`.
-fn copy_operand(alloc: Global, operand: &Operand) -> Result<Operand, AllocError>
+pub fn copy_operand(alloc: Global, operand: &Operand) -> Result<Operand, AllocError>
     ensures { IfOk result (λ copy. copy ≡ operand.now) }
 {
     match operand {
