@@ -45,11 +45,11 @@ by_pairs K a (Some p) (Some q) es et =
     (cases_eq p.stride q.stride)
 
 -- each question has a gap, or never one
-gap_of : (K : Kernel) (a : Ask) → (o : Option ℕ) × Gap K a o
+pub gap_of : (K : Kernel) (a : Ask) → (o : Option ℕ) × Gap K a o
 gap_of K a = by_pairs K a (address_pair K a.source) (address_pair K a.target) refl refl
 
 -- whether a chain leads from a node to another one within a distance
-within_decided : (K : Kernel) → IsKernel K → (u v most : ℕ) → (u ≡ v → ⊥) → Decided (Within K u v most)
+pub within_decided : (K : Kernel) → IsKernel K → (u v most : ℕ) → (u ≡ v → ⊥) → Decided (Within K u v most)
 within_decided K good u v most distinct =
     ⊎_elim
     (λ o. inl (⊎_elim (λ h. absurd (distinct h.0)) (λ c. let l : 0 + c.0 ≤ most = c.2 in (c.0, c.1, omega arith)) o))

@@ -10,7 +10,7 @@ use Rattle.cg_model.specs.Kernel.{Kernel, node, size}
 use Rattle.cg_depend.specs.Affine.{AffinePair, address_pair}
 use Rattle.cg_depend.specs.Congruence.{HasNone, IsLeast}
 use Rattle.cg_depend.specs.Depend.{Ask, HaveOneStride, Gap, never, first, unknown, Within, Added, none, chained, added, apart, conflict, asks_of, distance_for}
-use Rattle.cg_depend.specs.declared.accesses.Address.{Address}
+use Rattle.cg_depend.specs.declared.addresses.Address.{Address}
 use Rattle.cg_depend.specs.declared.accesses.Role.{Role}
 use Rattle.cg_depend.specs.declared.accesses.Role.TheVariants.{Apart}
 use Rattle.cg_depend.specs.Gathered.{ask, pair_in, HasAddresses, HasRoles, meet, role_by, role_of}

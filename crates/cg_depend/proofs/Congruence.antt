@@ -2,14 +2,14 @@
 use Rattle.std.proofs.Common.{◌≡◌, ℕ, zero, suc, ◌+◌, ◌-◌, ◌*◌, ◌/◌, ◌%◌, ◌^◌, ◌<◌, ◌≤◌, sym, ap, ap₂, ◌∙◌, subst, refl, arith, ⊎_elim, mul-le-mul_right}
 use Rattle.std.specs.Prelude.{◌⊎◌}
 use Rattle.std.specs.Int.{bit_at, trailing_zeros, w32}
-use Rattle.std.proofs.Math.Nat.{mod-add-mod, mod-mod, add-mul-mod_self_right, mul-div_cancel, mul-mod_left, mod-eq_of_lt, div-add-mod'}
+use Rattle.std.proofs.Math.Nat.{mod-add-mod, add-mod-mod, mod-mod, add-mul-mod_self_right, mul-div_cancel, mul-mod_left, mod-eq_of_lt, div-add-mod'}
 use Rattle.std.proofs.Math.Arith.{mod-mul}
 use Rattle.std.proofs.Math.Pow.{mod-mod-pow}
 use Rattle.std.proofs.lemmas.Nat.{mod_below, mod-pow-add, pow-add, pow_pos, pow_below, shr_split}
 use Rattle.std.proofs.lemmas.Nat.Bits.{bit_at-trailing_zeros}
 use Rattle.std.proofs.lemmas.Bool.{cases_eq, cases_lt}
 use Rattle.cg_depend.specs.Congruence.{Solves, HasNone, IsParted}
-use Rattle.cg_depend.proofs.Numbers.{product_word}
+use Rattle.cg_depend.proofs.Numbers.{more, product_word}
 
 -- ---- an odd number has an inverse
 
@@ -99,9 +99,27 @@ times_mod a m c pm pc = mod-mul (a * c) {m = m} {c = c} pm pc ∙ ap₂ (λ x y.
 
 -- ---- the least solution
 
--- how the answer comes from the first solution
-abbrev pub Chosen : ℕ → ℕ → ℕ → ℕ → Type 0
-Chosen least m first x = ((first < least) × (x ≡ first + m)) ⊎ ((least ≤ first) × (x ≡ first))
+-- the first number from `least` on that is r modulo m
+abbrev pub onward : ℕ → ℕ → ℕ → ℕ
+onward least m r = least + (r + m - least % m) % m
+
+onward_is : (least m r : ℕ) → 0 < m → onward least m r % m ≡ r % m
+onward_is least m r pos =
+    add-mod-mod least (r + m - least % m) m
+    ∙ more m (1 + least / m) r (least + (r + m - least % m)) (let e : least / m * m + least % m ≡ least = div-add-mod' least m in let l : least % m < m = mod_below least m pos in omega arith)
+
+onward_near : (least m r : ℕ) → 0 < m → onward least m r < least + m
+onward_near least m r pos = let l : (r + m - least % m) % m < m = mod_below (r + m - least % m) m pos in omega arith
+
+-- of two numbers with one remainder the greater is m further or more
+apart : (x y m : ℕ) → x % m ≡ y % m → y < x → y + m ≤ x
+apart x y m e l =
+    let ex : x / m * m + x % m ≡ x = div-add-mod' x m in
+    let ey : y / m * m + y % m ≡ y = div-add-mod' y m in
+    ⊎_elim
+    (λ (b : y / m < x / m). let p : (y / m + 1) * m ≤ x / m * m = mul-le-mul_right m (omega arith) in omega arith)
+    (λ (b : x / m ≤ y / m). absurd (let p : x / m * m ≤ y / m * m = mul-le-mul_right m b in omega arith))
+    (cases_lt (y / m) (x / m))
 
 module _ (stride k inverse delta part m : ℕ) (h : HasOdd stride k inverse) (is_part : part ≡ 2 ^ k) (is_modulus : m ≡ 2 ^ (32 - k)) where
   part_some : 0 < part
@@ -121,7 +139,7 @@ module _ (stride k inverse delta part m : ℕ) (h : HasOdd stride k inverse) (is
   unsolved_by : (delta % part ≡ 0 → ⊥) → (x : ℕ) → Solves stride delta x → ⊥
   unsolved_by rest x s = rest (ap (λ z. z % part) (sym s ∙ whole x) ∙ mul-mod_left _ part)
 
-  module _ (d first x least : ℕ) (delta_is : delta ≡ d * part) (word : delta < 2 ^ 32) (is_first : first ≡ (d * inverse) % m) (near : least ≤ 1) (c : Chosen least m first x) where
+  module _ (d first x least : ℕ) (delta_is : delta ≡ d * part) (word : delta < 2 ^ 32) (is_first : first ≡ (d * inverse) % m) (c : x ≡ onward least m first) where
     small : d < m
     small = ⊎_elim (λ l. l) (λ l. absurd (let p : m * part ≤ d * part = mul-le-mul_right part l in omega (arith, split))) (cases_lt d m)
 
@@ -131,33 +149,21 @@ module _ (stride k inverse delta part m : ℕ) (h : HasOdd stride k inverse) (is
     to : (y : ℕ) → Solves stride delta y → (h.odd * y) % m ≡ d
     to y s = sym (mul-div_cancel ((h.odd * y) % m) part_some) ∙ ap (λ z. z / part) (sym (whole y) ∙ s ∙ delta_is) ∙ mul-div_cancel d part_some
 
-    first_small : first < m
-    first_small = subst (λ z. z < m) (sym is_first) (mod_below (d * inverse) m modulus_some)
-
-    first_is : first % m ≡ (d * inverse) % m
-    first_is = ap (λ z. z % m) is_first ∙ mod-mod (d * inverse) m
-
-    only : (y : ℕ) → Solves stride delta y → y % m ≡ first
-    only y s = solution h.odd inverse d m modulus_some one small y (to y s) ∙ sym is_first
+    rest : x % m ≡ (d * inverse) % m
+    rest = ap (λ z. z % m) c ∙ onward_is least m first modulus_some ∙ ap (λ z. z % m) is_first ∙ mod-mod (d * inverse) m
 
     at_least : least ≤ x
-    at_least = ⊎_elim (λ z. let e = z.1 in let l = first_small in omega arith) (λ z. let e = z.1 in let l = z.0 in omega arith) c
+    at_least = omega (arith, c)
 
     it_solves : Solves stride delta x
-    it_solves =
-        whole x
-        ∙ ap (λ z. z * part)
-        (solves h.odd inverse d m modulus_some one small x
-        (⊎_elim (λ z. ap (λ y. y % m) (z.1 ∙ (let e : first + m ≡ first + 1 * m = omega arith in e)) ∙ add-mul-mod_self_right first 1 m ∙ first_is) (λ z. ap (λ y. y % m) z.1 ∙ first_is) c))
-        ∙ sym delta_is
+    it_solves = whole x ∙ ap (λ z. z * part) (solves h.odd inverse d m modulus_some one small x rest) ∙ sym delta_is
 
     no_less : HasNone stride delta least x
     no_less y l b s =
-        let r = only y s in
-        let small_first = first_small in
-        ⊎_elim
-        (λ z. let e = z.1 in let a = z.0 in ⊎_elim (λ u. let q : y % m ≡ y = mod-eq_of_lt u in omega arith) (λ u. absurd (omega arith)) (cases_lt y m))
-        (λ z. let e = z.1 in let u : y < m = omega arith in let q : y % m ≡ y = mod-eq_of_lt u in omega arith) c
+        let same : x % m ≡ y % m = rest ∙ sym (solution h.odd inverse d m modulus_some one small y (to y s)) in
+        let far : y + m ≤ x = apart x y m same b in
+        let near : onward least m first < least + m = onward_near least m first modulus_some in
+        omega (arith, c, far, near, l)
 
     solved_by : (least ≤ x) × Solves stride delta x × HasNone stride delta least x
     solved_by = (at_least, it_solves, no_less)
@@ -166,7 +172,7 @@ module _ (stride k inverse delta part m : ℕ) (h : HasOdd stride k inverse) (is
 pub unsolved : (stride k inverse delta part : ℕ) → IsParted stride k inverse → part ≡ 2 ^ k → (delta % part ≡ 0 → ⊥) → (x : ℕ) → Solves stride delta x → ⊥
 unsolved stride k inverse delta part p is_part = unsolved_by stride k inverse delta part (2 ^ (32 - k)) (odd_of stride k inverse p) is_part refl
 
-pub solved : (stride k inverse delta part m first x least : ℕ) → IsParted stride k inverse → part ≡ 2 ^ k → m ≡ 2 ^ (32 - k) → delta % part ≡ 0 → delta < 2 ^ 32 → first ≡ (delta / part * inverse) % m → least ≤ 1 →
-    Chosen least m first x → (least ≤ x) × Solves stride delta x × HasNone stride delta least x
+pub solved : (stride k inverse delta part m first x least : ℕ) → IsParted stride k inverse → part ≡ 2 ^ k → m ≡ 2 ^ (32 - k) → delta % part ≡ 0 → delta < 2 ^ 32 → first ≡ (delta / part * inverse) % m →
+    x ≡ onward least m first → (least ≤ x) × Solves stride delta x × HasNone stride delta least x
 solved stride k inverse delta part m first x least p is_part is_modulus exact =
     solved_by stride k inverse delta part m (odd_of stride k inverse p) is_part is_modulus (delta / part) first x least (sym (div-add-mod' delta part) ∙ (let e : delta / part * part + delta % part ≡ delta / part * part = omega arith in e))

@@ -12,7 +12,7 @@ same_meets K a p q p' q' x s t m =
     let f : q' ≡ q = let z = sym t.of_target ∙ s.of_target in cc in
     subst (λ y. Meets y q x) e (subst (λ y. Meets p' y x) f m)
 
-gap_unique : (K : Kernel) (a : Ask) (o o' : Option ℕ) → Gap K a o → Gap K a o' → o ≡ o'
+pub gap_unique : (K : Kernel) (a : Ask) (o o' : Option ℕ) → Gap K a o → Gap K a o' → o ≡ o'
 gap_unique K a None None (never p q s n) g = refl
 gap_unique K a None (Some y) (never p q s n) (first p' q' x t l m e k) = absurd (n x l m (same_meets K a p q p' q' x s t e))
 gap_unique K a None (Some y) (never p q s n) (unknown k) = absurd (k p q s)

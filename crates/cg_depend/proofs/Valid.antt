@@ -36,7 +36,7 @@ ask_in K a h =
     let (v, iv, hv) = in_flat_map_from (asks_of K u) (range_with_len 0 (size K)) a hu in
     ask_of K u v a (let l = in_range_below 0 (size K) u iu in omega arith) (let l = in_range_below 0 (size K) v iv in omega arith) hv
 
-gap_least : (K : Kernel) (a : Ask) (g : ℕ) → Gap K a (Some g) → a.least ≤ g
+pub gap_least : (K : Kernel) (a : Ask) (g : ℕ) → Gap K a (Some g) → a.least ≤ g
 gap_least K a g (first p q x s l m e k) = l
 gap_least K a g (unknown k) = omega arith
 

@@ -5,7 +5,7 @@ use Rattle.cg_word.specs.declared.op.Op.{Op}
 use Rattle.cg_word.specs.Word.{is_access, is_store}
 use Rattle.cg_model.specs.Kernel.{Kernel, node, size}
 use Rattle.cg_model.specs.Limits.{most_order_edges}
-use Rattle.cg_depend.specs.declared.accesses.Address.{Address}
+use Rattle.cg_depend.specs.declared.addresses.Address.{Address}
 use Rattle.cg_depend.specs.declared.accesses.Role.{Role}
 use Rattle.cg_depend.specs.declared.accesses.Role.TheVariants.{Apart, Loads, Stores}
 use Rattle.cg_depend.specs.declared.gather.Needed.{Needed}

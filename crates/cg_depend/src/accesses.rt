@@ -1,24 +1,14 @@
 //! The accesses of a kernel, and the edge that a pair of them needs.
-ghost use Rattle.std.specs.Prelude.{◌≡◌, ◌<◌, ◌≤◌, ◌↔◌, IfOk, IsTrue, option_map, Some};
-ghost use Rattle.cg_model.specs.Kernel.{Kernel as KernelValue, size};
-ghost use Rattle.cg_depend.specs.Affine.{address_pair};
-ghost use Rattle.cg_depend.specs.Depend.{Ask, Gap, Within, distance_for};
-ghost use Rattle.cg_depend.specs.Gathered.{HasAddresses, HasRoles, meet, pair_in, role_of};
+ghost use Rattle.std.specs.Prelude.{◌≡◌, ◌↔◌, IfOk, IsTrue};
+ghost use Rattle.cg_depend.specs.Depend.{Within, distance_for};
+ghost use Rattle.cg_depend.specs.Gathered.{HasRoles, meet, role_of};
 
-use crate::gap::{Stride, gap, parted};
-use crate::table::{AffineTable, affine};
+use crate::addresses::Addresses;
 use cg_distance::{DistanceTable, min_distance};
 use cg_model::{Kernel, MOST_ORDER_DISTANCE, OrderEdge};
 use cg_word::Op;
 use std::alloc::{AllocError, Global};
 use std::marker::Model;
-
-/// The address of an access that has a pair: its base, and its stride in the form that `gap` takes.
-#[derive(Drop)]
-pub(crate) struct Address {
-    pub base: u32,
-    pub stride: Stride,
-}
 
 /// How a node accesses the memory.
 #[derive(Clone, Copy, Debug, PartialEq, Eq)]
@@ -35,26 +25,25 @@ pub(crate) enum Role {
 /// kernel.
 #[derive(Drop)]
 pub(crate) struct Accesses<'k> {
-    kernel: &'k Kernel,
+    addresses: Addresses<'k>,
     roles: Vec<Role>,
-    addresses: Vec<Option<Address>>,
     table: DistanceTable<'k>,
 }
 
 impl<'k> Model for Accesses<'k> {
     ghost use Rattle.std.specs.Prelude.{◌≡◌};
     ghost use Rattle.cg_model.specs.Kernel as kernels;
-    ghost use Rattle.cg_depend.specs.Gathered.{HasAddresses, HasRoles};
+    ghost use Rattle.cg_depend.specs.Gathered.{HasRoles};
 
     ghost Value = { kernels.Kernel };
 
-    ghost view = { λ a. a.kernel.now };
+    ghost view = { λ a. a.addresses };
 
-    ghost invariant = { λ a. HasRoles a.kernel.now a.roles.items × HasAddresses a.kernel.now a.addresses.items × (a.table ≡ a.kernel.now) };
+    ghost invariant = { λ a. HasRoles a.addresses a.roles.items × (a.table ≡ a.addresses) };
 }
 
 impl<'k> Accesses<'k> {
-    ghost use Rattle.std.specs.Prelude.{◌≡◌, ◌<◌, ◌≤◌, ◌∷◌, [], IfOk};
+    ghost use Rattle.std.specs.Prelude.{◌≡◌, ◌<◌, ◌∷◌, [], IfOk};
     ghost use Rattle.cg_word.specs.Word.{is_access};
     ghost use Rattle.cg_model.specs.Kernel.{node, size};
     ghost use Rattle.cg_depend.specs.Depend.{Added, conflict};
@@ -64,13 +53,12 @@ impl<'k> Accesses<'k> {
     pub fn of(alloc: Global, kernel: &'k Kernel) -> Result<Accesses<'k>, AllocError>
         ensures { IfOk result (λ a. a ≡ kernel.now) }
     {
+        let addresses = Addresses::of(alloc, kernel)?;
         let roles = roles_of(alloc, kernel)?;
-        let addresses = addresses_of(alloc, kernel)?;
         let table = min_distance(alloc, kernel)?;
         Ok(Accesses {
-            kernel,
-            roles,
             addresses,
+            roles,
             table,
         })
     }
@@ -79,7 +67,7 @@ impl<'k> Accesses<'k> {
     pub fn size(&self) -> usize
         ensures { result ≡ size self.now }
     {
-        self.kernel.nodes().len()
+        self.addresses.nodes().len()
     }
 
     /// Returns whether the node `u` accesses the memory.
@@ -87,7 +75,7 @@ impl<'k> Accesses<'k> {
         requires { u < size self.now }
         ensures { result ≡ is_access (node self.now u).op }
     {
-        self.kernel.nodes()[u as usize].op.is_access()
+        self.addresses.nodes()[u as usize].op.is_access()
     }
 
     /// Returns whether the nodes `u` and `v` access the memory and at least one of them stores.
@@ -104,12 +92,9 @@ impl<'k> Accesses<'k> {
     pub fn edge(&self, from: u32, to: u32, least: u32) -> Option<OrderEdge>
         requires from { from < size self.now }
         requires to { to < size self.now }
-        requires least { least ≤ 1 }
         ensures { Added self.now (ask from to least ∷ []) (list_of result) }
     {
-        let source = &self.addresses[from as usize];
-        let target = &self.addresses[to as usize];
-        let Some(gap) = gap_between(source, target, least) else {
+        let Some(gap) = self.addresses.gap(from, to, least) else {
             return None;
         };
         let distance = distance_for(gap);
@@ -163,58 +148,8 @@ fn distance_for(gap: u32) -> u32
     gap.min(MOST_ORDER_DISTANCE)
 }
 
-/// Returns the address of each node of `kernel`, None where it has no pair.
-fn addresses_of(alloc: Global, kernel: &Kernel) -> Result<Vec<Option<Address>>, AllocError>
-    ensures { IfOk result (λ addresses. HasAddresses kernel.now addresses.items) }
-{
-    let table = affine(alloc, kernel)?;
-    let mut addresses = Vec::new(alloc);
-    for node in 0..kernel.nodes().len() {
-        addresses.push(address_at(&table, node as u32))?;
-    }
-    Ok(addresses)
-}
-
-/// Returns the address of node number `node`, None where it has no pair.
-fn address_at(table: &AffineTable, node: u32) -> Option<Address>
-    requires { node < size table.now }
-    ensures { option_map pair_in result ≡ address_pair table.now node }
-{
-    match table.address(node) {
-        Some(pair) => Some(Address {
-            base: pair.base,
-            stride: parted(pair.stride),
-        }),
-        None => None,
-    }
-}
-
-/// Returns the least number of turns, from `least` on, after which an access at `to` may access the word of one at
-/// `from`; None where it doesn't in any run.
-fn gap_between(from: &Option<Address>, to: &Option<Address>, least: u32) -> Option<u32>
-    requires { least ≤ 1 }
-    ensures { (K : KernelValue) (a : Ask) → address_pair K a.source ≡ option_map pair_in from.now → address_pair K a.target ≡ option_map pair_in to.now → a.least ≡ least → Gap K a result }
-{
-    match (from, to) {
-        (Some(one), Some(other)) => address_gap(one, other, least),
-        _ => Some(least),
-    }
-}
-
-/// Returns the least number of turns, from `least` on, after which an access at `to` accesses the word of one at
-/// `from`, both with pairs. Where their strides differ it is `least`; None where they don't meet in any run.
-fn address_gap(from: &Address, to: &Address, least: u32) -> Option<u32>
-    requires { least ≤ 1 }
-    ensures { (K : KernelValue) (a : Ask) → address_pair K a.source ≡ Some (pair_in from.now) → address_pair K a.target ≡ Some (pair_in to.now) → a.least ≡ least → Gap K a result }
-{
-    if from.stride.word() != to.stride.word() {
-        return Some(least);
-    }
-    gap(&from.stride, from.base.wrapping_sub(to.base), least)
-}
-
 /// Returns whether a chain leads from `from` to `to` over at most `most` turns.
-fn is_within(table: &DistanceTable, from: u32, to: u32, most: u32) -> bool
+pub fn is_within(table: &DistanceTable, from: u32, to: u32, most: u32) -> bool
     ensures { IsTrue result ↔ Within table.now from to most }
 {
     match table.get(from, to) {

@@ -77,7 +77,6 @@ pub(crate) fn parted(stride: u32) -> Stride
 /// Returns the least number that is at least `least` and below 1,000,000 and whose product with `stride` is `delta`,
 /// modulo 2^32.
 pub(crate) fn gap(stride: &Stride, delta: u32, least: u32) -> Option<u32>
-    requires { least ≤ 1 }
     ensures { MatchOption result (HasNone stride.now delta least 1000000) (IsLeast stride.now delta least 1000000) }
 {
     let part: u64 = 1 << stride.zeros;
@@ -88,10 +87,7 @@ pub(crate) fn gap(stride: &Stride, delta: u32, least: u32) -> Option<u32>
     // for stride 0 the modulus is 1, and each number solves it
     let modulus: u64 = 1 << (32 - stride.zeros);
     let first = delta / part * u64::from(stride.inverse) % modulus;
-    let x = if first < u64::from(least) {
-        first + modulus
-    } else {
-        first
-    };
+    let least = u64::from(least);
+    let x = least + (first + modulus - least % modulus) % modulus;
     if x < 1_000_000 { Some(x as u32) } else { None }
 }

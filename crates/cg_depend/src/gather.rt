@@ -46,7 +46,6 @@ fn add_edge(
 ) -> Result<(), AllocError>
     requires from { from < size accesses.now }
     requires to { to < size accesses.now }
-    requires least { least ≤ 1 }
     requires room { needed.old.total < 2 ^ 32 }
     ensures answers { OnOk result (Answers accesses.now (ask from to least ∷ []) needed.old needed.new) }
     ensures few { OnOk result (needed.new.total ≤ needed.old.total + 1) }

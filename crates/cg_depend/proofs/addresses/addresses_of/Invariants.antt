@@ -2,7 +2,7 @@ use Rattle.std.proofs.Common.{◌≡◌, ◌<◌, ℕ, length, None}
 use Rattle.std.specs.Prelude.{option_map, slice_index_or}
 use Rattle.cg_depend.specs.Affine.{address_pair}
 use Rattle.cg_depend.specs.Gathered.{pair_in}
-use Rattle.cg_depend.proofs.accesses.addresses_of.Given as goal
+use Rattle.cg_depend.proofs.addresses.addresses_of.Given as goal
 
 -- the nodes so far have theirs
 abbrev pub invariant-loop-node : goal.invariant-loop-node
