@@ -1,13 +1,11 @@
 //! Rows of runs that no command reaches, each printed on a line with its result: configurations and their bits, words of
-//! netlists beside those of the array, random configurations run in two ways, a kernel rewritten pass by pass, and a
-//! trial.
+//! netlists beside those of the array, random configurations run in two ways, and a trial.
 #![tactic(auto)]
 
 mod alike;
 mod bits;
 mod histories;
 mod netlists;
-mod simplified;
 mod trial;
 
 use cg_arch::Arch;
@@ -17,7 +15,6 @@ use cg_pad::{Image, read_image};
 use cg_tiles::read_arch;
 use cg_trial::TrialParts;
 use histories::{Found, Setting, found_of};
-use simplified::is_simplified;
 use std::rt::Files;
 use std::{fs, io};
 use trial::{digest_text, trial_of};
@@ -25,7 +22,6 @@ use trial::{digest_text, trial_of};
 fn main(rt: HostRuntime) -> io::Result<()> {
     rows_of_one_unit(&rt)?;
     rows_of_histories(&rt)?;
-    row_of_passes(&rt)?;
     rows_of_trial(&rt)
 }
 
@@ -143,16 +139,6 @@ fn say_part(rt: &(impl Print + AllocGlobal), row: &str, count: u32) -> io::Resul
     let said = if count > 500 { "most" } else { "few" };
     let line = format!(in rt.alloc(); "{row}: {said}\n")?;
     rt.print(line.as_str())
-}
-
-/// Prints the row of a kernel that is rewritten pass by pass.
-fn row_of_passes(rt: &(impl Files + Print + AllocGlobal)) -> io::Result<()> {
-    let Some(kernel) = kernel_in(rt, "with_constants.json")? else {
-        return rt.print("with_constants.json is no kernel\n");
-    };
-    let text = fs::read(rt, "with_constants.simplified")?;
-    let holds = is_simplified(rt.alloc(), &kernel, text.as_slice())?;
-    say(rt, "constants in place, dead nodes gone", holds)
 }
 
 /// Prints the rows of the trial of seed 1.

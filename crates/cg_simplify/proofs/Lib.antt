@@ -1,6 +1,12 @@
 pub mod Numbered
 pub mod Thinned
-pub mod Moved
+pub mod Marked
 pub mod Exchanged
-pub mod Placed
-mod Rows
+pub mod Drafts
+pub mod Throughs
+pub mod Written
+pub mod Restated
+pub mod Likeness
+pub mod Paired
+pub mod Merged
+pub mod Simplified

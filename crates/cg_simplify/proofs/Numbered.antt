@@ -1,5 +1,5 @@
 -- Nodes that stay, numbered.
-use Rattle.std.proofs.Common.{◌≡◌, ℕ, ◌+◌, ◌<◌, Bool, true, false, List, [], ◌∷◌, ◌++◌, length, refl, sym, ap, ◌∙◌, subst, arith, ⊎_elim}
+use Rattle.std.proofs.Common.{◌≡◌, ℕ, zero, suc, ◌+◌, ◌-◌, ◌<◌, ◌≤◌, Bool, true, false, List, [], ◌∷◌, ◌++◌, length, refl, sym, ap, ◌∙◌, subst, arith, ⊎_elim}
 use Rattle.std.specs.Prelude.{slice_index}
 use Rattle.std.proofs.lemmas.List.{length_push, get_or_push, get_or_append_left}
 use Rattle.std.proofs.lemmas.Bool.{cases_lt, true≢false}
@@ -72,3 +72,33 @@ module _ (n : ℕ) (marks : List Bool) (kept numbers : List ℕ) (h : AreNumbere
         back = λ u l e. number_cases (λ u k. slice_index kept k ≡ u) u l (λ b. h.back u b e) (λ s. absurd (no u s e));
         rising = h.rising;
       }
+
+-- ---- all n nodes are kept
+
+module _ (n : ℕ) (marks : List Bool) (kept numbers : List ℕ) (h : AreNumbered n marks kept numbers) (all : n ≤ length kept) where
+  from_below : (k : ℕ) → k < n → k ≤ slice_index kept k
+  from_below zero l = omega arith
+  from_below (suc k) l =
+      let x = from_below k (omega arith) in
+      let y : slice_index kept k < slice_index kept (suc k) = h.rising k (suc k) (omega arith) (omega arith) in
+      omega arith
+
+  from_above : (j k : ℕ) → j + k + 1 ≡ n → slice_index kept k ≤ k
+  from_above zero k e = let x : slice_index kept k < n = h.below k (omega arith) in omega arith
+  from_above (suc j) k e =
+      let x = from_above j (suc k) (omega arith) in
+      let y : slice_index kept k < slice_index kept (suc k) = h.rising k (suc k) (omega arith) (omega arith) in
+      omega arith
+
+  pub all_kept : (k : ℕ) → k < n → slice_index kept k ≡ k
+  all_kept k l =
+      let x = from_below k l in
+      let y = from_above (n - k - 1) k (omega arith) in
+      omega arith
+
+  pub same_numbers : (u : ℕ) → u < n → slice_index numbers u ≡ u
+  same_numbers u l =
+      let few = h.few in
+      let m : is_marked marks u ≡ true = subst (λ (z : ℕ). is_marked marks z ≡ true) (all_kept u l) (h.marked u (omega arith)) in
+      let b : slice_index numbers u < n = let x = h.inside u l m in omega arith in
+      sym (all_kept (slice_index numbers u) b) ∙ h.back u l m

@@ -2,6 +2,7 @@
 use Rattle.std.proofs.Common.{◌≡◌, ℕ, zero, suc, ◌+◌, ◌-◌, ◌*◌, ◌<◌, ◌≤◌, Bool, true, false, List, [], ◌∷◌, length, map, Some, refl, sym, ap, ◌∙◌, subst, arith, ⊎_elim, cond, ltb}
 use Rattle.std.specs.Prelude.{◌||◌, slice_get, slice_index, slice_index_or}
 use Rattle.std.proofs.lemmas.Bool.{cases_lt, and_parts}
+use Rattle.std.proofs.lemmas.List.{get_or_default, map-id, same_lists}
 use Rattle.cg_word.specs.Word.{arity, has_port, has_value, is_access, is_store, is_output}
 use Rattle.cg_model.specs.declared.kernel.Node.{Node}
 use Rattle.cg_model.specs.declared.kernel.Operand.{Operand}
@@ -9,7 +10,7 @@ use Rattle.cg_model.specs.declared.kernel.Operand.TheVariants.{Const as Constant
 use Rattle.cg_model.specs.declared.kernel.OrderEdge.{OrderEdge}
 use Rattle.cg_model.specs.Limits.{longest_node_name}
 use Rattle.cg_model.specs.Names.{IsName}
-use Rattle.cg_model.specs.Kernel.{Kernel, IsKernel, IsWired, IsOrder, IsNamed, HasOperand, HasOrder, no_node, node, size}
+use Rattle.cg_model.specs.Kernel.{Kernel, IsKernel, IsWired, IsOrder, IsNamed, HasOperand, no_node, node, size}
 use Rattle.cg_model.specs.Work.{Image, Work, Reaches}
 use Rattle.cg_model.specs.Turns.{operand, work, work_of, val}
 use Rattle.cg_model.proofs.Elements.{map_get, map_same}
@@ -18,13 +19,15 @@ use Rattle.cg_simplify_laws.specs.Follows.{HasEffect, Follows, RunsAlike}
 use Rattle.cg_simplify_laws.specs.Rewritten.{LeavesAlike, IsRewritten}
 use Rattle.cg_simplify_laws.proofs.Stands.{same_stands}
 use Rattle.cg_simplify_laws.proofs.Turns.{runs_alike}
-use Rattle.cg_simplify.specs.Live.{AreMarked, AreNumbered, AreMoved, is_marked, moved, moved_node}
+use Rattle.cg_simplify.proofs.Drafts.{none_ordered}
+use Rattle.cg_simplify.proofs.Numbered.{all_kept, same_numbers}
+use Rattle.cg_simplify.specs.Live.{AreMarked, AreNumbered, is_marked, moved, moved_node}
 
-mapped_length : {X Y : Type 0} (f : X → Y) (xs : List X) → length (map f xs) ≡ length xs
+pub mapped_length : {X Y : Type 0} (f : X → Y) (xs : List X) → length (map f xs) ≡ length xs
 mapped_length f [] = refl
 mapped_length f (x ∷ xs) = ap suc (mapped_length f xs)
 
-mapped_at : {X Y : Type 0} (f : X → Y) (xs : List X) (i : ℕ) (d : X) (e : Y) → i < length xs → slice_index_or (map f xs) i e ≡ f (slice_index_or xs i d)
+pub mapped_at : {X Y : Type 0} (f : X → Y) (xs : List X) (i : ℕ) (d : X) (e : Y) → i < length xs → slice_index_or (map f xs) i e ≡ f (slice_index_or xs i d)
 mapped_at f [] i d e l = absurd (omega arith)
 mapped_at f (x ∷ xs) zero d e l = refl
 mapped_at f (x ∷ xs) (suc i) d e l = mapped_at f xs i d e (omega arith)
@@ -33,15 +36,15 @@ mapped_twice : {X Y Z : Type 0} (f : Y → Z) (g : X → Y) (xs : List X) → ma
 mapped_twice f g [] = refl
 mapped_twice f g (x ∷ xs) = ap (λ zs. f (g x) ∷ zs) (mapped_twice f g xs)
 
-edge_from : (numbers : List ℕ) (q : Operand) (u d : ℕ) (init : List ℕ) → moved numbers q ≡ Edge u d init → (s : ℕ) × (q ≡ Edge s d init) × (slice_index numbers s ≡ u)
+pub edge_from : (numbers : List ℕ) (q : Operand) (u d : ℕ) (init : List ℕ) → moved numbers q ≡ Edge u d init → (s : ℕ) × (q ≡ Edge s d init) × (slice_index numbers s ≡ u)
 edge_from numbers (Constant w) u d init e = let bad : Constant w ≡ Edge u d init = e in absurd (cc)
 edge_from numbers (Edge s x j) u d init e = let same : Edge (slice_index numbers s) x j ≡ Edge u d init = e in (s, cc, cc)
 
-constant_from : (numbers : List ℕ) (q : Operand) (c : ℕ) → moved numbers q ≡ Constant c → q ≡ Constant c
+pub constant_from : (numbers : List ℕ) (q : Operand) (c : ℕ) → moved numbers q ≡ Constant c → q ≡ Constant c
 constant_from numbers (Constant w) c e = e
 constant_from numbers (Edge s x j) c e = let bad : Edge (slice_index numbers s) x j ≡ Constant c = e in absurd (cc)
 
-module _ (K L : Kernel) (marks : List Bool) (kept numbers : List ℕ) (good : IsKernel K) (marked : AreMarked K marks) (h : AreNumbered (size K) marks kept numbers) (nodes : L.nodes ≡ map (λ (u : ℕ). moved_node numbers (node K u)) kept) (edges : AreMoved marks numbers K.order L.order) where
+module _ (K L : Kernel) (marks : List Bool) (kept numbers : List ℕ) (good : IsKernel K) (marked : AreMarked K marks) (h : AreNumbered (size K) marks kept numbers) (nodes : L.nodes ≡ map (λ (u : ℕ). moved_node numbers (node K u)) kept) (none : L.order ≡ []) where
   abbrev from : ℕ → ℕ
   from v = slice_index kept v
 
@@ -123,30 +126,7 @@ module _ (K L : Kernel) (marks : List Bool) (kept numbers : List ℕ) (good : Is
       }
 
   thin_order : IsOrder L
-  thin_order =
-      record {
-        few = let x = edges.few in let y = good.order.few in omega arith;
-        known = λ k u v d has.
-            let x = edges.each k (record { from = u; to = v; distance = d }) has in
-            let b = good.order.known x.0 x.1.from x.1.to x.1.distance x.2 in (
-              subst (λ z. z < size L) (sym (ap (λ (e : OrderEdge). e.from) x.5)) (number_inside x.1.from b.0 x.3),
-              subst (λ z. z < size L) (sym (ap (λ (e : OrderEdge). e.to) x.5)) (number_inside x.1.to b.1 x.4),
-            );
-        forward = λ k u v has.
-            let x = edges.each k (record { from = u; to = v; distance = 0 }) has in
-            let b = good.order.known x.0 x.1.from x.1.to x.1.distance x.2 in
-            let zero_is : x.1.distance ≡ 0 = sym (ap (λ (e : OrderEdge). e.distance) x.5) in
-            let less = good.order.forward x.0 x.1.from x.1.to (subst (λ z. HasOrder K x.0 x.1.from x.1.to z) zero_is x.2) in
-            let u_is : u ≡ number x.1.from = ap (λ (e : OrderEdge). e.from) x.5 in
-            let v_is : v ≡ number x.1.to = ap (λ (e : OrderEdge). e.to) x.5 in
-            let done = forward x.1.from x.1.to b.0 b.1 x.3 x.4 less in
-            omega arith;
-        near = λ k u v d has.
-            let x = edges.each k (record { from = u; to = v; distance = d }) has in
-            let n = good.order.near x.0 x.1.from x.1.to x.1.distance x.2 in
-            let d_is : d ≡ x.1.distance = ap (λ (e : OrderEdge). e.distance) x.5 in
-            omega arith;
-      }
+  thin_order = subst (λ (es : List OrderEdge). IsOrder (record { nodes = L.nodes; order = es })) (sym none) (none_ordered L)
 
   name_is : (v : ℕ) → v < size L → (node L v).name ≡ (node K (from v)).name
   name_is v l = ap (λ (N : Node). N.name) (node_is v l)
@@ -271,8 +251,8 @@ module _ (K L : Kernel) (marks : List Bool) (kept numbers : List ℕ) (good : Is
         accesses = λ v l e. ap is_access (sym (op_is v l)) ∙ e;
         stores = λ v l e. ap is_store (sym (op_is v l)) ∙ e;
         ordered = λ v w less l a b st. rises v w less l;
-        runs = thin_runs;
-        reaches = λ image v i a l r. subst (λ (w : Work). Reaches w a) (work_alike image v i l) r;
+        runs = λ image n _. thin_runs image n;
+        reaches = λ image v i a _ l r. subst (λ (w : Work). Reaches w a) (work_alike image v i l) r;
       }
 
 -- L is K without some nodes that have no effect
@@ -281,24 +261,55 @@ pub record IsThinned (K L : Kernel) (marks : List Bool) (kept numbers : List ℕ
   pub marked : AreMarked K marks
   pub numbered : AreNumbered (size K) marks kept numbers
   pub nodes : L.nodes ≡ map (λ (u : ℕ). moved_node numbers (node K u)) kept
-  pub edges : AreMoved marks numbers K.order L.order
+  pub none : L.order ≡ []
 
 pub thinned_kernel : (K L : Kernel) (marks : List Bool) (kept numbers : List ℕ) → IsThinned K L marks kept numbers → IsKernel L
-thinned_kernel K L marks kept numbers t = thin_kernel K L marks kept numbers t.good t.marked t.numbered t.nodes t.edges
+thinned_kernel K L marks kept numbers t = thin_kernel K L marks kept numbers t.good t.marked t.numbered t.nodes t.none
 
 pub thinned_rewritten : (K L : Kernel) (marks : List Bool) (kept numbers : List ℕ) → IsThinned K L marks kept numbers → IsRewritten K L
-thinned_rewritten K L marks kept numbers t = thin_rewritten K L marks kept numbers t.good t.marked t.numbered t.nodes t.edges
+thinned_rewritten K L marks kept numbers t = thin_rewritten K L marks kept numbers t.good t.marked t.numbered t.nodes t.none
 
 -- what the parts of the code give
-pub thinned : (K L : Kernel) (marks m n : List Bool) (kept k numbers a b : List ℕ) (order : List OrderEdge) → IsKernel K → AreMarked K marks
+pub thinned : (K L : Kernel) (marks m : List Bool) (kept k numbers a : List ℕ) → IsKernel K → AreMarked K marks
     → m ≡ marks → AreNumbered (length m) m kept numbers
     → k ≡ kept → a ≡ numbers → L.nodes ≡ map (λ (u : ℕ). moved_node a (node K u)) k
-    → n ≡ marks → b ≡ numbers → order ≡ K.order → AreMoved n b order L.order → IsThinned K L marks kept numbers
-thinned K L marks m n kept k numbers a b order good marked m_is numbered k_is a_is nodes n_is b_is order_is edges =
+    → L.order ≡ [] → IsThinned K L marks kept numbers
+thinned K L marks m kept k numbers a good marked m_is numbered k_is a_is nodes none =
     record {
       good = good;
       marked = marked;
       numbered = subst (λ z. AreNumbered z marks kept numbers) marked.long (subst (λ (z : List Bool). AreNumbered (length z) z kept numbers) m_is numbered);
       nodes = nodes ∙ ap (λ (z : List ℕ). map (λ (u : ℕ). moved_node z (node K u)) k) a_is ∙ ap (map (λ (u : ℕ). moved_node numbers (node K u))) k_is;
-      edges = subst (λ (z : List Bool). AreMoved z numbers K.order L.order) n_is (subst (λ (z : List ℕ). AreMoved n z K.order L.order) b_is (subst (λ (z : List OrderEdge). AreMoved n b z L.order) order_is edges));
+      none = none;
     }
+
+-- ---- all nodes are kept
+
+module _ (K : Kernel) (marks : List Bool) (kept numbers : List ℕ) (good : IsKernel K) (h : AreNumbered (size K) marks kept numbers) (all : size K ≤ length kept) where
+  stays_put : (v p : ℕ) (o : Operand) → v < size K → HasOperand K v p o → moved numbers o ≡ o
+  stays_put v p (Constant c) l has = refl
+  stays_put v p (Edge u d init) l has =
+      ap (λ (w : ℕ). Edge w d init) (same_numbers (size K) marks kept numbers h all u (good.wired.sources v p u d init l has))
+
+  same_node : (v : ℕ) → v < size K → moved_node numbers (node K v) ≡ node K v
+  same_node v l =
+      ap (λ (os : List Operand). record (node K v) { operands = os })
+      (map_same (moved numbers) (λ (o : Operand). o) (node K v).operands (λ p o has. stays_put v p o l has) ∙ map-id (node K v).operands)
+
+  kept_nodes : map (λ (u : ℕ). moved_node numbers (node K u)) kept ≡ K.nodes
+  kept_nodes =
+      let few = h.few in
+      let long = mapped_length (λ (u : ℕ). moved_node numbers (node K u)) kept in
+      same_lists (map (λ (u : ℕ). moved_node numbers (node K u)) kept) K.nodes (omega arith)
+      (λ k d l.
+      let b : k < length kept = omega arith in
+      let c : k < size K = omega arith in
+      mapped_at (λ (u : ℕ). moved_node numbers (node K u)) kept k 0 d b
+      ∙ ap (λ (u : ℕ). moved_node numbers (node K u)) (all_kept (size K) marks kept numbers h all k c)
+      ∙ same_node k c
+      ∙ get_or_default K.nodes k no_node d c)
+
+pub same_nodes : (K L : Kernel) (marks : List Bool) (kept numbers : List ℕ) → IsThinned K L marks kept numbers → size K ≤ size L → L.nodes ≡ K.nodes
+same_nodes K L marks kept numbers t few =
+    let long = ap (λ (xs : List Node). length xs) t.nodes ∙ mapped_length (λ (u : ℕ). moved_node numbers (node K u)) kept in
+    t.nodes ∙ kept_nodes K marks kept numbers t.good t.numbered (omega arith)

@@ -1,2 +1,6 @@
 pub mod Live
 pub mod Operands
+pub mod Restating
+pub mod Settling
+pub mod Merging
+pub mod Simplified

@@ -1,11 +1,10 @@
 -- Nodes that are marked to stay, and the numbers that they get.
-use Rattle.std.specs.Prelude.{◌≡◌, ℕ, ◌<◌, ◌≤◌, ◌||◌, Bool, true, false, List, length, Some, map, slice_get, slice_index, slice_index_or}
+use Rattle.std.specs.Prelude.{◌≡◌, ℕ, ◌<◌, ◌≤◌, ◌||◌, Bool, true, false, List, length, map, slice_index, slice_index_or}
 use Rattle.cg_word.specs.declared.op.Op.{Op}
 use Rattle.cg_word.specs.Word.{is_store, is_output}
 use Rattle.cg_model.specs.declared.kernel.Node.{Node}
 use Rattle.cg_model.specs.declared.kernel.Operand.{Operand}
 use Rattle.cg_model.specs.declared.kernel.Operand.TheVariants.{Const as Constant, Edge}
-use Rattle.cg_model.specs.declared.kernel.OrderEdge.{OrderEdge}
 use Rattle.cg_model.specs.Kernel.{Kernel, HasOperand, node, size}
 
 -- it stores or outputs, guarded or not
@@ -41,24 +40,10 @@ pub record AreNumbered (n : ℕ) (marks : List Bool) (kept numbers : List ℕ) :
   pub back : (u : ℕ) → u < n → is_marked marks u ≡ true → slice_index kept (slice_index numbers u) ≡ u
   pub rising : (j k : ℕ) → j < k → k < length kept → slice_index kept j < slice_index kept k
 
--- an operand, a node and an order edge with other numbers
+-- an operand and a node with other numbers
 abbrev pub moved : List ℕ → Operand → Operand
 moved numbers (Constant w) = Constant w
 moved numbers (Edge u d init) = Edge (slice_index numbers u) d init
 
 abbrev pub moved_node : List ℕ → Node → Node
 moved_node numbers N = record { name = N.name; op = N.op; port = N.port; operands = map (moved numbers) N.operands }
-
-abbrev pub moved_edge : List ℕ → OrderEdge → OrderEdge
-moved_edge numbers e = record { from = slice_index numbers e.from; to = slice_index numbers e.to; distance = e.distance }
-
--- each of these edges is one of `order` between marked nodes, with other numbers
-abbrev pub IsMovedFrom : List Bool → List ℕ → List OrderEdge → List OrderEdge → Type 0
-IsMovedFrom marks numbers order edges =
-    (k : ℕ) (x : OrderEdge) → slice_get edges k ≡ Some x →
-    (j : ℕ) × (e : OrderEdge) × (slice_get order j ≡ Some e) × (is_marked marks e.from ≡ true) ×
-    (is_marked marks e.to ≡ true) × (x ≡ moved_edge numbers e)
-
-pub record AreMoved (marks : List Bool) (numbers : List ℕ) (order edges : List OrderEdge) : Type 0 where
-  pub few : length edges ≤ length order
-  pub each : IsMovedFrom marks numbers order edges

@@ -1,11 +1,10 @@
-//! Copies of nodes and order edges with other numbers.
+//! Copies of nodes with other numbers.
 ghost use Rattle.std.specs.Prelude.{◌≡◌, ◌<◌, ℕ, IfOk, length, map, slice_index};
 ghost use Rattle.cg_model.specs.Kernel.{node, size};
-ghost use Rattle.cg_simplify.specs.Live.{AreMoved, moved, moved_edge, moved_node};
+ghost use Rattle.cg_simplify.specs.Live.{moved, moved_node};
 
-use crate::live::is_marked;
 use crate::number::number_of;
-use cg_model::{Kernel, Name, Node, Operand, Operands, OrderEdge, Words};
+use cg_model::{Kernel, Name, Node, Operand, Operands, Words};
 use std::alloc::{AllocError, Global};
 
 /// Returns copies of the nodes `kept` of `kernel`, with the sources of their operands by `numbers`.
@@ -20,13 +19,28 @@ pub(crate) fn copy_nodes(
 {
     let mut copies = Vec::new(alloc);
     for place in 0..kept.len() {
-        copies.push(copy_node(alloc, kernel, kept[place], numbers)?)?;
+        copies.push(copy_kept(alloc, kernel, kept[place], numbers)?)?;
+    }
+    Ok(copies)
+}
+
+/// Returns copies of `nodes`, with the sources of their operands by `numbers`.
+pub(crate) fn copy_moved(
+    alloc: Global,
+    nodes: &[Node],
+    numbers: &[u32],
+) -> Result<Vec<Node>, AllocError>
+    ensures { IfOk result (λ copies. copies.items ≡ map (moved_node numbers.now) nodes.now) }
+{
+    let mut copies = Vec::new(alloc);
+    for node in nodes {
+        copies.push(copy_node(alloc, node, numbers)?)?;
     }
     Ok(copies)
 }
 
 /// Returns a copy of node `number` of `kernel`, with the sources of its operands by `numbers`.
-fn copy_node(
+fn copy_kept(
     alloc: Global,
     kernel: &Kernel,
     number: u32,
@@ -35,7 +49,13 @@ fn copy_node(
     requires { number < size kernel.now }
     ensures { IfOk result (λ copy. copy ≡ moved_node numbers.now (node kernel.now number)) }
 {
-    let node = &kernel.nodes()[number as usize];
+    copy_node(alloc, &kernel.nodes()[number as usize], numbers)
+}
+
+/// Returns a copy of `node`, with the sources of its operands by `numbers`.
+fn copy_node(alloc: Global, node: &Node, numbers: &[u32]) -> Result<Node, AllocError>
+    ensures { IfOk result (λ copy. copy ≡ moved_node numbers.now node.now) }
+{
     Ok(Node {
         name: Name::copy_of(alloc, node.name.as_str())?,
         op: node.op,
@@ -74,35 +94,5 @@ fn copy_operand(alloc: Global, operand: &Operand, numbers: &[u32]) -> Result<Ope
             distance: *distance,
             init: Words::new(Vec::from_slice(alloc, init.as_slice())?),
         }),
-    }
-}
-
-/// Returns the edges of `order` between nodes that `marks` marks, by `numbers`.
-pub(crate) fn copy_order(
-    alloc: Global,
-    order: &[OrderEdge],
-    marks: &[bool],
-    numbers: &[u32],
-) -> Result<Vec<OrderEdge>, AllocError>
-    ensures { IfOk result (λ edges. AreMoved marks.now numbers.now order.now edges.items) }
-{
-    let mut edges = Vec::new(alloc);
-    for place in 0..order.len() {
-        let edge = &order[place];
-        if is_marked(marks, edge.from as usize) && is_marked(marks, edge.to as usize) {
-            edges.push(move_edge(edge, numbers))?;
-        }
-    }
-    Ok(edges)
-}
-
-/// Returns `edge` between the nodes that `numbers` gives.
-fn move_edge(edge: &OrderEdge, numbers: &[u32]) -> OrderEdge
-    ensures { result ≡ moved_edge numbers.now edge.now }
-{
-    OrderEdge {
-        from: number_of(numbers, edge.from),
-        to: number_of(numbers, edge.to),
-        distance: edge.distance,
     }
 }

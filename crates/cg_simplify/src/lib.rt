@@ -8,16 +8,30 @@ ghost use Rattle.cg_model.specs.declared.kernel.Operand.TheVariants.{Const as Co
 ghost use Rattle.cg_model.specs.Kernel.{Kernel, HasOperand, IsKernel, IsWired, node, size};
 ghost use Rattle.cg_simplify_laws.specs.Rewritten.{IsRewritten};
 ghost use Rattle.cg_simplify.specs.Operands.{Exchanges, Gives, IsAlike};
+ghost use Rattle.cg_simplify.specs.Restating.{Restates};
 
-mod constants;
 mod copy;
+mod draft;
 mod live;
+mod merging;
 mod number;
+mod pairing;
+mod passed;
 mod removal;
+mod restating;
+mod settle;
+mod simplifying;
+mod text;
+mod through;
 
 use cg_simplify_laws::followed;
-pub use constants::constants_in_place;
+pub use draft::Draft;
+pub use merging::merge;
+pub use passed::Passed;
 pub use removal::dead;
+pub use restating::texts;
+pub use settle::operands;
+pub use simplifying::{Options, simplify};
 
 /// States that a kernel is rewritten where operands of its nodes are exchanged for operands with the same words, and
 /// which operands these are.
@@ -33,6 +47,13 @@ pub fn operands_exchanged()
         ((j : ℕ) → j < d → slice_index init j ≡ k) → IsAlike K (Edge w d init) (Constant k) }
     ensures edges { (K : Kernel) (w d u e : ℕ) (init more : List ℕ) → length init ≡ d → Gives K w (Edge u e more) →
         IsAlike K (Edge w d init) (Edge u (d + e) (init ++ more)) }
+{
+    followed();
+}
+
+/// States that a kernel is rewritten where nodes that compute one word in every turn become the `const` of the word.
+pub fn nodes_restated()
+    ensures { (K L : Kernel) → IsKernel K → IsWired L → Restates K L → IsRewritten K L }
 {
     followed();
 }

@@ -123,7 +123,7 @@ pub(crate) fn is_marked(marks: &[bool], number: usize) -> bool
 }
 
 /// Returns whether the sources of `operands` are marked.
-fn are_fed(marks: &[bool], operands: &[Operand]) -> bool
+pub(crate) fn are_fed(marks: &[bool], operands: &[Operand]) -> bool
     ensures { IsTrue result → (p : ℕ) (o : OperandValue) → slice_get operands.now p ≡ Some o → is_fed marks.now o ≡ true }
 {
     for place in 0..operands.len() {

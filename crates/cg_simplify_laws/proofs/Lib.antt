@@ -4,4 +4,4 @@ mod Steps
 pub mod Stands
 pub mod Turns
 mod Rows
-mod Twice
+pub mod Twice

@@ -3,7 +3,7 @@ use Rattle.std.proofs.Common.{List, ◌≡◌, ◌∙◌, ℕ, zero, suc, ◌+�
 use Rattle.cg_word.specs.Word.{is_access, is_store}
 use Rattle.cg_model.specs.declared.kernel.OrderEdge.{OrderEdge}
 use Rattle.cg_model.specs.Kernel.{Kernel, IsWired, node, size}
-use Rattle.cg_model.specs.Work.{Image, Reaches, left, value}
+use Rattle.cg_model.specs.Work.{Image, IsImage, Reaches, left, value}
 use Rattle.cg_model.specs.Turns.{Progress, before, after, work, work_at, turns}
 use Rattle.cg_simplify_laws.specs.Rewritten.{LeavesAlike, IsRewritten}
 
@@ -17,10 +17,10 @@ module _ (K L M : Kernel) (a : IsRewritten K L) (b : IsRewritten L M) where
       a.ordered (b.from v) (b.from w) (b.ordered v w less l c d st) (b.inside w l) (b.accesses v lv c) (b.accesses w l d)
       (⊎_elim (λ e. inl (b.stores v lv e)) (λ e. inr (b.stores w l e)) st)
 
-  through_runs : (image : Image) (n : ℕ) → LeavesAlike K M image n through
-  through_runs image n =
-      let x = a.runs image n in
-      let y = b.runs image n in
+  through_runs : (image : Image) (n : ℕ) → IsImage image → LeavesAlike K M image n through
+  through_runs image n words =
+      let x = a.runs image n words in
+      let y = b.runs image n words in
       record {
         values = λ v i l li. y.values v i l li ∙ x.values (b.from v) i (b.inside v l) li;
         memory = y.memory ∙ x.memory;
@@ -40,7 +40,7 @@ module _ (K L M : Kernel) (a : IsRewritten K L) (b : IsRewritten L M) where
         stores = λ v l e. a.stores (b.from v) (b.inside v l) (b.stores v l e);
         ordered = through_ordered;
         runs = through_runs;
-        reaches = λ image v i at l r. a.reaches image (b.from v) i at (b.inside v l) (b.reaches image v i at l r);
+        reaches = λ image v i at words l r. a.reaches image (b.from v) i at words (b.inside v l) (b.reaches image v i at words l r);
       }
 
 module _ (K : Kernel) (order : List OrderEdge) where
@@ -76,6 +76,6 @@ module _ (K : Kernel) (order : List OrderEdge) where
         accesses = λ v l e. e;
         stores = λ v l e. e;
         ordered = λ v w less l c d st. less;
-        runs = same_runs;
-        reaches = λ image v i a l r. subst (λ w. Reaches w a) (same_work image (i * size K + v)) r;
+        runs = λ image n words. same_runs image n;
+        reaches = λ image v i a words l r. subst (λ w. Reaches w a) (same_work image (i * size K + v)) r;
       }

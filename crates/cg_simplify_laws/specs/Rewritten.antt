@@ -2,7 +2,7 @@
 use Rattle.std.specs.Prelude.{◌≡◌, ℕ, ◌+◌, ◌*◌, ◌<◌, ◌≤◌, ◌⊎◌, true}
 use Rattle.cg_word.specs.Word.{is_access, is_store}
 use Rattle.cg_model.specs.Kernel.{Kernel, size, node}
-use Rattle.cg_model.specs.Work.{Image, Reaches}
+use Rattle.cg_model.specs.Work.{Image, IsImage, Reaches}
 use Rattle.cg_model.specs.Turns.{work, val, turns, turns_left}
 
 -- in each of the n turns node v of L has the value of node `from v` of K, and n turns of L leave the memory and the
@@ -14,8 +14,8 @@ pub record LeavesAlike (K L : Kernel) (image : Image) (n : ℕ) (from : ℕ → 
   pub outside : (turns L n image).outside ≤ (turns K n image).outside
   pub left : (turns_left L n image).image ≡ (turns_left K n image).image
 
--- node v of L is node `from v` of K, by its name too; in every run it has its values and reaches no other words, and the
--- runs leave the same memory and streams
+-- node v of L is node `from v` of K, by its name too; in every run from an image it has its values and reaches no other
+-- words, and the runs leave the same memory and streams
 pub record IsRewritten (K L : Kernel) : Type 0 where
   pub from : ℕ → ℕ
   pub inside : (v : ℕ) → v < size L → from v < size K
@@ -29,6 +29,6 @@ pub record IsRewritten (K L : Kernel) : Type 0 where
   -- of two accesses of which one stores, the earlier stands for the earlier
   pub ordered : (v w : ℕ) → v < w → w < size L → is_access (node L v).op ≡ true → is_access (node L w).op ≡ true →
       (is_store (node L v).op ≡ true) ⊎ (is_store (node L w).op ≡ true) → from v < from w
-  pub runs : (image : Image) (n : ℕ) → LeavesAlike K L image n from
-  pub reaches : (image : Image) (v i a : ℕ) → v < size L → Reaches (work L image (i * size L + v)) a →
+  pub runs : (image : Image) (n : ℕ) → IsImage image → LeavesAlike K L image n from
+  pub reaches : (image : Image) (v i a : ℕ) → IsImage image → v < size L → Reaches (work L image (i * size L + v)) a →
       Reaches (work K image (i * size K + from v)) a

@@ -1,7 +1,7 @@
 use Rattle.std.proofs.Common.{List, length, replicate, true, ap, sym, ◌∙◌, subst}
 use Rattle.cg_model.specs.declared.kernel.Node.{Node}
 use Rattle.cg_simplify.specs.Live.{AreMarked}
-use Rattle.cg_simplify.proofs.Moved.{all_marked}
+use Rattle.cg_simplify.proofs.Marked.{all_marked}
 use Rattle.cg_simplify.proofs.live.all.Goals as goal
 
 pub returns : goal.returns
