@@ -4,7 +4,7 @@ use Rattle.std.proofs.lemmas.List.Elements.{All-head, All-tail}
 use Rattle.cg_command.specs.declared.command.ArrayCall.{ArrayCall}
 use Rattle.cg_command.specs.declared.command.MapperCall.{MapperCall}
 use Rattle.cg_command.specs.declared.command.Command.{Command}
-use Rattle.cg_command.specs.declared.command.Command.TheVariants.{Turns, TurnsOnImage, Flat, Run, Bound, Check, Emit, Map, Search, Show, Trial, Verilog, Loop, Depend, Migrate, Bench, Image, Words, Violations, Why}
+use Rattle.cg_command.specs.declared.command.Command.TheVariants.{Turns, TurnsOnImage, Flat, Run, Bound, Check, Emit, Map, Search, Show, Trial, Verilog, Loop, Depend, Simplify, Migrate, Bench, Image, Words, Violations, Why}
 use Rattle.cg_command.specs.Command.{listed, inputs_of, outputs_of, call_map, array_map, command_map, IsRanged}
 
 -- the input files are those of the command, each read by the function
@@ -28,6 +28,7 @@ map_inputs f g (Trial seed) = refl
 map_inputs f g (Verilog arch out) = refl
 map_inputs f g (Loop source out) = refl
 map_inputs f g (Depend kernel out) = refl
+map_inputs f g (Simplify kernel out copies share) = refl
 map_inputs f g (Migrate arch bits out) = refl
 map_inputs f g (Bench call) = refl
 map_inputs f g (Image text out) = refl
@@ -58,6 +59,7 @@ map_twice f h g k (Trial seed) = refl
 map_twice f h g k (Verilog arch out) = refl
 map_twice f h g k (Loop source out) = refl
 map_twice f h g k (Depend kernel out) = refl
+map_twice f h g k (Simplify kernel out copies share) = refl
 map_twice f h g k (Migrate arch bits out) = refl
 map_twice f h g k (Bench call) = refl
 map_twice f h g k (Image text out) = refl
@@ -149,6 +151,9 @@ map_same h (Loop source out) all =
 map_same h (Depend kernel out) all =
     let e0 = All-head (IsKept h) kernel [] all in
     ap (λ z. Depend z out) e0
+map_same h (Simplify kernel out copies share) all =
+    let e0 = All-head (IsKept h) kernel [] all in
+    ap (λ z. Simplify z out copies share) e0
 map_same h (Migrate arch bits out) all =
     let e0 = All-head (IsKept h) arch (bits ∷ []) all in
     let e1 = All-head (IsKept h) bits [] (All-tail (IsKept h) arch (bits ∷ []) all) in
@@ -190,6 +195,7 @@ outputs_kept f (Trial seed) = refl
 outputs_kept f (Verilog arch out) = refl
 outputs_kept f (Loop source out) = refl
 outputs_kept f (Depend kernel out) = refl
+outputs_kept f (Simplify kernel out copies share) = refl
 outputs_kept f (Migrate arch bits out) = refl
 outputs_kept f (Bench call) = refl
 outputs_kept f (Image text out) = refl
@@ -213,6 +219,7 @@ map_ranged f g (Trial seed) r = r
 map_ranged f g (Verilog arch out) r = r
 map_ranged f g (Loop source out) r = r
 map_ranged f g (Depend kernel out) r = r
+map_ranged f g (Simplify kernel out copies share) r = r
 map_ranged f g (Migrate arch bits out) r = r
 map_ranged f g (Bench call) r = r
 map_ranged f g (Image text out) r = r

@@ -9,9 +9,9 @@ use Rattle.cg_model.specs.declared.request.Request.{Request}
 use Rattle.cg_model.specs.Request.{IsInRange}
 use Rattle.cg_command.specs.declared.command.MapperCall.{MapperCall}
 use Rattle.cg_command.specs.declared.command.Command.{Command}
-use Rattle.cg_command.specs.declared.command.Command.TheVariants.{Flat, Bound, Check, Map, Search, Verilog, Loop, Depend, Migrate, Image, Words, Violations, Why}
+use Rattle.cg_command.specs.declared.command.Command.TheVariants.{Flat, Bound, Check, Map, Search, Verilog, Loop, Depend, Simplify, Migrate, Image, Words, Violations, Why}
 use Rattle.cg_command.specs.Command.{IsRanged}
-use Rattle.cg_command.specs.Words.{Text, Given, Arguments, values_said, said_once, asked_interval, file_said, request_of, written_call, mapper_call, usual_moves, usual_responses, positive, seed_of, moves_of, is_number, number_up_to, turns_of, turns_command, array_command, run_command, takes, search_options, run_options, of_one, of_two, of_three, emit_command, show_command, trial_command, bench_command, is_empty, plain_command, further_command, command_of, arguments_of, plan_of}
+use Rattle.cg_command.specs.Words.{Text, Given, Arguments, values_said, said_once, asked_interval, file_said, request_of, written_call, mapper_call, usual_moves, usual_responses, positive, seed_of, moves_of, is_number, number_up_to, turns_of, turns_command, array_command, run_command, takes, search_options, run_options, of_one, of_two, of_three, emit_command, show_command, trial_command, bench_command, is_empty, is_said, simplify_command, plain_command, further_command, flagless_command, command_of, arguments_of, plan_of}
 
 -- each value that an option may have
 abbrev Each : {T : Type 0} → (T → Type 0) → Option T → Type 0
@@ -159,12 +159,23 @@ plain_ranged name words =
     (either_each IsRanged (bytes_eq name (codes "emit")) (emit_command words) _ (emit_ranged words)
     (either_each IsRanged (bytes_eq name (codes "show")) (show_command words) (further_command name words) (show_ranged words) (further_ranged name words))))))))
 
-command_ranged : (name : Text) (said : Arguments) → AreRanged (command_of name said)
-command_ranged name said =
+simplify_ranged : (said : Arguments) → AreRanged (simplify_command said)
+simplify_ranged said =
+    either_each IsRanged (is_empty said.options) _ None
+    (two_ranged (λ kernel out. Simplify kernel out (is_said (codes "copies") said) (is_said (codes "share") said)) (λ a b. tt) said.words)
+    (none_each IsRanged)
+
+flagless_ranged : (name : Text) (said : Arguments) → AreRanged (flagless_command name said)
+flagless_ranged name said =
     either_each IsRanged (bytes_eq name (codes "run")) (run_command said) _ (run_ranged said)
     (either_each IsRanged (bytes_eq name (codes "map")) (option_map Map (mapper_call usual_moves said)) _ (mapped_each IsRanged Map (mapper_call usual_moves said) (call_ranged usual_moves (omega arith) said))
     (either_each IsRanged (bytes_eq name (codes "search")) (option_map Search (mapper_call usual_responses said)) _ (mapped_each IsRanged Search (mapper_call usual_responses said) (call_ranged usual_responses (omega arith) said))
     (either_each IsRanged (is_empty said.options) (plain_command name said.words) None (plain_ranged name said.words) (none_each IsRanged))))
+
+command_ranged : (name : Text) (said : Arguments) → AreRanged (command_of name said)
+command_ranged name said =
+    either_each IsRanged (bytes_eq name (codes "simplify")) (simplify_command said) _ (simplify_ranged said)
+    (either_each IsRanged (is_empty said.flags) (flagless_command name said) None (flagless_ranged name said) (none_each IsRanged))
 
 said_ranged : (name : Text) (o : Option Arguments) → AreRanged (option_and_then (command_of name) o)
 said_ranged name None = none_each IsRanged

@@ -7,7 +7,7 @@ use Rattle.cg_command.specs.Numbers.{Text}
 use Rattle.cg_command.specs.declared.command.ArrayCall.{ArrayCall}
 use Rattle.cg_command.specs.declared.command.MapperCall.{MapperCall}
 use Rattle.cg_command.specs.declared.command.Command.{Command}
-use Rattle.cg_command.specs.declared.command.Command.TheVariants.{Turns, TurnsOnImage, Flat, Run, Bound, Check, Emit, Map, Search, Show, Trial, Verilog, Loop, Depend, Migrate, Bench, Image, Words, Violations, Why}
+use Rattle.cg_command.specs.declared.command.Command.TheVariants.{Turns, TurnsOnImage, Flat, Run, Bound, Check, Emit, Map, Search, Show, Trial, Verilog, Loop, Depend, Simplify, Migrate, Bench, Image, Words, Violations, Why}
 
 -- the option's item, if there is one, as a list
 abbrev pub listed : {X : Type 0} → Option X → List X
@@ -30,6 +30,7 @@ inputs_of (Trial seed) = []
 inputs_of (Verilog arch out) = arch ∷ []
 inputs_of (Loop source out) = source ∷ []
 inputs_of (Depend kernel out) = kernel ∷ []
+inputs_of (Simplify kernel out copies share) = kernel ∷ []
 inputs_of (Migrate arch bits out) = arch ∷ bits ∷ []
 inputs_of (Bench call) = call.arch ∷ call.bits ∷ call.image ∷ []
 inputs_of (Image text out) = text ∷ []
@@ -53,6 +54,7 @@ outputs_of (Trial seed) = []
 outputs_of (Verilog arch out) = out ∷ []
 outputs_of (Loop source out) = out ∷ []
 outputs_of (Depend kernel out) = out ∷ []
+outputs_of (Simplify kernel out copies share) = out ∷ []
 outputs_of (Migrate arch bits out) = out ∷ []
 outputs_of (Bench call) = call.out ∷ []
 outputs_of (Image text out) = out ∷ []
@@ -90,6 +92,7 @@ command_map f g (Trial seed) = Trial seed
 command_map f g (Verilog arch out) = Verilog (f arch) (g out)
 command_map f g (Loop source out) = Loop (f source) (g out)
 command_map f g (Depend kernel out) = Depend (f kernel) (g out)
+command_map f g (Simplify kernel out copies share) = Simplify (f kernel) (g out) copies share
 command_map f g (Migrate arch bits out) = Migrate (f arch) (f bits) (g out)
 command_map f g (Bench call) = Bench (array_map f g call)
 command_map f g (Image text out) = Image (f text) (g out)

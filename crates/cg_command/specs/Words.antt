@@ -1,43 +1,53 @@
 -- The command that the words of a command line ask for.
-use Rattle.std.specs.Prelude.{◌==◌, ℕ, Bool, true, false, not, List, [], ◌∷◌, ◌++◌, take, drop, find, map, Option, Some, None, option_map, option_and_then, if◌then◌else◌, codes}
+use Rattle.std.specs.Prelude.{◌==◌, suc, nat_lt, nat_le, ℕ, Bool, true, false, not, List, [], ◌∷◌, ◌++◌, take, drop, find, map, Option, Some, None, option_map, option_and_then, if◌then◌else◌, codes}
 use Rattle.std.specs.List.{list_all, list_any, before_first, after_first}
 use Rattle.std.specs.Str.{bytes_eq}
 pub use Rattle.cg_command.specs.Numbers.{Text, is_number, number_up_to, positive, turns_of, interval_of, seed_of, moves_of, usual_seed, usual_moves, usual_responses}
 use Rattle.cg_command.specs.declared.command.MapperCall.{MapperCall}
 use Rattle.cg_command.specs.declared.command.Command.{Command}
-use Rattle.cg_command.specs.declared.command.Command.TheVariants.{Turns, TurnsOnImage, Flat, Run, Bound, Check, Emit, Map, Search, Show, Trial, Verilog, Loop, Depend, Migrate, Bench, Image, Words, Violations, Why}
+use Rattle.cg_command.specs.declared.command.Command.TheVariants.{Turns, TurnsOnImage, Flat, Run, Bound, Check, Emit, Map, Search, Show, Trial, Verilog, Loop, Depend, Simplify, Migrate, Bench, Image, Words, Violations, Why}
 use Rattle.cg_model.specs.declared.request.Request.{Request}
 use Rattle.cg_command.specs.declared.arguments.Arguments.{Arguments as ArgumentsValue}
 use Rattle.cg_command.specs.declared.arguments.Given.{Given as GivenValue}
 
--- ---- plain words and options
+-- ---- plain words, options and flags
 
 -- a word may name a file where it isn't empty and doesn't begin with `-`
 abbrev pub is_file : Text → Bool
 is_file [] = false
 is_file (b ∷ bs) = not (b == 45)
 
--- a plain word, or an option of this name with its value
+-- a plain word, an option of this name with its value, or a flag of this name
 pub data Part : Type 0 where
   plain : Text → Part
   named : Text → Text → Part
+  flag : Text → Part
 
--- the word, or the value
-abbrev pub text_of : Part → Text
-text_of (plain word) = word
-text_of (named name value) = value
+-- a plain word and a value may name a file
+abbrev pub is_allowed : Part → Bool
+is_allowed (plain word) = is_file word
+is_allowed (named name value) = is_file value
+is_allowed (flag name) = true
 
 -- a part and those after it; a plain word or a value that is empty or begins with `-` is refused
 abbrev pub and_then : Part → Option (List Part) → Option (List Part)
-and_then part rest = if is_file (text_of part) then option_map (λ parts. part ∷ parts) rest else None
+and_then part rest = if is_allowed part then option_map (λ parts. part ∷ parts) rest else None
 
 -- the names of the options
 abbrev pub options : List Text
 options = codes "ii" ∷ codes "seed" ∷ codes "moves" ∷ codes "mapping" ∷ codes "netlist" ∷ []
 
+-- the names of the flags
+abbrev pub flags : List Text
+flags = codes "copies" ∷ codes "share" ∷ []
+
 -- the option of this name
 abbrev pub option_named : Text → Option Text
 option_named name = find (λ option. bytes_eq option name) options
+
+-- the flag of this name
+abbrev pub flag_named : Text → Option Text
+flag_named name = find (λ other. bytes_eq other name) flags
 
 -- a word begins with `--`
 abbrev pub is_option : Text → Bool
@@ -55,18 +65,24 @@ name_in word = before_first is_equals_sign (drop 2 word)
 abbrev pub value_in : Text → Option Text
 value_in word = if list_any is_equals_sign (drop 2 word) then Some (after_first is_equals_sign (drop 2 word)) else None
 
--- an option with the value after its `=`, or waiting for the next word; another name is refused
-abbrev pub option_parts : Option Text → Option Text → Option (List Part) → (Text → Option (List Part)) → Option (List Part)
-option_parts None value rest waiting = None
-option_parts (Some name) (Some value) rest waiting = and_then (named name value) rest
-option_parts (Some name) None rest waiting = waiting name
+-- a flag, which has no value; another name is refused
+abbrev pub flag_parts : Option Text → Option Text → Option (List Part) → Option (List Part)
+flag_parts None value rest = None
+flag_parts (Some name) (Some value) rest = None
+flag_parts (Some name) None rest = and_then (flag name) rest
+
+-- an option with the value after its `=`, or waiting for the next word; a name of no option is a flag's
+abbrev pub option_parts : Option Text → Option Text → Option Text → Option (List Part) → (Text → Option (List Part)) → Option (List Part)
+option_parts (Some name) other (Some value) rest waiting = and_then (named name value) rest
+option_parts (Some name) other None rest waiting = waiting name
+option_parts None other value rest waiting = flag_parts other value rest
 
 -- the parts of the words after `--`, each of them plain
 abbrev pub plain_parts : List Text → Option (List Part)
 plain_parts [] = Some []
 plain_parts (word ∷ words) = and_then (plain word) (plain_parts words)
 
--- the parts of the words, where an option may wait for the next word as its value; `--` ends the options
+-- the parts of the words, where an option may wait for the next word as its value; `--` ends the options and the flags
 abbrev pub parts_of : Option Text → List Text → Option (List Part)
 parts_of None [] = Some []
 parts_of (Some name) [] = None
@@ -74,7 +90,7 @@ parts_of (Some name) (word ∷ words) = and_then (named name word) (parts_of Non
 parts_of None (word ∷ words) =
     if bytes_eq word (codes "--") then plain_parts words
     else (if is_option word
-    then option_parts (option_named (name_in word)) (value_in word) (parts_of None words) (λ name. parts_of (Some name) words)
+    then option_parts (option_named (name_in word)) (flag_named (name_in word)) (value_in word) (parts_of None words) (λ name. parts_of (Some name) words)
     else and_then (plain word) (parts_of None words))
 
 -- ---- what was said
@@ -84,29 +100,40 @@ pub record Given : Type 0 where
   pub name : Text
   pub value : Text
 
--- the plain words in order, and the options with their values, those of one name in order
+-- the plain words in order, the options with their values, those of one name in order, and the names of the flags that
+-- were given
 pub record Arguments : Type 0 where
   pub words : List Text
   pub options : List Given
+  pub flags : List Text
 
 -- the option that a value of the program denotes
 abbrev pub heard_option : GivenValue → Given
 heard_option g = record { name = g.name.now; value = g.value.now }
 
 abbrev pub heard : ArgumentsValue → Arguments
-heard a = record { words = map (λ word. word.now) a.words.items; options = map heard_option a.options.items }
+heard a = record { words = map (λ word. word.now) a.words.items; options = map heard_option a.options.items; flags = map (λ name. name.now) a.flags.items }
 
 -- the plain words, in order
 abbrev pub plain_words : List Part → List Text
 plain_words [] = []
 plain_words (plain word ∷ parts) = word ∷ plain_words parts
 plain_words (named name value ∷ parts) = plain_words parts
+plain_words (flag name ∷ parts) = plain_words parts
 
 -- the values of an option, in order
 abbrev pub values_of : Text → List Part → List Text
 values_of name [] = []
 values_of name (plain word ∷ parts) = values_of name parts
 values_of name (named other value ∷ parts) = if bytes_eq other name then value ∷ values_of name parts else values_of name parts
+values_of name (flag other ∷ parts) = values_of name parts
+
+-- how many times a flag is given
+abbrev pub times_of : Text → List Part → ℕ
+times_of name [] = 0
+times_of name (plain word ∷ parts) = times_of name parts
+times_of name (named other value ∷ parts) = times_of name parts
+times_of name (flag other ∷ parts) = if bytes_eq other name then suc (times_of name parts) else times_of name parts
 
 -- the option of that name, with each of these values
 abbrev pub given_values : Text → List Text → List Given
@@ -117,13 +144,32 @@ abbrev pub given_by : (Text → List Text) → List Text → List Given
 given_by values [] = []
 given_by values (name ∷ names) = given_values name (values name) ++ given_by values names
 
--- the arguments of the parts
-abbrev pub arguments_by : List Part → Arguments
-arguments_by parts = record { words = plain_words parts; options = given_by (λ name. values_of name parts) options }
+-- the name of a flag that is given so many times, if it is
+abbrev pub flag_given : Text → ℕ → List Text
+flag_given name times = if nat_lt 0 times then name ∷ [] else []
+
+-- the flags of these names that are given
+abbrev pub flags_by : (Text → ℕ) → List Text → List Text
+flags_by times [] = []
+flags_by times (name ∷ names) = flag_given name (times name) ++ flags_by times names
+
+-- each flag is given at most once
+abbrev pub are_given_once : (Text → ℕ) → Bool
+are_given_once times = list_all (λ name. nat_le (times name) 1) flags
+
+-- the arguments of the parts; None where a flag is given twice
+abbrev pub arguments_by : List Part → Option Arguments
+arguments_by parts =
+    if are_given_once (λ name. times_of name parts) then Some (record {
+      words = plain_words parts;
+      options = given_by (λ name. values_of name parts) options;
+      flags = flags_by (λ name. times_of name parts) flags;
+    })
+    else None
 
 -- the arguments in the words after a command's name; None where they fit no command
 unfoldable pub arguments_of : List Text → Option Arguments
-arguments_of words = option_map arguments_by (parts_of None words)
+arguments_of words = option_and_then arguments_by (parts_of None words)
 
 -- ---- commands
 
@@ -211,10 +257,14 @@ run_options = codes "netlist" ∷ []
 abbrev pub takes : List Text → List Given → Bool
 takes names given = list_all (λ (g : Given). list_any (bytes_eq g.name) names) given
 
--- no option was given
-abbrev pub is_empty : List Given → Bool
+-- nothing is in the list, as where no option or no flag was given
+abbrev pub is_empty : {T : Type 0} → List T → Bool
 is_empty [] = true
-is_empty (g ∷ gs) = false
+is_empty (x ∷ xs) = false
+
+-- the flag of this name was given
+abbrev pub is_said : Text → Arguments → Bool
+is_said name said = list_any (bytes_eq name) said.flags
 
 -- a search with these words, which writes the bitstream, and possibly the mapping
 abbrev pub written_call : List Text → Option Text → Request → Option (MapperCall Text Text)
@@ -239,6 +289,12 @@ array_command _ netlist = None
 abbrev pub run_command : Arguments → Option (Command Text Text)
 run_command said =
     if takes run_options said.options then option_and_then (array_command said.words) (file_said (codes "netlist") said) else None
+
+-- simplify KERNEL OUT [--copies] [--share]
+abbrev pub simplify_command : Arguments → Option (Command Text Text)
+simplify_command said =
+    if is_empty said.options then of_two (λ kernel out. Simplify kernel out (is_said (codes "copies") said) (is_said (codes "share") said)) said.words
+    else None
 
 -- the command of this name, by its plain words, for the commands that take no option and that `plain_command` leaves to
 -- it
@@ -267,13 +323,19 @@ plain_command name words =
     else (if bytes_eq name (codes "show") then show_command words
     else further_command name words)))))))
 
--- the command of this name
-abbrev pub command_of : Text → Arguments → Option (Command Text Text)
-command_of name said =
+-- the command of this name, for the commands that take no flag
+abbrev pub flagless_command : Text → Arguments → Option (Command Text Text)
+flagless_command name said =
     if bytes_eq name (codes "run") then run_command said
     else (if bytes_eq name (codes "map") then option_map Map (mapper_call usual_moves said)
     else (if bytes_eq name (codes "search") then option_map Search (mapper_call usual_responses said)
     else (if is_empty said.options then plain_command name said.words else None)))
+
+-- the command of this name
+abbrev pub command_of : Text → Arguments → Option (Command Text Text)
+command_of name said =
+    if bytes_eq name (codes "simplify") then simplify_command said
+    else (if is_empty said.flags then flagless_command name said else None)
 
 -- the command that the words ask for, with the names of its files; None where they fit no command
 unfoldable pub plan_of : List Text → Option (Command Text Text)

@@ -114,6 +114,13 @@ pub enum Command<F, N> {
         kernel: F,
         out: N,
     },
+    /// `simplify KERNEL OUT [--copies] [--share]`: a kernel with fewer nodes that leaves the same.
+    Simplify {
+        kernel: F,
+        out: N,
+        copies: bool,
+        share: bool,
+    },
     /// `migrate ARCH BITS OUT`: a bitstream of the first format in the current format.
     Migrate {
         arch: F,
@@ -155,6 +162,7 @@ pub fn inputs(alloc: Global, command: &Command<&str, &str>) -> Result<Vec<String
         | Command::Verilog { arch: file, .. }
         | Command::Loop { source: file, .. }
         | Command::Depend { kernel: file, .. }
+        | Command::Simplify { kernel: file, .. }
         | Command::Image { text: file, .. }
         | Command::Words { image: file } => copies(alloc, &[file]),
         Command::Bound { arch, kernel } | Command::Why { arch, kernel } => {

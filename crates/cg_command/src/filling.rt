@@ -104,6 +104,17 @@ pub fn fill<'a, 'b>(
             kernel: one(files),
             out,
         },
+        Command::Simplify {
+            out,
+            copies,
+            share,
+            ..
+        } => Command::Simplify {
+            kernel: one(files),
+            out,
+            copies,
+            share,
+        },
         Command::Migrate { out, .. } => {
             let (arch, bits) = two(files);
             Command::Migrate { arch, bits, out }

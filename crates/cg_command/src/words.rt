@@ -41,6 +41,41 @@ fn command_of<'a>(
     ensures ranged { IfOk result (λ c. IfSome c IsRanged) }
 {
     match name {
+        "simplify" => Ok(simplify_command(said)),
+        _ if has_no_flags(said) => flagless_command(alloc, name, said),
+        _ => Ok(None),
+    }
+}
+
+/// Returns the command `simplify` with the arguments `said`.
+fn simplify_command<'a>(said: &Arguments<'a>) -> Option<Command<&'a str, &'a str>>
+    ensures plan { option_map denoted result ≡ spec.simplify_command (spec.heard said.now) }
+    ensures ranged { IfSome result IsRanged }
+{
+    if !has_no_options(said) {
+        return None;
+    }
+    let [kernel, out] = said.words.as_slice() else {
+        return None;
+    };
+    Some(Command::Simplify {
+        kernel: *kernel,
+        out: *out,
+        copies: is_among("copies", said.flags.as_slice()),
+        share: is_among("share", said.flags.as_slice()),
+    })
+}
+
+/// Returns the command `name`, which takes no flag, with the arguments `said`.
+fn flagless_command<'a>(
+    alloc: Global,
+    name: &str,
+    said: &Arguments<'a>,
+) -> Result<Option<Command<&'a str, &'a str>>, AllocError>
+    ensures plan { IfOk result (λ c. option_map denoted c ≡ spec.flagless_command name.now (spec.heard said.now)) }
+    ensures ranged { IfOk result (λ c. IfSome c IsRanged) }
+{
+    match name {
         "run" => run_command(alloc, said),
         "map" => map_command(alloc, said),
         "search" => search_command(alloc, said),
@@ -379,6 +414,13 @@ fn has_no_options(said: &Arguments) -> bool
     ensures { result ≡ spec.is_empty (spec.heard said.now).options }
 {
     matches!(said.options.as_slice(), [])
+}
+
+/// Checks whether no flag is given in `said`.
+fn has_no_flags(said: &Arguments) -> bool
+    ensures { result ≡ spec.is_empty (spec.heard said.now).flags }
+{
+    matches!(said.flags.as_slice(), [])
 }
 
 /// Checks whether each option given in `said` is one of `names`.

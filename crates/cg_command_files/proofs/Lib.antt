@@ -8,4 +8,5 @@ pub mod Imaged
 pub mod Worded
 pub mod Netlisted
 pub mod Depended
+pub mod Simplified
 pub mod Migrated

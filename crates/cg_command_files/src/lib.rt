@@ -1,4 +1,4 @@
-//! The commands that translate a file: `loop`, `depend`, `image`, `words`, `verilog`, `migrate`.
+//! The commands that translate a file: `loop`, `depend`, `simplify`, `image`, `words`, `verilog`, `migrate`.
 #![tactic(auto)]
 
 mod depending;
@@ -7,6 +7,7 @@ mod looping;
 mod migrating;
 mod netlisting;
 mod reading_loop;
+mod simplifying;
 mod wording;
 
 pub use depending::depend;
@@ -14,4 +15,5 @@ pub use imaging::image;
 pub use looping::loop_answer;
 pub use migrating::migrate;
 pub use netlisting::verilog;
+pub use simplifying::simplify;
 pub use wording::words;

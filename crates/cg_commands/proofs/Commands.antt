@@ -4,7 +4,7 @@ use Rattle.cg_effects.specs.declared.outcome.Status.{Status}
 use Rattle.cg_effects.specs.declared.outcome.Status.TheVariants.{Done, Impossible}
 use Rattle.cg_effects.specs.Outcome.{Name, File, Outcome, names_of}
 use Rattle.cg_command.specs.declared.command.Command.{Command}
-use Rattle.cg_command.specs.declared.command.Command.TheVariants.{Turns, TurnsOnImage, Flat, Run, Bound, Check, Emit, Map, Search, Show, Trial, Verilog, Loop, Depend, Migrate, Bench, Image, Words, Violations, Why}
+use Rattle.cg_command.specs.declared.command.Command.TheVariants.{Turns, TurnsOnImage, Flat, Run, Bound, Check, Emit, Map, Search, Show, Trial, Verilog, Loop, Depend, Simplify, Migrate, Bench, Image, Words, Violations, Why}
 use Rattle.cg_command.specs.Command.{listed, outputs_of, command_map}
 use Rattle.cg_inputs.proofs.Sound.{owns, IsSound, IsNamed}
 use Rattle.cg_command_run.proofs.TurnsAnswers.{same_turns, sound_turns, quiet_turns, accepted_turns}
@@ -28,6 +28,7 @@ use Rattle.cg_commands.specs.Commands.{IsAnswer, Accepts, Forbids, AgreeIn}
 use Rattle.cg_commands.proofs.Trialed.{same_trial, sound_trial, accepted_trial, quiet_trial}
 use Rattle.cg_command_files.proofs.Netlisted.{same_verilog, sound_verilog, accepted_verilog, named_verilog}
 use Rattle.cg_command_files.proofs.Depended.{same_depend, sound_depend, accepted_depend, named_depend}
+use Rattle.cg_command_files.proofs.Simplified.{same_simplify, sound_simplify, accepted_simplify, named_simplify}
 use Rattle.cg_command_files.proofs.Migrated.{same_migrate, sound_migrate, accepted_migrate, named_migrate}
 
 -- where the outcome may be chosen, its status may not, but that of `search`
@@ -47,6 +48,7 @@ agree_in (Trial seed) a b p q = same_trial seed a b p q
 agree_in (Verilog f out) a b p q = same_verilog f out a b p q
 agree_in (Loop f out) a b p q = same_loop f out a b p q
 agree_in (Depend f out) a b p q = same_depend f out a b p q
+agree_in (Simplify f out copies share) a b p q = same_simplify f out a b p q
 agree_in (Migrate f g out) a b p q = same_migrate f g out a b p q
 agree_in (Bench call) a b p q = same_bench call.turns call.arch call.bits call.image call.out a b p q
 agree_in (Image f out) a b p q = same_image f out a b p q
@@ -88,6 +90,7 @@ sound (Trial seed) o p = sound_trial seed o p
 sound (Verilog f out) o p = sound_verilog f out o p
 sound (Loop f out) o p = sound_loop f out o p
 sound (Depend f out) o p = sound_depend f out o p
+sound (Simplify f out copies share) o p = sound_simplify f out o p
 sound (Migrate f g out) o p = sound_migrate f g out o p
 sound (Bench call) o p = sound_bench call.turns call.arch call.bits call.image call.out o p
 sound (Image f out) o p = sound_image f out o p
@@ -112,6 +115,7 @@ accepted (Trial seed) o a p = accepted_trial seed o p
 accepted (Verilog f out) o a p = accepted_verilog f out a.0 o a.1 p
 accepted (Loop f out) o a p = accepted_loop f out o a p
 accepted (Depend f out) o a p = accepted_depend f out o a p
+accepted (Simplify f out copies share) o a p = accepted_simplify f out a.0 o a.1 p
 accepted (Migrate f g out) o a p = accepted_migrate f g out o a p
 accepted (Bench call) o a p = accepted_bench call.turns call.arch call.bits call.image call.out o a p
 accepted (Image f out) o a p = accepted_image f out o a p
@@ -142,6 +146,7 @@ named (Trial seed) o p = inr (quiet_trial seed o p)
 named (Verilog f out) o p = named_verilog f out o p
 named (Loop f out) o p = named_loop f out o p
 named (Depend f out) o p = named_depend f out o p
+named (Simplify f out copies share) o p = named_simplify f out o p
 named (Migrate f g out) o p = named_migrate f g out o p
 named (Bench call) o p = named_bench call.turns call.arch call.bits call.image call.out o p
 named (Image f out) o p = named_image f out o p
@@ -178,6 +183,7 @@ agree_kept f g (Trial seed) a b e = e
 agree_kept f g (Verilog arch out) a b e = e
 agree_kept f g (Loop source out) a b e = e
 agree_kept f g (Depend kernel out) a b e = e
+agree_kept f g (Simplify kernel out copies share) a b e = e
 agree_kept f g (Migrate arch bits out) a b e = e
 agree_kept f g (Bench call) a b e = e
 agree_kept f g (Image text out) a b e = e
@@ -201,6 +207,7 @@ equal (Trial seed) a b e = e
 equal (Verilog arch out) a b e = e
 equal (Loop source out) a b e = e
 equal (Depend kernel out) a b e = e
+equal (Simplify kernel out copies share) a b e = e
 equal (Migrate arch bits out) a b e = e
 equal (Bench call) a b e = e
 equal (Image text out) a b e = e

@@ -2,7 +2,7 @@
 use Rattle.std.proofs.Common.{◌∷◌, Some, None, refl}
 use Rattle.cg_effects.specs.Outcome.{Name, File, Outcome}
 use Rattle.cg_command.specs.declared.command.Command.{Command}
-use Rattle.cg_command.specs.declared.command.Command.TheVariants.{Turns, TurnsOnImage, Flat, Run, Bound, Check, Emit, Map, Search, Show, Trial, Verilog, Loop, Depend, Migrate, Bench, Image, Words, Violations, Why}
+use Rattle.cg_command.specs.declared.command.Command.TheVariants.{Turns, TurnsOnImage, Flat, Run, Bound, Check, Emit, Map, Search, Show, Trial, Verilog, Loop, Depend, Simplify, Migrate, Bench, Image, Words, Violations, Why}
 use Rattle.cg_command.specs.Command.{IsRanged, listed}
 use Rattle.cg_command_run.proofs.TurnsAnswers.{some_turns}
 use Rattle.cg_command_run.proofs.OnImage.{some_on_image}
@@ -25,6 +25,7 @@ use Rattle.cg_commands.specs.Commands.{IsAnswer}
 use Rattle.cg_commands.proofs.Trialed.{some_trial}
 use Rattle.cg_command_files.proofs.Netlisted.{some_verilog}
 use Rattle.cg_command_files.proofs.Depended.{some_depend}
+use Rattle.cg_command_files.proofs.Simplified.{some_simplify}
 use Rattle.cg_command_files.proofs.Migrated.{some_migrate}
 
 -- a command whose numbers are in their ranges has an outcome for its files
@@ -44,6 +45,7 @@ some_outcome (Trial seed) range = some_trial seed
 some_outcome (Verilog f out) range = some_verilog f out
 some_outcome (Loop f out) range = some_loop f out
 some_outcome (Depend f out) range = some_depend f out
+some_outcome (Simplify f out copies share) range = some_simplify f out
 some_outcome (Migrate f g out) range = some_migrate f g out
 some_outcome (Bench call) range = some_bench call.turns call.arch call.bits call.image call.out
 some_outcome (Image f out) range = (image_of f out, refl)

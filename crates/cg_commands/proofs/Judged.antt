@@ -3,7 +3,7 @@ use Rattle.std.proofs.Common.{◌≡◌, true, false, [], refl}
 use Rattle.cg_effects.specs.declared.outcome.Status.TheVariants.{No}
 use Rattle.cg_effects.specs.Outcome.{Name, File, Outcome}
 use Rattle.cg_command.specs.declared.command.Command.{Command}
-use Rattle.cg_command.specs.declared.command.Command.TheVariants.{Turns, TurnsOnImage, Flat, Run, Bound, Check, Emit, Map, Search, Show, Trial, Verilog, Loop, Depend, Migrate, Bench, Image, Words, Violations, Why}
+use Rattle.cg_command.specs.declared.command.Command.TheVariants.{Turns, TurnsOnImage, Flat, Run, Bound, Check, Emit, Map, Search, Show, Trial, Verilog, Loop, Depend, Simplify, Migrate, Bench, Image, Words, Violations, Why}
 use Rattle.cg_command.specs.Command.{listed, command_map}
 use Rattle.cg_command_judge.proofs.Bitstream.{unwritten_emit}
 use Rattle.cg_command_judge.proofs.Checked.{quiet_check}
@@ -37,6 +37,7 @@ judges_kept f g (Trial seed) = refl
 judges_kept f g (Verilog arch out) = refl
 judges_kept f g (Loop source out) = refl
 judges_kept f g (Depend kernel out) = refl
+judges_kept f g (Simplify kernel out copies share) = refl
 judges_kept f g (Migrate arch bits out) = refl
 judges_kept f g (Bench call) = refl
 judges_kept f g (Image text out) = refl

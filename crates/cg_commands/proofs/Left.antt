@@ -6,7 +6,7 @@ use Rattle.cg_effects.specs.Outcome.{Name, File, Outcome}
 use Rattle.cg_effects.specs.Reads.{IsRead, HoldsBytes}
 use Rattle.cg_effects.specs.Ends.{Moment, Completed}
 use Rattle.cg_command.specs.declared.command.Command.{Command}
-use Rattle.cg_command.specs.declared.command.Command.TheVariants.{Turns, TurnsOnImage, Flat, Run, Bound, Check, Emit, Map, Search, Show, Trial, Verilog, Loop, Depend, Migrate, Bench, Image, Words, Violations, Why}
+use Rattle.cg_command.specs.declared.command.Command.TheVariants.{Turns, TurnsOnImage, Flat, Run, Bound, Check, Emit, Map, Search, Show, Trial, Verilog, Loop, Depend, Simplify, Migrate, Bench, Image, Words, Violations, Why}
 use Rattle.cg_command.specs.Files.{names_only}
 use Rattle.cg_command.proofs.Maps.{same_option}
 use Rattle.cg_command.specs.Command.{inputs_of, listed}
@@ -37,6 +37,7 @@ use Rattle.cg_commands.proofs.Commands.{owns_of, sound}
 use Rattle.cg_commands.proofs.Trialed.{trial_left}
 use Rattle.cg_command_files.proofs.Netlisted.{netlisted_left}
 use Rattle.cg_command_files.proofs.Depended.{depended_left}
+use Rattle.cg_command_files.proofs.Simplified.{simplified_left}
 use Rattle.cg_command_files.proofs.Migrated.{migrated_left}
 
 -- nothing is said of what a command leaves at a fault or out of memory, or where it refuses a file
@@ -91,6 +92,7 @@ module _ (o : Outcome) (before after : Moment) where
   left_done (Verilog f out) read bytes answer is done = netlisted_left f.name out f o before after (first before.held f [] read) answer is done
   left_done (Loop f out) read bytes answer is done = looped_left f.name out f o before after (first before.held f [] read) is done answer
   left_done (Depend f out) read bytes answer is done = depended_left f.name out f o before after (first before.held f [] read) is done answer
+  left_done (Simplify f out copies share) read bytes answer is done = simplified_left f.name out f o before after (first before.held f [] read) is done answer
   left_done (Migrate f g out) read bytes answer is done =
       migrated_left f.name g.name out f g o before after (first before.held f (g ∷ []) read) (second before.held f g [] read) (second_bytes f g [] bytes) is done answer
   left_done (Bench call) read bytes answer is done =

@@ -4,7 +4,7 @@ use Rattle.cg_effects.specs.Outcome.{Name, File, Outcome}
 use Rattle.cg_effects.specs.Reads.{IsRead}
 use Rattle.cg_effects.specs.Ends.{Moment}
 use Rattle.cg_command.specs.declared.command.Command.{Command}
-use Rattle.cg_command.specs.declared.command.Command.TheVariants.{Turns, TurnsOnImage, Flat, Run, Bound, Check, Emit, Map, Search, Show, Trial, Verilog, Loop, Depend, Migrate, Bench, Image, Words, Violations, Why}
+use Rattle.cg_command.specs.declared.command.Command.TheVariants.{Turns, TurnsOnImage, Flat, Run, Bound, Check, Emit, Map, Search, Show, Trial, Verilog, Loop, Depend, Simplify, Migrate, Bench, Image, Words, Violations, Why}
 use Rattle.cg_command.specs.declared.command.MapperCall.{MapperCall}
 use Rattle.cg_command.specs.Files.{names_only}
 use Rattle.cg_command.specs.Command.{inputs_of, listed}

@@ -7,7 +7,7 @@ use Rattle.cg_effects.specs.Outcome.{Name, File, Outcome}
 use Rattle.cg_effects.specs.Ends.{Moment}
 use Rattle.cg_kernel.specs.Answer.{answer_of}
 use Rattle.cg_command.specs.declared.command.Command.{Command}
-use Rattle.cg_command.specs.declared.command.Command.TheVariants.{Turns, TurnsOnImage, Flat, Run, Bound, Check, Emit, Map, Search, Show, Trial, Verilog, Loop, Depend, Migrate, Bench, Image, Words, Violations, Why}
+use Rattle.cg_command.specs.declared.command.Command.TheVariants.{Turns, TurnsOnImage, Flat, Run, Bound, Check, Emit, Map, Search, Show, Trial, Verilog, Loop, Depend, Simplify, Migrate, Bench, Image, Words, Violations, Why}
 use Rattle.cg_command.specs.Command.{listed}
 use Rattle.cg_pad.specs.Bytes as images
 use Rattle.cg_model.specs.Work as works
@@ -36,6 +36,7 @@ use Rattle.cg_commands.specs.Trial.{IsTrialOf, IsTrialRun}
 use Rattle.cg_command_files.specs.Verilog.{IsVerilog, IsNetlisted}
 use Rattle.cg_command_files.specs.Loop.{IsLoopOf, IsTranslatable, IsLooped}
 use Rattle.cg_command_files.specs.Depend.{IsDependOf, IsDependable, IsDepended}
+use Rattle.cg_command_files.specs.Simplify.{IsSimplifyOf, IsSimplifiedRun}
 use Rattle.cg_command_files.specs.Migrate.{IsMigrate, IsMigratable, IsMigrated}
 
 -- the outcomes that the command allows
@@ -55,6 +56,7 @@ IsAnswer (Trial seed) o = IsTrialOf seed o
 IsAnswer (Verilog file out) o = IsVerilog file out o
 IsAnswer (Loop file out) o = IsLoopOf file out o
 IsAnswer (Depend file out) o = IsDependOf file out o
+IsAnswer (Simplify file out copies share) o = IsSimplifyOf file out o
 IsAnswer (Migrate arch file out) o = IsMigrate arch file out o
 IsAnswer (Bench call) o = IsBench call.turns call.arch call.bits call.image call.out o
 IsAnswer (Image file out) o = o ≡ image_of file out
@@ -101,6 +103,7 @@ Accepts (Trial seed) = Unit {0}
 Accepts (Verilog file out) = GivesArch file
 Accepts (Loop file out) = IsTranslatable file
 Accepts (Depend file out) = IsDependable file
+Accepts (Simplify file out copies share) = SpellsKernel file
 Accepts (Migrate arch file out) = IsMigratable arch file
 Accepts (Bench call) = IsRunnable call.arch call.bits call.image
 Accepts (Image file out) = IsImageText file
@@ -140,6 +143,7 @@ LeavesDone (Trial seed) before after = IsTrialRun seed before after
 LeavesDone (Verilog file out) before after = IsNetlisted file out before after
 LeavesDone (Loop file out) before after = IsLooped file out before after
 LeavesDone (Depend file out) before after = IsDepended file out before after
+LeavesDone (Simplify file out copies share) before after = IsSimplifiedRun file out before after
 LeavesDone (Migrate arch file out) before after = IsMigrated arch file out before after
 LeavesDone (Bench call) before after = IsBenchRun call.turns call.arch call.bits call.image call.out before after
 LeavesDone (Image file out) before after = IsImaged file out before after

@@ -13,6 +13,7 @@ use cg_cause::Stop;
 use cg_command::{Command, copies};
 use cg_diagnostics::Aside;
 use cg_effects::{File, Outcome, Status};
+use cg_simplify::Options;
 use std::alloc::Global;
 
 /// Returns the outcome of `command`. `aside` receives the progress of a search.
@@ -65,6 +66,12 @@ pub fn answer(
         Command::Verilog { arch, out } => cg_command_files::verilog(alloc, arch, out),
         Command::Loop { source, out } => cg_command_files::loop_answer(alloc, source, out),
         Command::Depend { kernel, out } => cg_command_files::depend(alloc, kernel, out),
+        Command::Simplify {
+            kernel,
+            out,
+            copies,
+            share,
+        } => cg_command_files::simplify(alloc, kernel, out, Options { copies, share }),
         Command::Migrate { arch, bits, out } => cg_command_files::migrate(alloc, arch, bits, out),
         Command::Bench(call) => cg_command_run::bench(alloc, &call),
         Command::Image { text, out } => cg_command_files::image(alloc, text, out),

@@ -15,6 +15,7 @@ map ARCH KERNEL OUT             searches for a mapping by a simple random walk, 
 migrate ARCH BITS OUT           converts bits of the first format to the current one
 run ARCH BITS TURNS IN OUT      runs an array, or a netlist of it, under a configuration from an image to an image (--netlist FILE)
 show ARCH KERNEL MAPPING [OUT]  prints a legal mapping as a table, and writes its picture
+simplify KERNEL OUT             writes a kernel with fewer nodes that leaves the same memory and streams (--copies, --share)
 trial SEED                      maps a random kernel over a hub, and runs the array and the kernel
 turns KERNEL TURNS              runs TURNS iterations of a kernel without memory
 turns KERNEL TURNS IN OUT       runs TURNS iterations of a kernel from an image to an image

@@ -21,6 +21,10 @@ pub(crate) enum Fault<'a> {
     NoValue {
         name: &'static str,
     },
+    /// The option `name`, a flag, has a value.
+    TakesNoValue {
+        name: &'static str,
+    },
     /// The value `value` of the option `name` begins with a hyphen.
     HyphenInValue {
         name: &'static str,
@@ -71,6 +75,7 @@ impl fmt::Display for Fault<'_> {
             } => write_no_option(f, usage, word, nearest),
             Fault::Twice { name } => write_around(f, "--", name, " is given twice"),
             Fault::NoValue { name } => write_around(f, "--", name, " needs a value"),
+            Fault::TakesNoValue { name } => write_around(f, "--", name, " takes no value"),
             Fault::HyphenInValue { name, value } => {
                 write_around(f, "the value of --", name, " can't begin with -, got ")?;
                 f.write_str(value)

@@ -3,7 +3,7 @@
 use crate::faults::Fault;
 use crate::nearest::nearest_name;
 use crate::numbers::is_number;
-use crate::usages::{Choice, SEEDS, TURNS, Usage};
+use crate::usages::{Choice, SEEDS, TURNS, Takes, Usage};
 use std::alloc::{AllocError, AllocFailed, Global};
 
 /// Why the reading of words ended early.
@@ -105,9 +105,10 @@ impl<'a> Reader<'a> {
             return Err(Stop::Wrong(Fault::Twice { name: choice.name }));
         }
         self.given.push(choice.name)?;
-        match value {
-            Some(value) => read_value(choice, value),
-            None => {
+        match (choice.takes, value) {
+            (_, Some(value)) => read_value(choice, value),
+            (Takes::Nothing, None) => Ok(()),
+            (_, None) => {
                 self.next = Next::Value(choice);
                 Ok(())
             }
@@ -197,14 +198,17 @@ fn nearest_option(
 /// Reads `value`, the value of the option `choice`.
 fn read_value<'a>(choice: &'static Choice, value: &'a str) -> Result<(), Stop<'a>> {
     let name = choice.name;
+    if let Takes::Nothing = choice.takes {
+        return Err(Stop::Wrong(Fault::TakesNoValue { name }));
+    }
     if value.is_empty() {
         return Err(Stop::Wrong(Fault::NoValue { name }));
     }
     if value.starts_with('-') {
         return Err(Stop::Wrong(Fault::HyphenInValue { name, value }));
     }
-    match choice.range {
-        Some(range) if !range.has(value) => Err(Stop::Wrong(Fault::ValueOutOfRange {
+    match choice.takes {
+        Takes::Number(range) if !range.has(value) => Err(Stop::Wrong(Fault::ValueOutOfRange {
             name,
             range,
             value,

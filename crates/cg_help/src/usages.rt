@@ -17,8 +17,19 @@ pub(crate) struct Usage {
 pub(crate) struct Choice {
     /// Its name, without the two hyphens.
     pub(crate) name: &'static str,
-    /// The range of its value; None if the value is the name of a file.
-    pub(crate) range: Option<Range>,
+    /// What it takes as its value.
+    pub(crate) takes: Takes,
+}
+
+/// What an option takes as its value.
+#[derive(Clone, Copy)]
+pub(crate) enum Takes {
+    /// No value: it is a flag.
+    Nothing,
+    /// The name of a file.
+    File,
+    /// A number of this range.
+    Number(Range),
 }
 
 /// The seeds of searches and trials.
@@ -37,36 +48,48 @@ pub(crate) const TURNS: Range = Range {
 const SEARCHING: [Choice; 4] = [
     Choice {
         name: "ii",
-        range: Some(Range {
+        takes: Takes::Number(Range {
             least: 1,
             most: MOST_CONTEXTS as u64,
         }),
     },
     Choice {
         name: "seed",
-        range: Some(SEEDS),
+        takes: Takes::Number(SEEDS),
     },
     Choice {
         name: "moves",
-        range: Some(Range {
+        takes: Takes::Number(Range {
             least: 0,
             most: MOST_MOVES as u64,
         }),
     },
     Choice {
         name: "mapping",
-        range: None,
+        takes: Takes::File,
     },
 ];
 
 /// The options of a run.
 const RUNNING: [Choice; 1] = [Choice {
     name: "netlist",
-    range: None,
+    takes: Takes::File,
 }];
 
+/// The flags of a simplification.
+const SIMPLIFYING: [Choice; 2] = [
+    Choice {
+        name: "copies",
+        takes: Takes::Nothing,
+    },
+    Choice {
+        name: "share",
+        takes: Takes::Nothing,
+    },
+];
+
 /// The commands in the order of their names.
-pub(crate) static USAGES: [Usage; 19] = [
+pub(crate) static USAGES: [Usage; 20] = [
     Usage {
         name: "bench",
         forms: &["ARCH BITS TURNS IN OUT"],
@@ -131,6 +154,11 @@ pub(crate) static USAGES: [Usage; 19] = [
         name: "show",
         forms: &["ARCH KERNEL MAPPING", "ARCH KERNEL MAPPING OUT"],
         options: &[],
+    },
+    Usage {
+        name: "simplify",
+        forms: &["KERNEL OUT"],
+        options: &SIMPLIFYING,
     },
     Usage {
         name: "trial",

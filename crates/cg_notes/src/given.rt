@@ -48,6 +48,7 @@ pub(crate) fn kernel_of<'a>(command: &Command<&'a File, &str>) -> Option<&'a Fil
         | Command::Emit { kernel, .. }
         | Command::Show { kernel, .. }
         | Command::Depend { kernel, .. }
+        | Command::Simplify { kernel, .. }
         | Command::Violations { kernel, .. }
         | Command::Why { kernel, .. } => Some(kernel),
         Command::Map(call) | Command::Search(call) => Some(call.kernel),

@@ -7,7 +7,6 @@ use Rattle.cg_command.proofs.arguments.words_command.Goals as goal
 pub returns : goal.returns
 unfolding words_app
 returns c =
-    IfOk-weaker c.arg-3.result _ _ (λ r h. h.shape c.option_named-3.ensures.local
-    ∙ ap₂ with_rule (c.in_ok-arg-2.ensures.shape c.option_named-2.ensures.local
-    ∙ ap₂ with_rule (c.in_ok-arg.ensures.shape c.option_named.ensures.local
-    ∙ ap₂ with_rule c.in_ok-numbered_command.ensures c.option_named.ensures.rule) c.option_named-2.ensures.rule) c.option_named-3.ensures.rule) c.arg-3.ensures
+    IfOk-weaker c.arg-2.result _ _ (λ r h. h.shape c.flag_named-2.ensures.local
+    ∙ ap₂ with_rule (c.in_ok-arg.ensures.shape c.flag_named.ensures.local
+    ∙ ap₂ with_rule c.in_ok-command_with_options.ensures c.flag_named.ensures.rule) c.flag_named-2.ensures.rule) c.arg-2.ensures
