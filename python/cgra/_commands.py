@@ -45,6 +45,7 @@ from ._results import (
     Ran,
     Reason,
     Shown,
+    Simplified,
     Trial,
     Turned,
     Verilog,
@@ -271,6 +272,24 @@ def depend(kernel: KernelLike, *, timeout: Optional[float] = None) -> Depended:
         with _reading(answer):
             numbers = _numbers(answer.report)
             return Depended(numbers["added"], numbers["order"], Kernel.read(folder.path("out.json")))
+
+
+def simplify(
+    kernel: KernelLike, *, copies: bool = False, share: bool = False, timeout: Optional[float] = None
+) -> Simplified:
+    """Returns a kernel with fewer nodes that leaves the same memory and streams as `kernel`.
+
+    With `copies` the copies of nodes stay; with `share` equal nodes become one even where they depend on the turn alone.
+    """
+    with Folder() as folder:
+        words = ["simplify", kernel_path(folder, kernel), folder.path("out.json")]
+        words += ["--copies"] * copies + ["--share"] * share
+        answer = call(words, setting=Setting(timeout))
+        with _reading(answer):
+            (_, given_nodes, nodes), (_, given_order, order) = (line.split(" ") for line in answer.report.splitlines())
+            return Simplified(
+                int(given_nodes), int(given_order), int(nodes), int(order), Kernel.read(folder.path("out.json"))
+            )
 
 
 def loop(source: PathLike, *, timeout: Optional[float] = None) -> Looped:

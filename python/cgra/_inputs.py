@@ -10,7 +10,7 @@ from ._kernel import Kernel
 from ._mapping import Mapping
 from ._numbers import optional_whole, whole
 from ._program import Folder, PathLike
-from ._results import Depended, Emitted, Found, Looped, Migrated, Ran, Turned, Verilog
+from ._results import Depended, Emitted, Found, Looped, Migrated, Ran, Simplified, Turned, Verilog
 
 MOST_TURNS = 1_000_000
 MOST_MOVES = 1_000_000
@@ -30,7 +30,7 @@ class Text:
 
 
 ArchLike = Union[Arch, Text, PathLike]
-KernelLike = Union[Kernel, Depended, Looped, Text, PathLike]
+KernelLike = Union[Kernel, Depended, Looped, Simplified, Text, PathLike]
 ImageLike = Union[Image, Ran, Turned, PathLike]
 BitsLike = Union[bytes, Found, Emitted, Migrated, PathLike]
 MappingLike = Union[Mapping, Found, Text, PathLike]
@@ -44,7 +44,7 @@ def arch_path(folder: Folder, arch: ArchLike) -> str:
 
 def kernel_path(folder: Folder, kernel: KernelLike) -> str:
     """Returns a path of `kernel`."""
-    return folder.given(kernel.kernel if isinstance(kernel, (Depended, Looped)) else kernel, "kernel.json")
+    return folder.given(kernel.kernel if isinstance(kernel, (Depended, Looped, Simplified)) else kernel, "kernel.json")
 
 
 def image_path(folder: Folder, image: Optional[ImageLike]) -> str:

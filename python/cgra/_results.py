@@ -121,6 +121,17 @@ class Depended:
 
 
 @dataclass(frozen=True)
+class Simplified:
+    """A simplified kernel: its numbers of nodes and order edges, those of the given kernel before them, and the kernel."""
+
+    given_nodes: int
+    given_order: int
+    nodes: int
+    order: int
+    kernel: Kernel
+
+
+@dataclass(frozen=True)
 class Looped:
     """The kernel of a loop: its numbers of nodes and order edges, and the kernel."""
 

@@ -82,6 +82,21 @@ class Commands(unittest.TestCase):
         before.order("st", "x", 2)
         self.assertEqual(after.kernel, before)
 
+    def test_simplify(self):
+        """A copy of an input and a node without effect go; the copy stays where it is asked for."""
+        kernel = cgra.Kernel()
+        given = kernel.node("a", "input", port=0)
+        copied = kernel.node("c", "const", given)
+        kernel.node("gone", "add", given, 1)
+        kernel.node("o", "output", copied, port=0)
+        simple = cgra.simplify(kernel)
+        self.assertEqual((simple.given_nodes, simple.nodes, simple.given_order, simple.order), (4, 2, 0, 0))
+        by_hand = cgra.Kernel()
+        by_hand.node("o", "output", by_hand.node("a", "input", port=0), port=0)
+        self.assertEqual(simple.kernel, by_hand)
+        self.assertEqual(cgra.simplify(kernel, copies=True).nodes, 3)
+        self.assertEqual(cgra.simplify(simple, share=True).kernel, simple.kernel)
+
     def test_migrate_and_trial(self):
         new = cgra.migrate(T1, os.path.join(DATA, "sum1.bits"))
         with open(os.path.join(DATA, "sum.bits"), "rb") as file:
