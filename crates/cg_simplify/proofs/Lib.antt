@@ -6,6 +6,7 @@ pub mod Drafts
 pub mod Throughs
 pub mod Written
 pub mod Restated
+pub mod Joined
 pub mod Likeness
 pub mod Paired
 pub mod Merged

@@ -6,17 +6,20 @@ use Rattle.std.proofs.lemmas.List.{get_or_append_left, get_or_push, length_push}
 use Rattle.std.proofs.lemmas.Nat.{and_comm, or_comm, xor_comm}
 use Rattle.std.proofs.Math.Nat.{add_comm, mul_comm}
 use Rattle.cg_word.specs.declared.op.Op.{Op}
-use Rattle.cg_word.specs.declared.op.Op.TheVariants.{Add, And, Eq, Load, LoadIf, Mul, Ne, Or, Xor}
-use Rattle.cg_word.specs.Word.{apply_of, arity, has_value, is_access, one_if, words}
+use Rattle.cg_word.specs.declared.op.Op.TheVariants.{Add, And, Eq, Load, LoadIf, Mul, Ne, Or, Store, StoreIf, Xor}
+use Rattle.cg_word.specs.Word.{apply_of, arity, has_value, is_access, is_store, one_if, words}
 use Rattle.cg_model.specs.declared.kernel.Operand.{Operand}
 use Rattle.cg_model.specs.declared.kernel.Operand.TheVariants.{Const as Constant, Edge}
 use Rattle.cg_model.specs.Kernel.{Kernel, HasOperand, IsKernel, node, size}
-use Rattle.cg_model.specs.Work.{Image, value, value_by}
-use Rattle.cg_model.specs.Turns.{before, operand, val}
+use Rattle.cg_model.specs.Work.{Image, Reaches, Work, value, value_by}
+use Rattle.cg_model.specs.Turns.{before, operand, val, work, work_of}
+use Rattle.cg_overlap.proofs.Memory.{value_same}
 use Rattle.cg_overlap.proofs.Sequence.{work_is}
+use Rattle.cg_simplify.specs.Joining.{HasText, MayJoin, MayTake}
 use Rattle.cg_simplify.specs.Live.{is_marked}
 use Rattle.cg_simplify.specs.Merging.{AreCrossed, AreLike, AreSame, AreTargets, IsLike, IsSame, SameText, commutes, counts_as, target}
 use Rattle.cg_simplify.proofs.Exchanged.{same_maps}
+use Rattle.cg_simplify.proofs.Joined.{same_there}
 use Rattle.cg_simplify.proofs.Drafts.{some_operand}
 
 -- ---- the value of one operation
@@ -60,6 +63,13 @@ two_operands Xor h = refl
 two_operands Eq h = refl
 two_operands Ne h = refl
 two_operands _ h = absurd (cc)
+
+no_swap : (op : Op) → is_access op ≡ true → commutes op ≡ true → ⊥
+no_swap Load h c = cc
+no_swap Store h c = cc
+no_swap LoadIf h c = cc
+no_swap StoreIf h c = cc
+no_swap _ h c = cc
 
 item_of_map : (f : Operand → ℕ) (xs : List Operand) (p : ℕ) (o : Operand) → slice_get xs p ≡ Some o → slice_index (map f xs) p ≡ f o
 item_of_map f [] p o at = let bad : None ≡ Some o = at in absurd (cc)
@@ -181,14 +191,30 @@ module _ (K : Kernel) (good : IsKernel K) (like : List ℕ) (all : AreLike K lik
         ∙ ap (λ (t : ℕ). value_by image (memory n) t i (map word (node K n).operands) (node K m).op) (sym port)
         ∙ commuted image (memory n) (memory m) (node K m).port i (map word (node K n).operands) (map word (node K m).operands) (node K m).op comm left right
 
+    -- both see the same words where the first reaches
+    abbrev SeesSame : Type 0
+    SeesSame = (a : ℕ) → Reaches (work K image (i * size K + m)) a → slice_index (memory n) a ≡ slice_index (memory m) a
+
+    by_load : SeesSame → (node K m).op ≡ (node K n).op → (node K m).port ≡ (node K n).port → AreSame like m (node K m).operands n (node K n).operands →
+        value_by image (memory n) (node K n).port i (map word (node K n).operands) (node K n).op ≡ value_by image (memory m) (node K m).port i (map word (node K m).operands) (node K m).op
+    by_load sees op port s =
+        rw (← op, ← port, same_maps word (node K m).operands (node K n).operands (sym s.long) (λ p a b g h. sym (same_word p a b g (s.each p a b g h))))
+        (value_same image (memory n) (memory m) (work_of (node K m) i (val K image)) (λ a r. sees a (subst (λ (w : Work). Reaches w a) (sym (work_is K image good.wired i m lm)) r)))
+
+    this_load : SeesSame → is_access (node K n).op ≡ true → SameText like m (node K m) n (node K n) → val K image n i ≡ val K image m i
+    this_load sees is t =
+        value_is n ln
+        ∙ ⊎_elim (λ s. by_load sees t.op t.port s) (λ s. absurd (no_swap (node K m).op (ap is_access t.op ∙ is) s.0)) t.operands
+        ∙ sym (value_is m lm)
+
     this_turn : is_access (node K n).op ≡ false → SameText like m (node K m) n (node K n) → val K image n i ≡ val K image m i
     this_turn plain t =
         value_is n ln
         ∙ ⊎_elim (λ s. by_same plain t.op t.port s) (λ s. by_crossed t.op t.port s.0 s.1) t.operands
         ∙ sym (value_is m lm)
 
-module _ (K : Kernel) (good : IsKernel K) (like : List ℕ) (all : AreLike K like) (m n : ℕ) (lm : m < size K) (ln : n < size K) (km : m ≤ length like) (kn : n ≤ length like)
-    (plain : is_access (node K n).op ≡ false) (text : SameText like m (node K m) n (node K n)) (image : Image) where
+-- from turn to turn
+module _ (K : Kernel) (image : Image) (m n : ℕ) (step : (i : ℕ) → ((j : ℕ) → j < i → val K image n j ≡ val K image m j) → val K image n i ≡ val K image m i) where
   earlier_turns : (i j : ℕ) → j < i → val K image n j ≡ val K image m j
   earlier_turns zero j l = absurd (omega arith)
   earlier_turns (suc i) j l =
@@ -196,18 +222,45 @@ module _ (K : Kernel) (good : IsKernel K) (like : List ℕ) (all : AreLike K lik
       (λ (a : j < i). earlier_turns i j a)
       (λ (a : i ≤ j).
       let e : j ≡ i = omega arith in
-      subst (λ (k : ℕ). val K image n k ≡ val K image m k) (sym e) (this_turn K good like all image m n lm ln km kn i (λ k b. earlier_turns i k b) plain text))
+      subst (λ (k : ℕ). val K image n k ≡ val K image m k) (sym e) (step i (λ k b. earlier_turns i k b)))
       (cases_lt j i)
 
+  each_turn : (i : ℕ) → val K image n i ≡ val K image m i
+  each_turn i = earlier_turns (suc i) i (omega arith)
+
 -- a node is like an earlier one of the same text
-pub text_like : (K : Kernel) → IsKernel K → (like : List ℕ) → AreLike K like → (m n : ℕ) → m < n → n < size K → length like ≡ n → is_access (node K n).op ≡ false →
+text_like : (K : Kernel) → IsKernel K → (like : List ℕ) → AreLike K like → (m n : ℕ) → m < n → n < size K → length like ≡ n → is_access (node K n).op ≡ false →
     SameText like m (node K m) n (node K n) → IsLike K n m
 text_like K good like all m n b ln long plain text =
     record {
       before = omega arith;
       valued = λ h. ap has_value text.op ∙ h;
-      same = λ image i. earlier_turns K good like all m n (omega arith) ln (omega arith) (omega arith) plain text image (suc i) i (omega arith);
+      same = λ image i. each_turn K image m n (λ j below. this_turn K good like all image m n (omega arith) ln (omega arith) (omega arith) j below plain text) i;
     }
+
+-- so is a load, where the stores between leave the word
+load_like : (K : Kernel) → IsKernel K → (like : List ℕ) → AreLike K like → (m n : ℕ) → m < n → n < size K → length like ≡ n → is_access (node K n).op ≡ true → is_store (node K n).op ≡ false →
+    MayJoin K m n → SameText like m (node K m) n (node K n) → IsLike K n m
+load_like K good like all m n b ln long is loads join text =
+    record {
+      before = omega arith;
+      valued = λ h. ap has_value text.op ∙ h;
+      same = λ image i. each_turn K image m n
+          (λ j below. this_load K good like all image m n (omega arith) ln (omega arith) (omega arith) j below
+          (λ a r. same_there K good image m n b ln (ap is_store text.op ∙ loads) join j a r) is text) i;
+    }
+
+no_store : (op : Op) → has_value op ≡ true → is_store op ≡ false
+no_store Store h = absurd (cc)
+no_store StoreIf h = absurd (cc)
+no_store _ h = refl
+
+pub taken_like : (K : Kernel) → IsKernel K → (like : List ℕ) → AreLike K like → (m n : ℕ) → n < size K → length like ≡ n → HasText K like n m → MayTake K m n → IsLike K n m
+taken_like K good like all m n ln long text may =
+    ⊎_elim
+    (λ e. load_like K good like all m n text.before ln long e (no_store (node K n).op may.valued) (may.joins e) text.same)
+    (λ e. text_like K good like all m n text.before ln long e text.same)
+    (cases_Bool (is_access (node K n).op))
 
 pub like_itself : (K : Kernel) (n : ℕ) → IsLike K n n
 like_itself K n = record { before = omega arith; valued = λ h. h; same = λ image i. refl }

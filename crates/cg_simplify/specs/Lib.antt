@@ -3,4 +3,5 @@ pub mod Operands
 pub mod Restating
 pub mod Settling
 pub mod Merging
+pub mod Joining
 pub mod Simplified

@@ -12,6 +12,7 @@ ghost use Rattle.cg_simplify.specs.Restating.{Restates};
 
 mod copy;
 mod draft;
+mod joining;
 mod live;
 mod merging;
 mod number;

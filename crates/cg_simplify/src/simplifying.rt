@@ -56,27 +56,41 @@ fn rewritten(alloc: Global, kernel: &Kernel, options: Options) -> Result<Kernel,
     ensures rewritten { IfOk result (IsRewritten kernel.now) }
     ensures few { IfOk result (λ l. size l ≤ size kernel.now) }
 {
-    composed();
-    let mut passed = round(alloc, kernel, options)?;
+    is_itself(kernel);
+    let mut passed = round(alloc, kernel, kernel, options)?;
     for _ in 1..MOST_ROUNDS {
         if !passed.changed {
             break;
         }
-        passed = round(alloc, &passed.kernel, options)?;
+        passed = round(alloc, kernel, &passed.kernel, options)?;
     }
     Ok(passed.kernel)
 }
 
-/// Returns `kernel` after each pass once, as `options` says.
-fn round(alloc: Global, kernel: &Kernel, options: Options) -> Result<Passed, AllocError>
-    ensures rewritten { IfOk result (λ p. IsRewritten kernel.now p.kernel) }
+/// States that `kernel` is a rewriting of itself.
+fn is_itself(kernel: &Kernel)
+    ensures { IsRewritten kernel.now kernel.now }
+{
+    composed();
+    let _ = kernel.nodes();
+}
+
+/// Returns `kernel`, which `given` was rewritten into, after each pass once, as `options` says.
+fn round(
+    alloc: Global,
+    given: &Kernel,
+    kernel: &Kernel,
+    options: Options,
+) -> Result<Passed, AllocError>
+    requires { IsRewritten given.now kernel.now }
+    ensures rewritten { IfOk result (λ p. IsRewritten given.now p.kernel) }
     ensures few { IfOk result (λ p. size p.kernel ≤ size kernel.now) }
 {
     composed();
     let live = dead(alloc, kernel)?;
     let settled = operands(alloc, &live.kernel, options.copies)?;
     let restated = texts(alloc, &settled.kernel)?;
-    let merged = merge(alloc, &restated.kernel, options.share)?;
+    let merged = merge(alloc, given, &restated.kernel, options.share)?;
     Ok(Passed {
         kernel: merged.kernel,
         changed: live.changed || settled.changed || restated.changed || merged.changed,

@@ -19,6 +19,7 @@ use crate::edges::with_edges;
 use crate::needs::all_needs;
 use crate::reduce::reduced;
 use cg_model::{Kernel, MOST_ORDER_EDGES};
+pub use rewriting::Rewriting;
 use std::alloc::{AllocError, Global};
 
 /// Returns the nodes of `rewritten` with the order edges that its accesses need, so that they are ordered wherever

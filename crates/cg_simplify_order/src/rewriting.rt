@@ -12,7 +12,7 @@ use std::marker::Model;
 
 /// A given kernel and the kernel that it was rewritten into, with what says how their accesses are ordered.
 #[derive(Drop)]
-pub(crate) struct Rewriting<'k> {
+pub struct Rewriting<'k> {
     rewritten: &'k Kernel,
     /// The numbers of the namesakes in the given kernel.
     numbers: Vec<u32>,
@@ -42,7 +42,7 @@ impl<'k> Rewriting<'k> {
     ghost use Rattle.cg_simplify_order.specs.Found.{HasNoNeed};
 
     /// Returns `given` and `rewritten` with what says how their accesses are ordered.
-    pub(crate) fn of(
+    pub fn of(
         alloc: Global,
         given: &'k Kernel,
         rewritten: &'k Kernel,
@@ -70,7 +70,7 @@ impl<'k> Rewriting<'k> {
     }
 
     /// Returns over how many turns node `v` of the rewritten kernel has to come after node `u`; None where it doesn't.
-    pub(crate) fn need(&self, u: u32, v: u32) -> Option<u32>
+    pub fn need(&self, u: u32, v: u32) -> Option<u32>
         requires u { u < size self.now.rewritten }
         requires v { v < size self.now.rewritten }
         ensures { MatchOption result (HasNoNeed self.now.given self.now.rewritten u v) (IsNeed self.now.given self.now.rewritten u v) }

@@ -7,7 +7,7 @@ use Rattle.cg_simplify.proofs.merging.like_nodes.Goals as goal
 
 pub loop-number-preserved : goal.loop-number-preserved
 loop-number-preserved c =
-    let K = c.args.kernel.now in
+    let K = c.args.joins.now in
     let index = c.args.index.now in
     let old = c.loop-number.like.items in
     let like = c.push.new.self.items in

@@ -6,6 +6,6 @@ abbrev pub invariant-loop-number : goal.invariant-loop-number
 invariant-loop-number l = record {
   long : length l.like.items ≡ l.number;
   counted_long : length l.counted.items ≡ l.number;
-  like : AreLike l.kernel l.like.items;
-  counted : AreLike l.kernel l.counted.items;
+  like : AreLike l.joins l.like.items;
+  counted : AreLike l.joins l.counted.items;
 }
