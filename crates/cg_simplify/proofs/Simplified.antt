@@ -1,6 +1,5 @@
 -- A rewritten kernel with order edges of its own is simplified.
-use Rattle.std.proofs.Common.{◌≡◌, ℕ, ◌≤◌, List, [], ap, arith, subst, sym}
-use Rattle.cg_model.specs.declared.kernel.OrderEdge.{OrderEdge}
+use Rattle.std.proofs.Common.{◌≡◌, ◌≤◌, List, [], ap, arith, subst, sym}
 use Rattle.cg_model.specs.declared.kernel.Node.{Node}
 use Rattle.cg_model.specs.Kernel.{Kernel, IsWired, size}
 use Rattle.cg_simplify_laws.specs.Rewritten.{IsRewritten}

@@ -1,4 +1,4 @@
-use Rattle.std.proofs.Common.{◌≡◌, Option, Some, IfSome, subst}
+use Rattle.std.proofs.Common.{◌≡◌, Option, IfSome, subst}
 use Rattle.cg_model.specs.Kernel.{Kernel, IsKernel}
 use Rattle.cg_simplify_order.specs.Needs.{StaysUnaliased}
 use Rattle.cg_simplify.proofs.Simplified.{simplified_by}
