@@ -10,14 +10,14 @@ use Rattle.cg_word_facts.specs.Facts.{IsConstant}
 use Rattle.cg_model.specs.declared.kernel.Node.{Node}
 use Rattle.cg_model.specs.declared.kernel.Operand.{Operand}
 use Rattle.cg_model.specs.declared.kernel.Operand.TheVariants.{Const as Constant, Edge}
-use Rattle.cg_model.specs.Kernel.{Kernel, HasOperand, IsKernel, IsWired, node, size}
+use Rattle.cg_model.specs.Kernel.{Kernel, IsKernel, IsWired, node, size}
 use Rattle.cg_model.specs.Work.{Image, IsImage, Work, Reaches, address, last_operand, value, value_by, stored, stores, sent, sends, missed, misses}
 use Rattle.cg_model.specs.Turns.{before, operand, work, work_of, val}
 use Rattle.cg_overlap.proofs.Sequence.{work_is}
 use Rattle.cg_simplify_facts.specs.Suits.{AreFactsOf, AreOfWords, AreTops, IsConstOf, Suits, computes, word_of}
 use Rattle.cg_simplify_facts.proofs.Known.{val_computed, word_at}
 use Rattle.cg_simplify_facts.proofs.Words.{of_words}
-use Rattle.cg_simplify_laws.specs.Follows.{Follows, HasEffect, RunsAlike, StandsFor}
+use Rattle.cg_simplify_laws.specs.Follows.{Follows, RunsAlike, StandsFor}
 use Rattle.cg_simplify_laws.specs.Rewritten.{IsRewritten}
 use Rattle.cg_simplify_laws.proofs.Stands.{same_stands}
 use Rattle.cg_simplify.specs.Operands.{applied, with_text}

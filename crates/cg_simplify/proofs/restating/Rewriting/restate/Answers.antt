@@ -1,4 +1,4 @@
-use Rattle.std.proofs.Common.{◌≡◌, ℕ, List, subst, sym}
+use Rattle.std.proofs.Common.{ℕ, List, subst, sym}
 use Rattle.cg_simplify.specs.Restating.{HasWordAt, Restates}
 use Rattle.cg_simplify.proofs.Restated.{set_keeps_words}
 use Rattle.cg_simplify.proofs.Written.{const_fits}
