@@ -2,7 +2,7 @@
 
 use cg_depend::Addresses;
 use cg_model::{Kernel, Node};
-use cg_simplify_order::Rewriting;
+use cg_simplify_order::{GivenKernel, Rewriting};
 use std::alloc::{AllocError, Global};
 use std::marker::Model;
 
@@ -36,7 +36,7 @@ impl<'k> Joins<'k> {
     /// Returns `kernel`, which `given` was rewritten into, with what says which of its loads may be joined.
     pub(crate) fn of(
         alloc: Global,
-        given: &'k Kernel,
+        given: &'k GivenKernel<'k>,
         kernel: &'k Kernel,
     ) -> Result<Joins<'k>, AllocError>
         requires { IsRewritten given.now kernel.now }

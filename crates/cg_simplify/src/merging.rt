@@ -15,6 +15,7 @@ use crate::pairing::paired_nodes;
 use crate::passed::Passed;
 use crate::text::has_same_text;
 use cg_model::{Kernel, Node, Operand};
+use cg_simplify_order::GivenKernel;
 use cg_word::Op;
 use std::alloc::{AllocError, Global};
 
@@ -23,7 +24,7 @@ use std::alloc::{AllocError, Global};
 /// Edges from index nodes stay, but with `share`.
 pub fn merge(
     alloc: Global,
-    given: &Kernel,
+    given: &GivenKernel,
     kernel: &Kernel,
     share: bool,
 ) -> Result<Passed, AllocError>
@@ -46,7 +47,7 @@ pub fn merge(
 /// Returns for each node of `kernel`, which `given` was rewritten into, the node that edges from it are moved to.
 fn targets(
     alloc: Global,
-    given: &Kernel,
+    given: &GivenKernel,
     kernel: &Kernel,
     share: bool,
 ) -> Result<Vec<u32>, AllocError>
@@ -87,7 +88,7 @@ fn target(like: &[u32], index: &[bool], number: u32) -> u32
 /// these are index nodes, `index` marks them.
 fn likes(
     alloc: Global,
-    given: &Kernel,
+    given: &GivenKernel,
     kernel: &Kernel,
     index: &[bool],
 ) -> Result<Vec<u32>, AllocError>

@@ -11,7 +11,7 @@ use crate::restating::texts;
 use crate::settle::operands;
 use cg_model::{Kernel, copy_nodes};
 use cg_simplify_laws::composed;
-use cg_simplify_order::ordered;
+use cg_simplify_order::{GivenKernel, ordered};
 use std::alloc::{AllocError, Global};
 
 /// An end to the rounds, which come to rest before in all but contrived kernels.
@@ -34,8 +34,9 @@ pub fn simplify(alloc: Global, kernel: &Kernel, options: Options) -> Result<Kern
     ensures { IfOk result (IsSimplified kernel.now) }
 {
     composed();
-    let rewritten = rewritten(alloc, kernel, options)?;
-    match ordered(alloc, kernel, &rewritten)? {
+    let given = GivenKernel::of(alloc, kernel)?;
+    let rewritten = rewritten(alloc, &given, options)?;
+    match ordered(alloc, &given, &rewritten)? {
         Some(simplified) => Ok(simplified),
         None => copy_of(alloc, kernel),
     }
@@ -51,34 +52,34 @@ fn copy_of(alloc: Global, kernel: &Kernel) -> Result<Kernel, AllocError>
     Ok(Kernel::new(nodes, order))
 }
 
-/// Returns `kernel` after rounds of all passes, as `options` says.
-fn rewritten(alloc: Global, kernel: &Kernel, options: Options) -> Result<Kernel, AllocError>
-    ensures rewritten { IfOk result (IsRewritten kernel.now) }
-    ensures few { IfOk result (λ l. size l ≤ size kernel.now) }
+/// Returns `given` after rounds of all passes, as `options` says.
+fn rewritten(alloc: Global, given: &GivenKernel, options: Options) -> Result<Kernel, AllocError>
+    ensures rewritten { IfOk result (IsRewritten given.now) }
+    ensures few { IfOk result (λ l. size l ≤ size given.now) }
 {
-    is_itself(kernel);
-    let mut passed = round(alloc, kernel, kernel, options)?;
+    is_itself(given);
+    let mut passed = round(alloc, given, given.kernel(), options)?;
     for _ in 1..MOST_ROUNDS {
         if !passed.changed {
             break;
         }
-        passed = round(alloc, kernel, &passed.kernel, options)?;
+        passed = round(alloc, given, &passed.kernel, options)?;
     }
     Ok(passed.kernel)
 }
 
-/// States that `kernel` is a rewriting of itself.
-fn is_itself(kernel: &Kernel)
-    ensures { IsRewritten kernel.now kernel.now }
+/// States that `given` is a rewriting of itself.
+fn is_itself(given: &GivenKernel)
+    ensures { IsRewritten given.now given.now }
 {
     composed();
-    let _ = kernel.nodes();
+    let _ = given.kernel().nodes();
 }
 
 /// Returns `kernel`, which `given` was rewritten into, after each pass once, as `options` says.
 fn round(
     alloc: Global,
-    given: &Kernel,
+    given: &GivenKernel,
     kernel: &Kernel,
     options: Options,
 ) -> Result<Passed, AllocError>

@@ -1,18 +1,30 @@
 -- What has to come after what: whether it has to is one answer, by the namesakes.
 use Rattle.std.proofs.Common.{◌≡◌, ℕ, ◌<◌, List, get_or, Some, None, true, sym, ap, ◌∙◌, subst, arith}
-use Rattle.std.specs.Prelude.{◌≢◌}
+use Rattle.std.specs.Prelude.{◌≢◌, length, slice_index_or}
 use Rattle.std.proofs.lemmas.List.{get_or_default}
-use Rattle.cg_model.specs.Kernel.{Kernel, IsKernel, size}
+use Rattle.cg_model.specs.declared.kernel.Node.{Node}
+use Rattle.cg_model.specs.Kernel.{Kernel, IsKernel, no_node, node, size}
 use Rattle.cg_distance.specs.Least.{IsLeast, HasNoChain}
 use Rattle.cg_depend.specs.Depend.{Gap, conflict, distance_for}
 use Rattle.cg_depend.specs.Gathered.{ask}
 use Rattle.cg_depend.proofs.Unique.{gap_unique}
+use Rattle.cg_simplify_laws.specs.Rewritten.{IsRewritten}
 use Rattle.cg_simplify_order.specs.Needs.{IsNamesake, IsNeed}
-use Rattle.cg_simplify_order.specs.Found.{HasNamesakes, HasNoNeed}
+use Rattle.cg_simplify_order.specs.Found.{HasNamesakes, HasNoNeed, IsCalled}
 use Rattle.cg_simplify_order.proofs.Least.{least_unique}
 
 pub one_namesake : (K L : Kernel) → IsKernel K → (x y u : ℕ) → IsNamesake K L x u → IsNamesake K L y u → x ≡ y
 one_namesake K L good x y u a b = good.named.apart x y a.inside b.inside (a.named ∙ sym b.named)
+
+-- a node of the given kernel has the name of each node of the rewritten one
+pub called : (K L : Kernel) (given nodes : List Node) (v : ℕ) (N : Node) (name : List ℕ) → IsRewritten K L → given ≡ K.nodes → nodes ≡ L.nodes → v < length nodes → N ≡ get_or nodes v N → name ≡ N.name
+    → IsCalled given name
+called K L given nodes v N name h g n l is e =
+    let inside : v < size L = subst (λ (xs : List Node). v < length xs) n l in
+    let node_is : N ≡ node L v = subst (λ (xs : List Node). N ≡ get_or xs v N) n is ∙ get_or_default L.nodes v N no_node inside in
+    let name_is : (node K (h.from v)).name ≡ name = sym (h.named v inside) ∙ ap (λ (z : Node). z.name) (sym node_is) ∙ sym e in
+    let there : h.from v < length given = subst (λ (xs : List Node). h.from v < length xs) (sym g) (h.inside v inside) in
+    (h.from v, there, subst (λ (xs : List Node). (slice_index_or xs (h.from v) no_node).name ≡ name) (sym g) name_is)
 
 -- as it is read from the list
 pub namesake_read : (K L : Kernel) (numbers : List ℕ) (u x d : ℕ) → HasNamesakes K L numbers → u < size L → x ≡ get_or numbers u d → IsNamesake K L x u

@@ -8,6 +8,7 @@ ghost use Rattle.cg_simplify_order.specs.Needs.{AreMet, AreNeeded, StaysUnaliase
 mod chains;
 mod check;
 mod edges;
+mod given;
 mod matrix;
 mod namesakes;
 mod needs;
@@ -19,6 +20,7 @@ use crate::edges::with_edges;
 use crate::needs::all_needs;
 use crate::reduce::reduced;
 use cg_model::{Kernel, MOST_ORDER_EDGES};
+pub use given::GivenKernel;
 pub use rewriting::Rewriting;
 use std::alloc::{AllocError, Global};
 
@@ -26,7 +28,7 @@ use std::alloc::{AllocError, Global};
 /// those of `given` are; None where that would be more than 4,096 edges.
 pub fn ordered(
     alloc: Global,
-    given: &Kernel,
+    given: &GivenKernel,
     rewritten: &Kernel,
 ) -> Result<Option<Kernel>, AllocError>
     requires { IsRewritten given.now rewritten.now }

@@ -19,10 +19,28 @@ pub(crate) fn namesakes_of(
     let given = given.nodes();
     let nodes = rewritten.nodes();
     let mut numbers = Vec::new(alloc);
+    let mut last = 0;
     for number in 0..nodes.len() {
-        numbers.push(number_of(given, nodes[number].name.as_str()))?;
+        // names mostly come in the order of the given kernel
+        last = number_from(given, last, nodes[number].name.as_str());
+        numbers.push(last)?;
     }
     Ok(numbers)
+}
+
+/// Returns the number of the node of `nodes` that is called `name`, which is sought from node `start` on first.
+fn number_from(nodes: &[Node], start: u32, name: &str) -> u32
+    requires called { IsCalled nodes.now name.now }
+    requires few { length nodes.now ≤ 1024 }
+    ensures within { result < length nodes.now }
+    ensures named { (slice_index_or nodes.now result no_node).name ≡ name.now }
+{
+    for number in start as usize..nodes.len() {
+        if nodes[number].name.as_str() == name {
+            return number as u32;
+        }
+    }
+    number_of(nodes, name)
 }
 
 /// Returns the number of the node of `nodes` that is called `name`.

@@ -4,6 +4,7 @@ ghost use Rattle.cg_model.specs.Kernel.{IsKernel, size};
 ghost use Rattle.cg_simplify_laws.specs.Rewritten.{IsRewritten};
 ghost use Rattle.cg_simplify_order.specs.Found.{Adds, AllPairs, AreAllNeeds, OnePair};
 
+use crate::given::GivenKernel;
 use crate::rewriting::Rewriting;
 use cg_model::{Kernel, OrderEdge};
 use std::alloc::{AllocError, Global};
@@ -12,7 +13,7 @@ use std::alloc::{AllocError, Global};
 /// then by target.
 pub(crate) fn all_needs(
     alloc: Global,
-    given: &Kernel,
+    given: &GivenKernel,
     rewritten: &Kernel,
 ) -> Result<Vec<OrderEdge>, AllocError>
     requires { IsRewritten given.now rewritten.now }

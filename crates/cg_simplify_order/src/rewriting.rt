@@ -2,9 +2,9 @@
 ghost use Rattle.std.specs.Prelude.{◌≡◌, ◌&&◌, ◌||◌};
 ghost use Rattle.cg_word.specs.Word.{is_access, is_store};
 
+use crate::given::GivenKernel;
 use crate::namesakes::namesakes_of;
 use cg_depend::Addresses;
-use cg_distance::{DistanceTable, min_distance};
 use cg_model::{Kernel, MOST_ORDER_DISTANCE};
 use cg_word::Op;
 use std::alloc::{AllocError, Global};
@@ -13,11 +13,10 @@ use std::marker::Model;
 /// A given kernel and the kernel that it was rewritten into, with what says how their accesses are ordered.
 #[derive(Drop)]
 pub struct Rewriting<'k> {
+    given: &'k GivenKernel<'k>,
     rewritten: &'k Kernel,
     /// The numbers of the namesakes in the given kernel.
     numbers: Vec<u32>,
-    /// The least distances in the given kernel.
-    distances: DistanceTable<'k>,
     /// The addresses in the rewritten kernel.
     addresses: Addresses<'k>,
 }
@@ -28,9 +27,9 @@ impl<'k> Model for Rewriting<'k> {
 
     ghost Value = { found.Pair };
 
-    ghost view = { λ r. record { given = r.distances; rewritten = r.rewritten.now } };
+    ghost view = { λ r. record { given = r.given.now; rewritten = r.rewritten.now } };
 
-    ghost invariant = { λ r. found.HasNamesakes r.distances r.rewritten.now r.numbers.items × (r.addresses ≡ r.rewritten.now) };
+    ghost invariant = { λ r. found.HasNamesakes r.given.now r.rewritten.now r.numbers.items × (r.addresses ≡ r.rewritten.now) };
 }
 
 impl<'k> Rewriting<'k> {
@@ -44,20 +43,19 @@ impl<'k> Rewriting<'k> {
     /// Returns `given` and `rewritten` with what says how their accesses are ordered.
     pub fn of(
         alloc: Global,
-        given: &'k Kernel,
+        given: &'k GivenKernel<'k>,
         rewritten: &'k Kernel,
     ) -> Result<Rewriting<'k>, AllocError>
         requires { IsRewritten given.now rewritten.now }
         ensures pair { IfOk result (λ r. r ≡ record { given = given.now; rewritten = rewritten.now }) }
         ensures valid { IfOk result (λ r. IsKernel given.now) }
     {
-        let numbers = namesakes_of(alloc, given, rewritten)?;
-        let distances = min_distance(alloc, given)?;
+        let numbers = namesakes_of(alloc, given.kernel(), rewritten)?;
         let addresses = Addresses::of(alloc, rewritten)?;
         Ok(Rewriting {
+            given,
             rewritten,
             numbers,
-            distances,
             addresses,
         })
     }
@@ -102,7 +100,7 @@ impl<'k> Rewriting<'k> {
     {
         let before = self.numbers[u as usize];
         let after = self.numbers[v as usize];
-        let Some(least) = self.distances.get(before, after) else {
+        let Some(least) = self.given.distance(before, after) else {
             return None;
         };
         match self.addresses.gap(u, v, least) {

@@ -1,4 +1,6 @@
+use Rattle.std.proofs.Common.{subst}
+use Rattle.cg_model.specs.Kernel.{IsKernel}
 use Rattle.cg_simplify.proofs.simplifying.is_itself.Goals as goal
 
 pub returns : goal.returns
-returns c = c.composed.ensures.itself c.args.kernel.now c.args.kernel.now.order c.nodes.ensures.valid.wired
+returns c = let K = c.args.given.now in let valid : IsKernel K = subst IsKernel c.kernel.ensures c.nodes.ensures.valid in c.composed.ensures.itself K K.order valid.wired

@@ -4,4 +4,4 @@ use Rattle.cg_simplify_laws.specs.Rewritten.{IsRewritten}
 use Rattle.cg_simplify.proofs.simplifying.rewritten.Given as goal
 
 abbrev pub invariant-loop : goal.invariant-loop
-invariant-loop l = IsRewritten l.kernel l.passed.kernel × (size l.passed.kernel ≤ size l.kernel)
+invariant-loop l = IsRewritten l.given l.passed.kernel × (size l.passed.kernel ≤ size l.given)

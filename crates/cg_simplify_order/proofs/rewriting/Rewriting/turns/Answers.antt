@@ -8,7 +8,7 @@ use Rattle.cg_simplify_order.proofs.rewriting.Rewriting.turns.Goals as goal
 
 pub returns-in-None : goal.returns-in-None
 returns-in-None c =
-    let K = c.self.inside.distances in
+    let K = c.self.inside.given.now in
     let L = c.self.inside.rewritten.now in
     let numbers = c.self.inside.numbers.items in
     let u = c.args.u in
