@@ -1,20 +1,21 @@
 -- Nodes of one text, up to what nodes are like, have the same values.
-use Rattle.std.proofs.Common.{◌≡◌, ℕ, zero, suc, ◌+◌, ◌-◌, ◌*◌, ◌%◌, ◌<◌, ◌≤◌, Bool, true, false, eqb, ltb, List, [], ◌∷◌, ◌++◌, length, map, Some, None, refl, sym, ap, ◌∙◌, subst, arith, ⊎_elim}
+use Rattle.std.proofs.Common.{◌≡◌, ℕ, zero, suc, ◌+◌, ◌-◌, ◌*◌, ◌%◌, ◌<◌, ◌≤◌, Bool, true, false, eqb, ltb, List, [], ◌∷◌, ◌++◌, length, map, Some, None, refl, sym, ap, ap₂, ◌∙◌, subst, arith, ⊎_elim}
 use Rattle.std.specs.Prelude.{slice_get, slice_index}
 use Rattle.std.proofs.lemmas.Bool.{cases_lt, cases_eq, cases_Bool, cond-true, cond-false, eq-eqb, ne_eqb, le-ltb, lt-ltb}
 use Rattle.std.proofs.lemmas.List.{get_or_append_left, get_or_push, length_push}
 use Rattle.std.proofs.lemmas.Nat.{and_comm, or_comm, xor_comm}
 use Rattle.std.proofs.Math.Nat.{add_comm, mul_comm}
 use Rattle.cg_word.specs.declared.op.Op.{Op}
-use Rattle.cg_word.specs.declared.op.Op.TheVariants.{Add, And, Eq, Load, LoadIf, Mul, Ne, Or, Store, StoreIf, Xor}
-use Rattle.cg_word.specs.Word.{apply_of, arity, has_value, is_access, is_store, one_if, words}
+use Rattle.cg_word.specs.declared.op.Op.TheVariants.{Add, And, Eq, Load, LoadIf, Maxs, Mins, Mul, Ne, Or, Store, StoreIf, Xor}
+use Rattle.cg_word.specs.Word.{apply_of, arity, has_value, is_access, is_store, one_if, rank, words}
 use Rattle.cg_model.specs.declared.kernel.Operand.{Operand}
 use Rattle.cg_model.specs.declared.kernel.Operand.TheVariants.{Const as Constant, Edge}
 use Rattle.cg_model.specs.Kernel.{Kernel, HasOperand, IsKernel, node, size}
-use Rattle.cg_model.specs.Work.{Image, Reaches, Work, value, value_by}
+use Rattle.cg_model.specs.Work.{Image, IsImage, Reaches, Work, value, value_by}
 use Rattle.cg_model.specs.Turns.{before, operand, val, work, work_of}
 use Rattle.cg_overlap.proofs.Memory.{value_same}
 use Rattle.cg_overlap.proofs.Sequence.{work_is}
+use Rattle.cg_simplify_facts.proofs.Words.{HasWords, args_words, of_words, val_word}
 use Rattle.cg_simplify.specs.Joining.{HasText, MayJoin, MayTake}
 use Rattle.cg_simplify.specs.Live.{is_marked}
 use Rattle.cg_simplify.specs.Merging.{AreCrossed, AreLike, AreSame, AreTargets, IsLike, IsSame, SameText, commutes, counts_as, target}
@@ -41,18 +42,53 @@ eqb_comm a b =
 crossed : (f : ℕ → ℕ → ℕ) → ((a b : ℕ) → f a b ≡ f b a) → (x y z w : ℕ) → x ≡ w → y ≡ z → f x y ≡ f z w
 crossed f comm x y z w a b = rw (a, b) (comm w z)
 
-commuted : (image : Image) (memory other : List ℕ) (port turn : ℕ) (xs ys : List ℕ) (op : Op) → commutes op ≡ true →
+-- so for words
+crossed_words : (f : ℕ → ℕ → ℕ) → ((a b : ℕ) → a < words → b < words → f a b ≡ f b a) → (x y z w : ℕ) → x < words → y < words → x ≡ w → y ≡ z → f x y ≡ f z w
+crossed_words f comm x y z w l m a b = comm x y l m ∙ ap₂ (λ (p q : ℕ). f p q) b a
+
+-- words of one rank are one word
+one_rank : (a b : ℕ) → a < words → b < words → rank a ≡ rank b → a ≡ b
+one_rank a b l m e = omega (arith, l, m, e)
+
+-- the word of the less rank, and that of the greater
+lesser : (a b : ℕ) → a < words → b < words → apply_of Mins a b 0 ≡ apply_of Mins b a 0
+unfolding apply_of
+lesser a b l m =
+    ⊎_elim
+    (λ (h : rank a < rank b). cond-false (ltb (rank b) (rank a)) b a (le-ltb (rank b) (rank a) (omega arith)) ∙ sym (cond-true (ltb (rank a) (rank b)) a b (lt-ltb (rank a) (rank b) h)))
+    (λ (h : rank b ≤ rank a). ⊎_elim
+    (λ (k : rank b < rank a). cond-true (ltb (rank b) (rank a)) b a (lt-ltb (rank b) (rank a) k) ∙ sym (cond-false (ltb (rank a) (rank b)) a b (le-ltb (rank a) (rank b) h)))
+    (λ (k : rank a ≤ rank b). subst (λ (z : ℕ). apply_of Mins a z 0 ≡ apply_of Mins z a 0) (one_rank a b l m (omega arith)) refl)
+    (cases_lt (rank b) (rank a)))
+    (cases_lt (rank a) (rank b))
+
+greater : (a b : ℕ) → a < words → b < words → apply_of Maxs a b 0 ≡ apply_of Maxs b a 0
+unfolding apply_of
+greater a b l m =
+    ⊎_elim
+    (λ (h : rank a < rank b). cond-true (ltb (rank a) (rank b)) b a (lt-ltb (rank a) (rank b) h) ∙ sym (cond-false (ltb (rank b) (rank a)) a b (le-ltb (rank b) (rank a) (omega arith))))
+    (λ (h : rank b ≤ rank a). ⊎_elim
+    (λ (k : rank b < rank a). cond-false (ltb (rank a) (rank b)) b a (le-ltb (rank a) (rank b) h) ∙ sym (cond-true (ltb (rank b) (rank a)) a b (lt-ltb (rank b) (rank a) k)))
+    (λ (k : rank a ≤ rank b). subst (λ (z : ℕ). apply_of Maxs a z 0 ≡ apply_of Maxs z a 0) (one_rank a b l m (omega arith)) refl)
+    (cases_lt (rank b) (rank a)))
+    (cases_lt (rank a) (rank b))
+
+commuted : (image : Image) (memory other : List ℕ) (port turn : ℕ) (xs ys : List ℕ) (op : Op) → HasWords xs → commutes op ≡ true →
     slice_index xs 0 ≡ slice_index ys 1 → slice_index xs 1 ≡ slice_index ys 0 →
     value_by image memory port turn xs op ≡ value_by image other port turn ys op
 unfolding value_by apply_of
-commuted image memory other port turn xs ys Add h a b = crossed (λ x y. (x + y) % words) (λ x y. ap (λ z. z % words) (add_comm x y)) (slice_index xs 0) (slice_index xs 1) (slice_index ys 0) (slice_index ys 1) a b
-commuted image memory other port turn xs ys Mul h a b = crossed (λ x y. (x * y) % words) (λ x y. ap (λ z. z % words) (mul_comm x y)) (slice_index xs 0) (slice_index xs 1) (slice_index ys 0) (slice_index ys 1) a b
-commuted image memory other port turn xs ys And h a b = crossed (λ x y. apply_of And x y 0) (λ x y. and_comm x y) (slice_index xs 0) (slice_index xs 1) (slice_index ys 0) (slice_index ys 1) a b
-commuted image memory other port turn xs ys Or h a b = crossed (λ x y. apply_of Or x y 0) (λ x y. or_comm x y) (slice_index xs 0) (slice_index xs 1) (slice_index ys 0) (slice_index ys 1) a b
-commuted image memory other port turn xs ys Xor h a b = crossed (λ x y. apply_of Xor x y 0) (λ x y. xor_comm x y) (slice_index xs 0) (slice_index xs 1) (slice_index ys 0) (slice_index ys 1) a b
-commuted image memory other port turn xs ys Eq h a b = crossed (λ x y. apply_of Eq x y 0) (λ x y. ap one_if (eqb_comm x y)) (slice_index xs 0) (slice_index xs 1) (slice_index ys 0) (slice_index ys 1) a b
-commuted image memory other port turn xs ys Ne h a b = crossed (λ x y. apply_of Ne x y 0) (λ x y. rw (eqb_comm x y) refl) (slice_index xs 0) (slice_index xs 1) (slice_index ys 0) (slice_index ys 1) a b
-commuted image memory other port turn xs ys _ h a b = absurd (cc)
+commuted image memory other port turn xs ys Add small h a b = crossed (λ x y. (x + y) % words) (λ x y. ap (λ z. z % words) (add_comm x y)) (slice_index xs 0) (slice_index xs 1) (slice_index ys 0) (slice_index ys 1) a b
+commuted image memory other port turn xs ys Mul small h a b = crossed (λ x y. (x * y) % words) (λ x y. ap (λ z. z % words) (mul_comm x y)) (slice_index xs 0) (slice_index xs 1) (slice_index ys 0) (slice_index ys 1) a b
+commuted image memory other port turn xs ys And small h a b = crossed (λ x y. apply_of And x y 0) (λ x y. and_comm x y) (slice_index xs 0) (slice_index xs 1) (slice_index ys 0) (slice_index ys 1) a b
+commuted image memory other port turn xs ys Or small h a b = crossed (λ x y. apply_of Or x y 0) (λ x y. or_comm x y) (slice_index xs 0) (slice_index xs 1) (slice_index ys 0) (slice_index ys 1) a b
+commuted image memory other port turn xs ys Xor small h a b = crossed (λ x y. apply_of Xor x y 0) (λ x y. xor_comm x y) (slice_index xs 0) (slice_index xs 1) (slice_index ys 0) (slice_index ys 1) a b
+commuted image memory other port turn xs ys Eq small h a b = crossed (λ x y. apply_of Eq x y 0) (λ x y. ap one_if (eqb_comm x y)) (slice_index xs 0) (slice_index xs 1) (slice_index ys 0) (slice_index ys 1) a b
+commuted image memory other port turn xs ys Ne small h a b = crossed (λ x y. apply_of Ne x y 0) (λ x y. rw (eqb_comm x y) refl) (slice_index xs 0) (slice_index xs 1) (slice_index ys 0) (slice_index ys 1) a b
+commuted image memory other port turn xs ys Mins small h a b =
+    crossed_words (λ x y. apply_of Mins x y 0) lesser (slice_index xs 0) (slice_index xs 1) (slice_index ys 0) (slice_index ys 1) (small 0) (small 1) a b
+commuted image memory other port turn xs ys Maxs small h a b =
+    crossed_words (λ x y. apply_of Maxs x y 0) greater (slice_index xs 0) (slice_index xs 1) (slice_index ys 0) (slice_index ys 1) (small 0) (small 1) a b
+commuted image memory other port turn xs ys _ small h a b = absurd (cc)
 
 two_operands : (op : Op) → commutes op ≡ true → arity op ≡ 2
 two_operands Add h = refl
@@ -62,6 +98,8 @@ two_operands Or h = refl
 two_operands Xor h = refl
 two_operands Eq h = refl
 two_operands Ne h = refl
+two_operands Mins h = refl
+two_operands Maxs h = refl
 two_operands _ h = absurd (cc)
 
 no_swap : (op : Op) → is_access op ≡ true → commutes op ≡ true → ⊥
@@ -81,7 +119,7 @@ item_of_map f (x ∷ xs) (suc p) o at = item_of_map f xs p o at
 counts_self : (like : List ℕ) (n u : ℕ) → u ≡ n → counts_as like n u ≡ None
 counts_self like n u e = cond-true (eqb u n) None _ (eq-eqb u n e)
 
-module _ (K : Kernel) (good : IsKernel K) (like : List ℕ) (all : AreLike K like) (image : Image) where
+module _ (K : Kernel) (good : IsKernel K) (like : List ℕ) (all : AreLike K like) (image : Image) (words_are : IsImage image) where
   -- a node with the values of another one that an edge's source counts as
   record Counted (n u : ℕ) : Type 0 where
     other : ℕ
@@ -94,7 +132,7 @@ module _ (K : Kernel) (good : IsKernel K) (like : List ℕ) (all : AreLike K lik
       (λ (a : u < n). record {
         other = slice_index like u;
         is = cond-false (eqb u n) None _ (ne_eqb u n ne) ∙ cond-true (ltb u n) (Some (slice_index like u)) (Some u) (lt-ltb u n a);
-        same = λ j. (all u (omega arith)).same image j;
+        same = λ j. (all u (omega arith)).same image j words_are;
       })
       (λ (a : n ≤ u). record {
         other = u;
@@ -189,7 +227,7 @@ module _ (K : Kernel) (good : IsKernel K) (like : List ℕ) (all : AreLike K lik
         item_of_map word (node K n).operands 1 y.0 y.1 ∙ same_word 0 a.0 y.0 a.1 (s.first a.0 y.0 a.1 y.1) ∙ sym (item_of_map word (node K m).operands 0 a.0 a.1) in
         ap (λ (o : Op). value_by image (memory n) (node K n).port i (map word (node K n).operands) o) (sym op)
         ∙ ap (λ (t : ℕ). value_by image (memory n) t i (map word (node K n).operands) (node K m).op) (sym port)
-        ∙ commuted image (memory n) (memory m) (node K m).port i (map word (node K n).operands) (map word (node K m).operands) (node K m).op comm left right
+        ∙ commuted image (memory n) (memory m) (node K m).port i (map word (node K n).operands) (map word (node K m).operands) (node K m).op (args_words (val K image) i (node K n).operands (λ u j. val_word K good image words_are u j) (of_words K good n ln)) comm left right
 
     -- both see the same words where the first reaches
     abbrev SeesSame : Type 0
@@ -235,7 +273,7 @@ text_like K good like all m n b ln long plain text =
     record {
       before = omega arith;
       valued = λ h. ap has_value text.op ∙ h;
-      same = λ image i. each_turn K image m n (λ j below. this_turn K good like all image m n (omega arith) ln (omega arith) (omega arith) j below plain text) i;
+      same = λ image i words. each_turn K image m n (λ j below. this_turn K good like all image words m n (omega arith) ln (omega arith) (omega arith) j below plain text) i;
     }
 
 -- so is a load, where the stores between leave the word
@@ -245,8 +283,8 @@ load_like K good like all m n b ln long is loads join text =
     record {
       before = omega arith;
       valued = λ h. ap has_value text.op ∙ h;
-      same = λ image i. each_turn K image m n
-          (λ j below. this_load K good like all image m n (omega arith) ln (omega arith) (omega arith) j below
+      same = λ image i words. each_turn K image m n
+          (λ j below. this_load K good like all image words m n (omega arith) ln (omega arith) (omega arith) j below
           (λ a r. same_there K good image m n b ln (ap is_store text.op ∙ loads) join j a r) is text) i;
     }
 
@@ -263,7 +301,7 @@ taken_like K good like all m n ln long text may =
     (cases_Bool (is_access (node K n).op))
 
 pub like_itself : (K : Kernel) (n : ℕ) → IsLike K n n
-like_itself K n = record { before = omega arith; valued = λ h. h; same = λ image i. refl }
+like_itself K n = record { before = omega arith; valued = λ h. h; same = λ image i words. refl }
 
 -- a node is like what a node is like that it is like
 pub like_trans : (K : Kernel) (n m k : ℕ) → IsLike K n m → IsLike K m k → IsLike K n k
@@ -271,7 +309,7 @@ like_trans K n m k a b =
     record {
       before = omega (arith, a.before, b.before);
       valued = λ h. b.valued (a.valued h);
-      same = λ image i. a.same image i ∙ b.same image i;
+      same = λ image i words. a.same image i words ∙ b.same image i words;
     }
 
 -- where edges are moved to

@@ -134,7 +134,7 @@ module _ (K : Kernel) (into : List ℕ) (good : IsKernel K) (long : length into 
       let inside : u < size K = good.wired.sources v p u d init l has in
       ⊎_elim
       (λ (a : i < d). rw (lt-ltb i d a) refl)
-      (λ (a : d ≤ i). rw (le-ltb i d a) ((all u (omega (arith, inside, long))).same image (i - d)))
+      (λ (a : d ≤ i). rw (le-ltb i d a) ((all u (omega (arith, inside, long))).same image (i - d) words))
       (cases_lt i d)
 
   pub exchanges : Exchanges K (merged K into)

@@ -40,5 +40,5 @@ paired_like K n m p before a b =
     record {
       before = before;
       valued = λ h. pair_valued K (size K) m p b.is;
-      same = λ image i. a.runs image i ∙ sym (b.runs image i);
+      same = λ image i words. a.runs image i ∙ sym (b.runs image i);
     }

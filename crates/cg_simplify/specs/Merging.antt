@@ -1,23 +1,24 @@
 -- Nodes with the same values, and a kernel in which edges come from one of them.
 use Rattle.std.specs.Prelude.{◌≡◌, ℕ, ◌<◌, ◌≤◌, ◌⊎◌, Bool, true, false, eqb, nat_lt, if◌then◌else◌, List, length, Option, Some, None, slice_get, slice_index}
 use Rattle.cg_word.specs.declared.op.Op.{Op}
-use Rattle.cg_word.specs.declared.op.Op.TheVariants.{Add, And, Eq, Mul, Ne, Or, Xor}
+use Rattle.cg_word.specs.declared.op.Op.TheVariants.{Add, And, Eq, Maxs, Mins, Mul, Ne, Or, Xor}
 use Rattle.cg_word.specs.Word.{has_value}
 use Rattle.cg_model.specs.declared.kernel.Node.{Node}
 use Rattle.cg_model.specs.declared.kernel.Operand.{Operand}
 use Rattle.cg_model.specs.declared.kernel.Operand.TheVariants.{Const as Constant, Edge}
 use Rattle.cg_model.specs.Kernel.{Kernel, node}
-use Rattle.cg_model.specs.Work.{Image}
+use Rattle.cg_model.specs.Work.{Image, IsImage}
 use Rattle.cg_model.specs.Turns.{val}
 use Rattle.cg_depend.specs.declared.table.AffinePair.{AffinePair}
 use Rattle.cg_depend.specs.Affine.{affine_of, at_turn}
 use Rattle.cg_simplify.specs.Live.{is_marked}
 
--- in every run of K the two nodes have the same value in each turn
+-- in every run of K from an image the two nodes have the same value in each turn
 abbrev pub SameValues : Kernel → ℕ → ℕ → Type 0
-SameValues K n m = (image : Image) (i : ℕ) → val K image n i ≡ val K image m i
+SameValues K n m = (image : Image) (i : ℕ) → IsImage image → val K image n i ≡ val K image m i
 
--- node n is like node m of K, which isn't later, has a value if n has one, and in every run the same values
+-- node n is like node m of K, which isn't later, has a value if n has one, and in every run from an image the same
+-- values
 pub record IsLike (K : Kernel) (n m : ℕ) : Type 0 where
   pub before : m ≤ n
   pub valued : has_value (node K n).op ≡ true → has_value (node K m).op ≡ true
@@ -41,6 +42,8 @@ commutes Or = true
 commutes Xor = true
 commutes Eq = true
 commutes Ne = true
+commutes Mins = true
+commutes Maxs = true
 commutes _ = false
 
 -- what the source u of an edge to node n counts as: none if it is n itself, an earlier node as what it is like, and a

@@ -25,7 +25,7 @@ fn commutes(op: Op) -> bool
 {
     matches!(
         op,
-        Op::Add | Op::Mul | Op::And | Op::Or | Op::Xor | Op::Eq | Op::Ne
+        Op::Add | Op::Mul | Op::And | Op::Or | Op::Xor | Op::Eq | Op::Ne | Op::Mins | Op::Maxs
     )
 }
 
