@@ -1,6 +1,6 @@
 -- Nodes that become the `const` of the word that they have.
 use Rattle.std.proofs.Common.{◌≡◌, ℕ, zero, suc, ◌+◌, ◌-◌, ◌*◌, ◌<◌, ◌≤◌, true, false, List, [], ◌∷◌, length, map, Some, refl, sym, ap, ◌∙◌, subst, arith, ⊎_elim, inl, inr}
-use Rattle.std.specs.Prelude.{◌⊎◌, slice_get, slice_index, slice_set}
+use Rattle.std.specs.Prelude.{◌⊎◌, slice_get, slice_index, slice_index_or, slice_set}
 use Rattle.std.proofs.lemmas.Bool.{and_left, cases_lt, cond-false, le-ltb, lt-ltb, true≢false}
 use Rattle.cg_word.specs.declared.op.Op.{Op}
 use Rattle.cg_word.specs.declared.op.Op.TheVariants.{Const, Add, Sub, Mul, And, Or, Xor, Shl, Shr, Sar, Eq, Ne, Lts, Ltu, Mins, Maxs, Select}
@@ -35,6 +35,14 @@ word_computed nodes tops v n f k e facts is =
     record {
       computing = e;
       value = λ V words suits at i. at i ∙ is (word_of V i n.operands 0) (word_of V i n.operands 1) (word_of V i n.operands 2) (facts words V i suits);
+    }
+
+-- a node that never exceeds 0
+pub word_least : (nodes : List Node) (tops : List ℕ) (v : ℕ) (n : Node) → computes n.op ≡ true → slice_index_or tops v 4294967295 ≡ 0 → HasWord nodes tops v n 0
+word_least nodes tops v n e top =
+    record {
+      computing = e;
+      value = λ V words suits at i. let low : V v i ≤ 0 = subst (λ (t : ℕ). V v i ≤ t) top (suits.below v i) in omega arith;
     }
 
 -- a `const` of itself

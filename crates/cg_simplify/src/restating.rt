@@ -1,5 +1,5 @@
 //! Nodes that have one word in every turn.
-ghost use Rattle.std.specs.Prelude.{◌≡◌, ◌<◌, List, ℕ, IfOk, IfSome, [], ◌∷◌, false, length, slice_index};
+ghost use Rattle.std.specs.Prelude.{◌≡◌, ◌<◌, List, ℕ, IfOk, IfSome, [], ◌∷◌, false, length, slice_index, slice_index_or};
 ghost use Rattle.cg_word.specs.Word.{words};
 ghost use Rattle.cg_model.specs.declared.kernel.Node.{Node as NodeValue};
 ghost use Rattle.cg_model.specs.declared.kernel.Operand.TheVariants.{Const as Constant};
@@ -28,7 +28,8 @@ struct Rewriting {
 }
 
 /// Returns `kernel` with each node that is known to have one word in every turn as the `const` of the word. This is known
-/// by the operation and what is known of the operands, or of a `const` of itself by its initial words.
+/// by the operation and what is known of the operands, by the greatest word that the node can have in `kernel`, or of a
+/// `const` of itself by its initial words.
 pub fn texts(alloc: Global, kernel: &Kernel) -> Result<Passed, AllocError>
     ensures rewritten { IfOk result (λ p. IsRewritten kernel.now p.kernel) }
     ensures size { IfOk result (λ p. size p.kernel ≡ size kernel.now) }
@@ -111,14 +112,25 @@ fn word_in(nodes: &[Node], tops: &[u32], node: &Node, number: usize) -> Option<u
     }
 }
 
-/// Returns the value of `node`, number `number` of `nodes`, if it computes one word by what is known of its operands.
+/// Returns the value of `node`, number `number` of `nodes`, if it computes and is known to be one word: 0 if it never
+/// exceeds 0, or by what is known of its operands.
 fn computed_word(nodes: &[Node], tops: &[u32], node: &Node, number: usize) -> Option<u32>
     ensures { IfSome result (HasWord nodes.now tops.now number node.now) }
 {
     if !computes(node.op) {
         return None;
     }
+    if top_at(tops, number) == 0 {
+        return Some(0);
+    }
     constant_of(node.op, facts_of(nodes, tops, node.operands.as_slice()))
+}
+
+/// Returns the word of `tops` that the value of node `number` never exceeds: past the end of `tops` the greatest word.
+fn top_at(tops: &[u32], number: usize) -> u32
+    ensures { result ≡ slice_index_or tops.now number 4294967295 }
+{
+    tops.get(number).copied().unwrap_or(u32::MAX)
 }
 
 /// Returns the initial word of `node`, number `number`, if it is a `const` of itself with one initial word, once or more.

@@ -4,7 +4,6 @@ ghost use Rattle.cg_word_facts.specs.Facts.{AreFacts, Fits, IsConstant};
 
 use crate::facts::{Fact, Facts};
 use crate::identities::operand_of;
-use crate::tops::top_of;
 use cg_word::{Op, apply};
 
 /// Returns the word that is the value of `op` wherever its operands are as `facts` says, if that follows from one of the
@@ -14,9 +13,6 @@ pub fn constant_of(op: Op, facts: Facts) -> Option<u32>
 {
     if let Some(word) = computed(op, facts) {
         return Some(word);
-    }
-    if top_of(op, facts) == 0 {
-        return Some(0);
     }
     if let Some(word) = compared(op, facts) {
         return Some(word);

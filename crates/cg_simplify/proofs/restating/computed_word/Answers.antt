@@ -3,9 +3,14 @@ use Rattle.cg_word_facts.specs.Facts.{IsConstant}
 use Rattle.cg_model.specs.declared.kernel.Operand.{Operand}
 use Rattle.cg_simplify_facts.specs.Suits.{AreFactsOf, AreOfWords, computes}
 use Rattle.cg_simplify.specs.Restating.{HasWord}
-use Rattle.cg_simplify.proofs.Restated.{word_computed}
+use Rattle.cg_simplify.proofs.Restated.{word_computed, word_least}
 use Rattle.cg_simplify.proofs.Throughs.{if_some}
 use Rattle.cg_simplify.proofs.restating.computed_word.Goals as goal
+
+pub returns-then-top_at-eq0 : goal.returns-then-top_at-eq0
+returns-then-top_at-eq0 c =
+    let computing : computes c.args.node.now.op ≡ true = sym c.computes.ensures ∙ c.if-not-computes.false in
+    word_least c.args.nodes.now c.args.tops.now c.args.number c.args.node.now computing (sym c.top_at.ensures ∙ c.if-top_at-eq0.true)
 
 pub returns : goal.returns
 returns c =
