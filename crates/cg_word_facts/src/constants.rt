@@ -2,7 +2,7 @@
 ghost use Rattle.std.specs.Prelude.{◌≡◌, ◌≢◌, ◌≤◌, ◌<◌, ℕ, IfSome, true};
 ghost use Rattle.cg_word_facts.specs.Facts.{AreFacts, Fits, IsConstant};
 
-use crate::facts::{Fact, Facts};
+use crate::facts::{Fact, Facts, is_known};
 use crate::identities::operand_of;
 use cg_word::{Op, apply};
 
@@ -82,6 +82,8 @@ fn of_ltu(facts: Facts) -> Option<u32>
     ensures { IfSome result (IsConstant Op.Ltu facts) }
 {
     if facts.first_two_equal {
+        Some(0)
+    } else if is_known(facts.second, 0) {
         Some(0)
     } else if is_above(facts.first, facts.second.top) {
         Some(0)
