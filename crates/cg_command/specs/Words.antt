@@ -144,7 +144,7 @@ abbrev pub given_by : (Text → List Text) → List Text → List Given
 given_by values [] = []
 given_by values (name ∷ names) = given_values name (values name) ++ given_by values names
 
--- the name of a flag that is given so many times, if it is
+-- no name where the flag is given no times; else its name once
 abbrev pub flag_given : Text → ℕ → List Text
 flag_given name times = if nat_lt 0 times then name ∷ [] else []
 

@@ -38,7 +38,7 @@ pub record AreTasksBelow (A : Arch) (C : Config) (slot rows m : ℕ) (ts : List 
   pub rising : (j : ℕ) → suc j < length ts → (task ts j).unit < (task ts (suc j)).unit
   pub all : (x : ℕ) → x < m → is_on (fields C x slot).op ≡ true → (j : ℕ) × (j < length ts) × ((task ts j).unit ≡ x)
 
--- the same of what is equal
+-- tasks that are equal to tasks of these rows are tasks of these rows
 pub tasks_same : (A : Arch) (C : Config) (slot rows rows' m : ℕ) (ts ts' : List Task) → rows' ≡ rows → ts' ≡ ts → AreTasksBelow A C slot rows m ts → AreTasksBelow A C slot rows' m ts'
 tasks_same A C slot rows rows' m ts ts' er et are =
     subst (λ (z : ℕ). AreTasksBelow A C slot z m ts') (sym er) (subst (λ (z : List Task). AreTasksBelow A C slot rows m z) (sym et) are)
