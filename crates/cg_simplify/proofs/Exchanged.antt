@@ -8,13 +8,12 @@ use Rattle.cg_word.specs.declared.op.Op.TheVariants.{Const}
 use Rattle.cg_word.specs.Word.{apply_of, is_access, is_store}
 use Rattle.cg_model.specs.declared.kernel.Operand.{Operand}
 use Rattle.cg_model.specs.declared.kernel.Operand.TheVariants.{Const as Constant, Edge}
-use Rattle.cg_model.specs.Kernel.{Kernel, HasOperand, IsKernel, IsWired, node, size}
-use Rattle.cg_model.specs.Work.{Image, IsImage, Work, Reaches, value, value_by}
-use Rattle.cg_model.specs.Turns.{before, operand, work, work_of, val}
+use Rattle.cg_model.specs.Kernel.{Kernel, HasOperand, IsWired, node, size}
+use Rattle.cg_model.specs.Work.{Image, IsImage, value, value_by}
+use Rattle.cg_model.specs.Turns.{before, operand, work_of, val}
 use Rattle.cg_overlap.proofs.Sequence.{work_is}
-use Rattle.cg_simplify_laws.specs.Follows.{Follows, RunsAlike}
-use Rattle.cg_simplify_laws.specs.Rewritten.{IsRewritten}
-use Rattle.cg_simplify_laws.proofs.Stands.{same_stands}
+use Rattle.cg_simplify_draft.specs.Restates.{Restates}
+use Rattle.cg_simplify_draft.proofs.Restating.{does_same}
 use Rattle.cg_simplify.specs.Operands.{Exchanges, Gives, IsAlike}
 
 -- the value of a copy is its operand
@@ -65,46 +64,18 @@ same_maps f (x ∷ xs) [] e h = absurd (omega (arith, e))
 same_maps f (x ∷ xs) (y ∷ ys) e h =
     rw (h 0 x y refl refl, same_maps f xs ys (omega (arith, e)) (λ p o q. h (suc p) o q)) refl
 
--- a kernel that follows a valid one runs like it
-abbrev pub Law : Type 0
-Law = (K L : Kernel) (image : Image) (n : ℕ) (f : ℕ → ℕ) (W : ℕ → ℕ → ℕ) → IsKernel K → IsWired L → Follows K L image n f W → RunsAlike K L image n W
-
-module _ (law : Law) (K L : Kernel) (good : IsKernel K) (wired : IsWired L) (x : Exchanges K L) where
-  inside : (v : ℕ) → v < size L → v < size K
-  inside v l = omega (arith, l, x.sized)
-
-  same_work : (image : Image) (v i : ℕ) → IsImage image → v < size L → work_of (node L v) i (val K image) ≡ work K image (i * size K + v)
+-- a kernel whose nodes have operands with the same words does the same
+module _ (K L : Kernel) (x : Exchanges K L) where
+  same_work : (image : Image) (v i : ℕ) → IsImage image → v < size L → work_of (node L v) i (val K image) ≡ work_of (node K v) i (val K image)
   same_work image v i words l =
-      rw (x.ops v l, x.ports v l, same_maps (operand (val K image) i) (node K v).operands (node L v).operands (x.counts v l) (λ p o q a b. x.alike v p o q l a b image i words))
-      (sym (work_is K image good.wired i v (inside v l)))
+      rw (x.ops v l, x.ports v l, same_maps (operand (val K image) i) (node K v).operands (node L v).operands (x.counts v l) (λ p o q a b. x.alike v p o q l a b image i words)) refl
 
-  follows : (image : Image) (n : ℕ) → IsImage image → Follows K L image n (λ v. v) (val K image)
-  follows image n words =
+  pub exchanges_restate : Restates K L
+  exchanges_restate =
       record {
-        inside = inside;
-        apart = λ v w l b e. e;
-        effects = λ u i l b has. (u, omega (arith, l, x.sized), refl);
-        ordered = λ v w b l a c st. b;
-        does = λ v i l b. same_stands K image (i * size K + v) (work_of (node L v) i (val K image)) (same_work image v i words l);
-      }
-
-  alike : (image : Image) (n : ℕ) → IsImage image → RunsAlike K L image n (val K image)
-  alike image n words = law K L image n (λ v. v) (val K image) good wired (follows image n words)
-
-  reaches : (image : Image) (v i a : ℕ) → IsImage image → v < size L → Reaches (work L image (i * size L + v)) a → Reaches (work K image (i * size K + v)) a
-  reaches image v i a words l r =
-      subst (λ (w : Work). Reaches w a) ((alike image (suc i) words).works v i l (omega arith) ∙ same_work image v i words l) r
-
-  pub rewritten : IsRewritten K L
-  rewritten =
-      record {
-        from = λ v. v;
-        inside = inside;
-        apart = λ v w l b e. e;
+        sized = x.sized;
         named = x.named;
         accesses = λ v l is. subst (λ (o : Op). is_access o ≡ true) (x.ops v l) is;
         stores = λ v l is. subst (λ (o : Op). is_store o ≡ true) (x.ops v l) is;
-        ordered = λ v w b l a c st. b;
-        runs = λ image n words. let h = alike image n words in record { values = h.values; memory = h.memory; streams = h.streams; outside = h.outside; left = h.left };
-        reaches = reaches;
+        does = λ image v i words l. does_same (work_of (node L v) i (val K image)) (work_of (node K v) i (val K image)) (same_work image v i words l);
       }

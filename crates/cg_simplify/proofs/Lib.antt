@@ -2,10 +2,12 @@ pub mod Numbered
 pub mod Thinned
 pub mod Marked
 pub mod Exchanged
-pub mod Drafts
+pub mod Drafted
+pub mod Tested
 pub mod Throughs
-pub mod Written
 pub mod Restated
+pub mod Compared
+pub mod Guarded
 pub mod Joined
 pub mod Likeness
 pub mod Paired

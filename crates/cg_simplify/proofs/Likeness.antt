@@ -21,7 +21,7 @@ use Rattle.cg_simplify.specs.Live.{is_marked}
 use Rattle.cg_simplify.specs.Merging.{AreCrossed, AreLike, AreSame, AreTargets, IsLike, IsSame, SameText, commutes, counts_as, target}
 use Rattle.cg_simplify.proofs.Exchanged.{same_maps}
 use Rattle.cg_simplify.proofs.Joined.{same_there}
-use Rattle.cg_simplify.proofs.Drafts.{some_operand}
+use Rattle.cg_simplify_draft.proofs.Drafts.{some_operand}
 
 -- ---- the value of one operation
 

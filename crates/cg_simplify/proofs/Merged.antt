@@ -13,7 +13,7 @@ use Rattle.cg_model.proofs.Elements.{map_get}
 use Rattle.cg_simplify.specs.Live.{moved, moved_node}
 use Rattle.cg_simplify.specs.Merging.{AreLike, IsLike}
 use Rattle.cg_simplify.specs.Operands.{Exchanges, IsAlike}
-use Rattle.cg_simplify.proofs.Drafts.{none_ordered, one_operand}
+use Rattle.cg_simplify_draft.proofs.Drafts.{none_ordered, one_operand}
 use Rattle.cg_simplify.proofs.Thinned.{constant_from, edge_from, mapped_at, mapped_length}
 
 -- K with edges from the nodes of the table

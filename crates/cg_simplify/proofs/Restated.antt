@@ -1,30 +1,27 @@
 -- Nodes that become the `const` of the word that they have.
-use Rattle.std.proofs.Common.{◌≡◌, ℕ, zero, suc, ◌+◌, ◌-◌, ◌*◌, ◌<◌, ◌≤◌, true, false, List, [], ◌∷◌, length, map, Some, refl, sym, ap, ◌∙◌, subst, arith, ⊎_elim, inl, inr}
-use Rattle.std.specs.Prelude.{◌⊎◌, slice_get, slice_index, slice_index_or, slice_set}
+use Rattle.std.proofs.Common.{◌≡◌, ℕ, zero, suc, ◌-◌, ◌<◌, ◌≤◌, true, false, List, [], ◌∷◌, length, map, Some, refl, sym, ap, ◌∙◌, subst, arith, ⊎_elim}
+use Rattle.std.specs.Prelude.{slice_get, slice_index, slice_index_or, slice_set}
 use Rattle.std.proofs.lemmas.Bool.{and_left, cases_lt, cond-false, le-ltb, lt-ltb, true≢false}
 use Rattle.cg_word.specs.declared.op.Op.{Op}
 use Rattle.cg_word.specs.declared.op.Op.TheVariants.{Const, Add, Sub, Mul, And, Or, Xor, Shl, Shr, Sar, Eq, Ne, Lts, Ltu, Mins, Maxs, Select}
-use Rattle.cg_word.specs.Word.{apply_of, is_access, is_output, is_store}
-use Rattle.cg_word_facts.specs.declared.facts.Facts.{Facts}
-use Rattle.cg_word_facts.specs.Facts.{IsConstant}
+use Rattle.cg_word.specs.Word.{apply_of, is_access, is_output, is_store, words}
+use Rattle.cg_simplify_facts.specs.declared.facts.Facts.{Facts}
+use Rattle.cg_simplify_facts.specs.Facts.{IsConstant}
 use Rattle.cg_model.specs.declared.kernel.Node.{Node}
-use Rattle.cg_model.specs.declared.kernel.Operand.{Operand}
-use Rattle.cg_model.specs.declared.kernel.Operand.TheVariants.{Const as Constant, Edge}
-use Rattle.cg_model.specs.Kernel.{Kernel, IsKernel, IsWired, node, size}
-use Rattle.cg_model.specs.Work.{Image, IsImage, Work, Reaches, address, last_operand, value, value_by, stored, stores, sent, sends, missed, misses}
-use Rattle.cg_model.specs.Turns.{before, operand, work, work_of, val}
-use Rattle.cg_overlap.proofs.Sequence.{work_is}
-use Rattle.cg_simplify_facts.specs.Suits.{AreFactsOf, AreOfWords, AreTops, IsConstOf, Suits, computes, word_of}
-use Rattle.cg_simplify_facts.proofs.Known.{val_computed, word_at}
+use Rattle.cg_model.specs.declared.kernel.Operand.TheVariants.{Edge}
+use Rattle.cg_model.specs.Kernel.{Kernel, IsKernel, node, size}
+use Rattle.cg_model.specs.Work.{Image, IsImage, Work, address, last_operand, value, value_by, stored, stores, sent, sends, missed, misses}
+use Rattle.cg_model.specs.Turns.{operand, val, work_of}
+use Rattle.cg_simplify_draft.specs.Restates.{DoesAs, Restates}
+use Rattle.cg_simplify_draft.specs.Settings.{FitsText}
+use Rattle.cg_simplify_draft.proofs.Written.{const_fits}
+use Rattle.cg_simplify_facts.specs.Suits.{AreFactsOf, AreOfWords, AreTops, computes, word_of}
+use Rattle.cg_simplify_facts.proofs.Known.{computed, word_at}
 use Rattle.cg_simplify_facts.proofs.Words.{of_words}
-use Rattle.cg_simplify_laws.specs.Follows.{Follows, RunsAlike, StandsFor}
-use Rattle.cg_simplify_laws.specs.Rewritten.{IsRewritten}
-use Rattle.cg_simplify_laws.proofs.Stands.{same_stands}
-use Rattle.cg_simplify.specs.Operands.{applied, with_text}
-use Rattle.cg_simplify.specs.Restating.{HasWord, IsOwnWord, IsWordOf, Restates}
-use Rattle.cg_simplify.proofs.Exchanged.{Law}
-use Rattle.cg_simplify.proofs.Written.{each_node, text_name, text_sized}
-use Rattle.cg_simplify.proofs.Throughs.{const_applied}
+use Rattle.cg_simplify.specs.Operands.{applied}
+use Rattle.cg_simplify.specs.Restating.{HasWord, HasWordAt, IsConstantText, IsOwnWord, MayBecome}
+use Rattle.cg_simplify.specs.declared.restating.Text.{Text}
+use Rattle.cg_simplify.proofs.Drafted.{const_applied, suits, value_is}
 
 -- ---- the words of nodes
 
@@ -70,68 +67,18 @@ word_own nodes tops v n k h =
       value = λ V words suits at i. own_words V v h.distance k n h.init h.op h.operand (words 0 (Edge v h.distance h.init) h.operand).0 h.some h.all at i;
     }
 
--- ---- the values of a kernel, by one that restates it
+-- ---- the words of nodes of a draft
 
-same_const : (k w : ℕ) (n : Node) → n.operands ≡ Constant w ∷ [] → slice_get n.operands 0 ≡ Some (Constant k) → w ≡ k
-same_const k w n e h = let z : Some (Constant w) ≡ Some (Constant k) = sym (ap (λ (os : List Operand). slice_get os 0) e) ∙ h in cc
-
-module _ (tops : List ℕ) (K D : Kernel) (good : IsKernel K) (are : AreTops K tops) (re : Restates K D) (image : Image) (words_are : IsImage image) where
-  low : (v : ℕ) → v < size D → v < size K
-  low v l = omega (arith, l, re.sized)
-
-  constant_is : (u k i : ℕ) → IsConstOf D.nodes u k → val K image u i ≡ k
-  constant_is u k i is =
-      ⊎_elim
-      (λ e. (are image words_are).constant u k i (record {
-        there = low u is.there;
-        op = subst (λ (n : Node). n.op ≡ Const) e is.op;
-        constant = subst (λ (n : Node). slice_get n.operands 0 ≡ Some (Constant k)) e is.constant;
-      }))
-      (λ h. h.gives image i words_are ∙ same_const k h.word (node D u) h.operands is.constant)
-      (re.each u is.there)
-
-  suits_restated : Suits D.nodes tops (val K image)
-  suits_restated = let s = are image words_are in record { small = s.small; below = s.below; constant = constant_is }
-
-  value_restated : (v i : ℕ) → v < size D → computes (node D v).op ≡ true → val K image v i ≡ applied (val K image) i (node D v)
-  value_restated v i l c =
-      ⊎_elim
-      (λ e. subst (λ (n : Node). val K image v i ≡ applied (val K image) i n) (sym e) (val_computed K image v i good.wired (low v l) (subst (λ (n : Node). computes n.op ≡ true) e c)))
-      (λ h.
-      h.gives image i words_are
-      ∙ sym (const_applied (val K image) i (node D v) h.op ∙ word_at (val K image) i (node D v).operands 0 (Constant h.word) (ap (λ (os : List Operand). slice_get os 0) h.operands)))
-      (re.each v l)
-
-computing_given : (K D : Kernel) (v : ℕ) → Restates K D → v < size D → computes (node D v).op ≡ true → computes (node K v).op ≡ true
-computing_given K D v re l c = ⊎_elim (λ e. subst (λ (n : Node). computes n.op ≡ true) e c) (λ h. h.computing) (re.each v l)
-
-pub set_keeps_words : (tops : List ℕ) (D : Kernel) (v k : ℕ) (operands : List Operand) → IsKernel D → v < size D → HasWord D.nodes tops v (node D v) k → operands ≡ Constant k ∷ []
-    → (K : Kernel) → IsKernel K → AreTops K tops → Restates K D → Restates K (with_text D v Const 0 operands)
-set_keeps_words tops D v k operands valid l has e K good are re =
+pub word_here : (tops : List ℕ) (D : Kernel) (v k : ℕ) → IsKernel D → v < size D → HasWord D.nodes tops v (node D v) k → (K : Kernel) → HasWordAt K tops D v k
+word_here tops D v k valid l h K =
     record {
-      sized = text_sized D v Const 0 operands l ∙ re.sized;
-      named = λ w m. text_name D v Const 0 operands l w ∙ re.named w (down w m);
-      each = λ w m. each_node D v Const 0 operands l (λ w n. w < size D → (n ≡ node K w) ⊎ IsWordOf K w n) (λ b. inr becomes) (λ w ne b. re.each w b) w (down w m);
+      inside = l;
+      computing = h.computing;
+      gives = λ good are re image i words.
+          h.value (val K image) (of_words D valid v l) (suits tops K D good are re image words) (λ j. value_is tops K D good are re image words v j l h.computing) i;
     }
-  where
-    down : (w : ℕ) → w < size (with_text D v Const 0 operands) → w < size D
-    down w m = omega (arith, m, text_sized D v Const 0 operands l)
 
-    becomes : IsWordOf K v (record (node D v) { op = Const; port = 0; operands = operands })
-    becomes =
-        record {
-          word = k;
-          computing = computing_given K D v re l has.computing;
-          gives = λ image i words.
-              has.value (val K image) (of_words D valid v l) (suits_restated tops K D good are re image words) (λ j. value_restated tops K D good are re image words v j l has.computing) i;
-          op = refl;
-          operands = e;
-        }
-
-pub restates_itself : (K : Kernel) → Restates K (record { nodes = K.nodes; order = [] })
-restates_itself K = record { sized = refl; named = λ v l. refl; each = λ v l. inl refl }
-
--- ---- a restated kernel leaves the same
+-- ---- a node that computes one word may become its `const`
 
 -- an operation that computes does nothing else
 record IsIdle (op : Op) : Type 0 where
@@ -171,79 +118,41 @@ idle_missed : (room : ℕ) (w : Work) → is_access w.op ≡ false → missed ro
 unfolding missed
 idle_missed room w e = cond-false (misses room w) 1 0 (and_left _ _ e)
 
--- what computes the same value stands for a step that computes
-idle_stands : (K : Kernel) (image : Image) (k x : ℕ) (w : Work) → IsIdle w.op → IsIdle (work K image k).op → value image (before K image k).memory w ≡ x → StandsFor K image k w x
-idle_stands K image k x w a b e =
+-- what computes the same value does as a node that computes
+idle_does : (w x : Work) → IsIdle w.op → IsIdle x.op → ((image : Image) (memory : List ℕ) → value image memory w ≡ value image memory x) → DoesAs w x
+idle_does w x a b e =
     record {
       gives = e;
-      writes = λ memory. idle_stored w a.store memory ∙ sym (idle_stored (work K image k) b.store memory);
-      appends = λ port. idle_sent port w a.output ∙ sym (idle_sent port (work K image k) b.output);
+      writes = λ memory. idle_stored w a.store memory ∙ sym (idle_stored x b.store memory);
+      appends = λ port. idle_sent port w a.output ∙ sym (idle_sent port x b.output);
       misses = λ room. let z = idle_missed room w a.access in omega (arith, z);
+      reaches = λ at r. absurd (true≢false (sym r.is ∙ a.access));
     }
 
 const_value : (image : Image) (memory : List ℕ) (op : Op) (port turn c : ℕ) (args : List ℕ) → op ≡ Const → args ≡ c ∷ [] → value_by image memory port turn args op ≡ c
 unfolding value_by apply_of
 const_value image memory op port turn c args e a = rw (e, a) refl
 
-module _ (law : Law) (K L : Kernel) (good : IsKernel K) (wired : IsWired L) (re : Restates K L) where
-  inside : (v : ℕ) → v < size L → v < size K
-  inside v l = omega (arith, l, re.sized)
+module _ (K : Kernel) (tops : List ℕ) (D : Kernel) (v k : ℕ) (t : Text) (has : HasWordAt K tops D v k) (small : k < words) (is : IsConstantText k t) where
+  abbrev new : ℕ → Image → Work
+  new i image = work_of (record (node D v) { op = t.op; port = t.port; operands = t.operands }) i (val K image)
 
-  same_work : (image : Image) (v i : ℕ) → v < size L → node L v ≡ node K v → work_of (node L v) i (val K image) ≡ work K image (i * size K + v)
-  same_work image v i l e = ap (λ (n : Node). work_of n i (val K image)) e ∙ sym (work_is K image good.wired i v (inside v l))
+  value_same : (i : ℕ) (given : Image) → IsKernel K → AreTops K tops → Restates K D → IsImage given → (image : Image) (memory : List ℕ)
+      → value image memory (new i given) ≡ value image memory (work_of (node D v) i (val K given))
+  value_same i given good are re words image memory =
+      const_value image memory t.op t.port i k (map (operand (val K given) i) t.operands) is.op (ap (map (operand (val K given) i)) is.operands)
+      ∙ sym (has.gives good are re given i words)
+      ∙ value_is tops K D good are re given words v i has.inside has.computing
+      ∙ sym (computed image memory (node D v).port i (map (operand (val K given) i) (node D v).operands) (node D v).op has.computing)
 
-  word_stands : (image : Image) (v i : ℕ) → IsImage image → v < size L → IsWordOf K v (node L v) → StandsFor K image (i * size K + v) (work_of (node L v) i (val K image)) (val K image v i)
-  word_stands image v i words l h =
-      idle_stands K image (i * size K + v) (val K image v i) (work_of (node L v) i (val K image))
-      (subst IsIdle (sym h.op) (idle Const refl))
-      (subst (λ (w : Work). IsIdle w.op) (sym (work_is K image good.wired i v (inside v l))) (idle (node K v).op h.computing))
-      (const_value image (before K image (i * size K + v)).memory (node L v).op (node L v).port i h.word (map (operand (val K image) i) (node L v).operands) h.op
-      (ap (λ (os : List Operand). map (operand (val K image) i) os) h.operands)
-      ∙ sym (h.gives image i words))
-
-  does : (image : Image) (v i : ℕ) → IsImage image → v < size L → StandsFor K image (i * size K + v) (work_of (node L v) i (val K image)) (val K image v i)
-  does image v i words l =
-      ⊎_elim
-      (λ e. same_stands K image (i * size K + v) (work_of (node L v) i (val K image)) (same_work image v i l e))
-      (λ h. word_stands image v i words l h)
-      (re.each v l)
-
-  follows : (image : Image) (n : ℕ) → IsImage image → Follows K L image n (λ v. v) (val K image)
-  follows image n words =
+  pub becomes_word : MayBecome K tops D v t
+  becomes_word =
       record {
-        inside = inside;
-        apart = λ v w l b e. e;
-        effects = λ u i l b has. (u, omega (arith, l, re.sized), refl);
-        ordered = λ v w b l a c st. b;
-        does = λ v i l b. does image v i words l;
-      }
-
-  alike : (image : Image) (n : ℕ) → IsImage image → RunsAlike K L image n (val K image)
-  alike image n words = law K L image n (λ v. v) (val K image) good wired (follows image n words)
-
-  -- an access is as it was
-  access_same : (v : ℕ) → v < size L → is_access (node L v).op ≡ true → node L v ≡ node K v
-  access_same v l a = ⊎_elim (λ e. e) (λ h. absurd (true≢false (sym a ∙ ap is_access h.op))) (re.each v l)
-
-  store_same : (v : ℕ) → v < size L → is_store (node L v).op ≡ true → node L v ≡ node K v
-  store_same v l a = ⊎_elim (λ e. e) (λ h. absurd (true≢false (sym a ∙ ap is_store h.op))) (re.each v l)
-
-  reaches : (image : Image) (v i a : ℕ) → IsImage image → v < size L → Reaches (work L image (i * size L + v)) a → Reaches (work K image (i * size K + v)) a
-  reaches image v i a words l r =
-      let at = (alike image (suc i) words).works v i l (omega arith) in
-      let is : is_access (node L v).op ≡ true = ap (λ (w : Work). is_access w.op) (sym at) ∙ r.is in
-      subst (λ (w : Work). Reaches w a) (at ∙ same_work image v i l (access_same v l is)) r
-
-  pub restated : IsRewritten K L
-  restated =
-      record {
-        from = λ v. v;
-        inside = inside;
-        apart = λ v w l b e. e;
-        named = re.named;
-        accesses = λ v l is. subst (λ (n : Node). is_access n.op ≡ true) (access_same v l is) is;
-        stores = λ v l is. subst (λ (n : Node). is_store n.op ≡ true) (store_same v l is) is;
-        ordered = λ v w b l a c st. b;
-        runs = λ image n words. let h = alike image n words in record { values = h.values; memory = h.memory; streams = h.streams; outside = h.outside; left = h.left };
-        reaches = reaches;
+        inside = has.inside;
+        fits = subst (λ (op : Op). FitsText D v op t.port t.operands) (sym is.op) (subst (λ (port : ℕ). FitsText D v Const port t.operands) (sym is.port) (const_fits D v k t.operands small is.operands));
+        accesses = λ e. absurd (true≢false (sym e ∙ ap is_access is.op));
+        stores = λ e. absurd (true≢false (sym e ∙ ap is_store is.op));
+        does = λ image i good are re words.
+            idle_does (new i image) (work_of (node D v) i (val K image)) (subst IsIdle (sym is.op) (idle Const refl)) (idle (node D v).op has.computing)
+            (value_same i image good are re words);
       }

@@ -2,8 +2,8 @@
 use Rattle.std.proofs.Common.{◌≡◌, ◌≤◌, List, [], ap, arith, subst, sym}
 use Rattle.cg_model.specs.declared.kernel.Node.{Node}
 use Rattle.cg_model.specs.Kernel.{Kernel, IsWired, size}
-use Rattle.cg_simplify_laws.specs.Rewritten.{IsRewritten}
-use Rattle.cg_simplify_laws.proofs.Twice.{rewritten_itself, rewritten_twice}
+use Rattle.cg_simplify_draft.specs.Rewritten.{IsRewritten}
+use Rattle.cg_simplify_draft.proofs.Twice.{rewritten_itself, rewritten_twice}
 use Rattle.cg_simplify_order.specs.Needs.{StaysUnaliased}
 use Rattle.cg_simplify.specs.Simplified.{IsSimplified}
 

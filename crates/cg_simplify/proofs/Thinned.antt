@@ -15,11 +15,11 @@ use Rattle.cg_model.specs.Work.{Image, Work, Reaches}
 use Rattle.cg_model.specs.Turns.{operand, work, work_of, val}
 use Rattle.cg_model.proofs.Elements.{map_get, map_same}
 use Rattle.cg_overlap.proofs.Sequence.{step_node, work_is}
-use Rattle.cg_simplify_laws.specs.Follows.{HasEffect, Follows, RunsAlike}
-use Rattle.cg_simplify_laws.specs.Rewritten.{LeavesAlike, IsRewritten}
-use Rattle.cg_simplify_laws.proofs.Stands.{same_stands}
-use Rattle.cg_simplify_laws.proofs.Turns.{runs_alike}
-use Rattle.cg_simplify.proofs.Drafts.{none_ordered}
+use Rattle.cg_simplify_draft.specs.Follows.{HasEffect, Follows, RunsAlike}
+use Rattle.cg_simplify_draft.specs.Rewritten.{LeavesAlike, IsRewritten}
+use Rattle.cg_simplify_draft.proofs.Stands.{same_stands}
+use Rattle.cg_simplify_draft.proofs.Turns.{runs_alike}
+use Rattle.cg_simplify_draft.proofs.Drafts.{none_ordered}
 use Rattle.cg_simplify.proofs.Numbered.{all_kept, same_numbers}
 use Rattle.cg_simplify.specs.Live.{AreMarked, AreNumbered, is_marked, moved, moved_node}
 
@@ -233,10 +233,10 @@ module _ (K L : Kernel) (marks : List Bool) (kept numbers : List ℕ) (good : Is
   alike : (image : Image) (n : ℕ) → RunsAlike K L image n (words image)
   alike image n = runs_alike K L image n from (words image) good thin_wired (follows image n)
 
-  thin_runs : (image : Image) (n : ℕ) → LeavesAlike K L image n from
+  thin_runs : (image : Image) (n : ℕ) → LeavesAlike K L image n
   thin_runs image n =
       let a = alike image n in
-      record { values = a.values; memory = a.memory; streams = a.streams; outside = a.outside; left = a.left }
+      record { memory = a.memory; streams = a.streams; outside = a.outside; left = a.left }
 
   work_alike : (image : Image) (v i : ℕ) → v < size L → work L image (i * size L + v) ≡ work K image (i * size K + from v)
   work_alike image v i l = (alike image (suc i)).works v i l (omega arith) ∙ work_same image v i l

@@ -1,27 +1,32 @@
 -- Nodes that have the words of one of their operands, and edges through them.
-use Rattle.std.proofs.Common.{◌≡◌, ℕ, zero, suc, ◌+◌, ◌-◌, ◌<◌, ◌≤◌, true, List, [], ◌∷◌, ◌++◌, length, map, Option, Some, None, IfSome, refl, sym, ap, ap₂, ◌∙◌, subst, arith, ⊎_elim, length-append}
+use Rattle.std.proofs.Common.{◌≡◌, ℕ, zero, suc, ◌+◌, ◌-◌, ◌<◌, ◌≤◌, true, List, [], ◌∷◌, ◌++◌, length, map, Option, Some, None, IfSome, nat_lt, refl, sym, ap, ◌∙◌, subst, arith, ⊎_elim, length-append}
 use Rattle.std.specs.Prelude.{slice_get, slice_index}
-use Rattle.std.proofs.lemmas.Bool.{cases_lt}
+use Rattle.std.proofs.lemmas.Bool.{cases_lt, le-ltb, lt-ltb}
 use Rattle.std.proofs.lemmas.List.{get_or_append_left, get_or-append_right}
 use Rattle.std.proofs.lemmas.Option.{slice_get_within}
 use Rattle.cg_word.specs.declared.op.Op.{Op}
 use Rattle.cg_word.specs.declared.op.Op.TheVariants.{Const, Add, Sub, Mul, And, Or, Xor, Shl, Shr, Sar, Eq, Ne, Lts, Ltu, Mins, Maxs, Select}
-use Rattle.cg_word.specs.Word.{apply_of, arity, words}
-use Rattle.cg_word_facts.specs.declared.facts.Facts.{Facts}
-use Rattle.cg_word_facts.specs.Facts.{IsOperand}
+use Rattle.cg_word.specs.Word.{arity, words}
+use Rattle.cg_simplify_facts.specs.declared.facts.Facts.{Facts}
+use Rattle.cg_simplify_facts.specs.Facts.{IsOperand}
 use Rattle.cg_model.specs.Limits.{most_distance}
 use Rattle.cg_model.specs.declared.kernel.Node.{Node}
 use Rattle.cg_model.specs.declared.kernel.Operand.{Operand}
 use Rattle.cg_model.specs.declared.kernel.Operand.TheVariants.{Const as Constant, Edge}
 use Rattle.cg_model.specs.Kernel.{Kernel, HasOperand, IsKernel, node, size}
-use Rattle.cg_model.specs.Work.{Image, IsImage}
-use Rattle.cg_model.specs.Turns.{operand, val}
-use Rattle.cg_simplify_facts.specs.Suits.{AreFactsOf, AreOfWords, AreTops, IsConstOf, Suits, computes, word_of}
-use Rattle.cg_simplify_facts.proofs.Known.{val_computed, word_at}
+use Rattle.cg_model.specs.Work.{Image, Work}
+use Rattle.cg_model.specs.Turns.{operand, val, work_of}
+use Rattle.cg_simplify_draft.specs.Restates.{DoesAs, Restates}
+use Rattle.cg_simplify_draft.specs.Settings.{Fits, with_operand}
+use Rattle.cg_simplify_draft.proofs.Drafts.{at_same}
+use Rattle.cg_simplify_draft.proofs.Restating.{does_same}
+use Rattle.cg_simplify_facts.specs.Suits.{AreFactsOf, AreOfWords, AreTops, computes, word_of}
+use Rattle.cg_simplify_facts.proofs.Known.{word_at}
 use Rattle.cg_simplify_facts.proofs.Words.{of_words}
-use Rattle.cg_simplify.specs.Operands.{BecomesWord, Exchanges, IsAlike, IsThrough, IsValueOf, MayReplace, StandsFor, applied}
-use Rattle.cg_simplify.proofs.Exchanged.{constants, copies, edges, same_maps}
-use Rattle.cg_simplify.proofs.Drafts.{one_operand, some_operand}
+use Rattle.cg_simplify.specs.Operands.{AreZeroAlike, BecomesWord, IsAlike, IsThrough, IsValueOf, IsZeroWith, LooksTo, MayReplace, StandsFor, TestsAs, is_tested}
+use Rattle.cg_simplify.proofs.Drafted.{const_applied, suits, value_is}
+use Rattle.cg_simplify.proofs.Exchanged.{constants, edges}
+use Rattle.cg_simplify.proofs.Tested.{set_map, tests_alike}
 
 -- what follows for an item, if there is one
 pub if_some : {X : Type 0} (o : Option X) (P Q : X → Type 0) → ((x : X) → P x → Q x) → IfSome o P → IfSome o Q
@@ -31,10 +36,6 @@ if_some (Some x) P Q f h = f x h
 -- ---- the values of nodes
 
 -- a `const`
-pub const_applied : (V : ℕ → ℕ → ℕ) (i : ℕ) (n : Node) → n.op ≡ Const → applied V i n ≡ word_of V i n.operands 0
-unfolding apply_of
-const_applied V i n e = ap (λ (op : Op). apply_of op (word_of V i n.operands 0) (word_of V i n.operands 1) (word_of V i n.operands 2)) e
-
 pub of_const : (nodes : List Node) (tops : List ℕ) (n : Node) (x : Operand) → n.op ≡ Const → slice_get n.operands 0 ≡ Some x → IsValueOf nodes tops n x
 of_const nodes tops n x e has =
     record {
@@ -85,41 +86,17 @@ few_operands Maxs e = omega arith
 few_operands Select e = omega arith
 few_operands _ e = absurd (cc)
 
--- ---- a draft with exchanged operands has the values of the given kernel
-
-module _ (tops : List ℕ) (K D : Kernel) (good : IsKernel K) (are : AreTops K tops) (ex : Exchanges K D) (image : Image) (words_are : IsImage image) where
-  low : (v : ℕ) → v < size D → v < size K
-  low v l = omega (arith, l, ex.sized)
-
-  -- the `const` of a constant has the constant
-  constant_is : (u k i : ℕ) → IsConstOf D.nodes u k → val K image u i ≡ k
-  constant_is u k i is =
-      let op : (node K u).op ≡ Const = sym (ex.ops u is.there) ∙ is.op in
-      let one : length (node K u).operands ≡ 1 = good.arities u (low u is.there) ∙ ap arity op in
-      let o = some_operand K u 0 (omega arith) in
-      copies K u o.0 good.wired (low u is.there) op o.1 image i words_are ∙ ex.alike u 0 o.0 (Constant k) is.there o.1 is.constant image i words_are
-
-  suits : Suits D.nodes tops (val K image)
-  suits = let s = are image words_are in record { small = s.small; below = s.below; constant = constant_is }
-
-  -- the value of a node of the given kernel, by the draft
-  value_is : (v i : ℕ) → v < size D → computes (node D v).op ≡ true → val K image v i ≡ applied (val K image) i (node D v)
-  value_is v i l e =
-      val_computed K image v i good.wired (low v l) (ap computes (sym (ex.ops v l)) ∙ e)
-      ∙ ap₂ (λ (op : Op) (ws : List ℕ). apply_of op (slice_index ws 0) (slice_index ws 1) (slice_index ws 2)) (sym (ex.ops v l))
-      (sym (same_maps (operand (val K image) i) (node K v).operands (node D v).operands (ex.counts v l) (λ p o q g h. ex.alike v p o q l g h image i words_are)))
-
 -- a node that is known to have the value of one of its operands
 pub stands_by : (tops : List ℕ) (D : Kernel) (w : ℕ) (x : Operand) → IsKernel D → w < size D → IsValueOf D.nodes tops (node D w) x → StandsFor tops D w x
 stands_by tops D w x valid l h =
     record {
       place = h.place;
       there = h.there;
-      gives = λ K good are ex image i words.
+      gives = λ K good are re image i words.
           let few = few_operands (node D w).op h.computing in
           let count = valid.arities w l in
-          value_is tops K D good are ex image words w i l h.computing
-          ∙ h.value (val K image) i (omega (arith, few, count)) (of_words D valid w l) (suits tops K D good are ex image words);
+          value_is tops K D good are re image words w i l h.computing
+          ∙ h.value (val K image) i (omega (arith, few, count)) (of_words D valid w l) (suits tops K D good are re image words);
     }
 
 -- ---- edges through such nodes
@@ -134,50 +111,91 @@ module _ (tops : List ℕ) (D : Kernel) (good : IsKernel D) (v p w d : ℕ) (ini
   long : length init ≡ d
   long = good.inits v p w d init l has
 
-  word_replaces : (c : ℕ) → StandsFor tops D w (Constant c) → BecomesWord (node D v).operands init c → MayReplace tops D v p (Constant c)
-  word_replaces c s b =
+  -- an operand with the same words
+  same_replaces : (o : Operand) → Fits D v p o → ((K : Kernel) → IsKernel K → AreTops K tops → Restates K D → IsAlike K (Edge w d init) o) → MayReplace tops D v p o
+  same_replaces o fits alike =
       record {
         inside = l;
         place = place;
-        fits = record { word = good.wired.constants w s.place c inside s.there; alone = λ q a h. absurd (b.none q a h) };
-        alike = λ K q g are ex h.
-            subst (λ (z : Operand). IsAlike K z (Constant c)) (one_operand D v p (Edge w d init) q has h)
-            (constants K w d c init long (s.gives K g are ex) (λ j m. b.all j (omega (arith, m, long))));
+        fits = fits;
+        does = λ K image i g are re words.
+            does_same (work_of (node (with_operand D v p o) v) i (val K image)) (work_of (node D v) i (val K image))
+            (ap (λ (n : Node). work_of n i (val K image)) (at_same D v p o l)
+            ∙ ap (λ (ws : List ℕ). let x : Work = record { op = (node D v).op; port = (node D v).port; turn = i; args = ws } in x)
+            (set_map (operand (val K image) i) (node D v).operands p (Edge w d init) o has (sym (alike K g are re image i words))));
       }
 
-  joined_word : (u e : ℕ) (more : List ℕ) → StandsFor tops D w (Edge u e more) → (k : ℕ) → slice_index (init ++ more) k < words
-  joined_word u e more s k =
+  word_replaces : (c : ℕ) → StandsFor tops D w (Constant c) → BecomesWord (node D v).operands init c → MayReplace tops D v p (Constant c)
+  word_replaces c s b =
+      same_replaces (Constant c) (record { word = good.wired.constants w s.place c inside s.there; alone = λ q a h. absurd (b.none q a h) })
+      (λ K g are re. constants K w d c init long (s.gives K g are re) (λ j m. b.all j (omega (arith, m, long))))
+
+  joined_word : (q u e : ℕ) (more : List ℕ) → HasOperand D w q (Edge u e more) → (k : ℕ) → slice_index (init ++ more) k < words
+  joined_word q u e more there k =
       ⊎_elim
       (λ (a : k < length init). subst (λ (z : ℕ). z < words) (sym (get_or_append_left init more 0 k a)) (good.init_words v p w d k init l has))
       (λ (a : length init ≤ k).
       subst (λ (z : ℕ). z < words) (sym (get_or-append_right init more (length init) k 0 refl a))
-      (good.init_words w s.place u e (k - length init) more inside s.there))
+      (good.init_words w q u e (k - length init) more inside there))
       (cases_lt k (length init))
 
-  earlier : (u e : ℕ) (more : List ℕ) → StandsFor tops D w (Edge u e more) → d + e ≡ 0 → u < v
-  earlier u e more s z =
-      let a : u < w = good.wired.forward w s.place u more inside (subst (λ (y : ℕ). HasOperand D w s.place (Edge u y more)) (omega arith) s.there) in
+  earlier : (q u e : ℕ) (more : List ℕ) → HasOperand D w q (Edge u e more) → d + e ≡ 0 → u < v
+  earlier q u e more there z =
+      let a : u < w = good.wired.forward w q u more inside (subst (λ (y : ℕ). HasOperand D w q (Edge u y more)) (omega arith) there) in
       let b : w < v = good.wired.forward v p w init l (subst (λ (y : ℕ). HasOperand D v p (Edge w y init)) (omega arith) has) in
       omega arith
 
+  edge_fits : (q u e : ℕ) (more : List ℕ) → HasOperand D w q (Edge u e more) → d + e ≤ most_distance → Fits D v p (Edge u (d + e) (init ++ more))
+  edge_fits q u e more there near =
+      record {
+        known = good.wired.sources w q u e more inside there;
+        valued = good.valued w q u e more inside there;
+        earlier = earlier q u e more there;
+        near = near;
+        long = length-append init more ∙ (let y = good.inits w q u e more inside there in omega (arith, y, long));
+        init_words = joined_word q u e more there;
+      }
+
   edge_replaces : (u e : ℕ) (more : List ℕ) → StandsFor tops D w (Edge u e more) → d + e ≤ most_distance → MayReplace tops D v p (Edge u (d + e) (init ++ more))
   edge_replaces u e more s near =
+      same_replaces (Edge u (d + e) (init ++ more)) (edge_fits s.place u e more s.there near) (λ K g are re. edges K w d u e init more long (s.gives K g are re))
+
+  stands_through : (x o : Operand) → StandsFor tops D w x → IsThrough (node D v).operands (Edge w d init) x o → MayReplace tops D v p o
+  stands_through (Constant c) o s t = subst (MayReplace tops D v p) (sym t.0) (word_replaces c s t.1)
+  stands_through (Edge u e more) o s t = subst (MayReplace tops D v p) (sym t.0) (edge_replaces u e more s t.1)
+
+  -- ---- where only 0 matters
+
+  zero_alike : (K : Kernel) (u e : ℕ) (more : List ℕ) → IsZeroWith K w (Edge u e more) → AreZeroAlike K (Edge w d init) (Edge u (d + e) (init ++ more))
+  zero_alike K u e more with_zero image i words =
+      ⊎_elim
+      (λ (a : i < d).
+      rw (lt-ltb i d a, lt-ltb i (d + e) (let z : i < d + e = omega arith in z)) (ap (nat_lt 0) (sym (get_or_append_left init more 0 i (omega (arith, long, a))))))
+      (λ (a : d ≤ i).
+      rw (le-ltb i d a) (with_zero image (i - d) words ∙ ap (nat_lt 0) (later image i u e more a)))
+      (cases_lt i d)
+    where
+      later : (image : Image) (i u e : ℕ) (more : List ℕ) → d ≤ i → operand (val K image) (i - d) (Edge u e more) ≡ operand (val K image) i (Edge u (d + e) (init ++ more))
+      later image i u e more a =
+          ⊎_elim
+          (λ (b : i - d < e). rw (lt-ltb (i - d) e b, lt-ltb i (d + e) (let z : i < d + e = omega arith in z)) (sym (get_or-append_right init more d i 0 long a)))
+          (λ (b : e ≤ i - d). rw (le-ltb (i - d) e b, le-ltb i (d + e) (let z : d + e ≤ i = omega arith in z)) (ap (val K image u) (let z : i - d - e ≡ i - (d + e) = omega arith in z)))
+          (cases_lt (i - d) e)
+
+  test_replaces : (u e : ℕ) (more : List ℕ) → p ≡ 0 → is_tested (node D v).op ≡ true → TestsAs tops D w (Edge u e more) → d + e ≤ most_distance → MayReplace tops D v p (Edge u (d + e) (init ++ more))
+  test_replaces u e more first tested t near =
       record {
         inside = l;
         place = place;
-        fits = record {
-          known = good.wired.sources w s.place u e more inside s.there;
-          valued = good.valued w s.place u e more inside s.there;
-          earlier = earlier u e more s;
-          near = near;
-          long = length-append init more ∙ (let y = good.inits w s.place u e more inside s.there in omega (arith, y, long));
-          init_words = joined_word u e more s;
-        };
-        alike = λ K q g are ex h.
-            subst (λ (z : Operand). IsAlike K z (Edge u (d + e) (init ++ more))) (one_operand D v p (Edge w d init) q has h)
-            (edges K w d u e init more long (s.gives K g are ex));
+        fits = edge_fits t.place u e more t.there near;
+        does = λ K image i g are re words.
+            subst (λ (n : Node). DoesAs (work_of n i (val K image)) (work_of (node D v) i (val K image))) (sym (at_same D v p (Edge u (d + e) (init ++ more)) l))
+            (tests_alike (operand (val K image) i) (node D v) p i (Edge w d init) (Edge u (d + e) (init ++ more)) first tested has (zero_alike K u e more (t.tests K g are re) image i words));
       }
 
-  pub through : (x o : Operand) → StandsFor tops D w x → IsThrough (node D v).operands (Edge w d init) x o → MayReplace tops D v p o
-  through (Constant c) o s t = subst (MayReplace tops D v p) (sym t.0) (word_replaces c s t.1)
-  through (Edge u e more) o s t = subst (MayReplace tops D v p) (sym t.0) (edge_replaces u e more s t.1)
+  tests_through : (x o : Operand) → p ≡ 0 → is_tested (node D v).op ≡ true → TestsAs tops D w x → IsThrough (node D v).operands (Edge w d init) x o → MayReplace tops D v p o
+  tests_through (Constant c) o first tested s t = absurd (s.is_edge c refl)
+  tests_through (Edge u e more) o first tested s t = subst (MayReplace tops D v p) (sym t.0) (test_replaces u e more first tested s t.1)
+
+  pub through : (x o : Operand) → LooksTo tops D v p w x → IsThrough (node D v).operands (Edge w d init) x o → MayReplace tops D v p o
+  through x o s t = ⊎_elim (λ a. stands_through x o a t) (λ b. tests_through x o b.0 b.1 b.2 t) s

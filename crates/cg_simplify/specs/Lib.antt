@@ -5,3 +5,4 @@ pub mod Settling
 pub mod Merging
 pub mod Joining
 pub mod Simplified
+pub mod Guards

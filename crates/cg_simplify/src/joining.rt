@@ -30,7 +30,7 @@ impl<'k> Joins<'k> {
     ghost use Rattle.std.specs.Prelude.{◌≡◌, ◌<◌, IfOk, IsTrue};
     ghost use Rattle.cg_word.specs.Word.{is_store};
     ghost use Rattle.cg_model.specs.Kernel.{IsKernel, node, size};
-    ghost use Rattle.cg_simplify_laws.specs.Rewritten.{IsRewritten};
+    ghost use Rattle.cg_simplify_draft.specs.Rewritten.{IsRewritten};
     ghost use Rattle.cg_simplify.specs.Joining.{IsApart, MayJoin};
 
     /// Returns `kernel`, which `given` was rewritten into, with what says which of its loads may be joined.

@@ -6,29 +6,27 @@ ghost use Rattle.cg_word.specs.declared.op.Op.TheVariants.{Const};
 ghost use Rattle.cg_model.specs.declared.kernel.Operand.{Operand};
 ghost use Rattle.cg_model.specs.declared.kernel.Operand.TheVariants.{Const as Constant, Edge};
 ghost use Rattle.cg_model.specs.Kernel.{Kernel, HasOperand, IsKernel, IsWired, node, size};
-ghost use Rattle.cg_simplify_laws.specs.Rewritten.{IsRewritten};
+ghost use Rattle.cg_simplify_draft.specs.Rewritten.{IsRewritten};
 ghost use Rattle.cg_simplify.specs.Operands.{Exchanges, Gives, IsAlike};
-ghost use Rattle.cg_simplify.specs.Restating.{Restates};
 
 mod copy;
-mod draft;
+mod guards;
 mod joining;
 mod live;
 mod merging;
 mod number;
 mod pairing;
-mod passed;
 mod removal;
 mod restating;
 mod settle;
 mod simplifying;
 mod text;
 mod through;
+mod words;
+mod zero;
 
-use cg_simplify_laws::followed;
-pub use draft::Draft;
+use cg_simplify_draft::restated;
 pub use merging::merge;
-pub use passed::Passed;
 pub use removal::dead;
 pub use restating::texts;
 pub use settle::operands;
@@ -49,12 +47,5 @@ pub fn operands_exchanged()
     ensures edges { (K : Kernel) (w d u e : ℕ) (init more : List ℕ) → length init ≡ d → Gives K w (Edge u e more) →
         IsAlike K (Edge w d init) (Edge u (d + e) (init ++ more)) }
 {
-    followed();
-}
-
-/// States that a kernel is rewritten where nodes that compute one word in every turn become the `const` of the word.
-pub fn nodes_restated()
-    ensures { (K L : Kernel) → IsKernel K → IsWired L → Restates K L → IsRewritten K L }
-{
-    followed();
+    restated();
 }

@@ -1,7 +1,7 @@
 //! Nodes that are merged into earlier ones with the same values.
 ghost use Rattle.std.specs.Prelude.{◌≡◌, ◌<◌, ◌^◌, IfOk, IfSome, IsTrue, [], false, length, map};
 ghost use Rattle.cg_model.specs.Kernel.{IsKernel, size};
-ghost use Rattle.cg_simplify_laws.specs.Rewritten.{IsRewritten};
+ghost use Rattle.cg_simplify_draft.specs.Rewritten.{IsRewritten};
 ghost use Rattle.cg_simplify.specs.Joining.{HasText, MayTake};
 ghost use Rattle.cg_simplify.specs.Live.{moved, moved_node};
 ghost use Rattle.cg_simplify.specs.Merging.{AreLike, AreTargets, IsLike, target};
@@ -12,9 +12,9 @@ use crate::live::{are_fed, is_marked};
 use crate::number::number_of;
 use crate::operands_exchanged;
 use crate::pairing::paired_nodes;
-use crate::passed::Passed;
 use crate::text::has_same_text;
 use cg_model::{Kernel, Node, Operand};
+use cg_simplify_draft::Passed;
 use cg_simplify_order::GivenKernel;
 use cg_word::Op;
 use std::alloc::{AllocError, Global};

@@ -1,13 +1,13 @@
 //! Removes the nodes that have no effect.
 ghost use Rattle.std.specs.Prelude.{◌≡◌, ◌≤◌, IfOk, [], false};
 ghost use Rattle.cg_model.specs.Kernel.{size};
-ghost use Rattle.cg_simplify_laws.specs.Rewritten.{IsRewritten};
+ghost use Rattle.cg_simplify_draft.specs.Rewritten.{IsRewritten};
 
 use crate::copy::copy_nodes;
 use crate::live::live;
 use crate::number::renumber;
-use crate::passed::Passed;
 use cg_model::Kernel;
+use cg_simplify_draft::Passed;
 use std::alloc::{AllocError, Global};
 
 /// Returns `kernel` without the nodes from which no chain of operands leads to a store or output.

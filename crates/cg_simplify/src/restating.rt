@@ -1,44 +1,53 @@
-//! Nodes that have one word in every turn.
-ghost use Rattle.std.specs.Prelude.{◌≡◌, ◌<◌, List, ℕ, IfOk, IfSome, [], ◌∷◌, false, length, slice_index, slice_index_or};
+//! Nodes that get another operation and other operands.
+ghost use Rattle.std.specs.Prelude.{◌≡◌, ◌<◌, IfOk, IfSome, [], false};
 ghost use Rattle.cg_word.specs.Word.{words};
-ghost use Rattle.cg_model.specs.declared.kernel.Node.{Node as NodeValue};
-ghost use Rattle.cg_model.specs.declared.kernel.Operand.TheVariants.{Const as Constant};
-ghost use Rattle.cg_model.specs.Kernel.{size};
-ghost use Rattle.cg_simplify_laws.specs.Rewritten.{IsRewritten};
-ghost use Rattle.cg_simplify.specs.Restating.{HasWord, HasWordAt, IsOwnWord, KeepsWords};
+ghost use Rattle.cg_model.specs.Kernel.{Kernel as KernelValue, size};
+ghost use Rattle.cg_simplify_draft.specs.Rewritten.{IsRewritten};
+ghost use Rattle.cg_simplify.specs.Restating.{HasWordAt, IsConstantText, KeepsWords, MayBecome};
 
-use crate::draft::Draft;
-use crate::nodes_restated;
-use crate::passed::Passed;
-use crate::through::are_all;
+use crate::guards::{without_eq, without_guard};
+use crate::words::word_of;
+use cg_depend::{AffineTable, affine};
 use cg_model::{Kernel, Node, Operand, Operands};
-use cg_simplify_facts::{computes, facts_of, tops_of};
+use cg_simplify_draft::{Draft, Passed, restated};
+use cg_simplify_facts::{computes, tops_of};
 use cg_word::Op;
-use cg_word_facts::constant_of;
 use std::alloc::{AllocError, Global};
 
-/// A draft of which some nodes have become the `const` of their word.
+/// The operation, the port and the operands of a node.
 #[derive(Drop)]
-struct Rewriting {
+pub(crate) struct Text {
+    pub op: Op,
+    pub port: u32,
+    pub operands: Operands,
+}
+
+/// A draft of which some nodes have got another text.
+#[derive(Drop)]
+struct Rewriting<'k> {
     draft: Draft,
+    /// The bases and strides of the nodes of the kernel that was given.
+    table: AffineTable<'k>,
     /// For each node a word that its value never exceeds, in the kernel that was given.
     tops: Vec<u32>,
     /// Whether a node was rewritten.
     changed: bool,
 }
 
-/// Returns `kernel` with each node that is known to have one word in every turn as the `const` of the word. This is known
-/// by the operation and what is known of the operands, by the greatest word that the node can have in `kernel`, or of a
-/// `const` of itself by its initial words.
+/// Returns `kernel` with each node that is known to have one word in every turn as the `const` of the word, with guarded
+/// operations whose guard is known without it or as the `const` of 0, and with what selects by an `eq` with 0 selecting the
+/// other way by what that compares. A word is known by the operation and what is known of the operands, by a stride of 0 or
+/// by the greatest word that the node can have in `kernel`, or of a `const` of itself by its initial words.
 pub fn texts(alloc: Global, kernel: &Kernel) -> Result<Passed, AllocError>
     ensures rewritten { IfOk result (λ p. IsRewritten kernel.now p.kernel) }
     ensures size { IfOk result (λ p. size p.kernel ≡ size kernel.now) }
     ensures unordered { IfOk result (λ p. p.kernel.order ≡ []) }
     ensures unchanged { IfOk result (λ p. p.changed ≡ false → p.kernel.nodes ≡ kernel.now.nodes) }
 {
-    nodes_restated();
+    restated();
     let mut rewriting = Rewriting {
         draft: Draft::of(alloc, kernel)?,
+        table: affine(alloc, kernel)?,
         tops: tops_of(alloc, kernel)?,
         changed: false,
     };
@@ -51,120 +60,103 @@ pub fn texts(alloc: Global, kernel: &Kernel) -> Result<Passed, AllocError>
     })
 }
 
-impl Rewriting {
-    /// Makes node `number` the `const` of the word that it has in every turn, if one is known.
+impl<'k> Rewriting<'k> {
+    /// Gives node `number` another text, if a rule has one for it.
     fn restate(&mut self, alloc: Global, number: usize) -> Result<(), AllocError>
+        requires { number < size self.old.table }
         ensures kept { KeepsWords self.old self.new }
+        ensures table { self.new.table ≡ self.old.table }
         ensures unchanged { self.new.changed ≡ false → (self.old.changed ≡ false) × (self.new.draft ≡ self.old.draft) }
     {
-        let Some(word) = known_word(&self.draft, &self.tops, number) else {
-            return Ok(());
-        };
-        let operands = one_constant(alloc, word)?;
-        self.draft.set_text(number, Op::Const, 0, operands);
-        self.changed = true;
+        if let Some(text) = self.text(alloc, number)? {
+            self.draft
+                .set_text(number, text.op, text.port, text.operands);
+            self.changed = true;
+        }
         Ok(())
+    }
+
+    /// Returns the text that node `number` gets, if a rule has one for it.
+    fn text(&self, alloc: Global, number: usize) -> Result<Option<Text>, AllocError>
+        requires { number < size self.now.table }
+        ensures { IfOk result (λ t. IfSome t (MayBecome self.now.table self.now.tops.items self.now.draft number)) }
+    {
+        if is_constant(self.draft.nodes(), number) {
+            return Ok(None);
+        }
+        match self.word(number) {
+            Some(word) => Ok(Some(constant_text(alloc, word)?)),
+            None => self.other_text(alloc, number),
+        }
+    }
+
+    /// Returns the text that node `number` gets by its guard or by what it selects by, if a rule has one for it.
+    fn other_text(&self, alloc: Global, number: usize) -> Result<Option<Text>, AllocError>
+        ensures { (K : KernelValue) → IfOk result (λ t. IfSome t (MayBecome K self.now.tops.items self.now.draft number)) }
+    {
+        match without_guard(alloc, &self.draft, &self.tops, number)? {
+            Some(text) => Ok(Some(text)),
+            None => without_eq(alloc, &self.draft, &self.tops, number),
+        }
+    }
+
+    /// Returns the word that node `number` has in every turn, if it computes one that is known.
+    fn word(&self, number: usize) -> Option<u32>
+        requires { number < size self.now.table }
+        ensures { IfSome result (HasWordAt self.now.table self.now.tops.items self.now.draft number) }
+    {
+        match self.known_word(number) {
+            Some(word) => Some(word),
+            None => self.base(number),
+        }
+    }
+
+    /// Returns the word that node `number` has in every turn, if it is known by its text.
+    fn known_word(&self, number: usize) -> Option<u32>
+        ensures { (K : KernelValue) → IfSome result (HasWordAt K self.now.tops.items self.now.draft number) }
+    {
+        let nodes = self.draft.nodes();
+        let node = nodes.get(number)?;
+        word_of(nodes, &self.tops, node, number)
+    }
+
+    /// Returns the base of node `number`, if it computes and its stride is 0.
+    fn base(&self, number: usize) -> Option<u32>
+        requires { number < size self.now.table }
+        ensures { IfSome result (HasWordAt self.now.table self.now.tops.items self.now.draft number) }
+    {
+        let node = self.draft.nodes().get(number)?;
+        if !computes(node.op) {
+            return None;
+        }
+        let pair = self.table.get(number as u32)?;
+        if pair.stride == 0 {
+            Some(pair.base)
+        } else {
+            None
+        }
     }
 }
 
-/// Returns the operands of a `const` of `word`.
-fn one_constant(alloc: Global, word: u32) -> Result<Operands, AllocError>
-    ensures operands { IfOk result (λ operands. operands ≡ Constant word ∷ []) }
-    ensures small { IfOk result (λ operands. word < words) }
+/// Returns whether node `number` of `nodes` is the `const` of a constant.
+fn is_constant(nodes: &[Node], number: usize) -> bool {
+    match nodes.get(number) {
+        Some(node) => node.op == Op::Const
+            && matches!(node.operands.as_slice().first(), Some(Operand::Const(_))),
+        None => false,
+    }
+}
+
+/// Returns the text of a `const` of `word`.
+pub(crate) fn constant_text(alloc: Global, word: u32) -> Result<Text, AllocError>
+    ensures text { IfOk result (IsConstantText word) }
+    ensures small { IfOk result (λ text. word < words) }
 {
     let mut operands = Vec::new(alloc);
     operands.push(Operand::Const(word))?;
-    Ok(Operands::new(operands))
-}
-
-/// Returns the word that node `number` of `draft` has in every turn, if one is known and the node isn't its `const`. `tops`
-/// has words that the values of the nodes don't exceed.
-fn known_word(draft: &Draft, tops: &[u32], number: usize) -> Option<u32>
-    ensures { IfSome result (HasWordAt draft.now tops.now number) }
-{
-    let nodes = draft.nodes();
-    let node = nodes.get(number)?;
-    let word = word_of(nodes, tops, node, number)?;
-    Some(word)
-}
-
-/// Returns the word that `node`, number `number` of `nodes`, has in every turn, if one is known and it isn't its `const`.
-fn word_of(nodes: &[Node], tops: &[u32], node: &Node, number: usize) -> Option<u32>
-    ensures { IfSome result (HasWord nodes.now tops.now number node.now) }
-{
-    match node.operands.as_slice().first() {
-        Some(Operand::Const(_)) => if node.op == Op::Const {
-            None
-        } else {
-            computed_word(nodes, tops, node, number)
-        },
-        _ => word_in(nodes, tops, node, number),
-    }
-}
-
-/// Returns the word that `node`, number `number` of `nodes`, has in every turn, if one is known.
-fn word_in(nodes: &[Node], tops: &[u32], node: &Node, number: usize) -> Option<u32>
-    ensures { IfSome result (HasWord nodes.now tops.now number node.now) }
-{
-    match computed_word(nodes, tops, node, number) {
-        Some(word) => Some(word),
-        None => initial_word(node, number),
-    }
-}
-
-/// Returns the value of `node`, number `number` of `nodes`, if it computes and is known to be one word: 0 if it never
-/// exceeds 0, or by what is known of its operands.
-fn computed_word(nodes: &[Node], tops: &[u32], node: &Node, number: usize) -> Option<u32>
-    ensures { IfSome result (HasWord nodes.now tops.now number node.now) }
-{
-    if !computes(node.op) {
-        return None;
-    }
-    if top_at(tops, number) == 0 {
-        return Some(0);
-    }
-    constant_of(node.op, facts_of(nodes, tops, node.operands.as_slice()))
-}
-
-/// Returns the word of `tops` that the value of node `number` never exceeds: past the end of `tops` the greatest word.
-fn top_at(tops: &[u32], number: usize) -> u32
-    ensures { result ≡ slice_index_or tops.now number 4294967295 }
-{
-    tops.get(number).copied().unwrap_or(u32::MAX)
-}
-
-/// Returns the initial word of `node`, number `number`, if it is a `const` of itself with one initial word, once or more.
-fn initial_word(node: &Node, number: usize) -> Option<u32>
-    ensures { (nodes : List NodeValue) (tops : List ℕ) → IfSome result (HasWord nodes tops number node.now) }
-{
-    own_word(node, number)
-}
-
-/// Returns the initial word of `node`, number `number`, if it is a `const` of itself with one initial word, once or more.
-fn own_word(node: &Node, number: usize) -> Option<u32>
-    ensures { IfSome result (IsOwnWord number node.now) }
-{
-    if node.op != Op::Const {
-        return None;
-    }
-    match node.operands.as_slice().first()? {
-        Operand::Edge { from, init, .. } => if *from as usize == number {
-            one_word(init.as_slice())
-        } else {
-            None
-        },
-        Operand::Const(_) => None,
-    }
-}
-
-/// Returns the word that all of `words` are, if there is one.
-fn one_word(words: &[u32]) -> Option<u32>
-    ensures { IfSome result (λ k. (0 < length words.now) × ((j : ℕ) → j < length words.now → slice_index words.now j ≡ k)) }
-{
-    let word = *words.first()?;
-    if are_all(words, word) {
-        Some(word)
-    } else {
-        None
-    }
+    Ok(Text {
+        op: Op::Const,
+        port: 0,
+        operands: Operands::new(operands),
+    })
 }

@@ -1,15 +1,14 @@
 //! Operands that are exchanged for what they look through.
 ghost use Rattle.std.specs.Prelude.{◌≡◌, ◌<◌, IfOk, IfSome, IsTrue, [], false, length};
 ghost use Rattle.cg_model.specs.Kernel.{size};
-ghost use Rattle.cg_simplify_laws.specs.Rewritten.{IsRewritten};
-ghost use Rattle.cg_simplify.specs.Operands.{StandsFor};
+ghost use Rattle.cg_simplify_draft.specs.Rewritten.{IsRewritten};
+ghost use Rattle.cg_simplify.specs.Operands.{LooksTo};
 ghost use Rattle.cg_simplify.specs.Settling.{IsNext, Keeps, SameIfUnchanged};
 
-use crate::draft::Draft;
-use crate::operands_exchanged;
-use crate::passed::Passed;
 use crate::through::{look_through, stands_for};
+use crate::zero::tested_as;
 use cg_model::{Kernel, Operand};
+use cg_simplify_draft::{Draft, Passed, restated};
 use cg_simplify_facts::tops_of;
 use std::alloc::{AllocError, Global};
 
@@ -55,16 +54,17 @@ struct Walk {
     changed: bool,
 }
 
-/// Returns `kernel` with operands that look through `const` nodes, and through nodes whose value is one of their
-/// operands. An edge becomes the `const` node's constant, if this is all its initial words and the only constant operand,
-/// or an edge over both, of at most 4 turns, which isn't done for `const` nodes with `copies`.
+/// Returns `kernel` with operands that look through `const` nodes, through nodes whose value is one of their operands, and
+/// through a `ne` with 0 where only 0 matters. An edge becomes the `const` node's constant, if this is all its initial
+/// words and the only constant operand, or an edge over both, of at most 4 turns, which isn't done for `const` nodes with
+/// `copies`.
 pub fn operands(alloc: Global, kernel: &Kernel, copies: bool) -> Result<Passed, AllocError>
     ensures rewritten { IfOk result (λ p. IsRewritten kernel.now p.kernel) }
     ensures size { IfOk result (λ p. size p.kernel ≡ size kernel.now) }
     ensures unordered { IfOk result (λ p. p.kernel.order ≡ []) }
     ensures unchanged { IfOk result (λ p. p.changed ≡ false → p.kernel.nodes ≡ kernel.now.nodes) }
 {
-    operands_exchanged();
+    restated();
     let count = kernel.nodes().len();
     let mut walk = Walk {
         draft: Draft::of(alloc, kernel)?,
@@ -153,7 +153,7 @@ impl Walk {
         let Operand::Edge { from, .. } = operand else {
             return Ok(Next::Pass(after));
         };
-        let Some(source) = self.source_of(*from, frame.node) else {
+        let Some(source) = self.source_of(*from, frame) else {
             return Ok(Next::Pass(after));
         };
         if self.is_open(*from) {
@@ -165,14 +165,21 @@ impl Walk {
         }
     }
 
-    /// Returns the operand whose words node `from` has, for an edge from it to node `to`.
-    fn source_of(&self, from: u32, to: u32) -> Option<&Operand>
-        ensures { IfSome result (λ x. StandsFor self.now.tops.items self.now.draft from x.now) }
+    /// Returns the operand that the operand of `frame`, an edge from node `from`, looks through to: whose words the node
+    /// has, or which is 0 where the node is, if that alone is tested.
+    fn source_of(&self, from: u32, frame: Frame) -> Option<&Operand>
+        ensures { IfSome result (λ x. LooksTo self.now.tops.items self.now.draft frame.node frame.place from x.now) }
     {
-        if from == to {
-            None
+        if from == frame.node {
+            return None;
+        }
+        if let Some(operand) = stands_for(&self.draft, &self.tops, from, self.copies) {
+            return Some(operand);
+        }
+        if frame.place == 0 {
+            tested_as(&self.draft, &self.tops, from, frame.node)
         } else {
-            stands_for(&self.draft, &self.tops, from, self.copies)
+            None
         }
     }
 

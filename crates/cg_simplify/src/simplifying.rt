@@ -1,17 +1,17 @@
 //! A kernel simplified by all passes.
 ghost use Rattle.std.specs.Prelude.{◌≤◌, IfOk};
 ghost use Rattle.cg_model.specs.Kernel.{size};
-ghost use Rattle.cg_simplify_laws.specs.Rewritten.{IsRewritten};
+ghost use Rattle.cg_simplify_draft.specs.Rewritten.{IsRewritten};
 ghost use Rattle.cg_simplify.specs.Simplified.{IsSimplified};
 
 use crate::merging::merge;
-use crate::passed::Passed;
 use crate::removal::dead;
 use crate::restating::texts;
 use crate::settle::operands;
 use cg_model::{Kernel, copy_nodes};
-use cg_simplify_laws::composed;
+use cg_simplify_draft::{Passed, composed};
 use cg_simplify_order::{GivenKernel, ordered};
+use cg_simplify_rotate::rotate;
 use std::alloc::{AllocError, Global};
 
 /// An end to the rounds, which come to rest before in all but contrived kernels.
@@ -92,8 +92,13 @@ fn round(
     let settled = operands(alloc, &live.kernel, options.copies)?;
     let restated = texts(alloc, &settled.kernel)?;
     let merged = merge(alloc, given, &restated.kernel, options.share)?;
+    let rotated = rotate(alloc, given, &merged.kernel)?;
     Ok(Passed {
-        kernel: merged.kernel,
-        changed: live.changed || settled.changed || restated.changed || merged.changed,
+        kernel: rotated.kernel,
+        changed: live.changed
+            || settled.changed
+            || restated.changed
+            || merged.changed
+            || rotated.changed,
     })
 }

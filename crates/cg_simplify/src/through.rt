@@ -5,11 +5,10 @@ ghost use Rattle.cg_model.specs.declared.kernel.Operand.TheVariants.{Const as Co
 ghost use Rattle.cg_model.specs.declared.kernel.Node.{Node as NodeValue};
 ghost use Rattle.cg_simplify.specs.Operands.{BecomesWord, IsThrough, IsValueOf, StandsFor};
 
-use crate::draft::Draft;
 use cg_model::{MOST_DISTANCE, Node, Operand, Words};
-use cg_simplify_facts::{computes, facts_of};
+use cg_simplify_draft::Draft;
+use cg_simplify_facts::{computes, facts_of, operand_of};
 use cg_word::Op;
-use cg_word_facts::operand_of;
 use std::alloc::{AllocError, Global};
 
 /// Returns the operand of node `number` of `draft` whose words the node has, if it is known to have one: that of a

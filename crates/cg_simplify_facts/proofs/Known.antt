@@ -7,8 +7,8 @@ use Rattle.std.proofs.Common.{length-append}
 use Rattle.cg_word.specs.declared.op.Op.{Op}
 use Rattle.cg_word.specs.declared.op.Op.TheVariants.{Const, Iter, Input, Add, Sub, Mul, And, Or, Xor, Shl, Shr, Sar, Eq, Ne, Lts, Ltu, Mins, Maxs, Select, Load, Store, Output, LoadIf, StoreIf, OutputIf}
 use Rattle.cg_word.specs.Word.{apply_of}
-use Rattle.cg_word_facts.specs.declared.facts.Facts.{Facts}
-use Rattle.cg_word_facts.specs.Facts.{AreFacts, IsTop}
+use Rattle.cg_simplify_facts.specs.declared.facts.Facts.{Facts}
+use Rattle.cg_simplify_facts.specs.Facts.{AreFacts, IsTop}
 use Rattle.cg_model.specs.declared.kernel.Node.{Node}
 use Rattle.cg_model.specs.declared.kernel.Operand.{Operand}
 use Rattle.cg_model.specs.declared.kernel.Operand.TheVariants.{Const as Constant, Edge}
@@ -72,7 +72,7 @@ mapped_at f (x ∷ xs) (suc p) o e = mapped_at f xs p o e
 -- ---- tops
 
 -- what an operation computes
-computed : (image : Image) (memory : List ℕ) (port turn : ℕ) (args : List ℕ) (op : Op) → computes op ≡ true → value_by image memory port turn args op ≡ apply_of op (slice_index args 0) (slice_index args 1) (slice_index args 2)
+pub computed : (image : Image) (memory : List ℕ) (port turn : ℕ) (args : List ℕ) (op : Op) → computes op ≡ true → value_by image memory port turn args op ≡ apply_of op (slice_index args 0) (slice_index args 1) (slice_index args 2)
 unfolding value_by
 computed image memory port turn args Const e = refl
 computed image memory port turn args Add e = refl

@@ -7,7 +7,7 @@ use Rattle.std.proofs.lemmas.List.{get_or_past}
 use Rattle.cg_word.specs.declared.op.Op.{Op}
 use Rattle.cg_word.specs.declared.op.Op.TheVariants.{Const, Iter, Input, Add, Sub, Mul, And, Or, Xor, Shl, Shr, Sar, Eq, Ne, Lts, Ltu, Mins, Maxs, Select, Load, Store, Output, LoadIf, StoreIf, OutputIf}
 use Rattle.cg_word.specs.Word.{apply_of, words}
-use Rattle.cg_word_facts.proofs.Values.{value_small}
+use Rattle.cg_simplify_facts.proofs.Values.{value_small}
 use Rattle.cg_model.specs.declared.kernel.Operand.{Operand}
 use Rattle.cg_model.specs.declared.kernel.Operand.TheVariants.{Const as Constant, Edge}
 use Rattle.cg_model.specs.Kernel.{Kernel, IsKernel, no_node, node, size}

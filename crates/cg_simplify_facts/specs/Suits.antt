@@ -3,9 +3,9 @@ use Rattle.std.specs.Prelude.{◌≡◌, ℕ, ◌<◌, ◌≤◌, Bool, true, fa
 use Rattle.cg_word.specs.declared.op.Op.{Op}
 use Rattle.cg_word.specs.declared.op.Op.TheVariants.{Const, Iter, Input, Load, Store, Output, LoadIf, StoreIf, OutputIf}
 use Rattle.cg_word.specs.Word.{words}
-use Rattle.cg_word_facts.specs.declared.facts.Facts.{Facts}
-use Rattle.cg_word_facts.specs.Facts.{AreFacts, Fits}
-use Rattle.cg_word_facts.specs.declared.facts.Fact.{Fact}
+use Rattle.cg_simplify_facts.specs.declared.facts.Facts.{Facts}
+use Rattle.cg_simplify_facts.specs.Facts.{AreFacts, Fits}
+use Rattle.cg_simplify_facts.specs.declared.facts.Fact.{Fact}
 use Rattle.cg_model.specs.declared.kernel.Node.{Node}
 use Rattle.cg_model.specs.declared.kernel.Operand.{Operand}
 use Rattle.cg_model.specs.declared.kernel.Operand.TheVariants.{Const as Constant, Edge}

@@ -8,7 +8,7 @@ use Rattle.cg_distance.specs.Least.{IsLeast, HasNoChain}
 use Rattle.cg_depend.specs.Depend.{Gap, conflict, distance_for}
 use Rattle.cg_depend.specs.Gathered.{ask}
 use Rattle.cg_depend.proofs.Unique.{gap_unique}
-use Rattle.cg_simplify_laws.specs.Rewritten.{IsRewritten}
+use Rattle.cg_simplify_draft.specs.Rewritten.{IsRewritten}
 use Rattle.cg_simplify_order.specs.Needs.{IsNamesake, IsNeed}
 use Rattle.cg_simplify_order.specs.Found.{HasNamesakes, HasNoNeed, IsCalled}
 use Rattle.cg_simplify_order.proofs.Least.{least_unique}

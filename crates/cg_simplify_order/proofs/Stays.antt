@@ -19,7 +19,7 @@ use Rattle.cg_depend.specs.Gathered.{ask}
 use Rattle.cg_depend.proofs.Always.{gap_of}
 use Rattle.cg_depend.proofs.Gaps.{Goes, gap_within}
 use Rattle.cg_depend.proofs.Pairs.{arg_runs, pairs_right}
-use Rattle.cg_simplify_laws.specs.Rewritten.{IsRewritten}
+use Rattle.cg_simplify_draft.specs.Rewritten.{IsRewritten}
 use Rattle.cg_simplify_order.specs.Needs.{IsNamesake, AreMet, StaysUnaliased}
 use Rattle.cg_simplify_order.specs.Found.{reordered}
 use Rattle.cg_simplify_order.proofs.Least.{some_least}

@@ -12,7 +12,7 @@ use Rattle.cg_model.specs.Order.{Links, by_data, by_order, Chain, one, more}
 use Rattle.cg_depend.specs.Depend.{conflict, distance_for}
 use Rattle.cg_depend.specs.Gathered.{ask}
 use Rattle.cg_depend.proofs.Valid.{gap_least}
-use Rattle.cg_simplify_laws.specs.Rewritten.{IsRewritten}
+use Rattle.cg_simplify_draft.specs.Rewritten.{IsRewritten}
 use Rattle.cg_simplify_order.specs.Needs.{IsNeed}
 use Rattle.cg_simplify_order.specs.Found.{AreAllNeeds, AreAmong, JoinBelow, reordered}
 use Rattle.cg_simplify_order.proofs.Needed.{one_namesake}

@@ -2,7 +2,7 @@
 #![tactic(auto)]
 
 ghost use Rattle.std.specs.Prelude.{◌≡◌, IfOk, IfSome};
-ghost use Rattle.cg_simplify_laws.specs.Rewritten.{IsRewritten};
+ghost use Rattle.cg_simplify_draft.specs.Rewritten.{IsRewritten};
 ghost use Rattle.cg_simplify_order.specs.Needs.{AreMet, AreNeeded, StaysUnaliased};
 
 mod chains;
@@ -17,10 +17,10 @@ mod rewriting;
 
 use crate::check::meets;
 use crate::edges::with_edges;
-use crate::needs::all_needs;
 use crate::reduce::reduced;
 use cg_model::{Kernel, MOST_ORDER_EDGES};
 pub use given::GivenKernel;
+pub use needs::all_needs;
 pub use rewriting::Rewriting;
 use std::alloc::{AllocError, Global};
 

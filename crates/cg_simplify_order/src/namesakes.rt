@@ -1,7 +1,7 @@
 //! The nodes of a given kernel that a rewritten kernel's nodes are, by their names.
 ghost use Rattle.std.specs.Prelude.{◌≡◌, ◌<◌, ◌≤◌, IfOk, length, slice_index_or};
 ghost use Rattle.cg_model.specs.Kernel.{no_node};
-ghost use Rattle.cg_simplify_laws.specs.Rewritten.{IsRewritten};
+ghost use Rattle.cg_simplify_draft.specs.Rewritten.{IsRewritten};
 ghost use Rattle.cg_simplify_order.specs.Found.{HasNamesakes, IsCalled};
 
 use cg_model::{Kernel, Node};

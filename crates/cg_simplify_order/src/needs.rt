@@ -1,7 +1,7 @@
 //! Which accesses of a rewritten kernel have to come after which.
 ghost use Rattle.std.specs.Prelude.{◌<◌, ◌≤◌, IfOk, OnOk};
 ghost use Rattle.cg_model.specs.Kernel.{IsKernel, size};
-ghost use Rattle.cg_simplify_laws.specs.Rewritten.{IsRewritten};
+ghost use Rattle.cg_simplify_draft.specs.Rewritten.{IsRewritten};
 ghost use Rattle.cg_simplify_order.specs.Found.{Adds, AllPairs, AreAllNeeds, OnePair};
 
 use crate::given::GivenKernel;
@@ -11,7 +11,7 @@ use std::alloc::{AllocError, Global};
 
 /// Returns what has to come after what in `rewritten`, which `given` was rewritten into, as order edges, by source and
 /// then by target.
-pub(crate) fn all_needs(
+pub fn all_needs(
     alloc: Global,
     given: &GivenKernel,
     rewritten: &Kernel,

@@ -36,7 +36,7 @@ impl<'k> Rewriting<'k> {
     ghost use Rattle.std.specs.Prelude.{◌≡◌, ◌≢◌, ◌<◌, IfOk, MatchOption, true};
     ghost use Rattle.cg_model.specs.Kernel.{IsKernel, size};
     ghost use Rattle.cg_depend.specs.Depend.{conflict};
-    ghost use Rattle.cg_simplify_laws.specs.Rewritten.{IsRewritten};
+    ghost use Rattle.cg_simplify_draft.specs.Rewritten.{IsRewritten};
     ghost use Rattle.cg_simplify_order.specs.Needs.{IsNeed};
     ghost use Rattle.cg_simplify_order.specs.Found.{HasNoNeed};
 

@@ -2,7 +2,7 @@ use Rattle.std.proofs.Common.{◌≡◌, ℕ, List, map, sym, ap, ◌∙◌, sub
 use Rattle.cg_model.specs.declared.kernel.Node.{Node}
 use Rattle.cg_model.specs.declared.kernel.OrderEdge.{OrderEdge}
 use Rattle.cg_model.specs.Kernel.{IsKernel}
-use Rattle.cg_simplify_laws.specs.Rewritten.{IsRewritten}
+use Rattle.cg_simplify_draft.specs.Rewritten.{IsRewritten}
 use Rattle.cg_simplify.specs.Live.{moved_node}
 use Rattle.cg_simplify.proofs.Merged.{exchanges, merged, valid, wired}
 use Rattle.cg_simplify.proofs.merging.merge.Goals as goal

@@ -2,7 +2,7 @@ use Rattle.std.proofs.Common.{◌≤◌, Bool, List, length, sym, ap, ◌∙◌,
 use Rattle.std.proofs.lemmas.Bool.{cases_lt, lt-ltb, true≢false}
 use Rattle.cg_model.specs.declared.kernel.Node.{Node}
 use Rattle.cg_model.specs.Kernel.{Kernel, size}
-use Rattle.cg_simplify_laws.specs.Rewritten.{IsRewritten}
+use Rattle.cg_simplify_draft.specs.Rewritten.{IsRewritten}
 use Rattle.cg_simplify.proofs.Thinned.{IsThinned, same_nodes, thinned, thinned_kernel, thinned_rewritten}
 use Rattle.cg_simplify.proofs.removal.dead.Goals as goal
 use Rattle.cg_simplify.proofs.removal.dead.Goals.{After-new}

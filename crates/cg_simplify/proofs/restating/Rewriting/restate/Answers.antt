@@ -1,22 +1,26 @@
-use Rattle.std.proofs.Common.{ℕ, List, subst, sym}
-use Rattle.cg_simplify.specs.Restating.{HasWordAt, Restates}
-use Rattle.cg_simplify.proofs.Restated.{set_keeps_words}
-use Rattle.cg_simplify.proofs.Written.{const_fits}
+use Rattle.std.proofs.Common.{subst, sym}
+use Rattle.std.specs.Prelude.{IfSome}
+use Rattle.cg_model.specs.Kernel.{Kernel}
+use Rattle.cg_simplify_draft.specs.Restates.{Restates}
+use Rattle.cg_simplify.specs.Restating.{MayBecome}
+use Rattle.cg_simplify.proofs.Drafted.{text_keeps}
 use Rattle.cg_simplify.proofs.restating.Rewriting.restate.Goals as goal
 
 pub set_text-requires-clause-fits : goal.set_text-requires-clause-fits
 set_text-requires-clause-fits c =
-    const_fits c.args.self.now.draft c.args.number c.in-Some.word c.in_ok-operands.operands c.in_ok-operands.ensures.small c.in_ok-operands.ensures.operands
+    let r = c.args.self.now in
+    let may : MayBecome r.table r.tops.items r.draft c.args.number c.in-Some.text = subst (λ z. IfSome z (MayBecome r.table r.tops.items r.draft c.args.number)) c.in-Some.is c.in_ok-text.ensures in
+    may.fits
 
-pub returns-clause-kept : goal.returns-clause-kept
-returns-clause-kept c = λ K good x.
-    let D = c.args.self.now.draft in
-    let v = c.args.number in
-    let k = c.in-Some.word in
-    let os = c.in_ok-operands.operands in
-    let ts = c.args.self.now.tops.items in
-    let at : HasWordAt D ts v k = subst (λ (xs : List ℕ). HasWordAt D xs v k) c.deref.ensures.value c.in-Some.ensures in
+pub returns-in-Some-clause-kept : goal.returns-in-Some-clause-kept
+returns-in-Some-clause-kept c = λ K good x.
+    let r = c.args.self.now in
+    let t = c.in-Some.text in
+    let ts = r.tops.items in
+    let may : MayBecome r.table ts r.draft c.args.number t = subst (λ z. IfSome z (MayBecome r.table ts r.draft c.args.number)) c.in-Some.is c.in_ok-text.ensures in
     record {
+      table = x.table;
       tops = x.tops;
-      restates = subst (Restates K) (sym c.set_text.ensures) (set_keeps_words ts D v k os at.valid at.inside at.word c.in_ok-operands.ensures.operands K good x.tops x.restates);
+      restates = subst (Restates K) (sym c.set_text.ensures)
+          (text_keeps K ts r.draft c.args.number t (subst (λ (k : Kernel). MayBecome k ts r.draft c.args.number t) x.table may) good x.tops x.restates);
     }

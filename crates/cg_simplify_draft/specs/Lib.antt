@@ -1,0 +1,4 @@
+pub mod Follows
+pub mod Rewritten
+pub mod Settings
+pub mod Restates

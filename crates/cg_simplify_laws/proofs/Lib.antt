@@ -1,7 +1,0 @@
-mod Folds
-mod Counts
-mod Steps
-pub mod Stands
-pub mod Turns
-mod Rows
-pub mod Twice

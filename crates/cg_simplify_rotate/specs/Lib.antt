@@ -1,0 +1,4 @@
+pub mod Rows
+pub mod Moving
+pub mod Texts
+pub mod Turning
