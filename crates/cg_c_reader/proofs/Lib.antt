@@ -1,3 +1,5 @@
 pub mod Sounding
 pub mod MarkEnds
 pub mod Cutting
+pub mod Composed
+pub mod Single

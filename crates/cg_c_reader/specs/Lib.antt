@@ -1,3 +1,4 @@
 pub mod Classes
 pub mod Seen
 pub mod Within
+pub mod Left

@@ -4,11 +4,14 @@
 mod bytes;
 mod comments;
 mod directives;
+mod fault;
 mod marks;
 mod numbers;
 mod pieces;
 mod places;
+mod reader;
 mod tokens;
+mod words;
 
 pub use places::{Position, position_of};
 pub use tokens::{Cursor, Cut, Token, next_token};

@@ -2,12 +2,14 @@
 #![tactic(auto)]
 
 mod expression;
+mod opening;
 mod source;
 mod statement;
 mod token;
 
 pub use cg_model::{Items, Name};
 pub use expression::{Binary, Cast, Element, Expr, Link, Named, Number, Pick, Sign};
+pub use opening::{Beginning, Change, Opening};
 pub use source::{Array, Constant, Global, Rows, Source, Table};
-pub use statement::{Loop, Nest, Stmt, Type, Word};
+pub use statement::{Loop, Nest, Signedness, Stmt, Word};
 pub use token::{Kind, Line, Piece};

@@ -1,6 +1,6 @@
 //! Sources.
 use crate::expression::{Expr, Named};
-use crate::statement::{Loop, Stmt, Type};
+use crate::statement::{Loop, Signedness, Stmt};
 
 /// The declaration of a constant.
 #[derive(Drop)]
@@ -28,7 +28,7 @@ pub enum Rows {
 /// The declaration of a table.
 #[derive(Drop)]
 pub struct Table {
-    pub element: Type,
+    pub signedness: Signedness,
     pub array: Array,
     pub rows: Rows,
 }
@@ -40,8 +40,8 @@ pub enum Global {
     Define(Constant),
     /// `enum`.
     Enumeration(Vec<Constant>),
-    /// Arrays of one type.
-    Arrays { element: Type, arrays: Vec<Array> },
+    /// Arrays of words that are read alike.
+    Arrays { signedness: Signedness, arrays: Vec<Array> },
     Table(Table),
 }
 

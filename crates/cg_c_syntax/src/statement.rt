@@ -3,7 +3,7 @@ use crate::expression::{Binary, Element, Expr, Named};
 
 /// How a word is read.
 #[derive(Clone, Copy, Debug, PartialEq, Eq, Drop)]
-pub enum Type {
+pub enum Signedness {
     /// `int` or `int32_t`.
     Signed,
     /// `uint32_t`.
@@ -20,9 +20,9 @@ pub struct Word {
 /// A statement.
 #[derive(Drop)]
 pub enum Stmt {
-    /// Declares words of one type, at least one.
+    /// Declares words that are read alike, at least one.
     Words {
-        kind: Type,
+        signedness: Signedness,
         words: Vec<Word>,
     },
     /// Statements in braces.

@@ -1,0 +1,75 @@
+//! Reading the tokens of a text one by one.
+ghost use Rattle.std.specs.Prelude.{◌≤◌, length};
+ghost use Rattle.std.proofs.Props.{props};
+
+use crate::fault::Misfit;
+use crate::tokens::{Cursor, Token, next_token};
+use crate::words::{is_mark, same};
+use cg_c_syntax::Line;
+
+/// A text, its next token, and the position after that.
+#[derive(Drop)]
+pub(crate) struct Reader<'a> {
+    pub bytes: &'a [u8],
+    pub token: Token<'a>,
+    pub next: Cursor,
+    ghost within: { next.place ≤ length bytes.now } by { Prim.hlevel props },
+}
+
+impl<'a> Reader<'a> {
+    ghost use Rattle.std.specs.Prelude.{◌≡◌, false, OnOk, IfErr};
+    ghost use Rattle.cg_c_syntax.specs.Tokens.{tokens_of, is_last};
+    ghost use Rattle.cg_c_syntax.specs.Symbols.{TheMark};
+    ghost use Rattle.cg_c_syntax.specs.Words.{is_the_mark};
+    ghost use Rattle.cg_c_reader.specs.Left.{left, all, Finds, Misses};
+
+    /// Returns a reader at the first token of `bytes`.
+    pub fn new(bytes: &'a [u8]) -> Self
+        ensures all { all (left result) ≡ tokens_of bytes.now }
+        ensures bytes { result.bytes.now ≡ bytes.now }
+    {
+        let start = Cursor {
+            place: 0,
+            line: Line::Fresh,
+        };
+        let cut = next_token(bytes, start);
+        Reader {
+            bytes,
+            token: cut.token,
+            next: cut.next,
+        }
+    }
+
+    /// Takes the next token, which is not the last.
+    pub fn take(&mut self)
+        requires { is_last self.old.token.kind ≡ false }
+        ensures taken { (left self.old).more ≡ all (left self.new) }
+        ensures same { self.new.bytes ≡ self.old.bytes }
+    {
+        let cut = next_token(self.bytes, self.next);
+        self.token = cut.token;
+        self.next = cut.next;
+    }
+
+    /// Returns whether the next token is the mark `text`.
+    pub fn next_is(&self, text: &[u8]) -> bool
+        ensures { result ≡ is_the_mark text.now (left self.now).head }
+    {
+        is_mark(self.token.kind) && same(self.token.text, text)
+    }
+
+    /// Takes the next token, which has to be the mark `text`.
+    #[tactic(auto, using(crate::proofs::Single::mark_reads, crate::proofs::Single::mark_stops, crate::proofs::Single::mark_goes_on))]
+    pub fn mark(&mut self, text: &[u8]) -> Result<(), Misfit>
+        ensures ok { OnOk result (Finds (TheMark text.now) tt self.old self.new) }
+        ensures misses { IfErr result (λ e. Misses e (TheMark text.now) self.old self.new) }
+        ensures same { self.new.bytes ≡ self.old.bytes }
+    {
+        if self.next_is(text) {
+            self.take();
+            Ok(())
+        } else {
+            Err(Misfit::Text)
+        }
+    }
+}
