@@ -1,1 +1,3 @@
 pub mod One
+pub mod Failed
+pub mod OneReading

@@ -1,43 +1,43 @@
 -- What one token decides is decided: tokens are read in one way, or fail in one way.
-use Rattle.std.proofs.Common.{◌≡◌, ℕ, List, [], ◌∷◌, ◌++◌, Option, Some, None, refl, sym, ◌∙◌, ap, ap₂, subst, append_assoc}
+use Rattle.std.proofs.Common.{◌≡◌, ℕ, List, [], ◌∷◌, ◌++◌, Option, refl, sym, ◌∙◌, ap, ap₂, subst, append_assoc}
 use Rattle.std.proofs.lemmas.List.{append_cancel_left}
 use Rattle.cg_c_syntax.specs.Reading as reading
 use Rattle.cg_c_syntax.specs.Reading.{Values, Line, Step, Takes, Begins, Stops, first, Reads, ReadsAll, Fails, FailsAll}
 
 module _ {S T : Type 0} (V : S → Type 0) (step : (s : S) → T → Step V s) (barred : S → T → Option ℕ) where
   -- what follows the first of the tokens
-  tail : List T → T → List T → List T
+  pub tail : List T → T → List T → List T
   tail [] t r = r
   tail (u ∷ b) t r = b ++ t ∷ r
 
-  parts : (b : List T) (t : T) (r : List T) → b ++ t ∷ r ≡ first b t ∷ tail b t r
+  pub parts : (b : List T) (t : T) (r : List T) → b ++ t ∷ r ≡ first b t ∷ tail b t r
   unfolding tail
   parts [] t r = refl
   parts (u ∷ b) t r = refl
 
-  same_first : (a : List T) (t : T) (r a' : List T) (t' : T) (r' : List T) → a ++ t ∷ r ≡ a' ++ t' ∷ r' → first a t ≡ first a' t'
+  pub same_first : (a : List T) (t : T) (r a' : List T) (t' : T) (r' : List T) → a ++ t ∷ r ≡ a' ++ t' ∷ r' → first a t ≡ first a' t'
   same_first a t r a' t' r' e = let h : first a t ∷ tail a t r ≡ first a' t' ∷ tail a' t' r' = sym (parts a t r) ∙ e ∙ parts a' t' r' in cc
 
   -- two lists of tokens, each in two parts
-  seamed : (a b : List T) (t : T) (r w : List T) → w ≡ a ++ b → w ++ t ∷ r ≡ a ++ first b t ∷ tail b t r
+  pub seamed : (a b : List T) (t : T) (r w : List T) → w ≡ a ++ b → w ++ t ∷ r ≡ a ++ first b t ∷ tail b t r
   seamed a b t r w e = ap (λ (x : List T). x ++ t ∷ r) e ∙ append_assoc a b (t ∷ r) ∙ ap (λ (x : List T). a ++ x) (parts b t r)
 
-  after : (a b : List T) (t : T) (r w a' b' : List T) (t' : T) (r' w' : List T) → w ≡ a ++ b → w' ≡ a' ++ b' → a ≡ a' → w ++ t ∷ r ≡ w' ++ t' ∷ r' → b ++ t ∷ r ≡ b' ++ t' ∷ r'
+  pub after : (a b : List T) (t : T) (r w a' b' : List T) (t' : T) (r' w' : List T) → w ≡ a ++ b → w' ≡ a' ++ b' → a ≡ a' → w ++ t ∷ r ≡ w' ++ t' ∷ r' → b ++ t ∷ r ≡ b' ++ t' ∷ r'
   after a b t r w a' b' t' r' w' e e' same h =
       append_cancel_left a (b ++ t ∷ r) (b' ++ t' ∷ r')
       (sym (append_assoc a b (t ∷ r)) ∙ ap (λ (x : List T). x ++ t ∷ r) (sym e) ∙ h ∙ ap (λ (x : List T). x ++ t' ∷ r') e' ∙ append_assoc a' b' (t' ∷ r') ∙ ap (λ (x : List T). x ++ (b' ++ t' ∷ r')) (sym same))
 
   -- what is read by a line is read by an equal one
-  carried : {s : S} (line line' : Line V s) (a : List T) (t : T) → line ≡ line' → (vs' : Values V line'.symbols) → ReadsAll V step barred line'.symbols a t vs'
+  pub carried : {s : S} (line line' : Line V s) (a : List T) (t : T) → line ≡ line' → (vs' : Values V line'.symbols) → ReadsAll V step barred line'.symbols a t vs'
       → (vs : Values V line.symbols) × ReadsAll V step barred line.symbols a t vs × (line.value vs ≡ line'.value vs')
   carried {s} line line' a t e =
       subst (λ (l : Line V s). (vs' : Values V l.symbols) → ReadsAll V step barred l.symbols a t vs' → (vs : Values V line.symbols) × ReadsAll V step barred line.symbols a t vs × (line.value vs ≡ l.value vs')) e
       (λ vs' h. (vs', h, refl))
 
-  taken : {s : S} (x : Step V s) (line line' : Line V s) → x ≡ Takes line → x ≡ Takes line' → line ≡ line'
+  pub taken : {s : S} (x : Step V s) (line line' : Line V s) → x ≡ Takes line → x ≡ Takes line' → line ≡ line'
   taken x line line' e f = cc
 
-  begun : {s : S} (x : Step V s) (line line' : Line V s) → x ≡ Begins line → x ≡ Begins line' → line ≡ line'
+  pub begun : {s : S} (x : Step V s) (line line' : Line V s) → x ≡ Begins line → x ≡ Begins line' → line ≡ line'
   begun x line line' e f = cc
 
   mutual

@@ -4,8 +4,6 @@ use Rattle.cg_c_syntax.specs.declared.token.Kind.{Kind}
 use Rattle.cg_c_syntax.specs.declared.token.Kind.TheVariants as kinds
 use Rattle.cg_c_syntax.specs.declared.expression.Binary.{Binary}
 use Rattle.cg_c_syntax.specs.declared.expression.Cast.{Cast}
-use Rattle.cg_c_syntax.specs.declared.expression.Sign.{Sign}
-use Rattle.cg_c_syntax.specs.declared.expression.Pick.{Pick}
 use Rattle.cg_c_syntax.specs.declared.opening.Opening.{Opening}
 use Rattle.cg_c_syntax.specs.declared.opening.Opening.TheVariants as openings
 use Rattle.cg_c_syntax.specs.declared.opening.Beginning.{Beginning}
@@ -18,7 +16,7 @@ use Rattle.cg_c_syntax.specs.Tokens.{Token, end_of}
 use Rattle.cg_c_syntax.specs.Tree.{Number, Expr, Num, At, Signed, Cut, Input, Picked, Two, Choice, Stmt, Words, Block, If, IfElse, Output, Assign, For, Global, Define, Enumeration, Arrays, Constants, Source, Nest, Bare, Holds, NoExprs, MoreExprs, NoStmts, MoreStmts, Items, Inner, NoRows, OneMore}
 use Rattle.cg_c_syntax.specs.Words.{is_the_word, is_the_mark, is_name, named, is_number, number_of, cast_of, signedness_of, is_counter_type, is_define, binary_of, at_level, opening_of, beginning_of, change_of}
 use Rattle.cg_c_syntax.specs.Symbols.{Symbol, OfKind, TheWord, TheMark, Name, Digits, Expression, Chosen, Operators, Further, Bracketed, CastOperand, Indices, Declared, MoreDeclared, Statement, Plain, Else, Assigned, Statements, Nested, Body, Looped, Counter, CounterType, Relation, Stepped, Inside, Typed, Declarator, Dimensions, MoreDeclarators, Tabled, TableName, TableDimensions, MoreTable, Braced, MoreValues, MoreRows, Enumerator, MoreEnumerators, Defined, DefinedValue, Declaration, Declarations, File, TextEnds, DimensionsAndRows, Value}
-use Rattle.cg_c_syntax.specs.Reading.{Values, Line, Step, Takes, Begins, Stops}
+use Rattle.cg_c_syntax.specs.Reading.{Values, Step, Takes, Begins, Stops}
 
 -- the greatest number of constructs that may be open at once
 abbrev pub most_open : ℕ
@@ -157,12 +155,12 @@ looped_step depth t =
 abbrev pub counter_step : (depth : ℕ) → Token → Step Value (Counter depth)
 counter_step depth t =
     if is_name t then
-      takes
-      (TheMark (codes "=") ∷ Expression depth ∷ TheMark (codes ";") ∷ TheWord t.text ∷ Relation ∷ Operators 3 depth ∷ TheMark (codes ";") ∷ TheWord t.text ∷ Stepped depth ∷ TheMark (codes ")") ∷ Inside depth ∷ [])
-      (λ v. record {
-        head = record { counter = named t; start = v.1.0; inclusive = v.1.1.1.1.0; bound = v.1.1.1.1.1.0; step = v.1.1.1.1.1.1.1.1.0 };
-        body = v.1.1.1.1.1.1.1.1.1.1.0;
-      })
+    takes
+    (TheMark (codes "=") ∷ Expression depth ∷ TheMark (codes ";") ∷ TheWord t.text ∷ Relation ∷ Operators 3 depth ∷ TheMark (codes ";") ∷ TheWord t.text ∷ Stepped depth ∷ TheMark (codes ")") ∷ Inside depth ∷ [])
+    (λ v. record {
+      head = record { counter = named t; start = v.1.0; inclusive = v.1.1.1.1.0; bound = v.1.1.1.1.1.0; step = v.1.1.1.1.1.1.1.1.0 };
+      body = v.1.1.1.1.1.1.1.1.1.1.0;
+    })
     else Stops
 
 abbrev pub relation_step : Token → Step Value Relation
@@ -268,8 +266,8 @@ with_global g s = record s { globals = g ∷ s.globals }
 abbrev pub declarations_step : Token → Step Value Declarations
 declarations_step t =
     if is_the_word (codes "void") t then
-      takes (Name ∷ TheMark (codes "(") ∷ TheWord (codes "void") ∷ TheMark (codes ")") ∷ TheMark (codes "{") ∷ Body ∷ [])
-      (λ v. record { globals = []; name = v.0; before = v.1.1.1.1.1.0.before; outer = v.1.1.1.1.1.0.outer; after = v.1.1.1.1.1.0.after })
+    takes (Name ∷ TheMark (codes "(") ∷ TheWord (codes "void") ∷ TheMark (codes ")") ∷ TheMark (codes "{") ∷ Body ∷ [])
+    (λ v. record { globals = []; name = v.0; before = v.1.1.1.1.1.0.before; outer = v.1.1.1.1.1.0.outer; after = v.1.1.1.1.1.0.after })
     else begins (Declaration ∷ Declarations ∷ []) (λ v. with_global v.0 v.1.0)
 
 -- the includes, and the rest

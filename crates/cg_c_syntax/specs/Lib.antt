@@ -6,3 +6,4 @@ pub mod Tree
 pub mod Words
 pub mod Symbols
 pub mod Grammar
+pub mod Source

@@ -2,7 +2,6 @@
 use Rattle.std.specs.Prelude.{ℕ, Bool, List, Option}
 use Rattle.cg_c_syntax.specs.declared.token.Kind.{Kind}
 use Rattle.cg_c_syntax.specs.declared.expression.Binary.{Binary}
-use Rattle.cg_c_syntax.specs.declared.expression.Cast.{Cast}
 use Rattle.cg_c_syntax.specs.declared.statement.Signedness.{Signedness}
 use Rattle.cg_c_syntax.specs.Tree.{Expr, Exprs, Named, Number, Word, Stmt, Stmts, Head, Loop, Nest, Constant, Array, Rows, RowsList, Table, Global, Source}
 

@@ -2,6 +2,7 @@
 #![tactic(auto)]
 
 mod expression;
+mod laws;
 mod opening;
 mod source;
 mod statement;
@@ -9,6 +10,7 @@ mod token;
 
 pub use cg_model::{Items, Name};
 pub use expression::{Binary, Cast, Element, Expr, Link, Named, Number, Pick, Sign};
+pub use laws::one_reading;
 pub use opening::{Beginning, Change, Opening};
 pub use source::{Array, Constant, Global, Rows, Source, Table};
 pub use statement::{Loop, Nest, Signedness, Stmt, Word};

@@ -41,7 +41,10 @@ pub enum Global {
     /// `enum`.
     Enumeration(Vec<Constant>),
     /// Arrays of words that are read alike.
-    Arrays { signedness: Signedness, arrays: Vec<Array> },
+    Arrays {
+        signedness: Signedness,
+        arrays: Vec<Array>,
+    },
     Table(Table),
 }
 
