@@ -1,4 +1,4 @@
-//! Reading sources in C.
+//! Reading texts in C: their tokens, and the lines and columns of their places.
 #![tactic(auto)]
 
 mod bytes;

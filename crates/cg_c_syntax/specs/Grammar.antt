@@ -13,9 +13,9 @@ use Rattle.cg_c_syntax.specs.declared.opening.Change.TheVariants as changes
 use Rattle.cg_c_syntax.specs.declared.expression.Sign.TheVariants.{Minus}
 use Rattle.cg_c_syntax.specs.declared.statement.Signedness.{Signedness}
 use Rattle.cg_c_syntax.specs.Tokens.{Token, end_of}
-use Rattle.cg_c_syntax.specs.Tree.{Number, Expr, Num, At, Signed, Cut, Input, Picked, Two, Choice, Stmt, Words, Block, If, IfElse, Output, Assign, For, Global, Define, Enumeration, Arrays, Constants, Source, Nest, Bare, Holds, NoExprs, MoreExprs, NoStmts, MoreStmts, Items, Inner, NoRows, OneMore}
+use Rattle.cg_c_syntax.specs.Tree.{Number, Expr, Num, Access, Signed, Converted, Input, Picked, Two, Choice, Stmt, Words, Block, If, IfElse, Output, Assign, For, Global, Define, Enumeration, Arrays, Constants, Source, Nest, Bare, Holds, NoExprs, MoreExprs, NoStmts, MoreStmts, Items, Inner, NoRows, OneMore}
 use Rattle.cg_c_syntax.specs.Words.{is_the_word, is_the_mark, is_name, named, is_number, number_of, cast_of, signedness_of, is_counter_type, is_define, binary_of, at_level, opening_of, beginning_of, change_of}
-use Rattle.cg_c_syntax.specs.Symbols.{Symbol, OfKind, TheWord, TheMark, Name, Digits, Expression, Chosen, Operators, Further, Bracketed, CastOperand, Indices, Declared, MoreDeclared, Statement, Plain, Else, Assigned, Statements, Nested, Body, Looped, Counter, CounterType, Relation, Stepped, Inside, Typed, Declarator, Dimensions, MoreDeclarators, Tabled, TableName, TableDimensions, MoreTable, Braced, MoreValues, MoreRows, Enumerator, MoreEnumerators, Defined, DefinedValue, Declaration, Declarations, File, TextEnds, DimensionsAndRows, Value}
+use Rattle.cg_c_syntax.specs.Symbols.{Symbol, OfKind, TheWord, TheMark, Name, Digits, Expression, Chosen, Operators, Further, Bracketed, CastOperand, Indices, Declared, MoreDeclared, Statement, Plain, Else, Assigned, Statements, Nested, Body, Looped, Counter, CounterType, Relation, Stepped, Inside, Declarator, Dimensions, MoreDeclarators, Tabled, TableName, TableDimensions, MoreTable, Braced, MoreValues, MoreRows, Enumerator, MoreEnumerators, Defined, DefinedValue, Declaration, Declarations, File, TextEnds, DimensionsAndRows, Value}
 use Rattle.cg_c_syntax.specs.Reading.{Values, Step, Takes, Begins, Stops}
 
 -- the greatest number of constructs that may be open at once
@@ -58,7 +58,7 @@ abbrev pub operand_step : (depth : ℕ) → Token → Opening → Step Value (Op
 operand_step depth t (openings.Sign sign) = takes (Operators 0 (suc depth) ∷ []) (λ v. Signed sign t.place v.0)
 operand_step depth t openings.Bracket = takes (Bracketed t.place depth ∷ []) (λ v. v.0)
 operand_step depth t openings.Number = takes [] (λ v. Num (number_of t))
-operand_step depth t openings.Name = takes (Indices 3 depth ∷ []) (λ v. At (named t) v.0)
+operand_step depth t openings.Name = takes (Indices 3 depth ∷ []) (λ v. Access (named t) v.0)
 operand_step depth t openings.Input = takes (TheMark (codes "(") ∷ Expression depth ∷ TheMark (codes ")") ∷ []) (λ v. Input t.place v.1.0)
 operand_step depth t (openings.Pick pick) =
     takes (TheMark (codes "(") ∷ Expression depth ∷ TheMark (codes ",") ∷ Expression depth ∷ TheMark (codes ")") ∷ []) (λ v. Picked pick t.place v.1.0 v.1.1.1.0)
@@ -71,7 +71,7 @@ operators_step (suc level) depth t = begins (Operators level depth ∷ Further (
 
 -- after (: a cast, or an expression
 abbrev pub bracketed_step : (place depth : ℕ) → Option Cast → Step Value (Bracketed place depth)
-bracketed_step place depth (Some cast) = takes (TheMark (codes ")") ∷ CastOperand place depth ∷ []) (λ v. Cut cast place v.1.0)
+bracketed_step place depth (Some cast) = takes (TheMark (codes ")") ∷ CastOperand place depth ∷ []) (λ v. Converted cast place v.1.0)
 bracketed_step place depth None = begins (Expression depth ∷ TheMark (codes ")") ∷ []) (λ v. v.0)
 
 abbrev pub indices_step : (most depth : ℕ) → Token → Step Value (Indices most depth)
@@ -177,10 +177,6 @@ inside_step depth t =
     else begins (Plain depth ∷ []) (λ v. Bare (MoreStmts v.0 NoStmts)))
 
 -- ---- declarations
-
-abbrev pub typed_step : Option Signedness → Step Value Typed
-typed_step None = Stops
-typed_step (Some signedness) = takes [] (λ v. signedness)
 
 abbrev pub dimensions_step : Token → Step Value Dimensions
 dimensions_step t = if is_the_mark (codes "[") t then takes (Expression 0 ∷ TheMark (codes "]") ∷ Indices 2 0 ∷ []) (λ v. MoreExprs v.0 v.1.1.0) else Stops
@@ -312,7 +308,6 @@ step CounterType t = token (is_counter_type t) tt
 step Relation t = relation_step t
 step (Stepped depth) t = stepped_step depth t
 step (Inside depth) t = inside_step depth t
-step Typed t = typed_step (signedness_of t)
 step Declarator t = declarator_step t
 step Dimensions t = dimensions_step t
 step MoreDeclarators t = more_declarators_step t

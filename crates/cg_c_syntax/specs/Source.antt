@@ -17,20 +17,21 @@ pub record IsSource (bytes : List ℕ) (source : Source) : Type 0 where
   pub whole : tokens_of bytes ≡ front ++ end ∷ []
   pub reads : ReadsAll Value step barred text front end (source, (tt, tt))
 
--- the grammar goes on up to this token, but not with it; or more than sixty constructs are open there, for the place in q
+-- the grammar goes on up to this token, but not with it; or a construct begins there, or just before, at the place in q,
+-- while sixty are open
 pub record FailsAt (bytes : List ℕ) (t : Token) (q : Option ℕ) : Type 0 where
   pub front : List Token
   pub rest : List Token
   pub whole : tokens_of bytes ≡ front ++ t ∷ rest
   pub fails : FailsAll Value step barred text front t q
 
--- F1: the bytes are no source, and this is the place of the first token that none goes on with
+-- F1: the grammar does not go on with the token at this place, or no token begins there
 pub record IsTextFault (bytes : List ℕ) (place : ℕ) : Type 0 where
   pub token : Token
   pub fails : FailsAt bytes token None
   pub at : place ≡ token.place
 
--- F2: the bytes open a construct at this place while sixty are open
+-- F2: a construct begins at this place while sixty are open
 pub record IsDepthFault (bytes : List ℕ) (place : ℕ) : Type 0 where
   pub token : Token
   pub fails : FailsAt bytes token (Some place)

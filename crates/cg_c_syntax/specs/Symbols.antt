@@ -2,7 +2,6 @@
 use Rattle.std.specs.Prelude.{ℕ, Bool, List, Option}
 use Rattle.cg_c_syntax.specs.declared.token.Kind.{Kind}
 use Rattle.cg_c_syntax.specs.declared.expression.Binary.{Binary}
-use Rattle.cg_c_syntax.specs.declared.statement.Signedness.{Signedness}
 use Rattle.cg_c_syntax.specs.Tree.{Expr, Exprs, Named, Number, Word, Stmt, Stmts, Head, Loop, Nest, Constant, Array, Rows, RowsList, Table, Global, Source}
 
 -- what an assignment does to its target
@@ -67,8 +66,7 @@ pub data Symbol : Type 0 where
   Relation : Symbol
   Stepped : (depth : ℕ) → Symbol
   Inside : (depth : ℕ) → Symbol
-  -- a type; array; its first index and the others; what follows an array, up to the ;
-  Typed : Symbol
+  -- array; its first index and the others; what follows an array, up to the ;
   Declarator : Symbol
   Dimensions : Symbol
   MoreDeclarators : Symbol
@@ -77,7 +75,7 @@ pub data Symbol : Type 0 where
   TableName : Symbol
   TableDimensions : Symbol
   MoreTable : (dimensions : ℕ) → Symbol
-  -- rows of so many dimensions after the first; what follows an item of the last dimension, or rows before it, up to the }
+  -- rows of one dimension and so many more; what follows an item of the last dimension, and rows before it, up to the }
   Braced : (more : ℕ) → Symbol
   MoreValues : Symbol
   MoreRows : (more : ℕ) → Symbol
@@ -121,7 +119,6 @@ Value CounterType = Unit {0}
 Value Relation = Bool
 Value (Stepped depth) = Option Expr
 Value (Inside depth) = Nest
-Value Typed = Signedness
 Value Declarator = Array
 Value Dimensions = Exprs
 Value MoreDeclarators = List Array

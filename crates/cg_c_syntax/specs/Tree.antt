@@ -13,9 +13,9 @@ mutual
   -- a number; a word, or by its indices an element; a sign, a cast, in, min or max, an operator, ?:
   pub data Expr : Type 0 where
     Num : Number → Expr
-    At : (name : Named) (indices : Exprs) → Expr
+    Access : (name : Named) (indices : Exprs) → Expr
     Signed : (sign : Sign) (place : ℕ) (operand : Expr) → Expr
-    Cut : (to : Cast) (place : ℕ) (operand : Expr) → Expr
+    Converted : (to : Cast) (place : ℕ) (operand : Expr) → Expr
     Input : (place : ℕ) (port : Expr) → Expr
     Picked : (pick : Pick) (place : ℕ) (first second : Expr) → Expr
     Two : (op : Binary) (place : ℕ) (left right : Expr) → Expr
