@@ -202,7 +202,7 @@ with_dimension e d = record { dimensions = MoreExprs e d.dimensions; rows = d.ro
 abbrev pub table_dimensions_step : Token → Step Value TableDimensions
 table_dimensions_step t = if is_the_mark (codes "[") t then takes (Expression 0 ∷ TheMark (codes "]") ∷ MoreTable 0 ∷ []) (λ v. with_dimension v.0 v.1.1.0) else Stops
 
--- after the first dimension and so many others, of which there are two at most
+-- after the first dimension and `dimensions` others, at most two
 abbrev pub more_table_step : (dimensions : ℕ) → Token → Step Value (MoreTable dimensions)
 more_table_step dimensions t =
     if nat_lt dimensions 2 && is_the_mark (codes "[") t then takes (Expression 0 ∷ TheMark (codes "]") ∷ MoreTable (suc dimensions) ∷ []) (λ v. with_dimension v.0 v.1.1.0)

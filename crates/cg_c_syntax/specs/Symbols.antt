@@ -45,7 +45,7 @@ pub data Symbol : Type 0 where
   -- what follows the ( of an operand; the operand of a cast, with the place of the cast
   Bracketed : (place depth : ℕ) → Symbol
   CastOperand : (place depth : ℕ) → Symbol
-  -- up to so many indices
+  -- up to `most` indices
   Indices : (most depth : ℕ) → Symbol
   -- NAME "=" expr; what follows a declaration of a word, up to the ;
   Declared : (depth : ℕ) → Symbol
@@ -70,12 +70,12 @@ pub data Symbol : Type 0 where
   Declarator : Symbol
   Dimensions : Symbol
   MoreDeclarators : Symbol
-  -- type array "=" rows ";"; array "=" rows ";", after its name and then after so many dimensions
+  -- type array "=" rows ";"; array "=" rows ";", after its name, and after `dimensions` of its dimensions
   Tabled : Symbol
   TableName : Symbol
   TableDimensions : Symbol
   MoreTable : (dimensions : ℕ) → Symbol
-  -- rows of one dimension and so many more; what follows an item of the last dimension, and rows before it, up to the }
+  -- rows of one dimension and `more` others; what follows an item of the last dimension, and rows before it, up to the }
   Braced : (more : ℕ) → Symbol
   MoreValues : Symbol
   MoreRows : (more : ℕ) → Symbol
