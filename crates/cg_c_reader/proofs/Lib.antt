@@ -2,4 +2,15 @@ pub mod Sounding
 pub mod MarkEnds
 pub mod Cutting
 pub mod Composed
+pub mod Leading
 pub mod Single
+pub mod Beginning
+pub mod Lists
+pub mod Shorter
+pub mod Built
+pub mod Lines
+pub mod DigitByDigit
+pub mod Ascii
+pub mod Declaring
+pub mod Globals
+pub mod Whole

@@ -1,5 +1,7 @@
 //! Reading the tokens of a text one by one.
-ghost use Rattle.std.specs.Prelude.{◌≤◌, length};
+ghost use Rattle.std.specs.Prelude.{◌≡◌, ◌≤◌, true, length};
+ghost use Rattle.std.specs.Str.{IsAscii};
+ghost use Rattle.cg_c_syntax.specs.Words.{is_word};
 ghost use Rattle.std.proofs.Props.{props};
 
 use crate::fault::Misfit;
@@ -14,6 +16,7 @@ pub(crate) struct Reader<'a> {
     pub token: Token<'a>,
     pub next: Cursor,
     ghost within: { next.place ≤ length bytes.now } by { Prim.hlevel props },
+    ghost ascii: { is_word token.kind ≡ true → IsAscii token.text.now } by { Prim.hlevel props },
 }
 
 impl<'a> Reader<'a> {
@@ -21,7 +24,7 @@ impl<'a> Reader<'a> {
     ghost use Rattle.cg_c_syntax.specs.Tokens.{tokens_of, is_last};
     ghost use Rattle.cg_c_syntax.specs.Symbols.{TheMark};
     ghost use Rattle.cg_c_syntax.specs.Words.{is_the_mark};
-    ghost use Rattle.cg_c_reader.specs.Left.{left, all, Finds, Misses};
+    ghost use Rattle.cg_c_reader.specs.Left.{left, all, Finds, TakesMark, MissesMark, Misses};
 
     /// Returns a reader at the first token of `bytes`.
     pub fn new(bytes: &'a [u8]) -> Self
@@ -62,7 +65,9 @@ impl<'a> Reader<'a> {
     #[tactic(auto, using(crate::proofs::Single::mark_reads, crate::proofs::Single::mark_stops, crate::proofs::Single::mark_goes_on))]
     pub fn mark(&mut self, text: &[u8]) -> Result<(), Misfit>
         ensures ok { OnOk result (Finds (TheMark text.now) tt self.old self.new) }
+        ensures takes { OnOk result (TakesMark text.now self.old self.new) }
         ensures misses { IfErr result (λ e. Misses e (TheMark text.now) self.old self.new) }
+        ensures other { IfErr result (λ e. MissesMark e text.now self.old self.new) }
         ensures same { self.new.bytes ≡ self.old.bytes }
     {
         if self.next_is(text) {

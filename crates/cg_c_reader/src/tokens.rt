@@ -1,5 +1,7 @@
 //! Tokens, cut from bytes one after another.
-ghost use Rattle.std.specs.Prelude.{◌≡◌, ◌≤◌, ◌∷◌, length};
+ghost use Rattle.std.specs.Prelude.{◌≡◌, ◌≤◌, ◌∷◌, true, length};
+ghost use Rattle.std.specs.Str.{IsAscii};
+ghost use Rattle.cg_c_syntax.specs.Words.{is_word};
 ghost use Rattle.cg_c_syntax.specs.Tokens as spec;
 ghost use Rattle.cg_c_reader.specs.Seen.{seen, rest_after, Cuts};
 
@@ -75,6 +77,7 @@ pub fn next_token(bytes: &[u8], cursor: Cursor) -> Cut<'_>
     requires { cursor.place ≤ length bytes.now }
     ensures cuts { Cuts bytes.now cursor.line cursor.place result }
     ensures within { result.next.place ≤ length bytes.now }
+    ensures ascii { is_word result.token.kind ≡ true → IsAscii result.token.text.now }
 {
     let mut at = cursor;
     while at.place < bytes.len() {

@@ -1,8 +1,10 @@
 //! Tokens by their texts.
 ghost use Rattle.std.specs.Prelude.{◌≡◌};
+ghost use Rattle.cg_c_syntax.specs.declared.token.Kind.TheVariants as kinds;
+ghost use Rattle.cg_c_syntax.specs.Grammar as grammar;
 ghost use Rattle.cg_c_syntax.specs.Words as spec;
 
-use cg_c_syntax::{Binary, Cast, Kind, Opening, Pick, Sign, Signedness};
+use cg_c_syntax::{Beginning, Binary, Cast, Change, Kind, Opening, Pick, Sign, Signedness};
 
 /// Returns whether the texts `left` and `right` are equal.
 pub(crate) fn same(left: &[u8], right: &[u8]) -> bool
@@ -23,6 +25,41 @@ pub(crate) fn is_mark(kind: Kind) -> bool
     ensures { result ≡ spec.is_mark kind }
 {
     matches!(kind, Kind::Mark)
+}
+
+/// Returns whether `kind` is that of numbers.
+pub(crate) fn is_number(kind: Kind) -> bool
+    ensures { result ≡ spec.is_number kind }
+{
+    matches!(kind, Kind::Number)
+}
+
+/// Returns whether `kind` is that of definitions of constants.
+pub(crate) fn is_define(kind: Kind) -> bool
+    ensures { result ≡ spec.is_define kind }
+{
+    matches!(kind, Kind::Define)
+}
+
+/// Returns whether `kind` is that of the ends of directives.
+pub(crate) fn is_line_end(kind: Kind) -> bool
+    ensures { result ≡ grammar.is_kind kinds.LineEnd kind }
+{
+    matches!(kind, Kind::LineEnd)
+}
+
+/// Returns whether `kind` is that of the end of a text.
+pub(crate) fn is_text_end(kind: Kind) -> bool
+    ensures { result ≡ grammar.is_kind kinds.TextEnd kind }
+{
+    matches!(kind, Kind::TextEnd)
+}
+
+/// Returns whether `kind` is that of the include of `cgra.h`.
+pub(crate) fn is_cgra(kind: Kind) -> bool
+    ensures { result ≡ grammar.is_kind kinds.Cgra kind }
+{
+    matches!(kind, Kind::Cgra)
 }
 
 /// Returns the type of a cast that `text` names.
@@ -85,6 +122,20 @@ pub(crate) fn is_language_word(text: &[u8]) -> bool
         || same(text, b"if")
         || same(text, b"else")
         || same(text, b"for")
+}
+
+/// Returns whether a token of the kind `kind` with the bytes `text` is a name.
+pub(crate) fn is_name(kind: Kind, text: &[u8]) -> bool
+    ensures { result ≡ spec.is_name_by kind text.now }
+{
+    is_word(kind) && !(cast_called(text).is_some() || is_language_word(text))
+}
+
+/// Returns whether a token of the kind `kind` with the bytes `text` is a type that a counter may have.
+pub(crate) fn is_counter_type(kind: Kind, text: &[u8]) -> bool
+    ensures { result ≡ spec.is_counter_type_by kind text.now }
+{
+    is_word(kind) && (same(text, b"int") || same(text, b"int32_t"))
 }
 
 /// Returns the sign that `text` is.
@@ -278,5 +329,94 @@ pub(crate) fn opening_by(kind: Kind, text: &[u8]) -> Opening
         Kind::Number => Opening::Number,
         Kind::Mark => mark_opening(text),
         _ => Opening::Nothing,
+    }
+}
+
+/// Returns the statement that a token of the kind `kind` with the bytes `text` begins.
+pub(crate) fn beginning_by(kind: Kind, text: &[u8]) -> Beginning
+    ensures { result ≡ spec.beginning_by kind text.now }
+{
+    match kind {
+        Kind::Word => word_beginning(text),
+        Kind::Mark => {
+            if same(text, b"{") {
+                Beginning::Block
+            } else {
+                Beginning::Nothing
+            }
+        }
+        _ => Beginning::Nothing,
+    }
+}
+
+/// Returns the statement that the word `text` begins.
+#[tactic(auto, unfolding(cg_c_syntax::specs::Words::word_beginning))]
+fn word_beginning(text: &[u8]) -> Beginning
+    ensures { result ≡ spec.word_beginning text.now }
+{
+    if same(text, b"if") {
+        Beginning::If
+    } else if same(text, b"out") {
+        Beginning::Output
+    } else if cast_called(text).is_some() || is_language_word(text) {
+        Beginning::Nothing
+    } else {
+        Beginning::Name
+    }
+}
+
+/// Returns the operator that the mark `text` joins with an assignment.
+#[tactic(auto, unfolding(cg_c_syntax::specs::Words::computing_change))]
+fn computing_change(text: &[u8]) -> Option<Binary>
+    ensures { result ≡ spec.computing_change text.now }
+{
+    if same(text, b"+=") {
+        Some(Binary::Add)
+    } else if same(text, b"-=") {
+        Some(Binary::Sub)
+    } else if same(text, b"*=") {
+        Some(Binary::Mul)
+    } else if same(text, b"&=") {
+        Some(Binary::And)
+    } else if same(text, b"|=") {
+        Some(Binary::Or)
+    } else if same(text, b"^=") {
+        Some(Binary::Xor)
+    } else if same(text, b"<<=") {
+        Some(Binary::ShiftLeft)
+    } else if same(text, b">>=") {
+        Some(Binary::ShiftRight)
+    } else {
+        None
+    }
+}
+
+/// Returns what an assignment by the mark `text` does.
+#[tactic(auto, unfolding(cg_c_syntax::specs::Words::change_called))]
+fn change_called(text: &[u8]) -> Option<Change>
+    ensures { result ≡ spec.change_called text.now }
+{
+    if same(text, b"++") {
+        Some(Change::Step(Binary::Add))
+    } else if same(text, b"--") {
+        Some(Change::Step(Binary::Sub))
+    } else if same(text, b"=") {
+        Some(Change::Set(None))
+    } else {
+        match computing_change(text) {
+            Some(op) => Some(Change::Set(Some(op))),
+            None => None,
+        }
+    }
+}
+
+/// Returns what an assignment by a token of the kind `kind` with the bytes `text` does.
+pub(crate) fn change_by(kind: Kind, text: &[u8]) -> Option<Change>
+    ensures { result ≡ spec.change_by kind text.now }
+{
+    if is_mark(kind) {
+        change_called(text)
+    } else {
+        None
     }
 }

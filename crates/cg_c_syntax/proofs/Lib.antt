@@ -1,3 +1,5 @@
 pub mod One
 pub mod Failed
 pub mod OneReading
+pub mod StmtRows
+pub mod Listed

@@ -1,5 +1,5 @@
 -- The grammar: what each symbol does at the next token.
-use Rattle.std.specs.Prelude.{ℕ, zero, suc, nat_le, nat_lt, Bool, true, false, ◌&&◌, ◌==◌, not, codes, if◌then◌else◌, List, [], ◌∷◌, Option, Some, None}
+use Rattle.std.specs.Prelude.{ℕ, zero, suc, ◌+◌, nat_le, nat_lt, Bool, true, false, ◌&&◌, ◌==◌, not, codes, if◌then◌else◌, List, [], ◌∷◌, Option, Some, None}
 use Rattle.cg_c_syntax.specs.declared.token.Kind.{Kind}
 use Rattle.cg_c_syntax.specs.declared.token.Kind.TheVariants as kinds
 use Rattle.cg_c_syntax.specs.declared.expression.Binary.{Binary}
@@ -205,7 +205,7 @@ table_dimensions_step t = if is_the_mark (codes "[") t then takes (Expression 0 
 -- after the first dimension and `dimensions` others, at most two
 abbrev pub more_table_step : (dimensions : ℕ) → Token → Step Value (MoreTable dimensions)
 more_table_step dimensions t =
-    if nat_lt dimensions 2 && is_the_mark (codes "[") t then takes (Expression 0 ∷ TheMark (codes "]") ∷ MoreTable (suc dimensions) ∷ []) (λ v. with_dimension v.0 v.1.1.0)
+    if nat_lt dimensions 2 && is_the_mark (codes "[") t then takes (Expression 0 ∷ TheMark (codes "]") ∷ MoreTable (dimensions + 1) ∷ []) (λ v. with_dimension v.0 v.1.1.0)
     else (if is_the_mark (codes "=") t then takes (Braced dimensions ∷ TheMark (codes ";") ∷ []) (λ v. record { dimensions = NoExprs; rows = v.0 }) else Stops)
 
 -- rows: items of the last dimension, or rows before it
@@ -228,7 +228,9 @@ abbrev pub enumerator_step : Token → Step Value Enumerator
 enumerator_step t = if is_name t then takes (TheMark (codes "=") ∷ Expression 0 ∷ []) (λ v. record { name = named t; value = v.1.0 }) else Stops
 
 abbrev pub more_enumerators_step : Token → Step Value MoreEnumerators
-more_enumerators_step t = if is_the_mark (codes ",") t then takes (Enumerator ∷ MoreEnumerators ∷ []) (λ v. v.0 ∷ v.1.0) else token (is_the_mark (codes "}") t) []
+more_enumerators_step t =
+    if is_the_mark (codes ",") t then takes (Enumerator ∷ MoreEnumerators ∷ []) (λ v. v.0 ∷ v.1.0)
+    else (if is_the_mark (codes "}") t then takes (TheMark (codes ";") ∷ []) (λ v. []) else Stops)
 
 -- the name of a #define and its value
 abbrev pub defined_step : Token → Step Value Defined
@@ -248,10 +250,14 @@ abbrev pub words_step : Token → Option Signedness → Step Value Declaration
 words_step t (Some signedness) = takes (Declarator ∷ MoreDeclarators ∷ []) (λ v. Arrays signedness (v.0 ∷ v.1.0))
 words_step t None = Stops
 
+-- "{" NAME "=" expr {"," NAME "=" expr} "}" ";"
+abbrev pub enumeration_step : Step Value Declaration
+enumeration_step = takes (TheMark (codes "{") ∷ Enumerator ∷ MoreEnumerators ∷ []) (λ v. Enumeration (v.1.0 ∷ v.1.1.0))
+
 abbrev pub declaration_step : Token → Step Value Declaration
 declaration_step t =
     if is_define t.kind then takes (Defined ∷ []) (λ v. Define v.0)
-    else (if is_the_word (codes "enum") t then takes (TheMark (codes "{") ∷ Enumerator ∷ MoreEnumerators ∷ TheMark (codes ";") ∷ []) (λ v. Enumeration (v.1.0 ∷ v.1.1.0))
+    else (if is_the_word (codes "enum") t then enumeration_step
     else (if is_the_word (codes "static") t then takes (TheWord (codes "const") ∷ Tabled ∷ []) (λ v. Constants v.1.0)
     else (if is_the_word (codes "const") t then takes (Tabled ∷ []) (λ v. Constants v.0) else words_step t (signedness_of t))))
 

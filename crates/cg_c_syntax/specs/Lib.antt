@@ -3,6 +3,7 @@ pub mod Tokens
 pub mod Places
 pub mod Reading
 pub mod Tree
+pub mod Written
 pub mod Words
 pub mod Symbols
 pub mod Grammar

@@ -79,7 +79,7 @@ pub data Symbol : Type 0 where
   Braced : (more : ℕ) → Symbol
   MoreValues : Symbol
   MoreRows : (more : ℕ) → Symbol
-  -- NAME "=" expr; what follows it, up to the }
+  -- NAME "=" expr; what follows it, up to the ;
   Enumerator : Symbol
   MoreEnumerators : Symbol
   -- what follows #define, and then the name, which ends at the place

@@ -66,8 +66,11 @@ is_language_word s =
     || same s (codes "const") || same s (codes "enum") || same s (codes "if") || same s (codes "else") || same s (codes "for")
 
 -- a name: a word that is none of the language
+abbrev pub is_name_by : Kind → List ℕ → Bool
+is_name_by kind s = is_word kind && not (is_some (cast_called s) || is_language_word s)
+
 abbrev pub is_name : Token → Bool
-is_name t = is_word t.kind && not (is_some (cast_called t.text) || is_language_word t.text)
+is_name t = is_name_by t.kind t.text
 
 abbrev pub named : Token → Named
 named t = record { name = t.text; place = t.place }
@@ -79,8 +82,11 @@ abbrev pub cast_of : Token → Option Cast
 cast_of t = cast_by t.kind t.text
 
 -- int or int32_t
+abbrev pub is_counter_type_by : Kind → List ℕ → Bool
+is_counter_type_by kind s = is_word kind && (same s (codes "int") || same s (codes "int32_t"))
+
 abbrev pub is_counter_type : Token → Bool
-is_counter_type t = is_the_word (codes "int") t || is_the_word (codes "int32_t") t
+is_counter_type t = is_counter_type_by t.kind t.text
 
 abbrev pub is_define : Kind → Bool
 is_define kinds.Define = true
@@ -254,5 +260,8 @@ change_called s =
     if same s (codes "++") then Some (Step Add)
     else (if same s (codes "--") then Some (Step Sub) else (if same s (codes "=") then Some (Set None) else with_operator (computing_change s)))
 
+abbrev pub change_by : Kind → List ℕ → Option Change
+change_by kind s = if is_mark kind then change_called s else None
+
 abbrev pub change_of : Token → Option Change
-change_of t = if is_mark t.kind then change_called t.text else None
+change_of t = change_by t.kind t.text

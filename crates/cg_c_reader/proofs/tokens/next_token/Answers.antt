@@ -3,6 +3,7 @@ use Rattle.cg_c_syntax.specs.declared.token.Line.{Line}
 use Rattle.cg_c_syntax.specs.Tokens.{line_end}
 use Rattle.cg_c_reader.proofs.Sounding.{rest_is}
 use Rattle.cg_c_reader.proofs.Cutting.{cut_gap, cut_feed, cut_line_end, cut_token, cuts_from}
+use Rattle.cg_c_reader.proofs.Ascii.{word_ascii}
 use Rattle.cg_c_reader.proofs.tokens.next_token.Goals as goal
 
 pub loop-at-preserved-in-Gap : goal.loop-at-preserved-in-Gap
@@ -41,3 +42,7 @@ returns-in-Token-clause-cuts c =
     record {
       tokens = sym c.loop-at.invariant.same ∙ cut_token bytes line place c.loop-at-test.true _ (rest_is place bytes) c.in-Token.kind c.in-Token.more _ c.in-Token.ensures.within.0 c.in-Token.ensures.within.1 c.line_after.ensures (sym c.in-Token.ensures.value);
     }
+
+pub returns-in-Token-clause-ascii : goal.returns-in-Token-clause-ascii
+returns-in-Token-clause-ascii c =
+    word_ascii c.loop-at.at.line _ c.in-Token.kind c.in-Token.more (sym c.in-Token.ensures.value)
