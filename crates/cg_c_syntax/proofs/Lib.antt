@@ -3,3 +3,10 @@ pub mod Failed
 pub mod OneReading
 pub mod StmtRows
 pub mod Listed
+pub mod Fillers
+pub mod Fit
+pub mod Freed
+pub mod Calm
+pub mod Completed
+pub mod Filled
+pub mod GoingOn

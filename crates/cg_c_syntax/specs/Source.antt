@@ -53,3 +53,18 @@ OneFault = (bytes : List ℕ) (t t' : Token) (q q' : Option ℕ) → FailsAt byt
 -- no source begins with the tokens up to and with the one at which bytes fail
 abbrev pub NoneGoesOn : Type 0
 NoneGoesOn = (front more : List Token) (t : Token) (q : Option ℕ) (other : List ℕ) (P : Source) → FailsAll Value step barred text front t q → tokens_of other ≡ front ++ t ∷ more → IsSource other P → ⊥
+
+-- no limit of open constructs
+abbrev pub unbarred : Symbol → Token → Option ℕ
+unbarred s t = None
+
+-- without the limit, these tokens and others after them are those of a source
+pub record GoesOn (front : List Token) : Type 0 where
+  pub more : List Token
+  pub end : Token
+  pub source : Source
+  pub reads : ReadsAll Value step unbarred text (front ++ more) end (source, (tt, tt))
+
+-- but for the limit, some source begins with the tokens before the one at which bytes fail
+abbrev pub SomeGoesOn : Type 0
+SomeGoesOn = (front : List Token) (t : Token) (q : Option ℕ) → FailsAll Value step barred text front t q → GoesOn front
