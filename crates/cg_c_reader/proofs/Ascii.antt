@@ -1,5 +1,5 @@
 -- Words are texts of ASCII.
-use Rattle.std.proofs.Common.{◌≡◌, ℕ, zero, suc, ◌+◌, ◌<◌, ◌||◌, ⊎_elim, true, false, List, [], ◌∷◌, take, Option, Some, None, refl, sym, subst, arith, add-one}
+use Rattle.std.proofs.Common.{◌≡◌, ℕ, zero, suc, ◌+◌, ◌<◌, ◌||◌, ⊎_elim, Bool, true, false, List, [], ◌∷◌, take, Option, Some, None, refl, sym, subst, arith, add-one}
 use Rattle.std.specs.Prelude.{nat_le, nat_lt, eqb, ◌==◌, ◌&&◌, not, if◌then◌else◌, codes, slice_index, drop, Result, Ok, Err}
 use Rattle.std.specs.Result.{MatchResult, IsOk}
 use Rattle.std.specs.List.{prefix_len}
@@ -13,7 +13,7 @@ use Rattle.cg_c_syntax.specs.declared.token.Line.{Line}
 use Rattle.cg_c_syntax.specs.declared.token.Line.TheVariants.{Fresh, Begun, Directive}
 use Rattle.cg_c_syntax.specs.declared.token.Piece.{Piece}
 use Rattle.cg_c_syntax.specs.declared.token.Piece.TheVariants.{Gap, LineFeed, Token, Nothing}
-use Rattle.cg_c_syntax.specs.Pieces.{begins, first_is, is_blank, is_splice, is_mark, is_mark_of_two, is_mark_of_three, runs_on, number_length, sound_length, line_comment, include_piece, is_letter, is_word_byte, closed_length, closed_comment, comment_of, comment_piece, directive_of, file_piece, directive_piece, number_piece, mark_piece, token_piece, plain_piece, piece_of, after_space, space_length}
+use Rattle.cg_c_syntax.specs.Pieces.{begins, first_is, is_blank, is_lone_return, blank_piece, is_splice, is_mark, is_mark_of_two, is_mark_of_three, runs_on, number_length, sound_length, line_comment, include_piece, is_letter, is_word_byte, closed_length, closed_comment, comment_of, comment_piece, directive_of, file_piece, directive_piece, number_piece, mark_piece, token_piece, plain_piece, piece_of, after_space, space_length}
 use Rattle.cg_c_syntax.specs.Words.{is_word}
 
 -- ---- bytes
@@ -81,17 +81,17 @@ token_sound bytes =
     cond_both (is_letter (slice_index bytes 0)) (Token Word (prefix_len is_word_byte (drop 1 bytes))) (if◌then◌else◌ (is_ascii_digit (slice_index bytes 0)) (number_piece bytes) (mark_piece bytes)) (Sound bytes)
     (λ h. word_sound bytes h) (λ h. cond_both (is_ascii_digit (slice_index bytes 0)) (number_piece bytes) (mark_piece bytes) (Sound bytes) (λ x. number_sound bytes) (λ x. mark_sound bytes))
 
-comment_of_sound : (all : List ℕ) (n : ℕ) (bytes : List ℕ) → Sound all (comment_of n bytes)
-comment_of_sound all n bytes = cond_both (nat_lt n (sound_length bytes)) (Gap n) (Nothing (sound_length bytes)) (Sound all) (λ h. tt) (λ h. tt)
+comment_of_sound : (all : List ℕ) (one_line : Bool) (n : ℕ) (bytes : List ℕ) → Sound all (comment_of one_line n bytes)
+comment_of_sound all one_line n bytes = cond_both (nat_lt n (sound_length one_line bytes)) (Gap n) (Nothing (sound_length one_line bytes)) (Sound all) (λ h. tt) (λ h. tt)
 
 closed_sound : (all : List ℕ) (o : Option ℕ) (bytes : List ℕ) → Sound all (closed_comment o bytes)
 closed_sound all None bytes = tt
-closed_sound all (Some n) bytes = comment_of_sound all (n + 1) bytes
+closed_sound all (Some n) bytes = comment_of_sound all false (n + 1) bytes
 
 comment_sound : (bytes : List ℕ) → Sound bytes (comment_piece bytes)
 comment_sound bytes =
     cond_both (begins (codes "/*") bytes) (closed_comment (closed_length (drop 2 bytes)) bytes) (line_comment bytes) (Sound bytes)
-    (λ h. closed_sound bytes (closed_length (drop 2 bytes)) bytes) (λ h. comment_of_sound bytes (prefix_len (λ b. not (b == 10)) (drop 1 bytes)) bytes)
+    (λ h. closed_sound bytes (closed_length (drop 2 bytes)) bytes) (λ h. comment_of_sound bytes true (prefix_len (λ b. not (b == 10)) (drop 1 bytes)) bytes)
 
 file_sound : (all : List ℕ) (n : ℕ) (name : List ℕ) → Sound all (file_piece n name)
 file_sound all n name =
@@ -111,15 +111,20 @@ line_sound all Fresh bytes = directive_sound all (space_length bytes) (after_spa
 line_sound all Begun bytes = tt
 line_sound all Directive bytes = tt
 
+blank_sound : (all : List ℕ) (line : Line) (bytes : List ℕ) → Sound all (blank_piece line bytes)
+blank_sound all Fresh bytes = tt
+blank_sound all Begun bytes = tt
+blank_sound all Directive bytes = cond_both (is_lone_return bytes) (Nothing 0) (Gap 0) (Sound all) (λ h. tt) (λ h. tt)
+
 plain_sound : (line : Line) (bytes : List ℕ) → Sound bytes (plain_piece line bytes)
 plain_sound line bytes =
     let b = slice_index bytes 0 in
     let three = if◌then◌else◌ (b == 35) (directive_piece line (drop 1 bytes)) (token_piece bytes) in
     let comments = begins (codes "/*") bytes || begins (codes "//") bytes in
     let two = if◌then◌else◌ comments (comment_piece bytes) three in
-    let one = if◌then◌else◌ (is_blank b) (Gap 0) two in
+    let one = if◌then◌else◌ (is_blank b) (blank_piece line bytes) two in
     cond_both (b == 10) LineFeed one (Sound bytes) (λ h. tt)
-    (λ h. cond_both (is_blank b) (Gap 0) two (Sound bytes) (λ x. tt)
+    (λ h. cond_both (is_blank b) (blank_piece line bytes) two (Sound bytes) (λ x. blank_sound bytes line bytes)
     (λ x. cond_both comments (comment_piece bytes) three (Sound bytes) (λ y. comment_sound bytes)
     (λ y. cond_both (b == 35) (directive_piece line (drop 1 bytes)) (token_piece bytes) (Sound bytes) (λ z. line_sound bytes line (drop 1 bytes)) (λ z. token_sound bytes))))
 

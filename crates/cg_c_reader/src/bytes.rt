@@ -133,3 +133,13 @@ pub(crate) fn is_splice(bytes: &[u8]) -> bool
 {
     first_in(Class::Backslash, bytes) || begins(b"??/", bytes)
 }
+
+/// Returns whether a carriage return is next in `bytes`, and another byte than a line feed after it.
+pub(crate) fn is_lone_return(bytes: &[u8]) -> bool
+    ensures { result ≡ spec.is_lone_return bytes.now }
+{
+    match bytes {
+        [first, second, ..] => *first == b'\r' && !(*second == b'\n'),
+        _ => false,
+    }
+}

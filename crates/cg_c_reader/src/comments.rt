@@ -3,14 +3,15 @@ ghost use Rattle.std.specs.Prelude.{◌≡◌, ◌+◌, ◌<◌, ◌≤◌, drop
 ghost use Rattle.cg_c_syntax.specs.Pieces as spec;
 ghost use Rattle.cg_c_reader.specs.Within.{IsWithin};
 
-use crate::bytes::{Class, begins, is_control, is_splice, run_length};
+use crate::bytes::{Class, begins, is_control, is_lone_return, is_splice, run_length};
 use cg_c_syntax::Piece;
 
-/// Returns whether a byte that no comment may have is the first of `bytes`.
-fn is_foul(bytes: &[u8]) -> bool
-    ensures { result ≡ spec.is_foul bytes.now }
+/// Returns whether a byte that no comment may have is the first of `bytes`, or, if the comment has one line, one that no
+/// such comment may have.
+fn is_foul(one_line: bool, bytes: &[u8]) -> bool
+    ensures { result ≡ spec.is_foul one_line bytes.now }
 {
-    is_splice(bytes) || first_is_control(bytes)
+    is_splice(bytes) || first_is_control(bytes) || (one_line && is_lone_return(bytes))
 }
 
 /// Returns whether `bytes` begin with a control byte that no comment may have.
@@ -23,14 +24,15 @@ fn first_is_control(bytes: &[u8]) -> bool
     }
 }
 
-/// Returns the comment at the front of `bytes` that has `more` bytes after its first.
-fn comment_of(more: usize, bytes: &[u8]) -> Piece
+/// Returns the comment at the front of `bytes` that has `more` bytes after its first, and may have one line alone if
+/// `one_line`.
+fn comment_of(one_line: bool, more: usize, bytes: &[u8]) -> Piece
     requires { more < length bytes.now }
-    ensures value { result ≡ spec.comment_of more bytes.now }
+    ensures value { result ≡ spec.comment_of one_line more bytes.now }
     ensures within { IsWithin (length bytes.now) result }
 {
     for place in 0..more + 1 {
-        if is_foul(&bytes[place..]) {
+        if is_foul(one_line, &bytes[place..]) {
             return Piece::Nothing(place);
         }
     }
@@ -57,7 +59,7 @@ fn closed_comment(bytes: &[u8]) -> Piece
     ensures within { IsWithin (length bytes.now) result }
 {
     match closed_length(&bytes[2..]) {
-        Some(length) => comment_of(length + 1, bytes),
+        Some(length) => comment_of(false, length + 1, bytes),
         None => Piece::Nothing(0),
     }
 }
@@ -68,7 +70,7 @@ fn line_comment(bytes: &[u8]) -> Piece
     ensures value { result ≡ spec.line_comment bytes.now }
     ensures within { IsWithin (length bytes.now) result }
 {
-    comment_of(run_length(Class::InLine, &bytes[1..]), bytes)
+    comment_of(true, run_length(Class::InLine, &bytes[1..]), bytes)
 }
 
 /// Returns the comment at the front of `bytes`, which begin with `/*` or `//`.

@@ -3,7 +3,9 @@ ghost use Rattle.std.specs.Prelude.{◌≡◌, ◌<◌, length};
 ghost use Rattle.cg_c_syntax.specs.Pieces as spec;
 ghost use Rattle.cg_c_reader.specs.Within.{IsWithin};
 
-use crate::bytes::{Class, begins, is_blank, is_digit, is_letter, is_splice, run_length};
+use crate::bytes::{
+    Class, begins, is_blank, is_digit, is_letter, is_lone_return, is_splice, run_length,
+};
 use crate::comments::comment_piece;
 use crate::directives::directive_piece;
 use crate::marks::mark_piece;
@@ -25,6 +27,23 @@ fn token_piece(bytes: &[u8]) -> Piece
     }
 }
 
+/// Returns the blank at the front of `bytes`, in the line `line`.
+fn blank_piece(line: Line, bytes: &[u8]) -> Piece
+    requires { 0 < length bytes.now }
+    ensures value { result ≡ spec.blank_piece line bytes.now }
+    ensures within { IsWithin (length bytes.now) result }
+{
+    match line {
+        Line::Fresh => Piece::Gap(0),
+        Line::Begun => Piece::Gap(0),
+        Line::Directive => if is_lone_return(bytes) {
+            Piece::Nothing(0)
+        } else {
+            Piece::Gap(0)
+        },
+    }
+}
+
 /// Returns what stands at the front of `bytes`, in the line `line`, where no two lines may be joined.
 fn plain_piece(line: Line, bytes: &[u8]) -> Piece
     requires { 0 < length bytes.now }
@@ -35,7 +54,7 @@ fn plain_piece(line: Line, bytes: &[u8]) -> Piece
     if first == b'\n' {
         Piece::LineFeed
     } else if is_blank(first) {
-        Piece::Gap(0)
+        blank_piece(line, bytes)
     } else if begins(b"/*", bytes) || begins(b"//", bytes) {
         comment_piece(bytes)
     } else if first == b'#' {

@@ -1,5 +1,5 @@
 -- What stands at the front of bytes: a blank, a comment, a line feed or a token, the longest that may stand there.
-use Rattle.std.specs.Prelude.{ℕ, suc, ◌+◌, nat_lt, Bool, false, ◌&&◌, ◌||◌, ◌==◌, not, bytes_eq, codes, if◌then◌else◌, List, [], ◌∷◌, length, take, drop, slice_index, Option, Some, None}
+use Rattle.std.specs.Prelude.{ℕ, suc, ◌+◌, nat_lt, Bool, true, false, ◌&&◌, ◌||◌, ◌==◌, not, bytes_eq, codes, if◌then◌else◌, List, [], ◌∷◌, length, take, drop, slice_index, Option, Some, None}
 use Rattle.std.specs.List.{prefix_len, list_any}
 use Rattle.std.specs.Char.{is_ascii_alphabetic, is_ascii_digit, is_ascii_hexdigit}
 use Rattle.cg_c_syntax.specs.declared.token.Kind.TheVariants.{Word, Number, Mark, Stdint, Cgra, Define}
@@ -45,14 +45,18 @@ is_splice bytes = first_is (λ b. b == 92) bytes || begins (codes "??/") bytes
 
 -- ---- comments
 
--- a byte that no comment may have is next
-abbrev pub is_foul : List ℕ → Bool
-is_foul bytes = is_splice bytes || first_is is_control bytes
+-- a carriage return is next, and another byte than a line feed after it: gcc ends a line there
+abbrev pub is_lone_return : List ℕ → Bool
+is_lone_return bytes = first_is (λ b. b == 13) bytes && first_is (λ b. not (b == 10)) (drop 1 bytes)
+
+-- a byte that no comment may have is next, or one that no comment of one line may have
+abbrev pub is_foul : (one_line : Bool) → List ℕ → Bool
+is_foul one_line bytes = is_splice bytes || first_is is_control bytes || (one_line && is_lone_return bytes)
 
 -- the number of bytes at the front that a comment may have
-abbrev pub sound_length : List ℕ → ℕ
-sound_length [] = 0
-sound_length (b ∷ bytes) = if is_foul (b ∷ bytes) then 0 else suc (sound_length bytes)
+abbrev pub sound_length : (one_line : Bool) → List ℕ → ℕ
+sound_length one_line [] = 0
+sound_length one_line (b ∷ bytes) = if is_foul one_line (b ∷ bytes) then 0 else suc (sound_length one_line bytes)
 
 abbrev pub one_more : Option ℕ → Option ℕ
 one_more None = None
@@ -64,17 +68,17 @@ closed_length [] = None
 closed_length (b ∷ bytes) = if begins (codes "*/") (b ∷ bytes) then Some 2 else one_more (closed_length bytes)
 
 -- a comment whose first byte is followed by n more
-abbrev pub comment_of : ℕ → List ℕ → Piece
-comment_of n bytes = if nat_lt n (sound_length bytes) then Gap n else Nothing (sound_length bytes)
+abbrev pub comment_of : (one_line : Bool) → ℕ → List ℕ → Piece
+comment_of one_line n bytes = if nat_lt n (sound_length one_line bytes) then Gap n else Nothing (sound_length one_line bytes)
 
 -- /* up to the next */, if there is one
 abbrev pub closed_comment : Option ℕ → List ℕ → Piece
 closed_comment None bytes = Nothing 0
-closed_comment (Some n) bytes = comment_of (n + 1) bytes
+closed_comment (Some n) bytes = comment_of false (n + 1) bytes
 
 -- // up to the end of the line
 abbrev pub line_comment : List ℕ → Piece
-line_comment bytes = comment_of (prefix_len (λ b. not (b == 10)) (drop 1 bytes)) bytes
+line_comment bytes = comment_of true (prefix_len (λ b. not (b == 10)) (drop 1 bytes)) bytes
 
 abbrev pub comment_piece : List ℕ → Piece
 comment_piece bytes = if begins (codes "/*") bytes then closed_comment (closed_length (drop 2 bytes)) bytes else line_comment bytes
@@ -187,11 +191,17 @@ token_piece bytes =
     if is_letter (slice_index bytes 0) then Token Word (prefix_len is_word_byte (drop 1 bytes))
     else (if is_ascii_digit (slice_index bytes 0) then number_piece bytes else mark_piece bytes)
 
+-- a blank: in a directive's line no carriage return at which gcc ends it
+abbrev pub blank_piece : Line → List ℕ → Piece
+blank_piece Fresh bytes = Gap 0
+blank_piece Begun bytes = Gap 0
+blank_piece Directive bytes = if is_lone_return bytes then Nothing 0 else Gap 0
+
 -- where neither \ nor ??/ is next
 abbrev pub plain_piece : Line → List ℕ → Piece
 plain_piece line bytes =
     if slice_index bytes 0 == 10 then LineFeed
-    else (if is_blank (slice_index bytes 0) then Gap 0
+    else (if is_blank (slice_index bytes 0) then blank_piece line bytes
     else (if begins (codes "/*") bytes || begins (codes "//") bytes then comment_piece bytes
     else (if slice_index bytes 0 == 35 then directive_piece line (drop 1 bytes) else token_piece bytes)))
 
