@@ -118,6 +118,9 @@ impl<'a> Reader<'a> {
         ensures misses { IfErr result (λ e. Misses e (Operators 0 depth) self.old self.new) }
         ensures same { self.new.bytes ≡ self.old.bytes }
     {
+        if self.is_full() {
+            return Err(Misfit::Memory);
+        }
         match opening_by(self.token.kind, self.token.text) {
             Opening::Sign(sign) => self.signed(alloc, depth, sign),
             Opening::Bracket => self.opened(alloc, depth),

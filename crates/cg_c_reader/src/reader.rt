@@ -9,12 +9,18 @@ use crate::tokens::{Cursor, Token, next_token};
 use crate::words::{is_mark, same};
 use cg_c_syntax::Line;
 
+/// The greatest number of tokens before an operand or a block. The tree of more could take more than a gigabyte: there
+/// is no memory for it.
+const MOST_TOKENS: u32 = 3_000_000;
+
 /// A text, its next token, and the position after that.
 #[derive(Drop)]
 pub(crate) struct Reader<'a> {
     pub bytes: &'a [u8],
     pub token: Token<'a>,
     pub next: Cursor,
+    /// The number of tokens that were taken.
+    pub taken: u32,
     ghost within: { next.place ≤ length bytes.now } by { Prim.hlevel props },
     ghost ascii: { is_word token.kind ≡ true → IsAscii token.text.now } by { Prim.hlevel props },
 }
@@ -40,6 +46,7 @@ impl<'a> Reader<'a> {
             bytes,
             token: cut.token,
             next: cut.next,
+            taken: 0,
         }
     }
 
@@ -52,6 +59,12 @@ impl<'a> Reader<'a> {
         let cut = next_token(self.bytes, self.next);
         self.token = cut.token;
         self.next = cut.next;
+        self.taken = self.taken.saturating_add(1);
+    }
+
+    /// Returns whether no operand and no block may follow the tokens that were taken.
+    pub fn is_full(&self) -> bool {
+        self.taken >= MOST_TOKENS
     }
 
     /// Returns whether the next token is the mark `text`.

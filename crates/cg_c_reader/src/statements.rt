@@ -171,6 +171,9 @@ impl<'a> Reader<'a> {
         if depth >= MOST_OPEN {
             return Err(Misfit::Depth(self.token.place));
         }
+        if self.is_full() {
+            return Err(Misfit::Memory);
+        }
         self.take();
         let stmts = self.statements(alloc, depth + 1)?;
         Ok(braced(stmts))
