@@ -140,6 +140,11 @@ impl Bench {
         self.store.held(name)
     }
 
+    /// Returns the first `count` bytes of what is held under `name`; None where there are not that many.
+    pub(crate) fn beginning(&self, name: &str, count: usize) -> Option<&[u8]> {
+        self.store.held(name)?.get(..count)
+    }
+
     /// Makes call `number` of the store fail.
     pub(crate) fn fail_store(&mut self, number: u32) -> Result<(), AllocError> {
         self.store.fail_at(&[number])

@@ -7,6 +7,7 @@ mod bench;
 mod content;
 mod disk;
 mod series;
+mod source;
 mod transcript;
 
 use std::rt::Files;

@@ -3,6 +3,7 @@
 use crate::bench::Bench;
 use crate::content::add_line;
 use crate::series::{Series, with_number};
+use crate::source::{Alteration, Part, Question, ends_too_early, verdict};
 use std::alloc::{AllocError, Global};
 
 /// What the next content lines describe.
@@ -143,6 +144,11 @@ impl Transcript {
             "notes" => self.expect(alloc, Purpose::Notes),
             "progress" => self.expect(alloc, Purpose::Progress),
             "same" => self.judge_same(alloc, rest),
+            "c" => self.judge_source(alloc, Question::Verdict, rest),
+            "hint" => self.judge_source(alloc, Question::Hint, rest),
+            "cuts" => self.judge_cuts(alloc, rest),
+            "doubled" => self.judge_altered(alloc, Alteration::Doubled, rest),
+            "blank" => self.judge_altered(alloc, Alteration::Blank, rest),
             _ => self.differ(alloc, "no such line", line),
         }
     }
@@ -362,6 +368,85 @@ impl Transcript {
             (Some(some), Some(others)) if some == others => Ok(()),
             _ => self.differ(alloc, "not the same:", line),
         }
+    }
+
+    /// Notes a difference where the answer to `question` for the source in a file isn't what is wanted: `line` is
+    /// `NAME WANTED`.
+    fn judge_source(
+        &mut self,
+        alloc: Global,
+        question: Question,
+        line: &str,
+    ) -> Result<(), AllocError> {
+        let (name, wanted) = line.split_once(' ').unwrap_or((line, ""));
+        let got = match self.bench.held(name) {
+            Some(bytes) => question.answer(alloc, bytes)?,
+            None => String::from_str(alloc, "nothing")?,
+        };
+        self.judge_verdict(alloc, line, wanted, got.as_str())
+    }
+
+    /// Notes a difference where a source that is cut isn't one that ends too early: `line` is `NAME N ..`, and for each
+    /// number the file is cut to that many bytes.
+    fn judge_cuts(&mut self, alloc: Global, line: &str) -> Result<(), AllocError> {
+        let (name, numbers) = line.split_once(' ').unwrap_or((line, ""));
+        for number in numbers.split(' ') {
+            let Ok(count) = number.parse::<usize>() else {
+                self.differ(alloc, "no number", number)?;
+                continue;
+            };
+            self.judge_cut(alloc, name, count)?;
+        }
+        Ok(())
+    }
+
+    /// Notes a difference where the source in the file `name`, cut to `count` bytes, isn't one that ends too early.
+    fn judge_cut(&mut self, alloc: Global, name: &str, count: usize) -> Result<(), AllocError> {
+        let cut = format!(in alloc; "{name} {count}")?;
+        let Some(bytes) = self.bench.beginning(name, count) else {
+            return self.differ(alloc, "nothing to alter under", cut.as_str());
+        };
+        let wanted = ends_too_early(alloc, bytes)?;
+        let got = verdict(alloc, bytes)?;
+        self.judge_verdict(alloc, cut.as_str(), wanted.as_str(), got.as_str())
+    }
+
+    /// Notes a difference where what is said of a source of which a part is altered isn't what is wanted: `line` is
+    /// `NAME A B WANTED`, and the part is that from byte A up to byte B.
+    fn judge_altered(
+        &mut self,
+        alloc: Global,
+        alteration: Alteration,
+        line: &str,
+    ) -> Result<(), AllocError> {
+        let Some(part) = Part::read(line) else {
+            return self.differ(alloc, "no part of a file:", line);
+        };
+        let altered = match self.bench.held(part.name) {
+            Some(bytes) => part.altered(alloc, alteration, bytes)?,
+            None => None,
+        };
+        let Some(text) = altered else {
+            return self.differ(alloc, "nothing to alter under", line);
+        };
+        let got = verdict(alloc, text.as_slice())?;
+        self.judge_verdict(alloc, line, part.wanted, got.as_str())
+    }
+
+    /// Notes a difference where `got`, what is said of the source that the row `row` names, isn't `wanted`.
+    fn judge_verdict(
+        &mut self,
+        alloc: Global,
+        row: &str,
+        wanted: &str,
+        got: &str,
+    ) -> Result<(), AllocError> {
+        self.calls = true;
+        if got == wanted {
+            return Ok(());
+        }
+        let line = format!(in alloc; "{got}, not {row}")?;
+        self.differ(alloc, "said", line.as_str())
     }
 
     /// Notes a difference in this case: `what`, and the `text` that differs.
