@@ -1,0 +1,11 @@
+pub mod Rows
+pub mod Steps
+pub mod Words
+pub mod Listed
+pub mod Typed
+pub mod TypedSteps
+pub mod Stated
+pub mod Kept
+pub mod Around
+pub mod Whole
+pub mod TypedLists
