@@ -1,0 +1,11 @@
+mod Adding
+mod Bits
+mod Choosing
+mod Comparing
+mod Deciding
+mod Done
+mod Found
+mod Known
+mod Planning
+mod Shifting
+mod Truths

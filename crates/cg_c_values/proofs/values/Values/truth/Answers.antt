@@ -1,0 +1,5 @@
+use Rattle.cg_c_values.proofs.Done.{truth_done}
+use Rattle.cg_c_values.proofs.values.Values.truth.Goals as goal
+
+pub returns-clause-means : goal.returns-clause-means
+returns-clause-means c = truth_done c.constant.new.self.values.keys c.two.new.self.values.keys c.args.v c.in_ok-zero.zero c.two.result c.in_ok-zero.ensures.means c.two.ensures.kept c.two.ensures.means
