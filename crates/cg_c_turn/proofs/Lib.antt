@@ -1,0 +1,12 @@
+pub mod Leading
+pub mod Taken
+pub mod Growing
+pub mod Yielding
+pub mod Guarding
+pub mod Operating
+pub mod Leaves
+pub mod Addressing
+pub mod Composing
+pub mod Loading
+pub mod Shapes
+pub mod Elements

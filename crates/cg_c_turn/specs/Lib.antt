@@ -1,0 +1,4 @@
+pub mod Draft
+pub mod Leads
+pub mod Stands
+pub mod Pieces
