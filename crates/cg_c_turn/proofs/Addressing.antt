@@ -1,5 +1,5 @@
 -- The addresses of elements.
-use Rattle.std.proofs.Common.{◌≡◌, ◌⊎◌, ℕ, zero, suc, ◌+◌, ◌*◌, ◌%◌, ◌<◌, ◌≤◌, nat_lt, min, if◌then◌else◌, Bool, true, false, List, [], ◌∷◌, length, map, Option, Some, None, option_map, get_or, drop, drop-cons, Contains, slice_get, refl, sym, ap, ap₂, ◌∙◌, arith, subst, inl, inr}
+use Rattle.std.proofs.Common.{◌≡◌, ◌⊎◌, ℕ, zero, suc, ◌+◌, ◌*◌, ◌%◌, ◌<◌, ◌≤◌, nat_lt, min, if◌then◌else◌, Bool, true, false, List, [], ◌∷◌, length, map, Option, Some, None, option_map, get_or, drop, drop-cons, slice_get, refl, sym, ap, ap₂, ◌∙◌, arith, subst, inl, inr}
 use Rattle.std.proofs.Math.Nat.{mod-eq_of_lt, mul-le-mul_left}
 use Rattle.std.proofs.Math.ListN.{drop_of_length-le}
 use Rattle.std.proofs.lemmas.Option.{get_or_from_slice_get, slice_get_read}
@@ -14,7 +14,7 @@ use Rattle.cg_c_values.specs.Values.{Moment, Words, Fits, Extends, Means}
 use Rattle.cg_c_meaning.specs.Meaning.{place_in, address_in}
 use Rattle.cg_c_meaning.specs.Typed.{AreArranged}
 use Rattle.cg_c_turn.specs.Draft.{Draft}
-use Rattle.cg_c_turn.specs.Leads.{IsInside, array_of}
+use Rattle.cg_c_turn.specs.Leads.{array_of}
 use Rattle.cg_c_turn.specs.Stands.{AreBelow, IsFormed}
 use Rattle.cg_c_turn.specs.Pieces.{Addresses, Places}
 use Rattle.cg_c_turn.proofs.Growing.{extends_refl, extends_then, fits_back, steps_with}

@@ -14,22 +14,20 @@ use Rattle.cg_c_check.specs.declared.program.Array.{Array}
 use Rattle.cg_c_check.specs.Rules.{is_conditional, is_true, two_words, signed_word, cast_word}
 use Rattle.cg_c_check.specs.Program.{Expr, Literal, Word, Counter, Element, Signed, Converted, Input, Picked, Two, Choice, Exprs, NoExprs, MoreExprs}
 use Rattle.cg_c_values.specs.declared.value.Value.{Value}
-use Rattle.cg_c_values.specs.Values.{Moment, Words, Fits, Extends, Means, holds}
-use Rattle.cg_c_meaning.specs.Meaning.{State, Context, Run, ◌>>=◌, onward, give, is_settled, pick_op, value}
-use Rattle.cg_c_meaning.specs.Taken.{ExpressionsTake}
+use Rattle.cg_c_values.specs.Values.{Moment, Words, Fits, Extends, Means}
+use Rattle.cg_c_meaning.specs.Meaning.{State, Context, ◌>>=◌, onward, give, is_settled, pick_op, value}
 use Rattle.cg_c_meaning.specs.Typed.{AreApart, IsTypedExpr, IsTypedExprs, inputs}
 use Rattle.cg_c_check.specs.declared.program.Link.{Link}
 use Rattle.cg_c_check.specs.Written.{expr_of, linked}
 use Rattle.cg_c_turn.specs.Draft.{Draft, Effect}
-use Rattle.cg_c_turn.specs.Leads.{Outcome}
 use Rattle.cg_c_turn.specs.Stands.{Wanted, TheWord, ACondition, Agrees, AreReady, Grows, IsFormed, Translates}
-use Rattle.cg_c_turn.specs.Pieces.{Leaves, Steps, Yields, Guards, Joins, Links, Maps, Settles, IsLed, Enters, wanted_of, side_of, under, only_if, rest_of_two}
-use Rattle.cg_c_turn.proofs.Growing.{steps_with, steps_then, leaves_by, leaves_all, ready_first, ready_second, apart_first, apart_second, extends_then, fits_back}
+use Rattle.cg_c_turn.specs.Pieces.{Leaves, Yields, Guards, Joins, Links, Maps, Settles, IsLed, Enters, wanted_of, side_of, under, only_if, rest_of_two}
+use Rattle.cg_c_turn.proofs.Growing.{steps_with, steps_then, leaves_by, leaves_all, ready_first, ready_second, apart_first, apart_second, fits_back}
 use Rattle.cg_c_turn.proofs.Yielding.{TakesOnly, yields_of, steps_of, translates_by, yields_then, yields_pure, yields_weaker}
 use Rattle.cg_c_turn.proofs.Guarding.{back_under, guards_by}
 use Rattle.cg_c_turn.proofs.Operating.{agrees_with, lt_is_true}
 use Rattle.cg_c_turn.proofs.Leaves.{with_values, result_of}
-use Rattle.cg_c_turn.proofs.Taken.{expressions_take}
+use Rattle.cg_c_meaning.proofs.Taking.{expressions_take}
 
 state_after : State → Option (ℕ × State) → State
 state_after s None = s

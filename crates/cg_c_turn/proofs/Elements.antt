@@ -1,24 +1,23 @@
 -- Elements of arrays, by the translations of their indices.
-use Rattle.std.proofs.Common.{◌≡◌, ℕ, zero, suc, ◌+◌, ◌<◌, ◌≤◌, true, false, Bool, List, [], ◌∷◌, ◌++◌, length, map, drop, drop-cons, get_or, Contains, Option, Some, None, slice_index_or, refl, sym, ap, ap₂, ◌∙◌, arith, append-nil, append_assoc, subst, inl, inr}
+use Rattle.std.proofs.Common.{◌≡◌, ℕ, zero, suc, ◌+◌, ◌<◌, ◌≤◌, true, Bool, List, [], ◌∷◌, ◌++◌, length, map, drop, drop-cons, get_or, Contains, Option, Some, None, refl, sym, ap, ap₂, ◌∙◌, arith, append-nil, append_assoc, subst, inl, inr}
 use Rattle.std.proofs.Math.ListN.{drop_of_length-le}
 use Rattle.std.proofs.lemmas.List.Elements.{Contains-append_cases}
 use Rattle.cg_c_syntax.specs.declared.statement.Signedness.{Signedness}
 use Rattle.cg_c_check.specs.declared.program.Array.{Array}
 use Rattle.cg_c_check.specs.declared.program.Expr.{Expr as MadeExpr}
-use Rattle.cg_c_check.specs.Program.{Expr, Exprs, Element, NoExprs, MoreExprs}
+use Rattle.cg_c_check.specs.Program.{Expr, Exprs, Element, NoExprs}
 use Rattle.cg_c_check.specs.Written.{expr_of, exprs_of}
-use Rattle.cg_c_values.specs.declared.value.Value.{Value}
-use Rattle.cg_c_values.specs.Values.{Moment, Words, Fits, Extends}
+use Rattle.cg_c_values.specs.Values.{Words}
 use Rattle.cg_c_meaning.specs.Meaning.{State, Context, Run, ◌>>=◌, onward, give, defined, with_state, loaded, array_at, address_in, value, values}
 use Rattle.cg_c_meaning.specs.Typed.{AreApart, IsTypedExpr, IsTypedExprs, inputs, inputs_of}
 use Rattle.cg_c_turn.specs.Draft.{Draft, Effect}
-use Rattle.cg_c_turn.specs.Leads.{Outcome, IsInside, array_of}
-use Rattle.cg_c_turn.specs.Stands.{Wanted, TheWord, Agrees, AreBelow, AreReady, IsFormed, Translates}
-use Rattle.cg_c_turn.specs.Pieces.{Addresses, AreTranslated, Leaves, Loads, Steps, Yields}
+use Rattle.cg_c_turn.specs.Leads.{IsInside, array_of}
+use Rattle.cg_c_turn.specs.Stands.{TheWord, Agrees, AreBelow, AreReady, IsFormed, Translates}
+use Rattle.cg_c_turn.specs.Pieces.{Addresses, AreTranslated, Leaves, Loads, Yields}
 use Rattle.cg_c_turn.proofs.Growing.{apart_first, apart_second, leaves_all, leaves_by, steps_refl, steps_then}
 use Rattle.cg_c_turn.proofs.Yielding.{TakesOnly, steps_of, translates_by, yields_pure, yields_then, yields_weaker}
 use Rattle.cg_c_turn.proofs.Composing.{under_word, takes_value}
-use Rattle.cg_c_turn.proofs.Taken.{indices_take}
+use Rattle.cg_c_meaning.proofs.Taking.{indices_take}
 
 takes_values : (arrays : List Array) (each : Bool) (es : Exprs) → IsTypedExprs arrays each es → TakesOnly (λ c. values c es) (inputs_of es)
 takes_values arrays each es typed = record { takes = λ c s t ws goes. leaves_by s t (inputs_of es) (indices_take arrays each c es s t ws typed goes) }

@@ -1,17 +1,17 @@
 -- Drafts that grow: what is known of a longer draft is known of the shorter one, and the other way round.
-use Rattle.std.proofs.Common.{◌≡◌, ℕ, zero, suc, ◌+◌, ◌<◌, ◌≤◌, ◌==◌, if◌then◌else◌, Bool, true, false, List, [], ◌∷◌, ◌++◌, length, Contains, Option, Some, None, slice_get, slice_index, refl, sym, ap, ◌∙◌, arith, append_assoc, append-nil, inl, inr, eqb→eq, add-zero, slice_index_or, subst}
+use Rattle.std.proofs.Common.{◌≡◌, ℕ, zero, suc, ◌+◌, ◌≤◌, ◌==◌, if◌then◌else◌, Bool, true, false, List, [], ◌∷◌, ◌++◌, length, Contains, Option, Some, None, slice_get, slice_index, refl, sym, ap, ◌∙◌, arith, append_assoc, append-nil, inl, inr, eqb→eq, add-zero, slice_index_or, subst}
 use Rattle.std.proofs.lemmas.Float.{T_from_true}
 use Rattle.std.proofs.lemmas.List.Elements.{Contains-append_left, Contains-append_right, Contains-append_cases}
 use Rattle.cg_c_check.specs.declared.program.Array.{Array}
 use Rattle.cg_c_values.specs.declared.value.Value.{Value}
 use Rattle.cg_c_values.specs.declared.value.Value.TheVariants.{Loaded}
-use Rattle.cg_c_values.specs.Values.{Moment, Words, Fits, Extends, IsBelow, IsWordOf, holds, value_at}
+use Rattle.cg_c_values.specs.Values.{Moment, Words, Fits, Extends, IsBelow, IsWordOf}
 use Rattle.cg_c_meaning.specs.Meaning.{State, Context}
 use Rattle.cg_c_meaning.specs.Taken.{TakesAlone, times}
 use Rattle.cg_c_meaning.specs.Typed.{AreApart}
-use Rattle.cg_c_turn.specs.Draft.{Draft, Effect, Load, Stored, Latest, assigned_in, initial_in, latest_in}
+use Rattle.cg_c_turn.specs.Draft.{Draft, Effect, Load, Stored, Latest, assigned_in, latest_in}
 use Rattle.cg_c_turn.specs.Leads.{Outcome, IsInside}
-use Rattle.cg_c_turn.specs.Stands.{IsFresh, AreBelow, IsStoredBelow, IsLoadOf, IsFormed, IsTouched, Grows, Runs, IsSound, Matches, AreReady, word_in, word_or, begun}
+use Rattle.cg_c_turn.specs.Stands.{IsFresh, IsStoredBelow, IsFormed, IsTouched, Grows, Runs, IsSound, Matches, AreReady, word_in, word_or, begun}
 use Rattle.cg_c_turn.specs.Pieces.{Leaves, Steps}
 
 -- ---- values

@@ -1,15 +1,14 @@
 -- An expression that is evaluated under a condition.
-use Rattle.std.proofs.Common.{◌≡◌, ℕ, ◌<◌, ◌&&◌, nat_lt, if◌then◌else◌, Bool, true, false, List, [], ◌∷◌, ◌++◌, length, Option, Some, None, slice_index, refl, sym, ap, ◌∙◌, arith, subst}
+use Rattle.std.proofs.Common.{◌≡◌, ℕ, Bool, true, List, ◌++◌, length, Option, Some, slice_index, refl, sym, ap, ◌∙◌, subst}
 use Rattle.cg_c_check.specs.declared.program.Array.{Array}
 use Rattle.cg_c_check.specs.Program.{Expr}
-use Rattle.cg_c_values.specs.declared.value.Value.{Value}
-use Rattle.cg_c_values.specs.Values.{Moment, Words, Fits, Extends, IsBelow, holds}
-use Rattle.cg_c_meaning.specs.Meaning.{State, Context, Run, value}
+use Rattle.cg_c_values.specs.Values.{Moment, Words, Extends, holds}
+use Rattle.cg_c_meaning.specs.Meaning.{value}
 use Rattle.cg_c_meaning.specs.Typed.{inputs}
 use Rattle.cg_c_turn.specs.Draft.{Draft, Effect}
 use Rattle.cg_c_turn.specs.Leads.{Outcome, Leads}
-use Rattle.cg_c_turn.specs.Stands.{Wanted, Agrees, Evaluates, IsEvaluated, Grows, IsFormed, IsSound, Matches, Runs, Translates}
-use Rattle.cg_c_turn.specs.Pieces.{Steps, Goes, IsLeft, Yields, Enters, Guards, only_if}
+use Rattle.cg_c_turn.specs.Stands.{Wanted, Agrees, Evaluates, IsEvaluated, IsFormed, IsSound, Matches, Runs, Translates}
+use Rattle.cg_c_turn.specs.Pieces.{Steps, Goes, IsLeft, Enters, Guards, only_if}
 use Rattle.cg_c_turn.proofs.Leading.{leads_weaker}
 use Rattle.cg_c_turn.proofs.Growing.{below_on, extends_then, fits_back, formed_with, matches_with, sound_on, sound_with, runs_without, touched_on, extends_refl}
 

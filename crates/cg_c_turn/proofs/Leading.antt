@@ -1,5 +1,5 @@
 -- What effects lead to: more where more is claimed of the end, and one part of them after another.
-use Rattle.std.proofs.Common.{◌≡◌, ℕ, if◌then◌else◌, true, List, [], ◌∷◌, ◌++◌, slice_index}
+use Rattle.std.proofs.Common.{if◌then◌else◌, List, [], ◌∷◌, ◌++◌}
 use Rattle.cg_c_check.specs.declared.program.Array.{Array}
 use Rattle.cg_c_values.specs.Values.{Words, holds}
 use Rattle.cg_c_turn.specs.Draft.{Effect, Load, Store, Send}

@@ -1,5 +1,5 @@
 -- Expressions of one part, whose value is there at once.
-use Rattle.std.proofs.Common.{◌≡◌, ℕ, zero, ◌<◌, ◌==◌, ◌&&◌, nat_lt, not, if◌then◌else◌, Bool, true, false, List, [], ◌∷◌, length, Contains, Option, Some, None, slice_get, slice_index, slice_index_or, refl, sym, ap, ap₂, ◌∙◌, arith, subst, eqb→eq}
+use Rattle.std.proofs.Common.{◌≡◌, ℕ, zero, ◌<◌, ◌==◌, ◌&&◌, nat_lt, not, if◌then◌else◌, Bool, true, false, List, [], length, Option, Some, None, slice_get, slice_index, slice_index_or, refl, sym, ap, ap₂, ◌∙◌, arith, subst, eqb→eq}
 use Rattle.std.proofs.lemmas.Float.{T_from_true}
 use Rattle.std.proofs.lemmas.Bool.{and_parts}
 use Rattle.cg_word.specs.Word.{one_if}
@@ -12,9 +12,9 @@ use Rattle.cg_c_values.specs.declared.value.Value.TheVariants.{Carried, Input as
 use Rattle.cg_c_values.specs.Values.{Moment, Words, Fits, Extends, IsBelow, IsWordOf, Means, holds, value_at}
 use Rattle.cg_c_meaning.specs.Meaning.{State, Context, value}
 use Rattle.cg_c_meaning.specs.Typed.{inputs}
-use Rattle.cg_c_turn.specs.Draft.{Draft, Effect, assigned_in, initial_in}
+use Rattle.cg_c_turn.specs.Draft.{Draft, assigned_in, initial_in}
 use Rattle.cg_c_turn.specs.Leads.{Outcome}
-use Rattle.cg_c_turn.specs.Stands.{Wanted, ACondition, Agrees, AreReady, IsFormed, IsSound, Matches, Runs, Translates, begun, word_or, word_in}
+use Rattle.cg_c_turn.specs.Stands.{Wanted, ACondition, Agrees, AreReady, IsFormed, Matches, Runs, Translates, begun, word_or, word_in}
 use Rattle.cg_c_turn.specs.Pieces.{Enters}
 use Rattle.cg_c_turn.proofs.Growing.{steps_with, extends_then, fits_back, extends_refl}
 use Rattle.cg_c_turn.proofs.Operating.{agrees_with, lt_one_if, lt_is_true}

@@ -1,5 +1,5 @@
 -- Words that are loaded from arrays.
-use Rattle.std.proofs.Common.{◌≡◌, ℕ, zero, suc, ◌+◌, ◌-◌, ◌<◌, ◌≤◌, nat_lt, Bool, true, false, List, [], ◌∷◌, ◌++◌, length, Contains, Option, Some, None, get_or, slice_get, slice_index, slice_index_or, refl, sym, ap, ap₂, ◌∙◌, arith, subst, inl, inr, append_assoc, append-nil}
+use Rattle.std.proofs.Common.{◌≡◌, ℕ, zero, suc, ◌+◌, ◌-◌, ◌<◌, ◌≤◌, true, List, [], ◌∷◌, ◌++◌, length, Contains, Option, Some, None, get_or, slice_index, refl, sym, ap, ap₂, ◌∙◌, arith, subst, inl, inr}
 use Rattle.std.proofs.lemmas.Option.{get_or_from_slice_get, slice_get_read}
 use Rattle.std.proofs.lemmas.List.Elements.{Contains-append_cases}
 use Rattle.std.specs.List.{HoldsAt}
@@ -8,13 +8,13 @@ use denote.Bor.{Bor}
 use Rattle.cg_c_check.specs.declared.program.Array.{Array}
 use Rattle.cg_c_values.specs.declared.value.Value.{Value}
 use Rattle.cg_c_values.specs.declared.value.Value.TheVariants.{Const, Loaded}
-use Rattle.cg_c_values.specs.Values.{Moment, Words, Fits, Extends, IsBelow, Means, holds, value_at}
-use Rattle.cg_c_meaning.specs.Meaning.{State, Context, loaded}
+use Rattle.cg_c_values.specs.Values.{Moment, Words, Fits, Extends, holds, value_at}
+use Rattle.cg_c_meaning.specs.Meaning.{loaded}
 use Rattle.cg_c_turn.specs.Draft.{Draft, Effect, Load, Store, Send, Latest, Stored, latest_in}
 use Rattle.cg_c_turn.specs.Leads.{Outcome, Leads, IsInside}
-use Rattle.cg_c_turn.specs.Stands.{HasTable, IsFormed, IsFresh, IsLoadOf, IsSound, Runs}
-use Rattle.cg_c_turn.specs.Pieces.{Goes, IsFound, IsLeft, Loads, Steps, Yields}
-use Rattle.cg_c_turn.proofs.Growing.{below_on, extends_refl, fits_back, formed_with, sound_on, steps_with}
+use Rattle.cg_c_turn.specs.Stands.{HasTable, IsFormed, IsFresh, IsLoadOf, IsSound}
+use Rattle.cg_c_turn.specs.Pieces.{IsFound, Loads}
+use Rattle.cg_c_turn.proofs.Growing.{below_on, fits_back, formed_with, sound_on, steps_with}
 use Rattle.cg_c_turn.proofs.Yielding.{yields_pure}
 use Rattle.cg_c_turn.proofs.Operating.{const_is}
 use Rattle.cg_c_turn.proofs.Leaves.{with_values, result_of}

@@ -1,12 +1,11 @@
 -- Operations on values, by what they give for words.
-use Rattle.std.proofs.Common.{◌≡◌, ℕ, zero, suc, ◌+◌, ◌-◌, ◌<◌, ◌≤◌, ◌==◌, ◌&&◌, ◌||◌, nat_lt, not, if◌then◌else◌, Bool, true, false, List, length, refl, sym, ap, ap₂, ◌∙◌, arith, subst}
+use Rattle.std.proofs.Common.{◌≡◌, ℕ, zero, suc, ◌-◌, ◌<◌, ◌==◌, ◌&&◌, ◌||◌, nat_lt, not, if◌then◌else◌, Bool, true, false, List, length, refl, sym, ap, ap₂, ◌∙◌, arith, subst}
 use Rattle.std.specs.Int.Bits.{or_zero_l}
 use Rattle.std.proofs.lemmas.Nat.{le_or_l}
 use Rattle.std.proofs.lemmas.Bool.Decides.{nat_tests}
-use Rattle.cg_word.specs.Word.{words, one_if, apply_of}
+use Rattle.cg_word.specs.Word.{one_if, apply_of}
 use Rattle.cg_word.specs.declared.op.Op.{Op}
 use Rattle.cg_word.specs.declared.op.Op.TheVariants as ops
-use Rattle.cg_c_syntax.specs.declared.expression.Sign.{Sign}
 use Rattle.cg_c_syntax.specs.declared.expression.Sign.TheVariants as marks
 use Rattle.cg_c_syntax.specs.declared.expression.Binary.{Binary}
 use Rattle.cg_c_syntax.specs.declared.expression.Binary.TheVariants.{OrElse, AndThen, Or, Xor, And, Equal, Unequal, Less, AtMost, Greater, AtLeast, ShiftLeft, ShiftRight, Add, Sub, Mul}
@@ -18,7 +17,7 @@ use Rattle.cg_c_values.specs.declared.value.Value.TheVariants.{Const}
 use Rattle.cg_c_values.specs.Values.{Moment, Words, Fits, Extends, IsWordOf, Means, value_at}
 use Rattle.cg_c_meaning.specs.Meaning.{is_settled}
 use Rattle.cg_c_turn.specs.Stands.{Wanted, TheWord, ACondition, Agrees}
-use Rattle.cg_c_turn.specs.Pieces.{Maps, Joins, side_of, under, is_direct, less_op, direct_op}
+use Rattle.cg_c_turn.specs.Pieces.{Maps, Joins, side_of, is_direct, less_op, direct_op}
 use Rattle.cg_c_turn.proofs.Growing.{extends_then, fits_back}
 
 -- ---- tests

@@ -1,5 +1,5 @@
 -- The expressions that values of the program denote, by their parts.
-use Rattle.std.proofs.Common.{◌≡◌, ◌++◌, append_assoc, ℕ, true, false, List, refl, sym, ap, ap₂, Vec, ◌∙◌, rules, subst, Box, Global}
+use Rattle.std.proofs.Common.{◌≡◌, ◌++◌, append_assoc, true, false, List, refl, sym, ap, ap₂, Vec, ◌∙◌, rules, subst, Box, Global}
 use Rattle.cg_c_syntax.specs.declared.expression.Cast.{Cast}
 use Rattle.cg_c_syntax.specs.declared.expression.Pick.{Pick}
 use Rattle.cg_c_syntax.specs.declared.expression.Sign.{Sign}

@@ -1,18 +1,16 @@
 -- Parts of a run, one after another.
-use Rattle.std.proofs.Common.{◌≡◌, ℕ, ◌<◌, ◌&&◌, nat_lt, if◌then◌else◌, Bool, true, false, List, [], ◌∷◌, ◌++◌, length, Option, Some, None, refl, sym, ap, ◌∙◌, arith, append-nil, subst}
+use Rattle.std.proofs.Common.{◌≡◌, ℕ, ◌<◌, Bool, true, false, List, [], ◌++◌, length, Option, Some, None, refl, sym, ap, ◌∙◌, append-nil, subst}
 use Rattle.cg_c_check.specs.declared.program.Array.{Array}
 use Rattle.cg_c_check.specs.Program.{Expr}
-use Rattle.cg_c_values.specs.declared.value.Value.{Value}
-use Rattle.cg_c_values.specs.Values.{Moment, Words, Fits, Extends, holds}
-use Rattle.cg_c_meaning.specs.Meaning.{State, Context, Run, ◌>>=◌, onward, give, value}
-use Rattle.cg_c_meaning.specs.Taken.{TakesAlone}
+use Rattle.cg_c_values.specs.Values.{Moment, Words, Fits, holds}
+use Rattle.cg_c_meaning.specs.Meaning.{State, Context, Run, ◌>>=◌, onward, value}
 use Rattle.cg_c_meaning.specs.Typed.{AreApart, inputs}
 use Rattle.cg_c_turn.specs.Draft.{Draft, Effect}
 use Rattle.cg_c_turn.specs.Leads.{Outcome, Leads}
-use Rattle.cg_c_turn.specs.Stands.{Wanted, Agrees, Evaluates, IsEvaluated, Grows, IsFormed, IsSound, Matches, AreReady, Runs, Translates}
-use Rattle.cg_c_turn.specs.Pieces.{Leaves, Steps, Goes, IsLeft, Yields, only_if}
+use Rattle.cg_c_turn.specs.Stands.{Wanted, Agrees, IsEvaluated, IsFormed, IsSound, Matches, AreReady, Runs, Translates}
+use Rattle.cg_c_turn.specs.Pieces.{Leaves, Steps, Goes, IsLeft, Yields}
 use Rattle.cg_c_turn.proofs.Leading.{leads_weaker, leads_append}
-use Rattle.cg_c_turn.proofs.Growing.{steps_then, runs_back, matches_on, apart_ready, ready_first, sound_on, fits_back}
+use Rattle.cg_c_turn.proofs.Growing.{runs_back, matches_on, apart_ready, ready_first, sound_on}
 
 -- ---- expressions are parts of a run
 

@@ -1,5 +1,5 @@
 -- The draft of a turn, up to a point in the source.
-use Rattle.std.specs.Prelude.{◌≡◌, ℕ, List, Option, None, slice_index, slice_index_or}
+use Rattle.std.specs.Prelude.{ℕ, List, Option, None, slice_index, slice_index_or}
 use Rattle.cg_c_check.specs.declared.program.Array.{Array}
 use Rattle.cg_c_values.specs.declared.value.Value.{Value}
 use Rattle.cg_c_values.specs.Listed.{listed}

@@ -1,4 +1,8 @@
+pub mod Branched
+pub mod Conditions
 pub mod Draft
 pub mod Leads
-pub mod Stands
 pub mod Pieces
+pub mod Stands
+pub mod Translated
+pub mod Words

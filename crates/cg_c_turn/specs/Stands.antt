@@ -1,5 +1,5 @@
 -- How the draft of a turn stands to a run of the program at the same point.
-use Rattle.std.specs.Prelude.{◌≡◌, ℕ, ◌+◌, ◌<◌, ◌≤◌, ◌==◌, nat_lt, if◌then◌else◌, Bool, true, false, List, [], ◌∷◌, ◌++◌, length, Contains, Option, Some, None, slice_get, slice_index, slice_index_or}
+use Rattle.std.specs.Prelude.{◌≡◌, ℕ, ◌+◌, ◌<◌, ◌≤◌, ◌==◌, nat_lt, if◌then◌else◌, true, false, List, ◌++◌, length, Contains, Option, Some, None, slice_get, slice_index}
 use Rattle.cg_c_check.specs.declared.program.Array.{Array}
 use Rattle.cg_c_check.specs.Arrays.{size_of}
 use Rattle.cg_c_check.specs.Program.{Expr}
@@ -150,10 +150,14 @@ pub record IsDone (d : Draft) (x : Moment) (E : Words) (m : Outcome) (c : Contex
   pub idle : holds E d.guard ≡ false → n ≡ m
   pub matches : holds E d.guard ≡ true → Matches d x E n c after
 
--- a part of the program, which takes words from these ports, is translated
-pub record Performs (before after : Draft) (added : List Effect) (run : Context → Run (Unit {0})) (ports : List ℕ) : Type 0 where
+-- a part of the program, which takes words from these ports, is translated, where this is known of the words E
+pub record Performs (before after : Draft) (added : List Effect) (given : Words → Type 0) (run : Context → Run (Unit {0})) (ports : List ℕ) : Type 0 where
   pub grows : Grows before after added
   pub formed : IsFormed after
   pub leads : (x : Moment) (E : Words) (m : Outcome) (c : Context) (end : State) → Runs after x E → IsSound before E m →
-      (holds E before.guard ≡ true → Does before x E m c (run c) ports end) →
+      (holds E before.guard ≡ true → given E × Does before x E m c (run c) ports end) →
       Leads before.arrays E added m (IsDone after x E m c end)
+
+-- nothing is to be known
+abbrev pub Any : Words → Type 0
+Any E = Unit {0}

@@ -1,11 +1,15 @@
-//! One turn of a loop nest in C as values and effects. Expressions are translated: an operand that is evaluated only under a
-//! condition is translated once, and its loads get the condition as a guard.
+//! One turn of a loop nest in C as values and effects. An operand that is evaluated only under a condition is translated
+//! once, and its loads get the condition as a guard; where the branches of a condition assign a word, its value behind them
+//! is selected. Expressions, declarations and outputs are translated.
 #![tactic(auto)]
 
+mod branches;
 mod draft;
 mod effect;
 mod expressions;
 mod loads;
+mod statements;
+mod words;
 
 pub use draft::{Draft, Wanted};
 pub use effect::{Effect, Latest, Stored};

@@ -1,4 +1,4 @@
-use Rattle.std.proofs.Common.{◌≡◌, ◌+◌, ◌<◌, ◌≤◌, not, true, List, [], ◌++◌, ◌∙◌, Contains, length, drop, Ok, Err, refl, sym, ap, subst, Result, arith, rules}
+use Rattle.std.proofs.Common.{◌≡◌, ◌+◌, not, true, List, [], ◌++◌, ◌∙◌, Contains, drop, Ok, Err, refl, sym, ap, subst, Result, arith, rules}
 use Rattle.std.specs.Result.{IfOk}
 use Rattle.std.proofs.lemmas.Result.{IfOk-weaker}
 use Rattle.cg_c_check.specs.declared.program.Array.{Array}

@@ -1,4 +1,4 @@
-use Rattle.std.proofs.Common.{◌≡◌, List, drop}
+use Rattle.std.proofs.Common.{drop}
 use Rattle.cg_c_check.specs.Program.{Expr}
 use Rattle.cg_c_turn.specs.Draft.{Draft, draft_of}
 use Rattle.cg_c_turn.specs.Pieces.{IsLed, wanted_of}

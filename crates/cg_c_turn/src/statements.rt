@@ -1,0 +1,46 @@
+//! Declarations and outputs.
+ghost use Rattle.std.specs.Prelude.{◌≡◌, ℕ, true, false, ◌<◌, List, [], Option, Some, None, length, OnOk, IfOk, IfSome, map};
+ghost use Rattle.cg_c_check.specs.Written.{expr_of, initial_of, stmt_of, stmts_of, target_of};
+ghost use Rattle.cg_c_check.specs.Program as program;
+ghost use Rattle.cg_c_meaning.specs.Meaning as meaning;
+ghost use Rattle.cg_c_meaning.specs.Typed.{AreApart, AreTypedInitials, AreTypedStmts, IsTypedExpr, IsTypedStmt, IsTypedTarget, initial_inputs, inputs, stmt_inputs, stmts_inputs};
+ghost use Rattle.cg_c_turn.specs.Draft.{draft_of};
+ghost use Rattle.cg_c_turn.specs.Stands.{IsFormed};
+ghost use Rattle.cg_c_turn.specs.Translated.{IsTranslated};
+
+use crate::draft::{Draft, Wanted};
+use crate::effect::Effect;
+use cg_c_check::{Expr, Initial};
+use std::alloc::AllocError;
+
+impl<'p> Draft<'p> {
+    /// Translates declarations of words.
+    pub fn declare(&mut self, initials: &[Initial]) -> Result<(), AllocError>
+        requires formed { IsFormed (draft_of self.now) }
+        requires typed { AreTypedInitials (draft_of self.now).arrays true (map initial_of initials.now) }
+        requires apart { AreApart (initial_inputs (map initial_of initials.now)) }
+        ensures { OnOk result (IsTranslated (draft_of self.old) (draft_of self.new) (λ c. meaning.declared c (map initial_of initials.now)) (initial_inputs (map initial_of initials.now))) }
+    {
+        for initial in initials {
+            let v = self.expr(&initial.value, Wanted::TheWord)?;
+            self.set_word(initial.number, v)?;
+        }
+        Ok(())
+    }
+
+    /// Translates `out`.
+    pub fn send(&mut self, port: u32, value: &Expr) -> Result<(), AllocError>
+        requires formed { IsFormed (draft_of self.now) }
+        requires typed { IsTypedExpr (draft_of self.now).arrays true (expr_of value.now) }
+        requires apart { AreApart (inputs (expr_of value.now)) }
+        ensures { OnOk result (IsTranslated (draft_of self.old) (draft_of self.new) (λ c. meaning.stmt c (program.Output port (expr_of value.now))) (inputs (expr_of value.now))) }
+    {
+        let word = self.expr(value, Wanted::TheWord)?;
+        self.effects.push(Effect::Send {
+            guard: self.guard,
+            port,
+            word,
+        })?;
+        Ok(())
+    }
+}
