@@ -83,7 +83,7 @@ pub record Nested : Type 0 where
   pub levels : List Level
   pub body : Stmts
 
--- with so many loops around, of so many turns. What is in the innermost loop, each turn passes
+-- inside `depth` loops, which have `turns` turns. What is in the innermost loop, each turn passes
 unfoldable mutual
   pub nest : (depth turns : ℕ) → tree.Nest → Walk Nested
   nest depth turns (tree.Bare body) = do

@@ -37,7 +37,7 @@ is_positive step = nat_lt 0 step && nat_le step most_signed
 abbrev pub stays_signed : (first step trips : ℕ) → Bool
 stays_signed first step trips = nat_lt 0 trips && nat_lt (rank first + step * trips) words
 
--- F11: the turns of a loop are few, where those around have so many
+-- F11: the turns of a loop are few, with those of the loops around
 abbrev pub are_few : (turns trips : ℕ) → Bool
 are_few turns trips = nat_le (turns * trips) most_turns
 
@@ -46,7 +46,7 @@ abbrev pub step_of : Names → Option Expr → Checked Constant
 step_of names None = Ok (record { word = 1; signedness = Signed })
 step_of names (Some e) = constant_of names e
 
--- the range of a loop at a place with this head, with so many turns of the loops around it
+-- the range of a loop at a place with this head, where the loops around it have `turns` turns
 unfoldable pub range_of : Names → (turns place : ℕ) → Head → Checked Range
 range_of names turns place head = do
   first ← constant_of names head.start

@@ -19,7 +19,7 @@ pub(crate) struct Extent {
     pub end: u32,
 }
 
-/// Returns the product of `size` and `dimension`, where that is not 0 and an array of so many words at `start` ends in
+/// Returns the product of `size` and `dimension`, where that is not 0 and an array of that many words at `start` ends in
 /// memory.
 fn enlarged(start: u32, size: u32, dimension: u32) -> Option<u32>
     ensures value { result ≡ (if spec.has_room start size dimension then Some (size * dimension) else None) }

@@ -57,7 +57,7 @@ fn constant_named(place: usize, meaning: Meaning) -> Result<Constant, CheckFault
     }
 }
 
-/// Returns the constant that is named at `place` with so many indices, by the meaning of the name.
+/// Returns the constant that is named at `place` with `indices` indices, by the meaning of the name.
 fn constant_accessed(place: usize, indices: usize, meaning: Meaning) -> Result<Constant, CheckFault>
     ensures { result ≡ spec.constant_accessed place indices meaning }
 {

@@ -23,7 +23,7 @@ use cg_c_syntax::{
 use std::alloc::{AllocError, Global};
 
 /// Returns how the value of `expr` is read.
-fn signedness_of(expr: &Expr) -> Signedness
+pub fn signedness_of(expr: &Expr) -> Signedness
     ensures { result ≡ program.signedness_of (made.expr_of expr.now) }
 {
     match expr {

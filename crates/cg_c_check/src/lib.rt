@@ -18,7 +18,9 @@ mod rules;
 mod statements;
 
 pub use check::check_c;
+pub use expressions::signedness_of;
 pub use fault::CheckFault;
 pub use program::{
     Array, Constant, Element, Expr, Initial, Level, Link, Program, Range, Stmt, Target,
 };
+pub use rules::reading_of;

@@ -162,7 +162,7 @@ fn constant(word: u32, signedness: Signedness) -> Meaning
     Meaning::Constant(Constant { word, signedness })
 }
 
-/// Returns the array that is named at `place` with so many indices, by the meaning of the name.
+/// Returns the array that is named at `place` with `indices` indices, by the meaning of the name.
 pub(crate) fn array_named(
     place: usize,
     indices: usize,
@@ -176,7 +176,7 @@ pub(crate) fn array_named(
     }
 }
 
-/// Returns the array of which an element is assigned at `place` with so many indices, by the meaning of its name.
+/// Returns the array of which an element is assigned at `place` with `indices` indices, by the meaning of its name.
 pub(crate) fn writable_named(
     place: usize,
     indices: usize,

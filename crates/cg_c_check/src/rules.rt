@@ -59,7 +59,7 @@ pub(crate) fn common(left: Signedness, right: Signedness) -> Signedness
 }
 
 /// Returns how `op` reads operands that are read like `left` and `right`.
-pub(crate) fn reading_of(op: Binary, left: Signedness, right: Signedness) -> Signedness
+pub fn reading_of(op: Binary, left: Signedness, right: Signedness) -> Signedness
     ensures { result ≡ spec.reading_of op left right }
 {
     if is_shift(op) {

@@ -14,7 +14,7 @@ use Rattle.cg_c_meaning.proofs.Shaped.{IsDeep, AreDeep}
 
 -- ---- dimensions
 
--- so many dimensions, none of them 0; with them an array at the address start, of `size` words by those before, ends in memory
+-- n dimensions, none of them 0; with them an array at the address start, of `size` words by those before, ends in memory
 abbrev pub AreDimensions : (start size n : ℕ) → List ℕ → Type 0
 AreDimensions start size n ds = (length ds ≡ n) × (0 < size_of ds) × (start + size * size_of ds ≤ most_memory)
 

@@ -3,7 +3,7 @@ use Rattle.std.proofs.Common.{ℕ, zero, suc, List, [], ◌∷◌}
 use Rattle.cg_c_syntax.specs.Tree.{Exprs, NoExprs, MoreExprs, Rows, RowsList, Items, Inner, NoRows, OneMore, Array, Global, Define, Enumeration, Arrays, Constants}
 use Rattle.cg_c_check.specs.Constants.{count}
 
--- rows in so many others
+-- rows inside n others
 abbrev mutual
   pub IsDeep : Rows → ℕ → Type 0
   IsDeep (Items place es) zero = Unit {0}

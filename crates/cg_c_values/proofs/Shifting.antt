@@ -9,7 +9,7 @@ use Rattle.cg_word.specs.Word.{apply_of, sar, words}
 use Rattle.cg_c_values.specs.Plans.{IsShift}
 use Rattle.cg_c_values.specs.Values.{is_plain}
 
--- ---- by so many bits
+-- ---- by a number of bits
 
 shl : ℕ → ℕ → ℕ
 shl x b = (x * 2 ^ b) % words
@@ -106,7 +106,7 @@ shift_zero _ b s = absurd s
 
 -- ---- two shifts in a row
 
--- the two are one, by so many bits together
+-- the two are one, by the sum of their bits
 pub shift_twice : (op : Op) (x b c n : ℕ) → IsShift op → x < words → b < 32 → c < 32 → b + c ≡ n → n < 32 → apply_of op x n 0 ≡ apply_of op (apply_of op x b 0) c 0
 unfolding apply_of
 shift_twice Shl x b c n s l m k e h = rw (← e, mod-eq_of_lt m, mod-eq_of_lt k, mod-eq_of_lt (subst (λ z. z < 32) (sym e) h)) (shl_sum x b c)

@@ -99,7 +99,7 @@ IsShift ops.Shr = Unit {0}
 IsShift ops.Sar = Unit {0}
 IsShift _ = ⊥
 
--- a plan on a value that gives what two shifts by less than 32 bits do, which are shifts by so many bits together
+-- a plan on a value that gives what two shifts by less than 32 bits do, which are shifts by `bits` bits together
 pub record ShiftsBy (plan : Plan) (op : Op) (first bits : ℕ) : Type 0 where
   pub within : (n : ℕ) → first < n → IsPlan n plan
   pub is : (E : Words) (b c : ℕ) → E first < words → b < 32 → c < 32 → b + c ≡ bits → plan_word E plan ≡ apply_of op (apply_of op (E first) b 0) c 0

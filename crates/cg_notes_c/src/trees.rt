@@ -108,7 +108,7 @@ fn wrong_use(alloc: Global, bytes: &[u8], name: &str, place: usize) -> Result<St
     let behind = look_around(bytes, place.saturating_add(name.len()));
     if behind.at == "[" {
         return format!(in alloc;
-            "{name} isn't an array of so many dimensions, or it is a table, which isn't assigned"
+            "{name} isn't an array with that number of dimensions, or it is a table, which isn't assigned"
         );
     }
     if contain(ASSIGNING, behind.at) {
