@@ -1,5 +1,6 @@
 -- What is known of the words of values.
-use Rattle.std.proofs.Common.{◌≡◌, ℕ, ◌<◌, ◌≤◌, List, length, refl, sym, ap, ◌∙◌, subst, arith}
+use Rattle.std.proofs.Common.{◌≡◌, ℕ, ◌<◌, ◌≤◌, List, length, refl, sym, ap, ◌∙◌, subst, arith, ⊎_elim}
+use Rattle.std.proofs.lemmas.Bool.{cases_lt}
 use Rattle.std.specs.Prelude.{IfOk, Ok, Err, Result}
 use Rattle.std.specs.declared.alloc.AllocError.{AllocError}
 use Rattle.cg_word.specs.declared.op.Op.{Op}
@@ -8,7 +9,7 @@ use Rattle.cg_word.specs.Word.{apply_of}
 use Rattle.cg_c_values.specs.Plans.{Commutes}
 use Rattle.cg_c_values.specs.Standing.{GivesTruth, IsTruth}
 use Rattle.cg_c_values.proofs.Truths.{chosen_truth}
-use Rattle.cg_c_values.specs.Values.{Value, Const, Two, Select, Extends, Fits, IsWordOf, Means, Moment, Words, value_at}
+use Rattle.cg_c_values.specs.Values.{Value, Const, Two, Select, Extends, Keeps, Inserts, IsPure, Fits, IsWordOf, Means, Moment, Words, value_at}
 
 -- ---- by what a value is
 
@@ -34,20 +35,42 @@ negative_means s v a b l e m = record { within = l; is = λ x E f. (two_means s 
 -- ---- as values are added
 
 pub extends_itself : (s : List Value) → Extends s s
-extends_itself s = record { longer = omega arith; kept = λ v l. refl }
+extends_itself s = record { longer = omega arith; kept = λ v l. refl; pure = λ v h l. absurd (omega (arith, h, l)) }
 
 pub extends_further : (s t u : List Value) → Extends s t → Extends t u → Extends s u
 extends_further s t u h k =
     let longer = h.longer in
-    record { longer = omega arith; kept = λ v l. k.kept v (omega arith) ∙ h.kept v l }
+    record {
+      longer = omega (arith, longer, k.longer);
+      kept = λ v l. k.kept v (omega (arith, longer, l)) ∙ h.kept v l;
+      pure = λ v from l.
+          ⊎_elim
+          (λ (below : v < length t). subst IsPure (sym (k.kept v below)) (h.pure v from below))
+          (λ (above : length t ≤ v). k.pure v above l)
+          (cases_lt v (length t));
+    }
 
-pub fits_before : (old new : List Value) (x : Moment) (E : Words) → Extends old new → Fits new x E → Fits old x E
-fits_before old new x E h f =
+-- in an extended list the old values are kept
+pub keeps : {s t : List Value} → Extends s t → Keeps s t
+keeps h = record { longer = h.longer; kept = h.kept }
+
+-- so they are where one was inserted
+pub inserts_keep : {s t : List Value} {value : Value} → Inserts s t value → Keeps s t
+inserts_keep h = record { longer = h.longer; kept = h.kept }
+
+pub extends_by : (s t : List Value) (value : Value) → IsPure value → Inserts s t value → Extends s t
+extends_by s t value pure h = record { longer = h.longer; kept = h.kept; pure = λ v from l. subst IsPure (sym (h.one v from l)) pure }
+
+pub fits_kept : (old new : List Value) (x : Moment) (E : Words) → Keeps old new → Fits new x E → Fits old x E
+fits_kept old new x E h f =
     let longer = h.longer in
     record {
       word = λ v l. f.word v (omega arith);
       is = λ v l. subst (λ (value : Value). IsWordOf x E value (E v)) (h.kept v l) (f.is v (omega arith));
     }
+
+pub fits_before : (old new : List Value) (x : Moment) (E : Words) → Extends old new → Fits new x E → Fits old x E
+fits_before old new x E h f = fits_kept old new x E (keeps h) f
 
 -- where the words of two meanings are the same
 pub same_means : (s : List Value) (r : Result ℕ AllocError) (f g : Moment → Words → ℕ) → ((x : Moment) (E : Words) → Fits s x E → f x E ≡ g x E) → IfOk r (λ v. Means s v f) → IfOk r (λ v. Means s v g)

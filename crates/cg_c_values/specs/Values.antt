@@ -48,9 +48,32 @@ pub record Means (values : List Value) (v : ℕ) (word : Moment → Words → �
 -- ---- lists of values
 
 -- values were added at the end
+pub record Keeps (old new : List Value) : Type 0 where
+  pub longer : length old ≤ length new
+  pub kept : (v : ℕ) → v < length old → value_at new v ≡ value_at old v
+
+-- the value is neither that of a load nor a digit or a quotient of the turn's number
+abbrev pub IsPure : Value → Type 0
+IsPure (Quotient divisor) = ⊥
+IsPure (Digit divisor radix) = ⊥
+IsPure (Loaded array version guard address) = ⊥
+IsPure _ = Unit {0}
+
+abbrev pub IsLoad : Value → Type 0
+IsLoad (Loaded array version guard address) = Unit {0}
+IsLoad _ = ⊥
+
+-- values were added at the end, all of them pure
 pub record Extends (old new : List Value) : Type 0 where
   pub longer : length old ≤ length new
   pub kept : (v : ℕ) → v < length old → value_at new v ≡ value_at old v
+  pub pure : (v : ℕ) → length old ≤ v → v < length new → IsPure (value_at new v)
+
+-- a value was added at the end, or none
+pub record Inserts (old new : List Value) (value : Value) : Type 0 where
+  pub longer : length old ≤ length new
+  pub kept : (v : ℕ) → v < length old → value_at new v ≡ value_at old v
+  pub one : (v : ℕ) → length old ≤ v → v < length new → value_at new v ≡ value
 
 -- an operation on two words
 abbrev pub is_plain : Op → Bool

@@ -20,11 +20,11 @@ pub struct Values {
 }
 
 impl Values {
-    ghost use Rattle.std.specs.Prelude.{◌≡◌, ◌≢◌, ℕ, ◌<◌, nat_lt, not, true, List, [], length, Some, None, IfOk, IfSome, MatchOption, ◌&&◌};
+    ghost use Rattle.std.specs.Prelude.{◌≡◌, ◌≢◌, ℕ, ◌<◌, ◌≤◌, nat_lt, not, true, List, [], length, Some, None, IfOk, IfSome, MatchOption, ◌&&◌};
     ghost use Rattle.cg_word.specs.declared.op.Op.TheVariants as ops;
     ghost use Rattle.cg_word.specs.Word.{apply_of, one_if};
     ghost use Rattle.cg_c_values.specs.Listed.{listed};
-    ghost use Rattle.cg_c_values.specs.Values.{Const, Fits, Extends, IsBelow, MayStand, Means, Moment, Words, holds, is_plain, value_at};
+    ghost use Rattle.cg_c_values.specs.Values.{Const, Fits, Extends, Inserts, IsBelow, IsPure, MayStand, Means, Moment, Words, holds, is_plain, value_at};
     ghost use Rattle.cg_c_values.specs.Standing.{IsTruth};
 
     /// Returns no values.
@@ -81,9 +81,10 @@ impl Values {
         self.truths.contains(&v)
     }
 
-    /// Adds a value as it is, unless it is there already, and returns its number.
+    /// Adds a pure value as it is, unless it is there already, and returns its number.
     pub fn add(&mut self, value: Value) -> Result<usize, AllocError>
         requires may_stand { MayStand (length (listed self.now)) value }
+        requires pure { IsPure value }
         ensures kept { Extends (listed self.old) (listed self.new) }
         ensures within { IfOk result (λ v. v < length (listed self.new)) }
         ensures added { IfOk result (λ v. value_at (listed self.new) v ≡ value) }
@@ -96,12 +97,14 @@ impl Values {
         Ok(v)
     }
 
-    /// Adds a value as `add` does, but doesn't note whether it is known to be 0 or 1.
-    fn insert(&mut self, value: Value) -> Result<usize, AllocError>
+    /// Adds any value as it is, unless it is there already, and returns its number. It isn't noted whether the value is
+    /// known to be 0 or 1.
+    pub fn insert(&mut self, value: Value) -> Result<usize, AllocError>
         requires may_stand { MayStand (length (listed self.now)) value }
-        ensures kept { Extends (listed self.old) (listed self.new) }
+        ensures kept { Inserts (listed self.old) (listed self.new) value }
         ensures within { IfOk result (λ v. v < length (listed self.new)) }
         ensures added { IfOk result (λ v. value_at (listed self.new) v ≡ value) }
+        ensures place { IfOk result (λ v. (u : ℕ) → length (listed self.old) ≤ u → u < length (listed self.new) → u ≡ v) }
     {
         let (v, _) = self.values.insert_full(value)?;
         Ok(v)
