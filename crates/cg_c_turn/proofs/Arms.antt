@@ -4,7 +4,8 @@ use Rattle.std.proofs.lemmas.Bool.{and_parts, lt-ltb}
 use Rattle.cg_word.specs.Word.{one_if}
 use Rattle.cg_c_check.specs.declared.program.Array.{Array}
 use Rattle.cg_c_check.specs.Rules.{is_true}
-use Rattle.cg_c_values.specs.Values.{Moment, Words, Fits, Extends, IsBelow, holds}
+use Rattle.cg_c_values.specs.Values.{Moment, Words, Fits, Keeps, IsBelow, holds}
+use Rattle.cg_c_values.proofs.Known.{keeps}
 use Rattle.cg_c_meaning.specs.Meaning.{State, Context, give}
 use Rattle.cg_c_meaning.specs.Typed.{AreArranged}
 use Rattle.cg_c_turn.specs.Draft.{Draft, Effect, Load, Latest, assigned_in, latest_in}
@@ -13,7 +14,8 @@ use Rattle.cg_c_turn.specs.Stands.{ACondition, Agrees, IsStoredBelow, Grows, Run
 use Rattle.cg_c_turn.specs.Conditions.{IsElsewhere, EntersArm, with_point}
 use Rattle.cg_c_turn.specs.Words.{Merges}
 use Rattle.cg_c_turn.proofs.Leading.{leads_weaker, leads_append}
-use Rattle.cg_c_turn.proofs.Prefixes.{runs_before, grows_same, begun_same, runs_shorter, extends_on, extends_same, fits_before}
+use Rattle.cg_c_turn.proofs.Prefixes.{runs_before, grows_same, begun_same, runs_shorter, extends_on, extends_same, fits_before, keeps_on}
+use Rattle.cg_c_turn.proofs.History.{history_with, pure_adds_none}
 use Rattle.cg_c_turn.proofs.Growing.{below_on, stored_on, sound_on}
 use Rattle.cg_c_turn.proofs.Doing.{Step, same_end, not_both, moved_arrays, by_guard}
 
@@ -34,7 +36,7 @@ pub with_point_elsewhere : (d : Draft) (guard : Option ℕ) (words : List (Optio
 with_point_elsewhere d guard words = record { arrays = refl; counters = refl; values = extends_same d.values; effects = refl; initial = refl; latest = refl }
 
 pub sound_elsewhere : (a b : Draft) (E : Words) (m : Outcome) → IsFormed a → IsElsewhere a b → IsSound a E m → IsSound b E m
-sound_elsewhere a b E m formed h sound = sound_on a b E m formed h.arrays h.latest h.effects h.values sound
+sound_elsewhere a b E m formed h sound = sound_on a b E m formed h.arrays h.latest h.effects (keeps h.values) sound
 
 pub runs_elsewhere : {a b : Draft} (x : Moment) (E : Words) → IsElsewhere a b → Runs b x E → Runs a x E
 runs_elsewhere {a = a} {b = b} x E h r = runs_shorter a b h.values h.initial r
@@ -58,6 +60,7 @@ formed_elsewhere a b f h guard words =
             is = h.values.kept value l.within ∙ l.is;
             so_far = subst (λ (z : List Latest). l.version ≤ (slice_index_or z array (record { version = 0; stored = None })).version) (sym h.latest) l.so_far;
           };
+      history = history_with a b h.effects h.latest (keeps h.values) (pure_adds_none h.values) f.history;
     }
 
 -- a run at one point is at another
@@ -149,8 +152,8 @@ record Point (d0 d1 d2 d4 d5 d7 : Draft) (c : ℕ) (x : Moment) (E : Words) (g t
   guard1 : holds E d1.guard ≡ g && t
   other : is_other d0 E c ≡ g && not t
 
-arms_values : {d0 d1 d2 d4 d5 d7 : Draft} {A B : List Effect} {c : ℕ} {first second : Context → Step} → Arms d0 d1 d2 d4 d5 d7 A B c first second → Extends d0.values d7.values
-arms_values h = extends_on h.enters.same.values (extends_on h.chosen.grows.values (extends_on h.elsewhere.values (extends_on h.other.grows.values h.merges.values)))
+arms_values : {d0 d1 d2 d4 d5 d7 : Draft} {A B : List Effect} {c : ℕ} {first second : Context → Step} → Arms d0 d1 d2 d4 d5 d7 A B c first second → Keeps d0.values d7.values
+arms_values h = keeps_on (keeps h.enters.same.values) (keeps_on h.chosen.grows.values (keeps_on (keeps h.elsewhere.values) (keeps_on h.other.grows.values (keeps h.merges.values))))
 
 arms_grow : {d0 d1 d2 d4 d5 d7 : Draft} {A B : List Effect} {c : ℕ} {first second : Context → Step} → Arms d0 d1 d2 d4 d5 d7 A B c first second → Grows d0 d7 (A ++ B)
 arms_grow {d0 = d0} {d1 = d1} {d2 = d2} {A = A} {B = B} h =
@@ -294,7 +297,7 @@ other_arm {d0 = d0} {d3 = d3} {d4 = d4} {d5 = d5} {B = B} {c = c} {n = n} enters
           let r4 : Runs d4 x E = runs_before part.grows r in
           let is : holds E d4.guard ≡ is_other d0 E c =
           enters.both x E r4.fits
-          ∙ ap₂ (λ (a b : Bool). a && b) (ap (λ (z : Option ℕ). holds E z) guard) (negated (E c) (E n) (nat_lt 0 (E c)) (negation x E (fits_before enters.same.values r4.fits)) refl) in
+          ∙ ap₂ (λ (a b : Bool). a && b) (ap (λ (z : Option ℕ). holds E z) guard) (negated (E c) (E n) (nat_lt 0 (E c)) (negation x E (fits_before (keeps enters.same.values) r4.fits)) refl) in
           leads_weaker d4.arrays E B o (IsDone d5 x E o ctx end) (IsPart d5 x E (is_other d0 E c) o ctx end)
           (λ q (done : IsDone d5 x E o ctx end q).
           let guard5 : holds E d5.guard ≡ is_other d0 E c = ap (λ (z : Option ℕ). holds E z) part.grows.guard ∙ is in

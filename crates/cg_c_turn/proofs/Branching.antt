@@ -4,16 +4,17 @@ use Rattle.cg_word.specs.Word.{one_if}
 use Rattle.cg_c_check.specs.Program.{Expr, Stmt, If, IfElse}
 use Rattle.cg_c_values.specs.declared.value.Value.{Value}
 use Rattle.cg_c_values.specs.declared.value.Value.TheVariants.{Const}
-use Rattle.cg_c_values.specs.Values.{Moment, Words, Fits, Extends, IsBelow, IsWordOf, Means, holds, value_at}
+use Rattle.cg_c_values.specs.Values.{Moment, Words, Fits, Keeps, IsBelow, IsWordOf, Means, holds, value_at}
 use Rattle.cg_c_meaning.specs.Meaning.{Context, ◌>>=◌, give, value, stmt}
 use Rattle.cg_c_meaning.specs.Typed.{AreApart, IsTypedExpr, inputs, stmt_inputs}
+use Rattle.cg_c_values.proofs.Known.{keeps}
 use Rattle.cg_c_turn.specs.Draft.{Draft, Effect, assigned_in}
 use Rattle.cg_c_turn.specs.Stands.{ACondition, Agrees, IsFormed, IsDone, Performs, Any, Translates}
 use Rattle.cg_c_turn.specs.Conditions.{IsElsewhere, EntersArm, IsMerged, with_point}
 use Rattle.cg_c_turn.specs.Branched.{Begins, Switches, Ends}
 use Rattle.cg_c_turn.specs.Translated.{IsTranslated, IsBranched, branch_run}
 use Rattle.cg_c_turn.specs.Words.{Merges}
-use Rattle.cg_c_turn.proofs.Prefixes.{begun_same, extends_on, fits_before}
+use Rattle.cg_c_turn.proofs.Prefixes.{begun_same, keeps_on, fits_before}
 use Rattle.cg_c_turn.proofs.Growing.{below_on}
 use Rattle.cg_c_turn.proofs.Doing.{Step, does_nothing, moved_arrays}
 use Rattle.cg_c_turn.proofs.Evaluating.{value_then}
@@ -30,7 +31,7 @@ from_before {d = d} {d0 = d0} {e = e} {es = es} formed same guard words h =
             arrays = h.grows.arrays ∙ same.arrays;
             counters = h.grows.counters ∙ same.counters;
             guard = h.grows.guard ∙ guard;
-            values = extends_on same.values h.grows.values;
+            values = keeps_on (keeps same.values) h.grows.values;
             effects = h.grows.effects ∙ ap (λ (z : List Effect). z ++ es) same.effects;
             initial = λ n t. h.grows.initial n (t.0, omega (arith, t.1, same.values.longer), same.values.kept t.0 t.1 ∙ t.2) ∙ ap (λ (z : List ℕ). slice_index z n) same.initial;
           };
@@ -69,7 +70,7 @@ pub at_point : (a b : Draft) (guard : Option ℕ) (words : List (Option ℕ)) �
 at_point a b guard words is = subst (λ (z : Draft). IsElsewhere a z) (sym is) (with_point_elsewhere a guard words)
 
 -- back at the point before a part
-pub formed_back : (a d b : Draft) → IsFormed a → IsFormed d → Extends a.values d.values → IsElsewhere d b → b.guard ≡ a.guard → b.words ≡ a.words → IsFormed b
+pub formed_back : (a d b : Draft) → IsFormed a → IsFormed d → Keeps a.values d.values → IsElsewhere d b → b.guard ≡ a.guard → b.words ≡ a.words → IsFormed b
 formed_back a d b fa fd longer same guard words =
     formed_elsewhere d b fd same
     (subst (λ (g : Option ℕ). IsBelow (length b.values) g) (sym guard) (below_on (length a.values) (length b.values) a.guard (omega (arith, longer.longer, same.values.longer)) fa.guard))
@@ -88,7 +89,7 @@ both_is d d0 d1 d2 d3 d4 d5 d6 d7 c n g h ws us chosen other formed same guard w
     let guard3 : d3.guard ≡ d0.guard = ap (λ (z : Draft). z.guard) is3 ∙ g_is in
     let words3 : d3.words ≡ d0.words = ap (λ (z : Draft). z.words) is3 ∙ ws_is in
     let formed0 : IsFormed d0 = formed_back d d d0 formed formed (record { longer = omega arith; kept = λ v w. refl }) same guard words in
-    let longer : Extends d0.values d3.values = extends_on enter1.same.values (extends_on first.performs.grows.values to3.values) in
+    let longer : Keeps d0.values d3.values = keeps_on (keeps enter1.same.values) (keeps_on first.performs.grows.values (keeps to3.values)) in
     let parts : Arms d0 d1 d2 d4 d5 d7 first.added second.added c (λ x. stmt x chosen) (λ x. stmt x other) =
     record {
       enters = enter1;
@@ -115,7 +116,7 @@ one_is d d0 d1 d2 d3 d7 c g ws us chosen formed same guard words enter1 g_is ws_
     let guard3 : d3.guard ≡ d0.guard = ap (λ (z : Draft). z.guard) is3 ∙ g_is in
     let words3 : d3.words ≡ d0.words = ap (λ (z : Draft). z.words) is3 ∙ ws_is in
     let formed0 : IsFormed d0 = formed_back d d d0 formed formed (record { longer = omega arith; kept = λ v w. refl }) same guard words in
-    let longer : Extends d0.values d2.values = extends_on enter1.same.values first.performs.grows.values in
+    let longer : Keeps d0.values d2.values = keeps_on (keeps enter1.same.values) first.performs.grows.values in
     let formed3 : IsFormed d3 = formed_back d0 d2 d3 formed0 first.performs.formed longer to3 guard3 words3 in
     let parts : Arms d0 d1 d2 d3 d3 d7 first.added [] c (λ x. stmt x chosen) (λ x. give tt) =
     record {
@@ -166,9 +167,9 @@ if_is {a = a} {b = b} {e = e} {es = es} c chosen other typed none apart one two 
 
 -- ---- the steps of the code
 
-pub begun_formed : {d d1 d2 : Draft} {c n : ℕ} {g : Option ℕ} {ws : List (Option ℕ)} → IsFormed d → Begins d d1 c n g ws → Extends d1.values d2.values → IsFormed d2 → IsFormed (with_point d2 g ws)
+pub begun_formed : {d d1 d2 : Draft} {c n : ℕ} {g : Option ℕ} {ws : List (Option ℕ)} → IsFormed d → Begins d d1 c n g ws → Keeps d1.values d2.values → IsFormed d2 → IsFormed (with_point d2 g ws)
 begun_formed {d = d} {d2 = d2} {g = g} {ws = ws} formed b longer f2 =
-    formed_back d d2 (with_point d2 g ws) formed f2 (extends_on b.same.values (extends_on b.enters.same.values longer)) (with_point_elsewhere d2 g ws) (b.guard_is ∙ b.guard) (b.words_are ∙ b.words)
+    formed_back d d2 (with_point d2 g ws) formed f2 (keeps_on (keeps b.same.values) (keeps_on (keeps b.enters.same.values) longer)) (with_point_elsewhere d2 g ws) (b.guard_is ∙ b.guard) (b.words_are ∙ b.words)
 
 pub arms_are : {d d1 d2 d4 d5 d7 : Draft} {c n : ℕ} {g h : Option ℕ} {ws us cs : List (Option ℕ)} (chosen other : Stmt) → IsFormed d → Begins d d1 c n g ws → IsTranslated d1 d2 (λ x. stmt x chosen) (stmt_inputs chosen) → stmt_inputs chosen ≡ [] → Switches d2 d4 n g ws h us → cs ≡ d2.words → IsTranslated d4 d5 (λ x. stmt x other) (stmt_inputs other) → stmt_inputs other ≡ [] → Ends d5 d7 c h us cs d5.words → IsBranched d d7 c chosen (Some other)
 arms_are {d = d} {d1 = d1} {d2 = d2} {d4 = d4} {d5 = d5} {d7 = d7} {c = c} {n = n} {g = g} {h = h} {ws = ws} {us = us} chosen other formed b first none1 s cs_is second none2 e =

@@ -15,6 +15,7 @@ use Rattle.cg_c_check.specs.Rules.{is_conditional, is_true, two_words, signed_wo
 use Rattle.cg_c_check.specs.Program.{Expr, Literal, Word, Counter, Element, Signed, Converted, Input, Picked, Two, Choice, Exprs, NoExprs, MoreExprs}
 use Rattle.cg_c_values.specs.declared.value.Value.{Value}
 use Rattle.cg_c_values.specs.Values.{Moment, Words, Fits, Extends, Means}
+use Rattle.cg_c_values.proofs.Known.{fits_kept}
 use Rattle.cg_c_meaning.specs.Meaning.{State, Context, ◌>>=◌, onward, give, is_settled, pick_op, value}
 use Rattle.cg_c_meaning.specs.Typed.{AreApart, IsTypedExpr, IsTypedExprs, inputs}
 use Rattle.cg_c_check.specs.declared.program.Link.{Link}
@@ -293,7 +294,7 @@ arm_of : (c : Context) (e f : Expr) (w r : ℕ) (s t : State) (b : Bool) → is_
 arm_of c e f w r s t b h g = subst (λ (z : Bool). (if z then value c e else value c f) s ≡ Some (r, t)) h g
 
 decided_word : (x : Moment) (E : Words) (b d : Draft) (fs : List Effect) (condition w : ℕ) (holding : Bool) → Grows b d fs → ((y : Moment) (F : Words) → Fits b.values y F → nat_lt 0 (F condition) ≡ holding) → Fits d.values x E → Agrees ACondition (E condition) w → is_true w ≡ holding
-decided_word x E b d fs condition w holding g decided fits h = sym (lt_is_true w) ∙ sym h ∙ decided x E (fits_back b.values d.values x E g.values fits)
+decided_word x E b d fs condition w holding g decided fits h = sym (lt_is_true w) ∙ sym h ∙ decided x E (fits_kept b.values d.values x E g.values fits)
 
 pub chosen_is : (arrays : List Array) (a b d : Draft) (es fs : List Effect) (s : Signedness) (k e f : Expr) (wanted : Wanted) (condition v : ℕ) → IsTypedExpr arrays true k → AreApart (inputs k ++ (inputs e ++ inputs f))
     → Translates a b es k ACondition condition → ((y : Moment) (F : Words) → Fits b.values y F → nat_lt 0 (F condition) ≡ true) → Translates b d fs e wanted v → Translates a d (es ++ fs) (Choice s k e f) wanted v

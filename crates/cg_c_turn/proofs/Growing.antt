@@ -5,7 +5,8 @@ use Rattle.std.proofs.lemmas.List.Elements.{Contains-append_left, Contains-appen
 use Rattle.cg_c_check.specs.declared.program.Array.{Array}
 use Rattle.cg_c_values.specs.declared.value.Value.{Value}
 use Rattle.cg_c_values.specs.declared.value.Value.TheVariants.{Loaded}
-use Rattle.cg_c_values.specs.Values.{Moment, Words, Fits, Extends, IsBelow, IsWordOf}
+use Rattle.cg_c_values.specs.Values.{Moment, Words, Fits, Extends, Keeps, IsBelow, IsWordOf}
+use Rattle.cg_c_values.proofs.Known.{extends_further, extends_itself, fits_before, fits_kept, keeps}
 use Rattle.cg_c_meaning.specs.Meaning.{State, Context}
 use Rattle.cg_c_meaning.specs.Taken.{TakesAlone, times}
 use Rattle.cg_c_meaning.specs.Typed.{AreApart}
@@ -13,20 +14,21 @@ use Rattle.cg_c_turn.specs.Draft.{Draft, Effect, Load, Stored, Latest, assigned_
 use Rattle.cg_c_turn.specs.Leads.{Outcome, IsInside}
 use Rattle.cg_c_turn.specs.Stands.{IsFresh, IsStoredBelow, IsFormed, IsTouched, Grows, Runs, IsSound, Matches, AreReady, word_in, word_or, begun}
 use Rattle.cg_c_turn.specs.Pieces.{Leaves, Steps}
+use Rattle.cg_c_turn.proofs.History.{history_with, pure_adds_none}
 
 -- ---- values
 
 pub extends_refl : (vs : List Value) → Extends vs vs
-extends_refl vs = record { longer = omega arith; kept = λ v h. refl }
+extends_refl vs = extends_itself vs
 
 pub extends_then : (a b c : List Value) → Extends a b → Extends b c → Extends a c
-extends_then a b c p q = record { longer = omega (arith, p.longer, q.longer); kept = λ v h. q.kept v (omega (arith, p.longer)) ∙ p.kept v h }
+extends_then a b c p q = extends_further a b c p q
+
+pub keeps_then : (a b c : List Value) → Keeps a b → Keeps b c → Keeps a c
+keeps_then a b c p q = record { longer = omega (arith, p.longer, q.longer); kept = λ v h. q.kept v (omega (arith, p.longer)) ∙ p.kept v h }
 
 pub fits_back : (a b : List Value) (x : Moment) (E : Words) → Extends a b → Fits b x E → Fits a x E
-fits_back a b x E p f = record {
-  word = λ v h. f.word v (omega (arith, p.longer));
-  is = λ v h. subst (λ (z : Value). IsWordOf x E z (E v)) (p.kept v h) (f.is v (omega (arith, p.longer)));
-}
+fits_back a b x E p f = fits_before a b x E p f
 
 pub below_on : (m n : ℕ) (g : Option ℕ) → m ≤ n → IsBelow m g → IsBelow n g
 below_on m n None h b = tt
@@ -40,7 +42,7 @@ stored_on m n (Some s) h b = (below_on m n s.guard h b.0, omega (arith, b.1), om
 
 pub steps_refl : (d : Draft) → IsFormed d → Steps d d []
 steps_refl d f = record {
-  grows = record { arrays = refl; counters = refl; guard = refl; values = extends_refl d.values; effects = sym (append-nil d.effects); initial = λ n t. refl };
+  grows = record { arrays = refl; counters = refl; guard = refl; values = keeps (extends_refl d.values); effects = sym (append-nil d.effects); initial = λ n t. refl };
   formed = f;
   words = refl;
   initial = refl;
@@ -53,7 +55,7 @@ steps_then a b c es fs p q = record {
     arrays = q.grows.arrays ∙ p.grows.arrays;
     counters = q.grows.counters ∙ p.grows.counters;
     guard = q.grows.guard ∙ p.grows.guard;
-    values = extends_then a.values b.values c.values p.grows.values q.grows.values;
+    values = keeps_then a.values b.values c.values p.grows.values q.grows.values;
     effects = q.grows.effects ∙ ap (λ (z : List Effect). z ++ fs) p.grows.effects ∙ append_assoc a.effects es fs;
     initial = λ n t. ap (λ (z : List ℕ). slice_index z n) (q.initial ∙ p.initial);
   };
@@ -65,12 +67,12 @@ steps_then a b c es fs p q = record {
 
 -- ---- turns
 
-pub touched_on : (a b : Draft) (n : ℕ) → Extends a.values b.values → IsTouched a n → IsTouched b n
+pub touched_on : (a b : Draft) (n : ℕ) → Keeps a.values b.values → IsTouched a n → IsTouched b n
 touched_on a b n p t = (t.0, omega (arith, p.longer, t.1), p.kept t.0 t.1 ∙ t.2)
 
 pub runs_back : (a b : Draft) (es : List Effect) (x : Moment) (E : Words) → Grows a b es → Runs b x E → Runs a x E
 runs_back a b es x E p r = record {
-  fits = fits_back a.values b.values x E p.values r.fits;
+  fits = fits_kept a.values b.values x E p.values r.fits;
   first = λ z n t. r.first z n (touched_on a b n p.values t) ∙ p.initial n t;
 }
 
@@ -147,7 +149,7 @@ apart_second (p ∷ ps) qs h = apart_second ps qs h.1
 -- ---- what is sound
 
 -- a draft with the same effects, arrays and latest stores, and more values
-pub sound_on : (a b : Draft) (E : Words) (m : Outcome) → IsFormed a → b.arrays ≡ a.arrays → b.latest ≡ a.latest → b.effects ≡ a.effects → Extends a.values b.values → IsSound a E m → IsSound b E m
+pub sound_on : (a b : Draft) (E : Words) (m : Outcome) → IsFormed a → b.arrays ≡ a.arrays → b.latest ≡ a.latest → b.effects ≡ a.effects → Keeps a.values b.values → IsSound a E m → IsSound b E m
 sound_on a b E m formed arrays latest effects values h = record {
   room = λ r there. h.room r (subst (λ (z : List Array). Contains z r) arrays there);
   tables = λ r there. h.tables r (subst (λ (z : List Array). Contains z r) arrays there);
@@ -173,6 +175,7 @@ formed_with a vs g f values guard = record {
   loads = λ guard array address value place h.
       let l = f.loads guard array address value place h in
       record { version = l.version; within = omega (arith, l.within, values.longer); is = values.kept value l.within ∙ l.is; so_far = l.so_far };
+  history = history_with a (record a { values = vs; guard = g }) refl refl (keeps values) (pure_adds_none values) f.history;
 }
 
 pub matches_with : (a : Draft) (vs : List Value) (g : Option ℕ) (x : Moment) (E : Words) (m : Outcome) (c : Context) (s : State) → Matches a x E m c s → Matches (record a { values = vs; guard = g }) x E m c s
@@ -187,7 +190,7 @@ runs_without a g x E r = record { fits = record { word = r.fits.word; is = r.fit
 -- values alone were added
 pub steps_with : (a : Draft) (vs : List Value) → IsFormed a → Extends a.values vs → Steps a (record a { values = vs }) []
 steps_with a vs f values = record {
-  grows = record { arrays = refl; counters = refl; guard = refl; values = values; effects = sym (append-nil a.effects); initial = λ n t. refl };
+  grows = record { arrays = refl; counters = refl; guard = refl; values = keeps values; effects = sym (append-nil a.effects); initial = λ n t. refl };
   formed = formed_with a vs a.guard f values (below_on (length a.values) (length vs) a.guard values.longer f.guard);
   words = refl;
   initial = refl;

@@ -3,6 +3,7 @@ use Rattle.std.proofs.Common.{◌≡◌, ℕ, Bool, true, List, ◌++◌, length
 use Rattle.cg_c_check.specs.declared.program.Array.{Array}
 use Rattle.cg_c_check.specs.Program.{Expr}
 use Rattle.cg_c_values.specs.Values.{Moment, Words, Extends, holds}
+use Rattle.cg_c_values.proofs.Known.{fits_kept, keeps}
 use Rattle.cg_c_meaning.specs.Meaning.{value}
 use Rattle.cg_c_meaning.specs.Typed.{inputs}
 use Rattle.cg_c_turn.specs.Draft.{Draft, Effect}
@@ -10,7 +11,7 @@ use Rattle.cg_c_turn.specs.Leads.{Outcome, Leads}
 use Rattle.cg_c_turn.specs.Stands.{Wanted, Agrees, Evaluates, IsEvaluated, IsFormed, IsSound, Matches, Runs, Translates}
 use Rattle.cg_c_turn.specs.Pieces.{Steps, Goes, IsLeft, Enters, Guards, only_if}
 use Rattle.cg_c_turn.proofs.Leading.{leads_weaker}
-use Rattle.cg_c_turn.proofs.Growing.{below_on, extends_then, fits_back, formed_with, matches_with, sound_on, sound_with, runs_without, touched_on, extends_refl}
+use Rattle.cg_c_turn.proofs.Growing.{below_on, keeps_then, formed_with, matches_with, sound_on, sound_with, runs_without, touched_on, extends_refl}
 
 -- under the guard that was there before
 abbrev pub back_under : Draft → Option ℕ → Draft
@@ -25,7 +26,7 @@ entered_is_formed a d H go f n = entered_formed a d H go f n
 guards_steps : (a d : Draft) (H : Words → ℕ → Type 0) (go : ℕ → Bool) (b : Draft) (es : List Effect) (e : Expr) (wanted : Wanted) (v : ℕ)
     → IsFormed a → Enters a d H go → Translates d b es e wanted v → Steps a (back_under b a.guard) es
 guards_steps a d H go b es e wanted v f n t =
-    let more = extends_then a.values d.values b.values n.kept t.grows.values in
+    let more = keeps_then a.values d.values b.values (keeps n.kept) t.grows.values in
     let formed = formed_with b b.values a.guard t.formed (extends_refl b.values) (below_on (length a.values) (length b.values) a.guard more.longer f.guard) in
     record {
       grows = record {
@@ -34,7 +35,7 @@ guards_steps a d H go b es e wanted v f n t =
         guard = refl;
         values = more;
         effects = t.grows.effects ∙ ap (λ (z : Draft). z.effects ++ es) n.rest;
-        initial = λ number h. t.grows.initial number (touched_on a d number n.kept h) ∙ ap (λ (z : Draft). slice_index z.initial number) n.rest;
+        initial = λ number h. t.grows.initial number (touched_on a d number (keeps n.kept) h) ∙ ap (λ (z : Draft). slice_index z.initial number) n.rest;
       };
       formed = formed;
       words = t.words ∙ ap (λ (z : Draft). z.words) n.rest;
@@ -55,7 +56,7 @@ evaluates_under a d x E m e goes_on w rest on k = record {
 
 entered_sound : (a d : Draft) (E : Words) (m : Outcome) → IsFormed a → d ≡ record a { values = d.values; guard = d.guard } → Extends a.values d.values → IsSound a E m → IsSound d E m
 entered_sound a d E m f rest kept sound =
-    sound_on a d E m f (ap (λ (z : Draft). z.arrays) rest) (ap (λ (z : Draft). z.latest) rest) (ap (λ (z : Draft). z.effects) rest) kept sound
+    sound_on a d E m f (ap (λ (z : Draft). z.arrays) rest) (ap (λ (z : Draft). z.latest) rest) (ap (λ (z : Draft). z.effects) rest) (keeps kept) sound
 
 guards_leads : (a d : Draft) (H : Words → ℕ → Type 0) (go : ℕ → Bool) (b : Draft) (es : List Effect) (e : Expr) (wanted : Wanted) (v u : ℕ) (x : Moment) (E : Words) (m : Outcome) (w : ℕ)
     → IsFormed a → Enters a d H go → Translates d b es e wanted v
@@ -64,7 +65,7 @@ guards_leads : (a d : Draft) (H : Words → ℕ → Type 0) (go : ℕ → Bool) 
     → Leads a.arrays E es m (IsLeft (back_under b a.guard) E m (go u ≡ true → Agrees wanted (E v) w))
 guards_leads a d H go b es e wanted v u x E m w f n t runs sound goes =
     let within = runs_without b a.guard x E runs in
-    let fits = fits_back d.values b.values x E t.grows.values within.fits in
+    let fits = fits_kept d.values b.values x E t.grows.values within.fits in
     subst (λ (z : List Array). Leads z E es m (IsLeft (back_under b a.guard) E m (go u ≡ true → Agrees wanted (E v) w))) (ap (λ (z : Draft). z.arrays) n.rest)
     (leads_weaker d.arrays E es m (IsEvaluated b E m wanted v w) (IsLeft (back_under b a.guard) E m (go u ≡ true → Agrees wanted (E v) w))
     (λ o l. record {

@@ -8,6 +8,7 @@ pub mod Elements
 pub mod Evaluating
 pub mod Growing
 pub mod Guarding
+pub mod History
 pub mod Leading
 pub mod Leaves
 pub mod Listed

@@ -8,13 +8,15 @@ use denote.Bor.{Bor}
 use Rattle.cg_c_check.specs.declared.program.Array.{Array}
 use Rattle.cg_c_values.specs.declared.value.Value.{Value}
 use Rattle.cg_c_values.specs.declared.value.Value.TheVariants.{Const, Loaded}
-use Rattle.cg_c_values.specs.Values.{Moment, Words, Fits, Extends, holds, value_at}
+use Rattle.cg_c_values.specs.Values.{Moment, Words, Fits, Extends, Inserts, Keeps, holds, value_at}
+use Rattle.cg_c_values.proofs.Known.{inserts_keep}
 use Rattle.cg_c_meaning.specs.Meaning.{loaded}
-use Rattle.cg_c_turn.specs.Draft.{Draft, Effect, Load, Store, Send, Latest, Stored, latest_in}
+use Rattle.cg_c_turn.specs.Draft.{Draft, Effect, Load, Store, Send, Latest, Stored, assigned_in, latest_in}
 use Rattle.cg_c_turn.specs.Leads.{Outcome, Leads, IsInside}
-use Rattle.cg_c_turn.specs.Stands.{HasTable, IsFormed, IsFresh, IsLoadOf, IsSound}
+use Rattle.cg_c_turn.specs.Stands.{HasTable, IsFormed, IsFresh, IsLoadOf, IsLoadedBy, IsSound}
 use Rattle.cg_c_turn.specs.Pieces.{IsFound, Loads}
-use Rattle.cg_c_turn.proofs.Growing.{below_on, fits_back, formed_with, sound_on, steps_with}
+use Rattle.cg_c_turn.proofs.Growing.{below_on, fits_back, sound_on, steps_with, stored_on}
+use Rattle.cg_c_turn.proofs.History.{history_after}
 use Rattle.cg_c_turn.proofs.Yielding.{yields_pure}
 use Rattle.cg_c_turn.proofs.Operating.{const_is}
 use Rattle.cg_c_turn.proofs.Leaves.{with_values, result_of}
@@ -66,27 +68,30 @@ contains_one e f (suc k, h, is) = absurd (omega arith)
 abbrev pub with_load : Draft → List Value → Effect → Draft
 with_load a vs e = record a { values = vs; effects = a.effects ++ e ∷ [] }
 
-load_formed : (a : Draft) (vs : List Value) (array address v place : ℕ) → IsFormed a → Extends a.values vs → v < length vs → value_at vs v ≡ Loaded array (latest_in a array).version a.guard address → IsFormed (with_load a vs (Load a.guard array address v place))
-load_formed a vs array address v place f kept within is =
-    let g = formed_with a vs a.guard f kept (below_on (length a.values) (length vs) a.guard kept.longer f.guard) in
+load_formed : (a : Draft) (vs : List Value) (array address v place : ℕ) → IsFormed a → address < length a.values → Inserts a.values vs (Loaded array (latest_in a array).version a.guard address) → ((u : ℕ) → length a.values ≤ u → u < length vs → u ≡ v) → v < length vs → value_at vs v ≡ Loaded array (latest_in a array).version a.guard address → IsFormed (with_load a vs (Load a.guard array address v place))
+load_formed a vs array address v place f below kept single within is =
     let new = Load a.guard array address v place in
     let d = with_load a vs new in
     let one : LoadOf d new = record { version = (latest_in a array).version; within = within; is = is; so_far = omega arith } in
     record {
-      arranged = g.arranged;
-      counters = g.counters;
-      guard = g.guard;
-      words = g.words;
-      latest = g.latest;
-      stored = g.stored;
+      arranged = f.arranged;
+      counters = λ u h. omega (arith, f.counters u h, kept.longer);
+      guard = below_on (length a.values) (length vs) a.guard kept.longer f.guard;
+      words = λ n. below_on (length a.values) (length vs) (assigned_in a n) kept.longer (f.words n);
+      latest = f.latest;
+      stored = λ n. stored_on (length a.values) (length vs) (latest_in a n).stored kept.longer (f.stored n);
       loads = λ guard ar ad value pl there.
           elim (Contains-append_cases a.effects (new ∷ []) (Load guard ar ad value pl) there) [
-            | inl old ↦ let l = g.loads guard ar ad value pl old in record { version = l.version; within = l.within; is = l.is; so_far = l.so_far }
+            | inl old ↦ let l = f.loads guard ar ad value pl old in record { version = l.version; within = omega (arith, l.within, kept.longer); is = kept.kept value l.within ∙ l.is; so_far = l.so_far }
             | inr last ↦ subst (LoadOf d) (contains_one new (Load guard ar ad value pl) last) one
           ];
+      history = history_after a d new refl (inserts_keep kept) (λ n. omega arith) (λ u from l h. subst (IsLoadedBy (new ∷ [])) (sym (single u from l)) itself) (is ∙ ap (λ (n : ℕ). Loaded array n a.guard address) (f.history.counted array)) (f.guard, below) f.history;
     }
+  where
+    itself : IsLoadedBy (Load a.guard array address v place ∷ []) v
+    itself = record { guard = a.guard; array = array; address = address; place = place; there = (0, omega arith, refl) }
 
-load_sound : (a : Draft) (vs : List Value) (array address v place : ℕ) (E : Words) (m : Outcome) → IsFormed a → Extends a.values vs → (holds E a.guard ≡ true → IsInside a.arrays array (E address) × (E v ≡ slice_index m.memory (E address))) → IsSound a E m → IsSound (with_load a vs (Load a.guard array address v place)) E m
+load_sound : (a : Draft) (vs : List Value) (array address v place : ℕ) (E : Words) (m : Outcome) → IsFormed a → Keeps a.values vs → (holds E a.guard ≡ true → IsInside a.arrays array (E address) × (E v ≡ slice_index m.memory (E address))) → IsSound a E m → IsSound (with_load a vs (Load a.guard array address v place)) E m
 load_sound a vs array address v place E m f kept here sound =
     let new = Load a.guard array address v place in
     let h = sound_on a (with_values a vs) E m f refl refl refl kept sound in
@@ -101,14 +106,14 @@ load_sound a vs array address v place E m f kept here sound =
           ];
     }
 
-pub loads_anew : (a : Draft) (vs : List Value) (array address v place : ℕ) → IsFormed a → Extends a.values vs → v < length vs → value_at vs v ≡ Loaded array (latest_in a array).version a.guard address → Loads a (with_load a vs (Load a.guard array address v place)) (Load a.guard array address v place ∷ []) array address v
+pub loads_anew : (a : Draft) (vs : List Value) (array address v place : ℕ) → IsFormed a → address < length a.values → Inserts a.values vs (Loaded array (latest_in a array).version a.guard address) → ((u : ℕ) → length a.values ≤ u → u < length vs → u ≡ v) → v < length vs → value_at vs v ≡ Loaded array (latest_in a array).version a.guard address → Loads a (with_load a vs (Load a.guard array address v place)) (Load a.guard array address v place ∷ []) array address v
 unfolding Leads
-loads_anew a vs array address v place f kept within is =
+loads_anew a vs array address v place f below kept single within is =
     let new = Load a.guard array address v place in
     record {
       steps = record {
-        grows = record { arrays = refl; counters = refl; guard = refl; values = kept; effects = refl; initial = λ n t. refl };
-        formed = load_formed a vs array address v place f kept within is;
+        grows = record { arrays = refl; counters = refl; guard = refl; values = inserts_keep kept; effects = refl; initial = λ n t. refl };
+        formed = load_formed a vs array address v place f below kept single within is;
         words = refl;
         initial = refl;
         latest = refl;
@@ -120,7 +125,7 @@ loads_anew a vs array address v place f kept within is =
               inside,
               λ found. record {
                 same = refl;
-                sound = load_sound a vs array address v place E m f kept (λ holding. (inside holding, found holding)) sound;
+                sound = load_sound a vs array address v place E m f (inserts_keep kept) (λ holding. (inside holding, found holding)) sound;
                 agrees = λ holding.
                     let h = goes holding in
                     found holding ∙ ap₂ slice_index (sym h.1.matches.memory) h.0.0 ∙ ap result_of h.1.runs;

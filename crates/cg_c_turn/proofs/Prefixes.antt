@@ -1,17 +1,21 @@
 -- What holds of a draft that has grown holds of the draft before.
 use Rattle.std.proofs.Common.{◌≡◌, ℕ, ◌==◌, if◌then◌else◌, List, [], ◌++◌, refl, sym, ap, ◌∙◌, arith, append_assoc, append-nil, slice_index}
 use Rattle.cg_c_values.specs.declared.value.Value.{Value}
-use Rattle.cg_c_values.specs.Values.{Moment, Words, Fits, Extends}
+use Rattle.cg_c_values.specs.Values.{Moment, Words, Fits, Extends, Keeps}
+use Rattle.cg_c_values.proofs.Known.{extends_further, extends_itself, keeps}
 use Rattle.cg_c_turn.specs.Draft.{Draft, Effect}
 use Rattle.cg_c_turn.specs.Stands.{IsTouched, Grows, Runs, begun}
 
 pub extends_on : {a b c : List Value} → Extends a b → Extends b c → Extends a c
-extends_on h g = record { longer = omega (arith, h.longer, g.longer); kept = λ v w. g.kept v (omega (arith, w, h.longer)) ∙ h.kept v w }
+extends_on {a = a} {b = b} {c = c} h g = extends_further a b c h g
+
+pub keeps_on : {a b c : List Value} → Keeps a b → Keeps b c → Keeps a c
+keeps_on h g = record { longer = omega (arith, h.longer, g.longer); kept = λ v w. g.kept v (omega (arith, w, h.longer)) ∙ h.kept v w }
 
 pub extends_same : (a : List Value) → Extends a a
-extends_same a = record { longer = omega arith; kept = λ v w. refl }
+extends_same a = extends_itself a
 
-pub fits_before : {a b : List Value} {x : Moment} {E : Words} → Extends a b → Fits b x E → Fits a x E
+pub fits_before : {a b : List Value} {x : Moment} {E : Words} → Keeps a b → Fits b x E → Fits a x E
 fits_before {x = x} {E = E} h f =
     record {
       word = λ v w. f.word v (omega (arith, w, h.longer));
@@ -34,7 +38,7 @@ grows_on {a = a} {es = es} {fs = fs} g h =
       arrays = h.arrays ∙ g.arrays;
       counters = h.counters ∙ g.counters;
       guard = h.guard ∙ g.guard;
-      values = extends_on g.values h.values;
+      values = keeps_on g.values h.values;
       effects = h.effects ∙ ap (λ z. z ++ fs) g.effects ∙ append_assoc a.effects es fs;
       initial = λ n t. h.initial n (touched_on n g t) ∙ g.initial n t;
     }
@@ -45,7 +49,7 @@ grows_same a =
       arrays = refl;
       counters = refl;
       guard = refl;
-      values = extends_same a.values;
+      values = keeps (extends_same a.values);
       effects = sym (append-nil a.effects);
       initial = λ n t. refl;
     }
@@ -53,7 +57,7 @@ grows_same a =
 pub runs_shorter : (a b : Draft) {x : Moment} {E : Words} → Extends a.values b.values → b.initial ≡ a.initial → Runs b x E → Runs a x E
 runs_shorter a b {x = x} longer initial r =
     record {
-      fits = fits_before longer r.fits;
+      fits = fits_before (keeps longer) r.fits;
       first = λ t n h. r.first t n (h.0, omega (arith, h.1, longer.longer), longer.kept h.0 h.1 ∙ h.2) ∙ ap (λ z. slice_index z n) initial;
     }
 

@@ -5,6 +5,7 @@ use Rattle.cg_c_syntax.specs.declared.expression.Binary.{Binary}
 use Rattle.cg_c_syntax.specs.declared.statement.Signedness.{Signedness}
 use Rattle.cg_c_values.specs.Values.{Moment, Words, IsBelow, holds}
 use Rattle.cg_c_meaning.specs.Meaning.{State, Context, ◌>>=◌, word_of, set_word, sent, changed}
+use Rattle.cg_c_values.proofs.Known.{keeps}
 use Rattle.cg_c_turn.specs.Draft.{Draft, Effect, Load, Send, assigned_in}
 use Rattle.cg_c_turn.specs.Leads.{Outcome, Leads, sent_to}
 use Rattle.cg_c_turn.specs.Stands.{TheWord, Agrees, Runs, IsFormed, IsSound, Matches, Does, IsDone, Performs, begun, word_or, word_in}
@@ -13,6 +14,7 @@ use Rattle.cg_c_turn.specs.Words.{with_words}
 use Rattle.cg_c_turn.proofs.Prefixes.{begun_same, extends_same}
 use Rattle.cg_c_syntax.specs.declared.statement.Signedness.TheVariants.{Signed}
 use Rattle.cg_c_turn.proofs.Growing.{below_on}
+use Rattle.cg_c_turn.proofs.History.{history_after}
 use Rattle.cg_c_turn.proofs.Doing.{same_end, not_both, by_guard}
 use Rattle.cg_c_turn.proofs.Arms.{formed_elsewhere, sound_elsewhere}
 
@@ -30,7 +32,7 @@ pub changes : (d e : Draft) (words : List (Option ℕ)) (number u v : ℕ) (op :
 unfolding Leads
 changes d e words number u v op s t formed same guard kept within assigned is w =
     record {
-      grows = record { arrays = same.arrays; counters = same.counters; guard = guard; values = same.values; effects = same.effects ∙ sym (append-nil d.effects); initial = λ n h. ap (λ (z : List ℕ). slice_index z n) same.initial };
+      grows = record { arrays = same.arrays; counters = same.counters; guard = guard; values = keeps same.values; effects = same.effects ∙ sym (append-nil d.effects); initial = λ n h. ap (λ (z : List ℕ). slice_index z n) same.initial };
       formed = formed';
       leads = λ x E m c end r sound does.
           record {
@@ -98,7 +100,7 @@ pub sends : (d : Draft) (port v : ℕ) → IsFormed d → v < length d.values �
 unfolding Leads
 sends d port v formed within w =
     record {
-      grows = record { arrays = refl; counters = refl; guard = refl; values = extends_same d.values; effects = refl; initial = λ n h. refl };
+      grows = record { arrays = refl; counters = refl; guard = refl; values = keeps (extends_same d.values); effects = refl; initial = λ n h. refl };
       formed = formed';
       leads = λ x E m c end r sound does. by_guard (holds E d.guard) (λ on. sent_on x E m c end sound on (does on)) (λ off. sent_off x E m c end sound off);
     }
@@ -114,6 +116,7 @@ sends d port v formed within w =
           stored = formed.stored;
           loads = λ g array address value place h. let l = formed.loads g array address value place (other_effect d.effects d.guard g port v array address value place h) in
               record { version = l.version; within = l.within; is = l.is; so_far = l.so_far };
+          history = history_after d (with_effect d (Send d.guard port v)) (Send d.guard port v) refl (keeps (extends_same d.values)) (λ array. omega arith) (λ u from l h. absurd (omega (arith, from, l))) tt (formed.guard, within) formed.history;
         }
 
     sound' : (E : Words) (m : Outcome) → IsSound d E m → IsSound (with_effect d (Send d.guard port v)) E m

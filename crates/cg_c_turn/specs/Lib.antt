@@ -5,4 +5,5 @@ pub mod Leads
 pub mod Pieces
 pub mod Stands
 pub mod Translated
+pub mod Turn
 pub mod Words

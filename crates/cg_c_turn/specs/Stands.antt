@@ -1,15 +1,16 @@
 -- How the draft of a turn stands to a run of the program at the same point.
-use Rattle.std.specs.Prelude.{◌≡◌, ℕ, ◌+◌, ◌<◌, ◌≤◌, ◌==◌, nat_lt, if◌then◌else◌, true, false, List, ◌++◌, length, Contains, Option, Some, None, slice_get, slice_index}
+use Rattle.std.specs.Prelude.{◌≡◌, ℕ, suc, ◌+◌, ◌<◌, ◌≤◌, ◌==◌, nat_lt, if◌then◌else◌, true, false, List, [], ◌∷◌, ◌++◌, length, take, Contains, Option, Some, None, slice_get, slice_index}
 use Rattle.cg_c_check.specs.declared.program.Array.{Array}
 use Rattle.cg_c_check.specs.Arrays.{size_of}
 use Rattle.cg_c_check.specs.Program.{Expr}
+use Rattle.cg_c_values.specs.declared.value.Value.{Value}
 use Rattle.cg_c_values.specs.declared.value.Value.TheVariants.{Carried, Loaded}
-use Rattle.cg_c_values.specs.Values.{Moment, Words, Fits, Extends, IsBelow, holds, value_at}
+use Rattle.cg_c_values.specs.Values.{Moment, Words, Fits, Keeps, IsBelow, IsLoad, holds, value_at}
 use Rattle.cg_c_meaning.specs.Meaning.{State, Context, Run, value}
 use Rattle.cg_c_meaning.specs.Typed.{AreArranged, inputs}
 pub use Rattle.cg_c_turn.specs.declared.draft.Wanted.{Wanted}
 pub use Rattle.cg_c_turn.specs.declared.draft.Wanted.TheVariants.{TheWord, ACondition}
-use Rattle.cg_c_turn.specs.Draft.{Draft, Effect, Load, Stored, assigned_in, initial_in, latest_in}
+use Rattle.cg_c_turn.specs.Draft.{Draft, Effect, Load, Store, Send, Stored, assigned_in, initial_in, latest_in}
 use Rattle.cg_c_turn.specs.Leads.{Outcome, Leads, IsInside}
 
 -- ---- well-formed drafts
@@ -28,6 +29,51 @@ pub record IsLoadOf (d : Draft) (guard : Option ℕ) (array address value : ℕ)
   pub is : value_at d.values value ≡ Loaded array version guard address
   pub so_far : version ≤ (latest_in d array).version
 
+-- the number of stores to an array among effects
+abbrev pub stores_to : (array : ℕ) → List Effect → ℕ
+stores_to array [] = 0
+stores_to array (Store guard of address word place ∷ es) = (if of == array then 1 else 0) + stores_to array es
+stores_to array (_ ∷ es) = stores_to array es
+
+-- one of these effects loads the value
+pub record IsLoadedBy (effects : List Effect) (value : ℕ) : Type 0 where
+  pub guard : Option ℕ
+  pub array : ℕ
+  pub address : ℕ
+  pub place : ℕ
+  pub there : Contains effects (Load guard array address value place)
+
+-- each load among the first n values is done by one of these effects
+abbrev pub AreLoadedBy : List Effect → List Value → (n : ℕ) → Type 0
+AreLoadedBy effects values n = (v : ℕ) → v < n → IsLoad (value_at values v) → IsLoadedBy effects v
+
+-- a value that an effect after these may use: the loads up to it are done
+pub record IsUsable (values : List Value) (before : List Effect) (v : ℕ) : Type 0 where
+  pub within : v < length values
+  pub loaded : AreLoadedBy before values (suc v)
+
+abbrev pub IsUsableGuard : List Value → (before : List Effect) → Option ℕ → Type 0
+IsUsableGuard values before None = Unit {0}
+IsUsableGuard values before (Some guard) = IsUsable values before guard
+
+-- so are those that an effect uses
+abbrev pub AreUsable : List Value → (before : List Effect) → Effect → Type 0
+AreUsable values before (Load guard array address value place) = IsUsableGuard values before guard × IsUsable values before address
+AreUsable values before (Store guard array address word place) = IsUsableGuard values before guard × IsUsable values before address × IsUsable values before word
+AreUsable values before (Send guard port word) = IsUsableGuard values before guard × IsUsable values before word
+
+-- a load's value names as many stores to its array as there are before it
+abbrev pub IsNumbered : List Value → (before : List Effect) → Effect → Type 0
+IsNumbered values before (Load guard array address value place) = value_at values value ≡ Loaded array (stores_to array before) guard address
+IsNumbered values before _ = Unit {0}
+
+-- what the effects of a draft have done
+pub record IsHistory (d : Draft) : Type 0 where
+  pub counted : (array : ℕ) → (latest_in d array).version ≡ stores_to array d.effects
+  pub numbered : (i : ℕ) (e : Effect) → slice_get d.effects i ≡ Some e → IsNumbered d.values (take i d.effects) e
+  pub loaded : AreLoadedBy d.effects d.values (length d.values)
+  pub usable : (i : ℕ) (e : Effect) → slice_get d.effects i ≡ Some e → AreUsable d.values (take i d.effects) e
+
 -- all that it refers to is there
 pub record IsFormed (d : Draft) : Type 0 where
   pub arranged : AreArranged 0 d.arrays
@@ -38,6 +84,7 @@ pub record IsFormed (d : Draft) : Type 0 where
   pub stored : (array : ℕ) → IsStoredBelow (length d.values) (latest_in d array).stored
   pub loads : (guard : Option ℕ) (array address value place : ℕ) → Contains d.effects (Load guard array address value place) →
       IsLoadOf d guard array address value
+  pub history : IsHistory d
 
 -- a word was used as it was when the turn began
 abbrev pub IsTouched : Draft → ℕ → Type 0
@@ -48,7 +95,7 @@ pub record Grows (before after : Draft) (added : List Effect) : Type 0 where
   pub arrays : after.arrays ≡ before.arrays
   pub counters : after.counters ≡ before.counters
   pub guard : after.guard ≡ before.guard
-  pub values : Extends before.values after.values
+  pub values : Keeps before.values after.values
   pub effects : after.effects ≡ before.effects ++ added
   pub initial : (number : ℕ) → IsTouched before number → initial_in after number ≡ initial_in before number
 

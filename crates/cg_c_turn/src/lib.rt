@@ -9,7 +9,9 @@ mod effect;
 mod expressions;
 mod loads;
 mod statements;
+mod turn;
 mod words;
 
 pub use draft::{Draft, Wanted};
 pub use effect::{Effect, Latest, Stored};
+pub use turn::turn_of;

@@ -191,7 +191,7 @@ impl<'p> Draft<'p> {
     {
         let version = self.latest[array].version;
         let guard = self.guard;
-        let value = self.values.add(Value::Loaded {
+        let value = self.values.insert(Value::Loaded {
             array,
             version,
             guard,

@@ -1,4 +1,4 @@
-//! Declarations and outputs.
+//! Statements.
 ghost use Rattle.std.specs.Prelude.{◌≡◌, ℕ, true, false, ◌<◌, List, [], Option, Some, None, length, OnOk, IfOk, IfSome, map};
 ghost use Rattle.cg_c_check.specs.Written.{expr_of, initial_of, stmt_of, stmts_of, target_of};
 ghost use Rattle.cg_c_check.specs.Program as program;
@@ -10,7 +10,8 @@ ghost use Rattle.cg_c_turn.specs.Translated.{IsTranslated};
 
 use crate::draft::{Draft, Wanted};
 use crate::effect::Effect;
-use cg_c_check::{Expr, Initial};
+use cg_c_check::{Expr, Initial, Stmt, Target};
+use cg_c_syntax::Binary;
 use std::alloc::AllocError;
 
 impl<'p> Draft<'p> {
@@ -42,5 +43,40 @@ impl<'p> Draft<'p> {
             word,
         })?;
         Ok(())
+    }
+
+    /// Translates an assignment.
+    pub fn assign(
+        &mut self,
+        target: &Target,
+        op: Option<Binary>,
+        value: &Expr,
+    ) -> Result<(), AllocError>
+        requires formed { IsFormed (draft_of self.now) }
+        requires typed { IsTypedStmt (draft_of self.now).arrays true (program.Assign (target_of target.now) op (expr_of value.now)) }
+        requires apart { AreApart (stmt_inputs (program.Assign (target_of target.now) op (expr_of value.now))) }
+        ensures { OnOk result (IsTranslated (draft_of self.old) (draft_of self.new) (λ c. meaning.stmt c (program.Assign (target_of target.now) op (expr_of value.now))) (stmt_inputs (program.Assign (target_of target.now) op (expr_of value.now)))) }
+    {
+        Err(AllocError)
+    }
+
+    /// Translates a statement.
+    pub fn stmt(&mut self, stmt: &Stmt) -> Result<(), AllocError>
+        requires formed { IsFormed (draft_of self.now) }
+        requires typed { IsTypedStmt (draft_of self.now).arrays true (stmt_of stmt.now) }
+        requires apart { AreApart (stmt_inputs (stmt_of stmt.now)) }
+        ensures { OnOk result (IsTranslated (draft_of self.old) (draft_of self.new) (λ c. meaning.stmt c (stmt_of stmt.now)) (stmt_inputs (stmt_of stmt.now))) }
+    {
+        Err(AllocError)
+    }
+
+    /// Translates statements, one after another.
+    pub fn stmts(&mut self, stmts: &[Stmt]) -> Result<(), AllocError>
+        requires formed { IsFormed (draft_of self.now) }
+        requires typed { AreTypedStmts (draft_of self.now).arrays true (stmts_of stmts.now) }
+        requires apart { AreApart (stmts_inputs (stmts_of stmts.now)) }
+        ensures { OnOk result (IsTranslated (draft_of self.old) (draft_of self.new) (λ c. meaning.stmts c (stmts_of stmts.now)) (stmts_inputs (stmts_of stmts.now))) }
+    {
+        Err(AllocError)
     }
 }

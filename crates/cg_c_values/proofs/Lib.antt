@@ -5,7 +5,7 @@ mod Comparing
 mod Deciding
 mod Done
 mod Found
-mod Known
+pub mod Known
 mod Planning
 mod Shifting
 mod Truths
