@@ -73,6 +73,7 @@ matches_at {E = E} arrays counters same words h =
       outputs = λ port. h.outputs port ∙ ap (λ (o : Outcome). o.outputs port) (sym same);
       words = λ number. words number ∙ h.words number;
       counters = λ depth. ap (λ (z : List ℕ). word_or E 0 (slice_get z depth)) counters ∙ h.counters depth;
+      loops = h.loops ∙ ap (λ (z : List ℕ). length z) (sym counters);
     }
 
 pub words_as : (x : Moment) (E : Words) (a b : Draft) (number : ℕ) → b.words ≡ a.words → begun x b number ≡ begun x a number → word_in x E b number ≡ word_in x E a number

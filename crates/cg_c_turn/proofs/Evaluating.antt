@@ -1,5 +1,5 @@
 -- An expression, and then what is done with its word.
-use Rattle.std.proofs.Common.{◌≡◌, ℕ, Bool, true, false, List, ◌++◌, Option, slice_index_or, slice_get, None, sym, ap, ◌∙◌}
+use Rattle.std.proofs.Common.{◌≡◌, ℕ, Bool, true, false, List, ◌++◌, length, Option, slice_index_or, slice_get, None, sym, ap, ◌∙◌}
 use Rattle.cg_c_check.specs.declared.program.Array.{Array}
 use Rattle.cg_c_check.specs.Program.{Expr}
 use Rattle.cg_c_values.specs.Values.{Moment, Words, holds}
@@ -27,6 +27,7 @@ moved {a = a} {b = b} {x = x} {E = E} ports grows words initial same takes h =
           ∙ ap (λ z. word_or E z (assigned_in a number)) (sym (begun_same x a b number initial))
           ∙ h.words number ∙ sym (takes.words number);
       counters = λ depth. ap (λ (z : List ℕ). word_or E 0 (slice_get z depth)) grows.counters ∙ h.counters depth;
+      loops = h.loops ∙ ap (λ (z : List ℕ). length z) (sym grows.counters);
     }
 
 abbrev pub Then : (ℕ → Context → Step) → Expr → Context → Step

@@ -89,6 +89,7 @@ matches_on a b es x E m c s t ports p took h = record {
   outputs = λ port. took.outputs port ∙ h.outputs port;
   words = λ n. word_same x E a b n p.words p.initial ∙ h.words n ∙ sym (took.words n);
   counters = λ depth. ap (λ (z : List ℕ). word_or E 0 (slice_get z depth)) p.grows.counters ∙ h.counters depth;
+  loops = h.loops ∙ ap (λ (z : List ℕ). length z) (sym p.grows.counters);
 }
 
 -- ---- ports
@@ -179,7 +180,7 @@ formed_with a vs g f values guard = record {
 }
 
 pub matches_with : (a : Draft) (vs : List Value) (g : Option ℕ) (x : Moment) (E : Words) (m : Outcome) (c : Context) (s : State) → Matches a x E m c s → Matches (record a { values = vs; guard = g }) x E m c s
-matches_with a vs g x E m c s h = record { arrays = h.arrays; streams = h.streams; memory = h.memory; outputs = h.outputs; words = h.words; counters = h.counters }
+matches_with a vs g x E m c s h = record { arrays = h.arrays; streams = h.streams; memory = h.memory; outputs = h.outputs; words = h.words; counters = h.counters; loops = h.loops }
 
 pub sound_with : (a : Draft) (g : Option ℕ) (E : Words) (m : Outcome) → IsSound a E m → IsSound (record a { guard = g }) E m
 sound_with a g E m h = record { room = h.room; tables = h.tables; loaded = h.loaded; stored = h.stored }

@@ -19,5 +19,6 @@ pub mod Prefixes
 pub mod Sending
 pub mod Shapes
 pub mod Single
+pub mod Turning
 pub mod WordLists
 pub mod Yielding

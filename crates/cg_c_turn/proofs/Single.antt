@@ -52,6 +52,7 @@ changes d e words number u v op s t formed same guard kept within assigned is w 
                       (is x E (record { fits = record { word = r.fits.word; is = r.fits.is }; first = r.first }) ∙ ap₂ (λ (y z : ℕ). changed op s t y z) (run.matches.words number) known.0)
                       (ap (λ z. word_or E z (assigned_in e n)) (sym (begun_same x d e n same.initial)) ∙ ap (λ (z : List (Option ℕ)). word_or E (begun x d n) (slice_index_or z n None)) kept ∙ run.matches.words n);
                   counters = λ depth. ap (λ (z : List ℕ). word_or E 0 (slice_get z depth)) same.counters ∙ run.matches.counters depth;
+                  loops = run.matches.loops ∙ ap (λ (z : List ℕ). length z) (sym same.counters);
                 });
           };
     }
@@ -144,6 +145,7 @@ sends d port v formed within w =
                 outputs = λ p. ap₂ (λ (a b : List ℕ). if p == port then a else b) (ap₂ (λ (a : List ℕ) (z : ℕ). a ++ z ∷ []) (run.matches.outputs port) (sym does.0)) (run.matches.outputs p);
                 words = run.matches.words;
                 counters = run.matches.counters;
+                loops = run.matches.loops;
               });
         })
 

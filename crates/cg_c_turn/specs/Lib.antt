@@ -2,6 +2,7 @@ pub mod Branched
 pub mod Conditions
 pub mod Draft
 pub mod Leads
+pub mod Nested
 pub mod Pieces
 pub mod Stands
 pub mod Translated

@@ -145,6 +145,7 @@ pub record Matches (d : Draft) (x : Moment) (E : Words) (m : Outcome) (c : Conte
   pub outputs : (port : ℕ) → s.outputs port ≡ m.outputs port
   pub words : (number : ℕ) → word_in x E d number ≡ s.words number
   pub counters : (depth : ℕ) → word_or E 0 (slice_get d.counters depth) ≡ slice_index c.counters depth
+  pub loops : length c.counters ≡ length d.counters
 
 -- the streams of these ports stand at this turn's word
 abbrev pub AreReady : Moment → State → List ℕ → Type 0

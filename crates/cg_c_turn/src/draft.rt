@@ -5,6 +5,7 @@ use cg_c_values::Values;
 use std::alloc::Global;
 
 /// The values and effects of a turn up to a point in the source.
+#[derive(Drop)]
 pub struct Draft<'p> {
     pub(crate) alloc: Global,
     /// The arrays of the program.

@@ -5,6 +5,7 @@
 
 mod branches;
 mod draft;
+mod edges;
 mod effect;
 mod expressions;
 mod loads;

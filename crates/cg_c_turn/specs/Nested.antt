@@ -1,0 +1,57 @@
+-- Loops in one another, in a turn.
+use Rattle.std.specs.Prelude.{◌≡◌, ℕ, ◌%◌, ◌<◌, ◌≤◌, ◌==◌, true, List, [], length, None}
+use Rattle.cg_c_check.specs.declared.program.Array.{Array}
+use Rattle.cg_c_check.specs.Program.{Level, Stmts}
+use Rattle.cg_c_values.specs.declared.value.Value.{Value}
+use Rattle.cg_c_values.specs.Values.{Moment, Words, Fits, Keeps, IsLoad, holds, value_at}
+use Rattle.cg_c_meaning.specs.Meaning.{Context, Run}
+use Rattle.cg_c_meaning.specs.Turns.{turn, turns_of, when}
+use Rattle.cg_c_meaning.specs.Typed.{stmts_inputs}
+use Rattle.cg_c_turn.specs.Draft.{Draft, Effect, latest_in}
+use Rattle.cg_c_turn.specs.Stands.{Any, IsFormed, Performs}
+
+-- values were added at the end, none of them a load's
+pub record AddsNoLoad (old new : List Value) : Type 0 where
+  pub keeps : Keeps old new
+  pub none : (v : ℕ) → length old ≤ v → v < length new → IsLoad (value_at new v) → ⊥
+
+-- v is a value that has this word in a turn
+pub record IsOfTurn (values : List Value) (v : ℕ) (word : ℕ → ℕ) : Type 0 where
+  pub within : v < length values
+  pub is : (x : Moment) (E : Words) → Fits values x E → E v ≡ word x.turn
+
+-- v is the number of the turn among the turns of a part of the nest, of which there are `span`
+pub record IsIndex (values : List Value) (v span : ℕ) : Type 0 where
+  pub within : v < length values
+  pub is : (x : Moment) (E : Words) → Fits values x E → E v < span → E v ≡ x.turn % span
+
+-- nothing is done yet
+pub record IsBlank (arrays : List Array) (d : Draft) : Type 0 where
+  pub arrays_are : d.arrays ≡ arrays
+  pub counters : d.counters ≡ []
+  pub values : d.values ≡ []
+  pub effects : d.effects ≡ []
+  pub guard : d.guard ≡ None
+  pub words : d.words ≡ []
+  pub initial : d.initial ≡ []
+  pub length_is : length d.latest ≡ length arrays
+  pub latest : (array : ℕ) → latest_in d array ≡ record { version = 0; stored = None }
+
+-- where the guard of the point holds the turn is the first one
+pub record IsAtFirst (d : Draft) : Type 0 where
+  pub first : (x : Moment) (E : Words) → Fits d.values x E → holds E d.guard ≡ true → x.turn ≡ 0
+
+-- a part without inputs of the first turn is translated, which may say what words have when the turn begins
+pub record IsFirst (before after : Draft) (run : Context → Run (Unit {0})) : Type 0 where
+  pub added : List Effect
+  pub performs : Performs before after added Any run []
+
+-- statements are translated that are done in the turn whose index is `at`
+pub record IsEdge (before after : Draft) (index at : ℕ) (run : Context → Run (Unit {0})) : Type 0 where
+  pub added : List Effect
+  pub performs : (t : ℕ) → Performs before after added (λ E. E index ≡ t) (λ c. when (t == at) (run c)) []
+
+-- loops in one another, and what is in the innermost, are translated, where `index` is the number of the turn among theirs
+pub record IsNested (before after : Draft) (index : ℕ) (levels : List Level) (body : Stmts) : Type 0 where
+  pub added : List Effect
+  pub performs : (t : ℕ) → t < turns_of levels → Performs before after added (λ E. E index ≡ t) (λ c. turn c levels body t) (stmts_inputs body)
