@@ -124,6 +124,11 @@ pub fn turn_of<'p>(alloc: Global, program: &'p Program) -> Result<Draft<'p>, All
 {
     let mut draft = Draft::blank(alloc, program.arrays.as_slice())?;
     let index = draft.values.add(Value::Turn)?;
-    draft.nest(program.levels.as_slice(), program.body.as_slice(), index)?;
+    draft.nest(
+        program.levels.as_slice(),
+        program.body.as_slice(),
+        index,
+        true,
+    )?;
     Ok(draft)
 }
