@@ -107,7 +107,7 @@ times_none port (p ∷ ps) none =
     times_first port p (times port ps) (p == port) refl (λ e. none (subst (Contains (p ∷ ps)) e (contains_first p ps)))
     (times_none port ps (λ h. none (Contains-append_right (p ∷ []) ps port h)))
 
-contains_one : (p port : ℕ) → Contains (p ∷ []) port → p ≡ port
+pub contains_one : (p port : ℕ) → Contains (p ∷ []) port → p ≡ port
 contains_one p port (zero, h, e) = e
 contains_one p port (suc k, h, e) = absurd (omega arith)
 

@@ -13,6 +13,7 @@ pub mod Leading
 pub mod Leaves
 pub mod Listed
 pub mod Loading
+pub mod Loops
 pub mod Merging
 pub mod Operating
 pub mod Prefixes

@@ -1,12 +1,13 @@
 -- Loops in one another, in a turn.
-use Rattle.std.specs.Prelude.{◌≡◌, ℕ, ◌%◌, ◌<◌, ◌≤◌, ◌==◌, true, List, [], length, None}
+use Rattle.std.specs.Prelude.{◌≡◌, ℕ, ◌/◌, ◌%◌, ◌<◌, ◌≤◌, ◌==◌, true, List, [], ◌∷◌, ◌++◌, length, None}
 use Rattle.cg_c_check.specs.declared.program.Array.{Array}
+use Rattle.cg_c_check.specs.declared.program.Range.{Range}
 use Rattle.cg_c_check.specs.Program.{Level, Stmts}
 use Rattle.cg_c_values.specs.declared.value.Value.{Value}
 use Rattle.cg_c_values.specs.Values.{Moment, Words, Fits, Keeps, IsLoad, holds, value_at}
-use Rattle.cg_c_meaning.specs.Meaning.{Context, Run}
+use Rattle.cg_c_meaning.specs.Meaning.{Context, Run, counter as counter_of}
 use Rattle.cg_c_meaning.specs.Turns.{turn, turns_of, when}
-use Rattle.cg_c_meaning.specs.Typed.{stmts_inputs}
+use Rattle.cg_c_meaning.specs.Typed.{AreTypedStmts, stmts_inputs}
 use Rattle.cg_c_turn.specs.Draft.{Draft, Effect, latest_in}
 use Rattle.cg_c_turn.specs.Stands.{Any, IsFormed, Performs}
 
@@ -50,6 +51,22 @@ pub record IsFirst (before after : Draft) (run : Context → Run (Unit {0})) : T
 pub record IsEdge (before after : Draft) (index at : ℕ) (run : Context → Run (Unit {0})) : Type 0 where
   pub added : List Effect
   pub performs : (t : ℕ) → Performs before after added (λ E. E index ≡ t) (λ c. when (t == at) (run c)) []
+
+-- from a point before a loop to one in it: `counter` is the value of the loop's counter, and `index` the number of the turn
+-- among those of an iteration, of which there are `span`
+pub record EntersLoop (before after : Draft) (range : Range) (span index : ℕ) : Type 0 where
+  pub counter : ℕ
+  pub rest : after ≡ record before { values = after.values; counters = before.counters ++ counter ∷ [] }
+  pub adds : AddsNoLoad before.values after.values
+  pub counter_is : IsOfTurn after.values counter (λ t. counter_of range (t / span % range.trips))
+  pub index_is : IsOfTurn after.values index (λ t. t / 1 % span)
+
+-- there are no inputs before and after these loops
+abbrev pub AreQuiet : List Array → List Level → Type 0
+AreQuiet arrays [] = Unit {0}
+AreQuiet arrays (l ∷ ls) =
+    AreTypedStmts arrays true l.before × AreTypedStmts arrays true l.after
+    × (stmts_inputs l.before ≡ []) × (stmts_inputs l.after ≡ []) × AreQuiet arrays ls
 
 -- loops in one another, and what is in the innermost, are translated, where `index` is the number of the turn among theirs
 pub record IsNested (before after : Draft) (index : ℕ) (levels : List Level) (body : Stmts) : Type 0 where

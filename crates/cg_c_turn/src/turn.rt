@@ -3,10 +3,10 @@ ghost use Rattle.std.specs.Prelude.{◌≡◌, ◌+◌, ◌*◌, ◌/◌, ◌%�
 ghost use Rattle.cg_c_check.specs.Written.{level_of, program_of, stmts_of};
 ghost use Rattle.cg_c_meaning.specs.Meaning as meaning;
 ghost use Rattle.cg_c_meaning.specs.Turns.{all_turn, turns_of};
-ghost use Rattle.cg_c_meaning.specs.Typed.{AreApart, AreTypedLevels, AreTypedStmts, IsTyped, stmts_inputs};
+ghost use Rattle.cg_c_meaning.specs.Typed.{AreApart, AreTypedStmts, IsTyped, stmts_inputs};
 ghost use Rattle.cg_c_values.specs.Listed.{listed};
 ghost use Rattle.cg_c_turn.specs.Draft.{draft_of};
-ghost use Rattle.cg_c_turn.specs.Nested.{AddsNoLoad, IsBlank, IsIndex, IsNested, IsOfTurn};
+ghost use Rattle.cg_c_turn.specs.Nested.{AddsNoLoad, AreQuiet, EntersLoop, IsBlank, IsIndex, IsNested, IsOfTurn};
 ghost use Rattle.cg_c_turn.specs.Stands.{IsFormed};
 ghost use Rattle.cg_c_turn.specs.Turn.{Turns};
 
@@ -79,7 +79,9 @@ impl<'p> Draft<'p> {
     }
 
     /// Enters a loop in an iteration of `span` turns, and returns the number of the turn among these.
-    fn enter_loop(&mut self, range: Range, span: u32) -> Result<usize, AllocError> {
+    fn enter_loop(&mut self, range: Range, span: u32) -> Result<usize, AllocError>
+        ensures { IfOk result (EntersLoop (draft_of self.old) (draft_of self.new) range span) }
+    {
         let counter = counter(&mut self.values, range, span)?;
         self.counters.push(counter)?;
         digit(&mut self.values, 1, span)
@@ -96,7 +98,7 @@ impl<'p> Draft<'p> {
     ) -> Result<(), AllocError>
         requires formed { IsFormed (draft_of self.now) }
         requires index { IsIndex (draft_of self.now).values index (turns_of (map level_of levels.now)) }
-        requires levels { AreTypedLevels (draft_of self.now).arrays (map level_of levels.now) }
+        requires levels { AreQuiet (draft_of self.now).arrays (map level_of levels.now) }
         requires body { AreTypedStmts (draft_of self.now).arrays true (stmts_of body.now) }
         requires apart { AreApart (stmts_inputs (stmts_of body.now)) }
         requires iterate { all_turn (map level_of levels.now) ≡ true }
