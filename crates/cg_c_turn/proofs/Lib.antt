@@ -1,11 +1,13 @@
 pub mod Addressing
 pub mod Arms
+pub mod Beginning
 pub mod Branching
 pub mod Carrying
 pub mod Composing
 pub mod Doing
 pub mod Elements
 pub mod Evaluating
+pub mod Everywhere
 pub mod Growing
 pub mod Guarding
 pub mod History

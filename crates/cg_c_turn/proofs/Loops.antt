@@ -5,7 +5,7 @@ use Rattle.std.proofs.Math.Seq.{take-append_seam}
 use Rattle.std.proofs.lemmas.List.Elements.{Contains-append_cases}
 use Rattle.std.proofs.lemmas.Float.{T_from_true}
 use Rattle.std.proofs.Math.Arith.{mod-mul}
-use Rattle.std.proofs.Math.Nat.{div-one, mod-lt}
+use Rattle.std.proofs.Math.Nat.{div-one, mod-eq_of_lt, mod-lt}
 use Rattle.std.proofs.lemmas.Nat.{div-mul-add, mod-mul-add}
 use Rattle.cg_c_check.specs.declared.program.Array.{Array}
 use Rattle.cg_c_check.specs.declared.program.Range.{Range}
@@ -184,7 +184,6 @@ iteration_after x trips below some few = sym (ap (λ z. z / below) (mod-mul x so
 
 -- ---- the whole
 
-
 take_none : (arrays : List Array) (ss : Stmts) (c : Context) (holding : Bool) (before after : State) → AreTypedStmts arrays true ss → stmts_inputs ss ≡ [] → when holding (stmts c ss) before ≡ Some (tt, after) → Takes before after []
 take_none arrays ss c true before after typed none h = subst (λ z. Takes before after z) none (blocks_take arrays true c ss before after tt typed h)
 take_none arrays ss c false before after typed none h = λ port. ap (λ (z : State). z.taken port) (sym (same_end before after h)) ∙ sym (add-zero (before.taken port))
@@ -234,9 +233,9 @@ nested_is {a = a} {b = b} {c = c} {d = d} {e = e} {index = index} {inner = inner
           let rest = t % turns_of ls in
           let word = counter l.range (t / turns_of ls) in
           let middle : Performs b (with_counters d b.counters) two.added G (λ x. turn (inside x word) ls body rest) (stmts_inputs body) =
-              in_loop (λ E. E inner ≡ rest) G word enters formed_b (two.performs rest (mod-lt t few)) (loop_words a l ls t at some few first.grows.values enters (two.performs rest (mod-lt t few)).grows lt) in
+          in_loop (λ E. E inner ≡ rest) G word enters formed_b (two.performs rest (mod-lt t few)) (loop_words a l ls t at some few first.grows.values enters (two.performs rest (mod-lt t few)).grows lt) in
           let last : Performs (with_counters d b.counters) e three.added G (λ x. when (t + 1 == span) (stmts x l.after)) [] =
-              subst (λ (z : Bool). Performs (with_counters d b.counters) e three.added G (λ x. when z (stmts x l.after)) []) (edge_at t span (mul-pos some few)) (three.performs t) in
+          subst (λ (z : Bool). Performs (with_counters d b.counters) e three.added G (λ x. when z (stmts x l.after)) []) (edge_at t span (mul-pos some few)) (three.performs t) in
           let back = in_turn G middle last (subst AreApart (sym (append-nil (stmts_inputs body))) apart) (λ x before after h. turn_takes a.arrays ls body (inside x word) rest before after quiet.4 typed h) in
           in_turn G first (subst (λ (z : List ℕ). Performs b e (two.added ++ three.added) G (λ x. turn (inside x word) ls body rest >> when (t + 1 == span) (stmts x l.after)) z) (append-nil (stmts_inputs body)) back) apart
           (λ x before after h. take_none a.arrays l.before x (t == 0) before after quiet.0 quiet.2 h);
@@ -272,6 +271,11 @@ popped new old around counter {n = n} is len pushed =
 
 pub inner_turns : (l : Level) (ls : List Level) → all_turn (l ∷ ls) ≡ true → all_turn ls ≡ true
 inner_turns l ls h = (and_parts (nat_lt 0 l.range.trips) (all_turn ls) h).1
+
+-- the number of the turn is the one among those of all loops
+pub whole_index : (values : List Value) (index span : ℕ) → IsOfTurn values index (λ t. t) → IsIndex values index span
+whole_index values index span h =
+    record { within = h.within; is = λ x E f b. let e = h.is x E f in e ∙ sym (mod-eq_of_lt (subst (λ z. z < span) e b)) }
 
 -- the number of the turn among those of an iteration
 pub index_in : (values : List Value) (index span : ℕ) → IsOfTurn values index (λ t. t / 1 % span) → IsIndex values index span

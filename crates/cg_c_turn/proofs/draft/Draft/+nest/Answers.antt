@@ -44,15 +44,31 @@ nest-requires t c =
     let arrays = ap (λ (z : Draft). z.arrays) enters.rest ∙ edge.grows.arrays in
     let q = subst (λ (z : List Level). AreQuiet c.args.self.now.arrays.now z) cons c.requires.levels in
     let turn = subst (λ (z : List Level). all_turn z ≡ true) cons c.requires.iterate in
-    let span = c.span_of.ensures in
-    (fewer c.in-Some.inner.now c.args.levels.now t c.in-Some.ensures.cases.1 c.decreases, (entered_formed enters edge.formed,
-        (subst (λ n. IsIndex (listed c.enter_loop.new.self.values) c.in_ok-inner_index.inner_index n) span (index_in (listed c.enter_loop.new.self.values) c.in_ok-inner_index.inner_index c.span_of.result enters.index_is),
-        (subst (λ (z : List Array). AreQuiet z ls) (sym arrays) q.4,
-        (subst (λ (z : List Array). AreTypedStmts z true (stmts_of c.args.body.now)) (sym arrays) c.requires.body,
-        (c.requires.apart,
-        (inner_turns l ls turn,
-        (inner_few l ls 1000000 turn (subst (λ (z : List Level). turns_of z ≤ 1000000) cons c.requires.few),
-        λ never. absurd (cc)))))))))
+    let span = c.span_of.ensures in (
+      fewer c.in-Some.inner.now c.args.levels.now t c.in-Some.ensures.cases.1 c.decreases,
+      (
+        entered_formed enters edge.formed,
+        (
+          subst (λ n. IsIndex (listed c.enter_loop.new.self.values) c.in_ok-inner_index.inner_index n) span (index_in (listed c.enter_loop.new.self.values) c.in_ok-inner_index.inner_index c.span_of.result enters.index_is),
+          (
+            subst (λ (z : List Array). AreQuiet z ls) (sym arrays) q.4,
+            (
+              subst (λ (z : List Array). AreTypedStmts z true (stmts_of c.args.body.now)) (sym arrays) c.requires.body,
+              (
+                c.requires.apart,
+                (
+                  inner_turns l ls turn,
+                  (
+                    inner_few l ls 1000000 turn (subst (λ (z : List Level). turns_of z ≤ 1000000) cons c.requires.few),
+                    λ never. absurd (cc),
+                  ),
+                ),
+              ),
+            ),
+          ),
+        ),
+      ),
+    )
 
 pub overflow_sub-span : goal.overflow_sub-span
 overflow_sub-span t c = subst (λ n. 1 ≤ n) (sym c.span_of-span.ensures) (positive (map level_of c.args.levels.now) c.requires.iterate)
@@ -112,9 +128,9 @@ returns t c =
     let one : IsEdge (draft_of c.args.self.now) (draft_of c.before-2.new.self) c.args.index 0 (λ x. stmts x l.before) = subst (λ (z : List MadeStmt). IsEdge (draft_of c.args.self.now) (draft_of c.before-2.new.self) c.args.index 0 (λ x. stmts x (stmts_of z))) c.as_slice.ensures.value c.in_ok-before.ensures in
     let enters_by : EntersLoop (draft_of c.before-2.new.self) (draft_of c.enter_loop.new.self) l.range (turns_of ls) c.in_ok-inner_index.inner_index = subst (λ n. EntersLoop (draft_of c.before-2.new.self) (draft_of c.enter_loop.new.self) l.range n c.in_ok-inner_index.inner_index) c.span_of.ensures enters in
     let last : IsEdge (with_counters (draft_of c.nest.new.self) (draft_of c.before-2.new.self).counters) (draft_of c.edge.new.self) c.args.index (turns_of (l ∷ ls) - 1) (λ x. stmts x l.after) =
-        subst (λ (z : List ℕ). IsEdge (with_counters (draft_of c.nest.new.self) z) (draft_of c.edge.new.self) c.args.index (turns_of (l ∷ ls) - 1) (λ x. stmts x l.after)) counters
-        (subst (λ (n : ℕ). IsEdge (with_counters (draft_of c.nest.new.self) c.pop.new.self.items) (draft_of c.edge.new.self) c.args.index n (λ x. stmts x l.after)) span
-        (subst (λ (z : List MadeStmt). IsEdge (with_counters (draft_of c.nest.new.self) c.pop.new.self.items) (draft_of c.edge.new.self) c.args.index (c.span_of-span.result - 1) (λ x. stmts x (stmts_of z))) c.as_slice-2.ensures.value h)) in
+    subst (λ (z : List ℕ). IsEdge (with_counters (draft_of c.nest.new.self) z) (draft_of c.edge.new.self) c.args.index (turns_of (l ∷ ls) - 1) (λ x. stmts x l.after)) counters
+    (subst (λ (n : ℕ). IsEdge (with_counters (draft_of c.nest.new.self) c.pop.new.self.items) (draft_of c.edge.new.self) c.args.index n (λ x. stmts x l.after)) span
+    (subst (λ (z : List MadeStmt). IsEdge (with_counters (draft_of c.nest.new.self) c.pop.new.self.items) (draft_of c.edge.new.self) c.args.index (c.span_of-span.result - 1) (λ x. stmts x (stmts_of z))) c.as_slice-2.ensures.value h)) in
     subst (λ (z : List Level). IsNested (draft_of c.args.self.now) (draft_of c.edge.new.self) c.args.index z body) (sym cons)
     (nested_is l ls body c.requires.formed at some few quiet c.requires.body c.requires.apart one enters_by c.in_ok-nest.ensures last))
     c.edge.ensures
