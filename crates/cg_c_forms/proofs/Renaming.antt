@@ -4,7 +4,7 @@ use Rattle.std.proofs.Math.ListN.{get_or-append}
 use Rattle.std.proofs.Math.Seq.{get_or-append_seam}
 use Rattle.cg_c_values.specs.declared.value.Value.{Value}
 use Rattle.cg_c_values.specs.declared.value.Value.TheVariants.{Const, Turn, Quotient, Digit, Carried, Input, Loaded, Two, Select}
-use Rattle.cg_c_values.specs.Values.{Keeps, IsBelow, IsLoad, IsWordOf, MayStand, Moment, Words, holds, value_at}
+use Rattle.cg_c_values.specs.Values.{Keeps, IsBelow, IsWordOf, MayStand, Moment, Words, holds, value_at}
 use Rattle.cg_c_forms.specs.Forms.{IsForm, IsLoadOf, MayAct, Renames, behind, renamed}
 use Rattle.cg_c_forms.specs.Remade.{Adds, AddsLoadAt, AddsLoadFor, IsNew, RenamesFirst}
 use Rattle.cg_c_forms.proofs.Adding.{adds_keep}

@@ -37,7 +37,6 @@ fn scaled(values: &mut Values, factor: u32, shift: u32) -> Result<usize, AllocEr
 }
 
 /// Returns a value that is the number of the turn divided by `divisor`, in each of `turns` turns.
-#[tactic(auto, using(crate::proofs::Later::extends_twice))]
 fn quotient(values: &mut Values, divisor: u32, turns: u32) -> Result<usize, AllocError>
     requires positive { 1 ≤ divisor }
     requires within { divisor ≤ turns }
@@ -108,8 +107,9 @@ pub(crate) fn any_quotient(
 
 /// Returns a value that is the digit of the turn's number for `divisor` and `radix`, in each of `turns` turns.
 ///
-/// The last digit, for which the product of `divisor` and `radix` is at least `turns`, is the quotient by `divisor`. So is
-/// a digit of radix 0. A digit stays as it is only if it is the lowest of radix 3, which is a rotation of three words.
+/// It is the quotient by `divisor` alone if the product of `divisor` and `radix` is at least `turns` or one of them is 0:
+/// a number divided by 0 is 0, and its remainder by 0 is the number itself. It stays a digit only if it is the lowest of
+/// radix 3, which is a rotation of three words.
 pub(crate) fn digit(
     values: &mut Values,
     divisor: u32,

@@ -1,6 +1,5 @@
 use Rattle.std.proofs.Common.{◌≡◌, ◌*◌, ◌≤◌, refl, arith, inl, inr}
 use Rattle.std.proofs.lemmas.Result.{IfOk-weaker}
-use Rattle.cg_c_forms.proofs.Adding.{inserts_adds}
 use Rattle.cg_c_forms.proofs.Computed.{added, digit_means, means_in, same_in}
 use Rattle.cg_c_forms.proofs.Remainders.{last_digit}
 use Rattle.cg_c_forms.proofs.digits.digit.Goals.{then-span-eq0-via-then-span-eq0, then-span-eq0-via-else-span-eq0+then-span-from}
