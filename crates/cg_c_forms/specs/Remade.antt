@@ -75,5 +75,6 @@ pub record RenamesFirst (old new : List Value) (turns : ℕ) (map : List ℕ) (c
   pub loads : (v array version address : ℕ) (guard : Option ℕ) → v < count → value_at old v ≡ Loaded array version guard address →
       IsLoadOf old new turns map array version guard address (value_at new (renamed map v))
   pub forms : (u : ℕ) → u < length new → IsForm turns (value_at new u)
+  -- each load up to a new value was made of an old one up to its old value, and each load of one of the first `count`
   pub made : (u w : ℕ) → w < count → u ≤ renamed map w → IsLoad (value_at new u) → (v : ℕ) × (v ≤ w) × IsLoad (value_at old v) × (renamed map v ≡ u)
   pub all_made : (u : ℕ) → u < length new → IsLoad (value_at new u) → (v : ℕ) × (v < count) × IsLoad (value_at old v) × (renamed map v ≡ u)
