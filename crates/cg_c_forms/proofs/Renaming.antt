@@ -5,7 +5,7 @@ use Rattle.std.proofs.Math.Seq.{get_or-append_seam}
 use Rattle.cg_c_values.specs.declared.value.Value.{Value}
 use Rattle.cg_c_values.specs.declared.value.Value.TheVariants.{Const, Turn, Quotient, Digit, Carried, Input, Loaded, Two, Select}
 use Rattle.cg_c_values.specs.Values.{Keeps, IsBelow, IsWordOf, MayStand, Moment, Words, holds, value_at}
-use Rattle.cg_c_forms.specs.Forms.{IsForm, IsLoadOf, MayAct, Renames, behind, renamed}
+use Rattle.cg_c_forms.specs.Forms.{IsForm, IsLoadOf, MayAct, behind, renamed}
 use Rattle.cg_c_forms.specs.Remade.{Adds, AddsLoadAt, AddsLoadFor, IsNew, RenamesFirst}
 use Rattle.cg_c_forms.proofs.Adding.{adds_keep}
 use Rattle.cg_c_forms.proofs.Later.{fits_kept}
@@ -106,30 +106,3 @@ first_more old a b turns map n count r e load place s m =
 
     newest : renamed more count ≡ n
     newest = rw (← r.long) (last map n)
-
-pub first_none : (old new : List Value) (turns : ℕ) → new ≡ [] → RenamesFirst old new turns [] 0
-first_none old new turns e =
-    record {
-      long = refl;
-      stand = λ v l. absurd (omega arith);
-      within = λ v l. absurd (omega arith);
-      is = λ x E t f v l. absurd (omega arith);
-      loads = λ v array version address guard l. absurd (omega arith);
-      forms = λ u l. absurd (none u l);
-      made = λ u w l. absurd (omega arith);
-      all_made = λ u l. absurd (none u l);
-    }
-  where
-    none : (u : ℕ) → u < length new → ⊥
-    none u l = let h : length new ≡ 0 = ap length e in omega arith
-
-pub all_renamed : (old new : List Value) (turns : ℕ) (map : List ℕ) → RenamesFirst old new turns map (length old) → Renames old new turns map
-all_renamed old new turns map r =
-    record {
-      long = r.long;
-      within = r.within;
-      fits = λ x E t f. record { word = λ v l. f.word (renamed map v) (r.within v l); is = r.is x E t f };
-      loads = r.loads;
-      forms = r.forms;
-      made = r.made;
-    }
