@@ -4,11 +4,11 @@ use Rattle.std.specs.Option.{MatchOption, is_some}
 use Rattle.std.proofs.lemmas.Bool.{lt-ltb}
 use Rattle.cg_c_values.specs.declared.value.Value.{Value}
 use Rattle.cg_c_values.specs.declared.value.Value.TheVariants.{Const, Turn, Quotient, Digit, Carried, Input, Loaded, Two, Select}
-use Rattle.cg_c_values.specs.Values.{Extends, Fits, IsWordOf, Moment, Words, holds, value_at}
+use Rattle.cg_c_values.specs.Values.{Keeps, Fits, IsWordOf, Moment, Words, holds, value_at}
 use Rattle.cg_c_forms.specs.Forms.{IsGuardOf, IsLoadOf, MayAct, behind, renamed}
 use Rattle.cg_c_forms.specs.Remade.{IsLoadAt, IsLoadUnder, IsNew}
 use Rattle.cg_c_forms.proofs.Computed.{word_of}
-use Rattle.cg_c_forms.proofs.Later.{fits_before}
+use Rattle.cg_c_forms.proofs.Later.{fits_kept}
 
 -- ---- guards that are constants
 
@@ -17,21 +17,21 @@ unfolding IsWordOf
 constant_word values v word x E l e f = word_of values v (Const word) x E l e f
 
 -- a guard that is a constant other than 0 holds
-pub always : (a b : List Value) (g word : ℕ) → Extends a b → g < length a → value_at a g ≡ Const word → word ≢ 0 →
+pub always : (a b : List Value) (g word : ℕ) → Keeps a b → g < length a → value_at a g ≡ Const word → word ≢ 0 →
     (x : Moment) (E : Words) → Fits b x E → holds E (Some g) ≡ true
 always a b g word k l e h x E f =
-    ap (λ y. nat_lt 0 y) (constant_word a g word x E l e (fits_before a b x E k f)) ∙ lt-ltb 0 word (omega arith)
+    ap (λ y. nat_lt 0 y) (constant_word a g word x E l e (fits_kept a b x E k f)) ∙ lt-ltb 0 word (omega arith)
 
 -- ---- loads under a guard
 
-pub never_loaded : (a b : List Value) (array version g address v : ℕ) → Extends a b → g < length a → value_at a g ≡ Const 0 → v < length b → value_at b v ≡ Const 0 →
+pub never_loaded : (a b : List Value) (array version g address v : ℕ) → Keeps a b → g < length a → value_at a g ≡ Const 0 → v < length b → value_at b v ≡ Const 0 →
     IsLoadAt b array version (Some g) address v
 unfolding IsLoadUnder
 never_loaded a b array version g address v k l e m i =
     record {
       within = m;
       load = subst (IsLoadUnder b array version (Some g) address) (sym i)
-          (λ x E f. ap (λ y. nat_lt 0 y) (constant_word a g 0 x E l e (fits_before a b x E k f)));
+          (λ x E f. ap (λ y. nat_lt 0 y) (constant_word a g 0 x E l e (fits_kept a b x E k f)));
     }
 
 pub loaded : (values : List Value) (array version : ℕ) (guard guard' : Option ℕ) (address v : ℕ) →
@@ -64,12 +64,12 @@ found_guards old new turns map array version guard address guard' o N h m e' =
     record { holds = λ x E f l h. ap (holds E) e'; only = inr (p.0, p.1.0, p.1.1) }
 
 pub tested_guards : (old now new : List Value) (turns : ℕ) (map : List ℕ) (array version : ℕ) (guard : Option ℕ) (address : ℕ) (guard' : Option ℕ) (g t : ℕ) →
-    Extends now new → ((x : Moment) (E : Words) → Fits now x E → nat_lt 0 (E t) ≡ nat_lt 0 (E (renamed map g))) →
+    Keeps now new → ((x : Moment) (E : Words) → Fits now x E → nat_lt 0 (E t) ≡ nat_lt 0 (E (renamed map g))) →
     guard ≡ Some g → guard' ≡ Some t → Guards old new turns map array version guard address guard'
 tested_guards old now new turns map array version guard address guard' g t k h e e' =
     record {
-      holds = λ x E f l y. ap (holds E) e' ∙ h x E (fits_before now new x E k f) ∙ sym (ap (holds (behind E map)) e) ∙ y;
-      only = inl (λ x E f l y. ap (holds (behind E map)) e ∙ sym (h x E (fits_before now new x E k f)) ∙ sym (ap (holds E) e') ∙ y);
+      holds = λ x E f l y. ap (holds E) e' ∙ h x E (fits_kept now new x E k f) ∙ sym (ap (holds (behind E map)) e) ∙ y;
+      only = inl (λ x E f l y. ap (holds (behind E map)) e ∙ sym (h x E (fits_kept now new x E k f)) ∙ sym (ap (holds E) e') ∙ y);
     }
 
 -- ---- what has become of a load

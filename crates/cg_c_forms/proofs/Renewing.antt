@@ -21,6 +21,11 @@ unfolding IsWordOf
 digit_new old new turns map p r v m =
     record { within = m.within; is = λ x E l f. m.is x E l f; load = λ array version address guard e. absurd (cc) }
 
+pub quotient_new : (old new : List Value) (turns : ℕ) (map : List ℕ) (p v : ℕ) → MeansIn turns new v (λ t. t / p) → IsNew old new turns map (Quotient p) v
+unfolding IsWordOf
+quotient_new old new turns map p v m =
+    record { within = m.within; is = λ x E l f. m.is x E l f; load = λ array version address guard e. absurd (cc) }
+
 pub two_new : (old new : List Value) (turns : ℕ) (map : List ℕ) (op : Op) (first second v : ℕ) →
     Means new v (λ x E. apply_of op (E (renamed map first)) (E (renamed map second)) 0) → IsNew old new turns map (Two op first second) v
 unfolding IsWordOf
@@ -41,11 +46,6 @@ unfolding IsWordOf
 turn_new old new turns map v l e =
     record { within = l; is = λ x E b f. word_of new v Turn x E l e f; load = λ array version address guard i. absurd (cc) }
 
-quotient_new : (old new : List Value) (turns : ℕ) (map : List ℕ) (p v : ℕ) → v < length new → value_at new v ≡ Quotient p → IsNew old new turns map (Quotient p) v
-unfolding IsWordOf
-quotient_new old new turns map p v l e =
-    record { within = l; is = λ x E b f. word_of new v (Quotient p) x E l e f; load = λ array version address guard i. absurd (cc) }
-
 carried_new : (old new : List Value) (turns : ℕ) (map : List ℕ) (number v : ℕ) → v < length new → value_at new v ≡ Carried number → IsNew old new turns map (Carried number) v
 unfolding IsWordOf
 carried_new old new turns map number v l e =
@@ -57,9 +57,8 @@ input_new old new turns map port v l e =
     record { within = l; is = λ x E b f. word_of new v (Input port) x E l e f; load = λ array version address guard i. absurd (cc) }
 
 pub leaf_new : (old new : List Value) (turns : ℕ) (map : List ℕ) (value : Value) (v : ℕ) →
-    (value ≡ Turn) ⊎ ((x : ℕ) × (value ≡ Quotient x)) ⊎ ((x : ℕ) × (value ≡ Carried x)) ⊎ ((x : ℕ) × (value ≡ Input x)) →
+    (value ≡ Turn) ⊎ ((x : ℕ) × (value ≡ Carried x)) ⊎ ((x : ℕ) × (value ≡ Input x)) →
     v < length new → value_at new v ≡ value → IsNew old new turns map value v
 leaf_new old new turns map value v (inl i) l e = rw i (turn_new old new turns map v l (e ∙ i))
-leaf_new old new turns map value v (inr (inl (p, i))) l e = rw i (quotient_new old new turns map p v l (e ∙ i))
-leaf_new old new turns map value v (inr (inr (inl (n, i)))) l e = rw i (carried_new old new turns map n v l (e ∙ i))
-leaf_new old new turns map value v (inr (inr (inr (n, i)))) l e = rw i (input_new old new turns map n v l (e ∙ i))
+leaf_new old new turns map value v (inr (inl (n, i))) l e = rw i (carried_new old new turns map n v l (e ∙ i))
+leaf_new old new turns map value v (inr (inr (n, i))) l e = rw i (input_new old new turns map n v l (e ∙ i))

@@ -1,8 +1,9 @@
 -- Values over again, with digits of the turn's number in the form in which a kernel computes them.
-use Rattle.std.specs.Prelude.{◌≡◌, ◌⊎◌, ℕ, ◌<◌, true, false, List, length, Option, None, slice_index}
+use Rattle.std.specs.Prelude.{◌≡◌, ◌⊎◌, ℕ, ◌+◌, ◌/◌, ◌<◌, ◌≤◌, true, false, List, length, Option, None, slice_index}
 use Rattle.cg_c_values.specs.declared.value.Value.{Value}
-use Rattle.cg_c_values.specs.declared.value.Value.TheVariants.{Const, Loaded}
-use Rattle.cg_c_values.specs.Values.{Moment, Words, Fits, holds, value_at}
+use Rattle.cg_c_values.specs.declared.value.Value.TheVariants.{Const, Quotient, Digit, Loaded}
+use Rattle.cg_c_values.specs.Values.{Moment, Words, Fits, IsLoad, holds, value_at}
+use Rattle.cg_c_quotients.specs.Quotients.{quotient_at}
 
 -- the new value of a value
 abbrev pub renamed : (map : List ℕ) → ℕ → ℕ
@@ -38,6 +39,13 @@ IsLoadOf old new turns map array version guard address (Const word) =
     (x : Moment) (E : Words) → Fits new x E → x.turn < turns → holds (behind E map) guard ≡ false
 IsLoadOf old new turns map array version guard address _ = ⊥
 
+-- the values that have nodes: a digit of the turn's number is the lowest one of radix 3, and a quotient is one that the
+-- recurrence over two turns gives
+abbrev pub IsForm : (turns : ℕ) → Value → Type 0
+IsForm turns (Digit divisor radix) = (divisor ≡ 1) × (radix ≡ 3)
+IsForm turns (Quotient divisor) = (t : ℕ) → t < turns → quotient_at divisor (t + 2) ≡ t / divisor
+IsForm turns _ = Unit {0}
+
 -- each value has a new one: words that fit the new ones are words of the old ones, in each of `turns` turns
 pub record Renames (old new : List Value) (turns : ℕ) (map : List ℕ) : Type 0 where
   pub long : length map ≡ length old
@@ -45,3 +53,6 @@ pub record Renames (old new : List Value) (turns : ℕ) (map : List ℕ) : Type 
   pub fits : (x : Moment) (E : Words) → x.turn < turns → Fits new x E → Fits old x (behind E map)
   pub loads : (v array version address : ℕ) (guard : Option ℕ) → v < length old → value_at old v ≡ Loaded array version guard address →
       IsLoadOf old new turns map array version guard address (value_at new (renamed map v))
+  pub forms : (v : ℕ) → v < length new → IsForm turns (value_at new v)
+  -- each load up to a new value was made of an old load up to its old value
+  pub made : (u w : ℕ) → w < length old → u ≤ renamed map w → IsLoad (value_at new u) → (v : ℕ) × (v ≤ w) × IsLoad (value_at old v) × (renamed map v ≡ u)

@@ -1,11 +1,11 @@
 //! Values over again.
 ghost use Rattle.std.specs.Prelude.{◌≡◌, ◌≤◌, length, IfOk};
 ghost use Rattle.cg_c_values.specs.Listed.{listed};
-ghost use Rattle.cg_c_values.specs.Values.{Extends, MayStand};
-ghost use Rattle.cg_c_forms.specs.Forms.{Renames};
-ghost use Rattle.cg_c_forms.specs.Remade.{AllWithin, IsNew};
+ghost use Rattle.cg_c_values.specs.Values.{MayStand};
+ghost use Rattle.cg_c_forms.specs.Forms.{IsForm, Renames};
+ghost use Rattle.cg_c_forms.specs.Remade.{Adds, AddsLoadAt, AddsLoadFor, AllWithin, IsNew};
 
-use crate::digits::digit;
+use crate::digits::{any_quotient, digit};
 use crate::loads::load;
 use cg_c_values::{Value, Values};
 use std::alloc::{AllocError, Global};
@@ -28,11 +28,14 @@ fn remade(
     requires limited { turns ≤ 1000000 }
     requires stands { MayStand (length map.now) value }
     requires within { AllWithin (listed values.now) map.now }
-    ensures kept { Extends (listed values.old) (listed values.new) }
+    ensures kept { Adds (IsForm turns) (listed values.old) (listed values.new) }
+    ensures load { AddsLoadFor (listed values.old) (listed values.new) value }
+    ensures place { IfOk result (λ v. AddsLoadAt (listed values.old) (listed values.new) v) }
     ensures new { IfOk result (λ v. IsNew (listed old.now) (listed values.new) turns map.now value v) }
 {
     match value {
         Value::Const(word) => values.constant(word),
+        Value::Quotient(divisor) => any_quotient(values, divisor, turns),
         Value::Digit { divisor, radix } => digit(values, divisor, radix, turns),
         Value::Loaded {
             array,
@@ -58,7 +61,7 @@ fn remade(
             chosen,
             other,
         } => values.select(map[condition], map[chosen], map[other]),
-        Value::Turn | Value::Quotient(_) | Value::Carried(_) | Value::Input(_) => values.add(value),
+        Value::Turn | Value::Carried(_) | Value::Input(_) => values.add(value),
     }
 }
 

@@ -5,7 +5,7 @@ ghost use Rattle.cg_c_values.specs.Values.{Extends, Means};
 ghost use Rattle.cg_word.specs.declared.op.Op.TheVariants as ops;
 ghost use Rattle.cg_word.specs.Word.{apply_of};
 ghost use Rattle.cg_c_quotients.specs.Quotients.{masked};
-ghost use Rattle.cg_c_forms.specs.Remade.{MeansIn};
+ghost use Rattle.cg_c_forms.specs.Remade.{Adds, IsComputed, MeansIn};
 
 use cg_c_quotients::{Quotient, mask_of, quotient_of};
 use cg_c_values::{Value, Values};
@@ -37,19 +37,18 @@ fn scaled(values: &mut Values, factor: u32, shift: u32) -> Result<usize, AllocEr
 }
 
 /// Returns a value that is the number of the turn divided by `divisor`, in each of `turns` turns.
-#[tactic(auto, using(crate::proofs::Later::extends_twice))]
 fn quotient(values: &mut Values, divisor: u32, turns: u32) -> Result<usize, AllocError>
     requires positive { 1 ≤ divisor }
     requires within { divisor ≤ turns }
     requires limited { turns ≤ 1000000 }
-    ensures kept { Extends (listed values.old) (listed values.new) }
+    ensures kept { Adds (IsComputed turns) (listed values.old) (listed values.new) }
     ensures means { IfOk result (λ v. MeansIn turns (listed values.new) v (λ t. t / divisor)) }
 {
     match quotient_of(divisor, turns) {
         Quotient::Turn => values.add(Value::Turn),
         Quotient::Shift(bits) => shifted(values, bits),
         Quotient::Product { factor, shift } => scaled(values, factor, shift),
-        Quotient::Recurrence => values.add(Value::Quotient(divisor)),
+        Quotient::Recurrence => values.insert(Value::Quotient(divisor)),
     }
 }
 
@@ -64,7 +63,7 @@ fn masked_quotient(
     requires positive { 1 ≤ divisor }
     requires within { divisor ≤ turns }
     requires limited { turns ≤ 1000000 }
-    ensures kept { Extends (listed values.old) (listed values.new) }
+    ensures kept { Adds (IsComputed turns) (listed values.old) (listed values.new) }
     ensures means { IfOk result (λ v. MeansIn turns (listed values.new) v (λ t. masked (t / divisor) mask)) }
 {
     let all = quotient(values, divisor, turns)?;
@@ -79,7 +78,7 @@ fn remainder(values: &mut Values, divisor: u32, radix: u32, turns: u32) -> Resul
     requires positive { (1 ≤ divisor) × (1 ≤ radix) }
     requires within { divisor * radix ≤ turns }
     requires limited { turns ≤ 1000000 }
-    ensures kept { Extends (listed values.old) (listed values.new) }
+    ensures kept { Adds (IsComputed turns) (listed values.old) (listed values.new) }
     ensures means { IfOk result (λ v. MeansIn turns (listed values.new) v (λ t. t / divisor % radix)) }
 {
     let all = quotient(values, divisor, turns)?;
@@ -89,10 +88,28 @@ fn remainder(values: &mut Values, divisor: u32, radix: u32, turns: u32) -> Resul
     values.two(Op::Sub, all, before)
 }
 
+/// Returns a value that is the number of the turn divided by any `divisor`, in each of `turns` turns. It is 0 if
+/// `divisor` is 0 or exceeds `turns`.
+pub(crate) fn any_quotient(
+    values: &mut Values,
+    divisor: u32,
+    turns: u32,
+) -> Result<usize, AllocError>
+    requires limited { turns ≤ 1000000 }
+    ensures kept { Adds (IsComputed turns) (listed values.old) (listed values.new) }
+    ensures means { IfOk result (λ v. MeansIn turns (listed values.new) v (λ t. t / divisor)) }
+{
+    if divisor == 0 || divisor > turns {
+        return values.constant(0);
+    }
+    quotient(values, divisor, turns)
+}
+
 /// Returns a value that is the digit of the turn's number for `divisor` and `radix`, in each of `turns` turns.
 ///
-/// A digit stays as it is if a number of it is 0, if their product exceeds `turns`, or if it is the lowest of radix 3,
-/// which is a rotation of three words.
+/// It is the quotient by `divisor` alone if the product of `divisor` and `radix` is at least `turns` or one of them is 0:
+/// a number divided by 0 is 0, and its remainder by 0 is the number itself. It stays a digit only if it is the lowest of
+/// radix 3, which is a rotation of three words.
 pub(crate) fn digit(
     values: &mut Values,
     divisor: u32,
@@ -100,24 +117,21 @@ pub(crate) fn digit(
     turns: u32,
 ) -> Result<usize, AllocError>
     requires limited { turns ≤ 1000000 }
-    ensures kept { Extends (listed values.old) (listed values.new) }
+    ensures kept { Adds (IsComputed turns) (listed values.old) (listed values.new) }
     ensures means { IfOk result (λ v. MeansIn turns (listed values.new) v (λ t. t / divisor % radix)) }
 {
-    let span = u64::from(divisor) * u64::from(radix);
-    if span == 0 || span > u64::from(turns) {
-        return values.add(Value::Digit { divisor, radix });
-    }
     if radix == 1 {
         return values.constant(0);
     }
-    if span == u64::from(turns) {
-        return quotient(values, divisor, turns);
+    let span = u64::from(divisor) * u64::from(radix);
+    if span == 0 || span >= u64::from(turns) {
+        return any_quotient(values, divisor, turns);
     }
     if let Some(mask) = mask_of(radix) {
         return masked_quotient(values, divisor, mask, turns);
     }
     if divisor == 1 && radix == 3 {
-        return values.add(Value::Digit { divisor, radix });
+        return values.insert(Value::Digit { divisor, radix });
     }
     remainder(values, divisor, radix, turns)
 }

@@ -1,8 +1,8 @@
 //! Loads over again, under guards that may always or never hold.
 ghost use Rattle.std.specs.Prelude.{◌≡◌, ◌<◌, length, IfOk};
 ghost use Rattle.cg_c_values.specs.Listed.{listed};
-ghost use Rattle.cg_c_values.specs.Values.{Extends, IsBelow};
-ghost use Rattle.cg_c_forms.specs.Remade.{IsLoadAt};
+ghost use Rattle.cg_c_values.specs.Values.{IsBelow};
+ghost use Rattle.cg_c_forms.specs.Remade.{Adds, AddsLoadAt, IsLoadAt, IsPureOrLoad};
 
 use cg_c_values::{Value, Values};
 use std::alloc::AllocError;
@@ -18,8 +18,9 @@ pub(crate) fn load(
 ) -> Result<usize, AllocError>
     requires guard { IsBelow (length (listed values.now)) guard }
     requires address { address < length (listed values.now) }
-    ensures kept { Extends (listed values.old) (listed values.new) }
+    ensures kept { Adds IsPureOrLoad (listed values.old) (listed values.new) }
     ensures load { IfOk result (λ v. IsLoadAt (listed values.new) array version guard address v) }
+    ensures place { IfOk result (λ v. AddsLoadAt (listed values.old) (listed values.new) v) }
 {
     let guard = match guard {
         None => None,
@@ -29,7 +30,7 @@ pub(crate) fn load(
             None => Some(guard),
         },
     };
-    values.add(Value::Loaded {
+    values.insert(Value::Loaded {
         array,
         version,
         guard,

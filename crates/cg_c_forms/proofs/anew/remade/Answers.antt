@@ -1,12 +1,16 @@
 use Rattle.std.proofs.lemmas.Result.{IfOk-weaker}
+use Rattle.cg_c_forms.proofs.Adding.{adds_keep}
 use Rattle.cg_c_forms.proofs.Computed.{added}
 use Rattle.cg_c_forms.proofs.Loading.{found_guards, load_new, none_guards, tested_guards}
-use Rattle.cg_c_forms.proofs.Renewing.{constant_new, digit_new, leaf_new, select_new, two_new}
+use Rattle.cg_c_forms.proofs.Renewing.{constant_new, digit_new, leaf_new, quotient_new, select_new, two_new}
 use Rattle.cg_c_forms.proofs.anew.remade.Goals.{in-Some, in_default-2, in_default}
 use Rattle.cg_c_forms.proofs.anew.remade.Goals as goal
 
 pub returns-in-Const-clause-new : goal.returns-in-Const-clause-new
 returns-in-Const-clause-new c = rw c.in-Const.is (IfOk-weaker c.constant.result _ _ (λ v m. constant_new _ _ _ _ _ v m) c.constant.ensures.means)
+
+pub returns-in-Quotient-clause-new : goal.returns-in-Quotient-clause-new
+returns-in-Quotient-clause-new c = rw c.in-Quotient.is (IfOk-weaker c.any_quotient.result _ _ (λ v m. quotient_new _ _ _ _ _ v m) c.any_quotient.ensures.means)
 
 pub returns-in-Digit-clause-new : goal.returns-in-Digit-clause-new
 returns-in-Digit-clause-new c = rw c.in-Digit.is (IfOk-weaker c.digit.result _ _ (λ v m. digit_new _ _ _ _ _ _ v m) c.digit.ensures.means)
@@ -18,7 +22,7 @@ returns-after-guard-clause-new c =
       | in-Some w ↦
           IfOk-weaker c.load.result _ _
           (λ v m. load_new _ _ _ _ _ _ _ _ c.match-guard.guard v
-          (tested_guards _ _ _ _ _ _ _ _ _ _ _ _ c.load.ensures.kept w.tested.ensures.tests w.in-Some.is w.guard-is) m)
+          (tested_guards _ _ _ _ _ _ _ _ _ _ _ _ (adds_keep c.load.ensures.kept) w.tested.ensures.tests w.in-Some.is w.guard-is) m)
           c.load.ensures.load
       | in_default-2 w ↦
           IfOk-weaker c.load.result _ _

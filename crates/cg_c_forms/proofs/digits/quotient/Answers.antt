@@ -1,6 +1,7 @@
 use Rattle.std.proofs.Common.{refl}
 use Rattle.std.proofs.lemmas.Result.{IfOk-weaker}
 use Rattle.cg_c_quotients.specs.Quotients.{word_at}
+use Rattle.cg_c_forms.proofs.Adding.{inserts_adds}
 use Rattle.cg_c_forms.proofs.Computed.{added, means_in, quotient_means, turn_means}
 use Rattle.cg_c_forms.proofs.digits.quotient.Goals as goal
 
@@ -21,5 +22,9 @@ returns-in-Product-clause-means c =
 
 pub returns-in-Recurrence-clause-means : goal.returns-in-Recurrence-clause-means
 returns-in-Recurrence-clause-means c =
-    added _ _ c.add-in-Recurrence.result (λ v l e. means_in (λ t b. refl) (quotient_means _ v _ l e))
-    c.add-in-Recurrence.ensures.within c.add-in-Recurrence.ensures.added
+    added _ _ c.insert.result (λ v l e. means_in (λ t b. refl) (quotient_means _ v _ l e))
+    c.insert.ensures.within c.insert.ensures.added
+
+pub returns-in-Recurrence-clause-kept : goal.returns-in-Recurrence-clause-kept
+unfolding word_at
+returns-in-Recurrence-clause-kept c = inserts_adds (c.in-Recurrence.ensures.quotient, λ l. l) c.insert.ensures.kept
