@@ -1,0 +1,4 @@
+pub mod Data
+pub mod Paths
+pub mod Within
+pub mod Tables

@@ -3,7 +3,15 @@
 #![tactic(auto)]
 
 mod access;
-mod ordered;
+mod back;
+mod chains;
+mod closing;
+mod draft;
+mod edges;
+mod forth;
+mod lookup;
+mod marks;
+mod ordering;
 
 pub use access::Access;
-pub use ordered::{OrderFault, ordered};
+pub use ordering::{OrderFault, ordered};

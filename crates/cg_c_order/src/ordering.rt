@@ -2,9 +2,13 @@
 ghost use Rattle.std.specs.Prelude.{◌≡◌, [], IfOk, Err, length};
 ghost use Rattle.cg_model.specs.Kernel.{IsKernel};
 ghost use Rattle.cg_c_order.specs.Accesses.{AreAccesses, AreOrdered, IsOrderedBy, NeedsMore, kernel_with};
-ghost use Rattle.cg_c_order.specs.declared.ordered.OrderFault.TheVariants.{TooMany};
+ghost use Rattle.cg_c_order.specs.declared.ordering.OrderFault.TheVariants.{TooMany};
 
 use crate::access::Access;
+use crate::back::order_back;
+use crate::draft::Draft;
+use crate::forth::order_forth;
+use crate::lookup::by_node;
 use cg_model::{Kernel, Node};
 use std::alloc::{AllocError, Global};
 use thiserror::Error;
@@ -21,7 +25,7 @@ pub enum OrderFault {
 
 impl From<AllocError> for OrderFault {
     ghost use Rattle.std.specs.Prelude.{◌≡◌};
-    ghost use Rattle.cg_c_order.specs.declared.ordered.OrderFault.TheVariants.{Memory};
+    ghost use Rattle.cg_c_order.specs.declared.ordering.OrderFault.TheVariants.{Memory};
 
     ghost from_gives = { λ _ e. e ≡ Memory };
 
@@ -42,5 +46,10 @@ pub fn ordered(alloc: Global, nodes: Vec<Node>, accesses: &[Access]) -> Result<K
     ensures ordered { IfOk result (AreOrdered accesses.now) }
     ensures many { result ≡ Err TooMany → NeedsMore nodes.items accesses.now }
 {
-    Err(OrderFault::Memory)
+    let table = by_node(alloc, nodes.len(), accesses)?;
+    let mut draft = Draft::new(alloc, nodes)?;
+    order_forth(alloc, &table, &mut draft)?;
+    let mut closing = draft.close(alloc)?;
+    order_back(alloc, &table, &mut closing)?;
+    Ok(closing.into_kernel())
 }
