@@ -1,6 +1,6 @@
 -- The edges of a kernel as one list.
 use Rattle.std.proofs.Common.{◌≡◌, ℕ, zero, suc, ◌+◌, ◌<◌, ◌⊎◌, inl, inr, List, [], ◌∷◌, ◌++◌, length, Some, refl, ap, sym, ◌∙◌, subst, arith, zero-add, ⊎_elim}
-use Rattle.std.specs.Prelude.{slice_get, slice_index_or}
+use Rattle.std.specs.Prelude.{flat_map, slice_get, slice_index_or}
 use Rattle.std.specs.List.{range_with_len}
 use Rattle.cg_model.specs.declared.kernel.Node.{Node}
 use Rattle.cg_model.specs.declared.kernel.Operand.{Operand}
@@ -8,6 +8,8 @@ use Rattle.cg_model.specs.declared.kernel.Operand.TheVariants.{Const as Constant
 use Rattle.cg_model.specs.declared.kernel.OrderEdge.{OrderEdge}
 use Rattle.cg_model.specs.Kernel.{Kernel, IsKernel, no_node, node, size}
 use Rattle.cg_model.specs.Order.{Links, by_data, by_order}
+use Rattle.std.proofs.lemmas.List.{get_or_default}
+use Rattle.cg_depend.proofs.Asked.{row_more}
 use Rattle.cg_depend.proofs.Members.{In, in_append_cases, in_flat_map, in_flat_map_from, in_left, in_range, in_range_below, in_right}
 use Rattle.cg_c_order.specs.Accesses.{edge}
 use Rattle.cg_c_order.specs.Chains.{HasEdge, JoinBelow, data_edges, edge_of, edges_into, edges_of}
@@ -29,7 +31,7 @@ has_push_cases E w u v d h = ⊎_elim (λ i. inl i) (λ i. inr (single w (edge u
 
 -- an edge over another number of turns is none of these
 pub has_push_other : (E : List OrderEdge) (w : OrderEdge) (u v d : ℕ) → (w.distance ≡ d → ⊥) → HasEdge (E ++ w ∷ []) u v d → HasEdge E u v d
-has_push_other E w u v d no h = ⊎_elim {C = HasEdge E u v d} (λ i. i) (λ e. absurd (no (ap (λ (x : OrderEdge). x.distance) e))) (has_push_cases E w u v d h)
+has_push_other E w u v d differs h = ⊎_elim {C = HasEdge E u v d} (λ i. i) (λ e. absurd (differs (ap (λ (x : OrderEdge). x.distance) e))) (has_push_cases E w u v d h)
 
 -- ---- data edges
 
@@ -83,3 +85,10 @@ edges_join K good k e h = joins (link_from K e.from e.to e.distance (k, h)) wher
   joins : Links K e.from e.to e.distance → (e.from < size K) × (e.to < size K)
   joins (by_data p init l i) = (good.wired.sources e.to p e.from e.distance init l i, l)
   joins (by_order n i) = good.order.known n e.from e.to e.distance i
+
+-- the data edges of one node more
+pub data_step : (nodes : List Node) (v : ℕ) (old new : List OrderEdge) (x : Node) (operands : List Operand) → v < length nodes → operands ≡ (slice_index_or nodes v x).operands →
+    old ≡ flat_map (λ w. edges_into w (slice_index_or nodes w no_node).operands) (range_with_len 0 v) → new ≡ old ++ edges_into v operands → new ≡ flat_map (λ w. edges_into w (slice_index_or nodes w no_node).operands) (range_with_len 0 (v + 1))
+data_step nodes v old new x operands l same before after =
+    let F : ℕ → List OrderEdge = λ w. edges_into w (slice_index_or nodes w no_node).operands in
+    after ∙ ap (λ z. z ++ edges_into v operands) before ∙ ap (λ (z : List Operand). flat_map F (range_with_len 0 v) ++ edges_into v z) (same ∙ ap (λ (n : Node). n.operands) (get_or_default nodes v x no_node l)) ∙ sym (row_more F v)

@@ -2,3 +2,5 @@ pub mod Data
 pub mod Paths
 pub mod Within
 pub mod Tables
+pub mod Found
+pub mod Joining

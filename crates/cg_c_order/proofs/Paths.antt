@@ -63,7 +63,7 @@ pub leads_more : (E : List OrderEdge) (w : OrderEdge) (x y : ℕ) → Leads E x 
 leads_more E w x y c = leads_kept E (E ++ w ∷ []) (λ u v. has_left E (w ∷ []) u v 0) x y c
 
 pub leads_less : (E : List OrderEdge) (w : OrderEdge) → (w.distance ≡ 0 → ⊥) → (x y : ℕ) → Leads (E ++ w ∷ []) x y → Leads E x y
-leads_less E w no x y c = leads_kept (E ++ w ∷ []) E (λ u v. has_push_other E w u v 0 no) x y c
+leads_less E w differs x y c = leads_kept (E ++ w ∷ []) E (λ u v. has_push_other E w u v 0 differs) x y c
 
 -- ---- an edge to the next turn
 
@@ -103,4 +103,4 @@ pub over_more : (E M : List OrderEdge) (w : OrderEdge) (x y : ℕ) → LeadsOver
 over_more E M w x y c = over_kept E M E (M ++ w ∷ []) (λ u v h. h) (λ u v. has_left M (w ∷ []) u v 1) x y c
 
 pub over_less : (E M : List OrderEdge) (w : OrderEdge) → (w.distance ≡ 1 → ⊥) → (x y : ℕ) → LeadsOver E (M ++ w ∷ []) x y → LeadsOver E M x y
-over_less E M w no x y c = over_kept E (M ++ w ∷ []) E M (λ u v h. h) (λ u v. has_push_other M w u v 1 no) x y c
+over_less E M w differs x y c = over_kept E (M ++ w ∷ []) E M (λ u v h. h) (λ u v. has_push_other M w u v 1 differs) x y c

@@ -1,7 +1,7 @@
 -- Tables of the pairs of a relation.
-use Rattle.std.proofs.Common.{◌≡◌, ℕ, ◌<◌, ◌⊎◌, inl, inr, Bool, true, false, List, [], length, refl, sym, ◌∙◌, subst, arith, ⊎_elim}
-use Rattle.std.specs.Prelude.{not, ◌&&◌, ◌||◌, eqb, replicate}
-use Rattle.cg_c_order.specs.Marks.{AreAfter, AreBefore, AreJoined, IsJoined, IsSquare, IsTable, entry, has, row, takes}
+use Rattle.std.proofs.Common.{◌≡◌, ℕ, ◌<◌, ◌⊎◌, inl, inr, Bool, true, false, List, refl, sym, ◌∙◌, arith, ⊎_elim}
+use Rattle.std.specs.Prelude.{not, ◌&&◌, ◌||◌}
+use Rattle.cg_c_order.specs.Marks.{AreJoined, IsSquare, IsTable, entry, has}
 
 -- the pairs of another relation, which is the same
 pub retable : (n : ℕ) (R S : ℕ → ℕ → Type 0) (rows : List (List Bool)) → ((x y : ℕ) → R x y → S x y) → ((x y : ℕ) → S x y → R x y) → IsTable n R rows → IsTable n S rows
@@ -11,7 +11,7 @@ retable n R S rows there back t = record {
   complete = λ x y lx ly s. t.complete x y lx ly (back x y s);
 }
 
-or_cases : (a b : Bool) → (a || b) ≡ true → (a ≡ true) ⊎ (b ≡ true)
+pub or_cases : (a b : Bool) → (a || b) ≡ true → (a ≡ true) ⊎ (b ≡ true)
 or_cases true b e = inl refl
 or_cases false b e = inr e
 
@@ -32,23 +32,23 @@ joined_new false true false true k e f = refl
 joined_new false true t false k e f = absurd (cc)
 joined_new false false t o k e f = absurd (cc)
 
+pub join_square : (n : ℕ) (sources : List Bool) (to : ℕ) (targets : List Bool) (old new : List (List Bool)) → IsSquare n old → AreJoined sources to targets old new → IsSquare n new
+join_square n sources to targets old new square joined = record {
+  long = joined.long ∙ square.long;
+  wide = λ x lx. (joined.rows x (let e = square.long in omega arith)).long ∙ square.wide x lx;
+}
+
 -- a table to which the pairs of sources and targets are joined
 module _ (n : ℕ) (R : ℕ → ℕ → Type 0) (S T : ℕ → Type 0) (sources : List Bool) (to : ℕ) (targets : List Bool) (old new : List (List Bool))
     (table : IsTable n R old) (joined : AreJoined sources to targets old new) where
   cell : (x y : ℕ) → x < n → entry new x y ≡ (entry old x y || ((has sources x && not (entry old x to)) && has targets y))
   cell x y lx = (joined.rows x (let e = table.square.long in omega arith)).cells y
 
-  pub join_square : IsSquare n new
-  join_square = record {
-    long = joined.long ∙ table.square.long;
-    wide = λ x lx. (joined.rows x (let e = table.square.long in omega arith)).long ∙ table.square.wide x lx;
-  }
-
   pub join_table : to < n → ((x : ℕ) → x < n → has sources x ≡ true → S x) → ((x : ℕ) → x < n → S x → has sources x ≡ true) →
       ((y : ℕ) → y < n → has targets y ≡ true → T y) → ((y : ℕ) → y < n → T y → has targets y ≡ true) →
       ((x y : ℕ) → R x to → T y → R x y) → IsTable n (λ x y. R x y ⊎ (S x × T y)) new
   join_table lt s s' t t' on = record {
-    square = join_square;
+    square = join_square n sources to targets old new table.square joined;
     sound = λ x y lx ly e.
         ⊎_elim (λ h. inl (table.sound x y lx ly h)) (λ h. inr (s x lx h.0, t y ly h.1))
         (joined_cases (entry old x y) (has sources x) (entry old x to) (has targets y) (sym (cell x y lx) ∙ e));

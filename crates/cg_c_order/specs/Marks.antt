@@ -24,14 +24,14 @@ pub record IsJoined (takes : Bool) (others old new : List Bool) : Type 0 where
   pub long : length new ≡ length old
   pub cells : (y : ℕ) → has new y ≡ (has old y || (takes && has others y))
 
--- `to` and its targets, if `to` is none of them
-abbrev pub takes : List Bool → ℕ → List Bool → ℕ → Bool
-takes sources to old x = has sources x && not (has old to)
+-- a source takes the targets of `to` if `to` is none of its own
+abbrev pub takes : Bool → ℕ → List Bool → Bool
+takes is_source to old = is_source && not (has old to)
 
 -- each of the sources that didn't lead to `to` yet leads to the targets
 pub record AreJoined (sources : List Bool) (to : ℕ) (targets : List Bool) (old new : List (List Bool)) : Type 0 where
   pub long : length new ≡ length old
-  pub rows : (x : ℕ) → x < length old → IsJoined (takes sources to (row old x) x) targets (row old x) (row new x)
+  pub rows : (x : ℕ) → x < length old → IsJoined (takes (has sources x) to (row old x)) targets (row old x) (row new x)
 
 -- the nodes that lead to u, and u
 pub record AreBefore (rows : List (List Bool)) (u : ℕ) (marks : List Bool) : Type 0 where

@@ -42,7 +42,8 @@ pub(crate) fn add_next(alloc: Global, edge: OrderEdge, near: &[Marks], next: &mu
     requires square { IsSquare (length near.now) next.old }
     requires from { edge.from < length near.now }
     requires to { edge.to < length near.now }
-    ensures { OnOk result ((es turning : List OrderEdge) → IsTable (length near.now) (Leads es) near.now → IsTable (length near.now) (LeadsOver es turning) next.old → IsTable (length near.now) (LeadsOver es (turning ++ edge ∷ [])) next.new) }
+    ensures square { OnOk result (IsSquare (length near.now) next.new) }
+    ensures table { OnOk result ((es turning : List OrderEdge) → IsTable (length near.now) (Leads es) near.now → IsTable (length near.now) (LeadsOver es turning) next.old → IsTable (length near.now) (LeadsOver es (turning ++ edge ∷ [])) next.new) }
 {
     if edge.distance == 1 {
         let sources = nodes_before(alloc, near, edge.from as usize)?;

@@ -20,7 +20,12 @@ pub(crate) fn by_node(alloc: Global, count: usize, accesses: &[Access]) -> Resul
 fn access_of(accesses: &[Access], node: usize) -> Option<Access>
     ensures { result ≡ access_of accesses.now node }
 {
-    accesses.iter().find(|a| a.node as usize == node).copied()
+    for access in accesses {
+        if access.node as usize == node {
+            return Some(*access);
+        }
+    }
+    None
 }
 
 /// Returns whether the nodes `first` and `second` of `table` are accesses to one array, of which one stores.

@@ -21,7 +21,7 @@ impl Model for Marks {
 
 impl Marks {
     ghost use Rattle.std.specs.Prelude.{◌≡◌, ◌<◌, true, false, IfOk, length, replicate, slice_set};
-    ghost use Rattle.cg_c_order.specs.Marks.{IsJoined, has};
+    ghost use Rattle.cg_c_order.specs.Marks.{IsJoined, has, takes};
 
     /// Returns `count` marks, none of them set.
     pub(crate) fn new(alloc: Global, count: usize) -> Result<Marks, AllocError>
@@ -61,6 +61,17 @@ impl Marks {
         ensures { IsJoined true others.now self.old self.new }
     {
         join_cells(&mut self.cells, &others.cells);
+    }
+
+    /// Sets the marks that are set in `targets` if `is_source` and that of node `to` isn't set.
+    fn lead(&mut self, is_source: bool, to: usize, targets: &Marks)
+        requires to { to < length self.old }
+        requires targets { length targets.now ≡ length self.old }
+        ensures { IsJoined (takes is_source to self.old) targets.now self.old self.new }
+    {
+        if is_source && !self.has(to) {
+            self.join(targets);
+        }
     }
 }
 
@@ -131,8 +142,6 @@ pub(crate) fn join_rows(rows: &mut [Marks], sources: &Marks, to: usize, targets:
     ensures { AreJoined sources.now to targets.now rows.old rows.new }
 {
     for source in 0..rows.len() {
-        if sources.has(source) && !rows[source].has(to) {
-            rows[source].join(targets);
-        }
+        rows[source].lead(sources.has(source), to, targets);
     }
 }
