@@ -101,7 +101,7 @@ module _ (n : ℕ) (es turning : List OrderEdge) (e : OrderEdge) (lf : e.from < 
 -- ---- edge by edge
 
 -- rows as they are written back into the `Vec` that was lent
-written_back : (len : ℕ) (rows new : List (List Bool)) → len ≡ length rows → length new ≡ length rows → take len (new ++ drop (length new) rows) ≡ new
+pub written_back : (len : ℕ) (rows new : List (List Bool)) → len ≡ length rows → length new ≡ length rows → take len (new ++ drop (length new) rows) ≡ new
 written_back len rows new e long = let m : len ≡ length new = omega arith in rw m (take-append_seam new (drop (length new) rows))
 
 module _ (es : List OrderEdge) (k : ℕ) (d : OrderEdge) (lk : k < length es) (len : ℕ) (rows lent new : List (List Bool)) (el : lent ≡ rows) (en : len ≡ length rows) (long : length new ≡ length lent) where

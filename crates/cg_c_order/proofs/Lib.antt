@@ -4,3 +4,5 @@ pub mod Within
 pub mod Tables
 pub mod Found
 pub mod Joining
+pub mod Choices
+pub mod Drafts
