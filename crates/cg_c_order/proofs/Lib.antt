@@ -6,3 +6,4 @@ pub mod Found
 pub mod Joining
 pub mod Choices
 pub mod Drafts
+pub mod Passes

@@ -1,5 +1,5 @@
 //! Order edges to the next turn.
-ghost use Rattle.std.specs.Prelude.{◌≡◌, ◌<◌, ◌+◌, Err, OnOk, length};
+ghost use Rattle.std.specs.Prelude.{◌≡◌, ◌<◌, ◌≤◌, ◌+◌, Err, OnOk, length};
 ghost use Rattle.cg_model.specs.Kernel.{size};
 ghost use Rattle.cg_c_order.specs.Accesses.{all_back, back_at, back_to};
 ghost use Rattle.cg_c_order.specs.Choosing.{Exceeds, Takes};
@@ -20,6 +20,7 @@ fn order_pair(
     closing: &mut Closing,
 ) -> Result<(), OrderFault>
     requires size { length table.now ≡ size closing.old }
+    requires few { length table.now ≤ 1024 }
     requires gap { 0 < gap }
     requires node { node + gap < length table.now }
     ensures taken { OnOk result (Takes closing.old (back_to table.now gap node) closing.new) }
@@ -39,6 +40,7 @@ fn order_gap(
     closing: &mut Closing,
 ) -> Result<(), OrderFault>
     requires size { length table.now ≡ size closing.old }
+    requires few { length table.now ≤ 1024 }
     requires gap { 0 < gap }
     requires fits { gap < length table.now }
     ensures taken { OnOk result (Takes closing.old (back_at table.now gap) closing.new) }
@@ -56,7 +58,8 @@ pub(crate) fn order_back(
     table: &[Option<Access>],
     closing: &mut Closing,
 ) -> Result<(), OrderFault>
-    requires { length table.now ≡ size closing.old }
+    requires size { length table.now ≡ size closing.old }
+    requires few { length table.now ≤ 1024 }
     ensures taken { OnOk result (Takes closing.old (all_back table.now) closing.new) }
     ensures many { result ≡ Err TooMany → Exceeds closing.old (all_back table.now) }
 {

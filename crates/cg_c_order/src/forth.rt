@@ -1,5 +1,5 @@
 //! Order edges within a turn.
-ghost use Rattle.std.specs.Prelude.{◌≡◌, ◌<◌, ◌+◌, Err, OnOk, length};
+ghost use Rattle.std.specs.Prelude.{◌≡◌, ◌<◌, ◌≤◌, ◌+◌, Err, OnOk, length};
 ghost use Rattle.cg_model.specs.Kernel.{size};
 ghost use Rattle.cg_c_order.specs.Accesses.{all_forth, forth_at, forth_from};
 ghost use Rattle.cg_c_order.specs.Choosing.{Exceeds, Takes};
@@ -20,6 +20,7 @@ fn order_pair(
     draft: &mut Draft,
 ) -> Result<(), OrderFault>
     requires size { length table.now ≡ size draft.old }
+    requires few { length table.now ≤ 1024 }
     requires gap { 0 < gap }
     requires node { node + gap < length table.now }
     ensures taken { OnOk result (Takes draft.old (forth_from table.now gap node) draft.new) }
@@ -39,6 +40,7 @@ fn order_gap(
     draft: &mut Draft,
 ) -> Result<(), OrderFault>
     requires size { length table.now ≡ size draft.old }
+    requires few { length table.now ≤ 1024 }
     requires gap { 0 < gap }
     requires fits { gap < length table.now }
     ensures taken { OnOk result (Takes draft.old (forth_at table.now gap) draft.new) }
@@ -56,7 +58,8 @@ pub(crate) fn order_forth(
     table: &[Option<Access>],
     draft: &mut Draft,
 ) -> Result<(), OrderFault>
-    requires { length table.now ≡ size draft.old }
+    requires size { length table.now ≡ size draft.old }
+    requires few { length table.now ≤ 1024 }
     ensures taken { OnOk result (Takes draft.old (all_forth table.now) draft.new) }
     ensures many { result ≡ Err TooMany → Exceeds draft.old (all_forth table.now) }
 {
