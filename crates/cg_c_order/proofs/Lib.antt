@@ -7,3 +7,4 @@ pub mod Joining
 pub mod Choices
 pub mod Drafts
 pub mod Passes
+pub mod Wanted
