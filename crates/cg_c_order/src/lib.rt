@@ -12,6 +12,8 @@ mod forth;
 mod lookup;
 mod marks;
 mod ordering;
+#[cfg(test)]
+mod tests;
 
 pub use access::Access;
 pub use ordering::{OrderFault, ordered};
