@@ -8,3 +8,4 @@ pub mod Choices
 pub mod Drafts
 pub mod Passes
 pub mod Wanted
+pub mod Worked

@@ -24,7 +24,11 @@ pub(crate) fn add_near(alloc: Global, edge: OrderEdge, near: &mut [Marks]) -> Re
 }
 
 /// Returns the table of the chains of `edges` within a turn, of `size` nodes.
-pub(crate) fn near_rows(alloc: Global, size: usize, edges: &[OrderEdge]) -> Result<Vec<Marks>, AllocError>
+pub(crate) fn near_rows(
+    alloc: Global,
+    size: usize,
+    edges: &[OrderEdge],
+) -> Result<Vec<Marks>, AllocError>
     requires { JoinBelow size edges.now }
     ensures { IfOk result (λ rows. IsTable size (Leads edges.now) rows.items) }
 {
@@ -37,7 +41,12 @@ pub(crate) fn near_rows(alloc: Global, size: usize, edges: &[OrderEdge]) -> Resu
 
 /// Adds to `next`, a table of chains over at most one turn, those by `edge`, if it leads to the next turn, and by the
 /// chains within a turn that `near` has.
-pub(crate) fn add_next(alloc: Global, edge: OrderEdge, near: &[Marks], next: &mut [Marks]) -> Result<(), AllocError>
+pub(crate) fn add_next(
+    alloc: Global,
+    edge: OrderEdge,
+    near: &[Marks],
+    next: &mut [Marks],
+) -> Result<(), AllocError>
     requires near { IsSquare (length near.now) near.now }
     requires square { IsSquare (length near.now) next.old }
     requires from { edge.from < length near.now }
@@ -54,7 +63,11 @@ pub(crate) fn add_next(alloc: Global, edge: OrderEdge, near: &[Marks], next: &mu
 }
 
 /// Returns the table of the chains over at most one turn by `edges` and by the chains within a turn that `near` has.
-pub(crate) fn next_rows(alloc: Global, near: &[Marks], edges: &[OrderEdge]) -> Result<Vec<Marks>, AllocError>
+pub(crate) fn next_rows(
+    alloc: Global,
+    near: &[Marks],
+    edges: &[OrderEdge],
+) -> Result<Vec<Marks>, AllocError>
     requires near { IsSquare (length near.now) near.now }
     requires edges { JoinBelow (length near.now) edges.now }
     ensures { IfOk result (λ rows. (es : List OrderEdge) → IsTable (length near.now) (Leads es) near.now → IsTable (length near.now) (LeadsOver es edges.now) rows.items) }

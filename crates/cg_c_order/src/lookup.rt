@@ -6,7 +6,11 @@ use crate::access::Access;
 use std::alloc::{AllocError, Global};
 
 /// Returns for each of `count` nodes its access among `accesses`, if it is one.
-pub(crate) fn by_node(alloc: Global, count: usize, accesses: &[Access]) -> Result<Vec<Option<Access>>, AllocError>
+pub(crate) fn by_node(
+    alloc: Global,
+    count: usize,
+    accesses: &[Access],
+) -> Result<Vec<Option<Access>>, AllocError>
     ensures { IfOk result (λ table. table.items ≡ by_node count accesses.now) }
 {
     let mut table = Vec::new(alloc);
