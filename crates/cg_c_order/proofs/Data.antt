@@ -6,7 +6,7 @@ use Rattle.cg_model.specs.declared.kernel.Node.{Node}
 use Rattle.cg_model.specs.declared.kernel.Operand.{Operand}
 use Rattle.cg_model.specs.declared.kernel.Operand.TheVariants.{Const as Constant, Edge}
 use Rattle.cg_model.specs.declared.kernel.OrderEdge.{OrderEdge}
-use Rattle.cg_model.specs.Kernel.{Kernel, IsKernel, no_node, node, size}
+use Rattle.cg_model.specs.Kernel.{Kernel, IsKernel, no_node, size}
 use Rattle.cg_model.specs.Order.{Links, by_data, by_order}
 use Rattle.std.proofs.lemmas.List.{get_or_default}
 use Rattle.cg_depend.proofs.Asked.{row_more}

@@ -1,14 +1,14 @@
 -- Kernels with one order edge more, and their tables of chains.
-use Rattle.std.proofs.Common.{◌≡◌, ℕ, ◌+◌, ◌<◌, ◌≤◌, ◌⊎◌, Bool, true, false, List, [], ◌∷◌, ◌++◌, length, refl, ap, sym, ◌∙◌, subst, arith, take, drop, append_assoc, length-append, ⊎_elim, inl, inr}
+use Rattle.std.proofs.Common.{◌≡◌, ℕ, ◌<◌, ◌≤◌, Bool, true, false, List, [], ◌∷◌, ◌++◌, length, refl, ap, sym, ◌∙◌, subst, arith, take, drop, append_assoc, length-append, ⊎_elim}
 use Rattle.std.proofs.lemmas.List.{append-nil, get_or_default}
 use Rattle.std.specs.Prelude.{slice_index_or}
 use Rattle.cg_model.specs.declared.kernel.Node.{Node}
 use Rattle.cg_model.specs.declared.kernel.OrderEdge.{OrderEdge}
-use Rattle.cg_model.specs.Kernel.{HasOrder, IsKernel, Kernel, size}
+use Rattle.cg_model.specs.Kernel.{IsKernel, Kernel, size}
 use Rattle.cg_model.specs.Limits.{most_order_distance, most_order_edges}
 use Rattle.cg_depend.specs.Depend.{Within}
 use Rattle.cg_c_order.specs.Accesses.{edge, kernel_with}
-use Rattle.cg_c_order.specs.Chains.{HasEdge, JoinBelow, Leads, LeadsOver, data_edges, edges_of}
+use Rattle.cg_c_order.specs.Chains.{JoinBelow, Leads, LeadsOver, data_edges, edges_of}
 use Rattle.cg_c_order.specs.Choosing.{IsClosing, IsDraft, and_edge}
 use Rattle.cg_c_order.specs.Marks.{AreAfter, AreBefore, AreJoined, IsTable, has, row}
 use Rattle.cg_c_order.proofs.Data.{edges_join, has_left, has_push_cases, has_push_other}

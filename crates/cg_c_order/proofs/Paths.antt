@@ -1,5 +1,5 @@
 -- Chains that go on, and those by one edge more.
-use Rattle.std.proofs.Common.{◌≡◌, ℕ, ◌⊎◌, inl, inr, List, [], ◌∷◌, ◌++◌, ap, sym, ◌∙◌, subst, arith, ⊎_elim}
+use Rattle.std.proofs.Common.{◌≡◌, ℕ, ◌⊎◌, inl, inr, List, [], ◌∷◌, ◌++◌, ap, sym, subst, ⊎_elim}
 use Rattle.cg_model.specs.declared.kernel.OrderEdge.{OrderEdge}
 use Rattle.cg_c_order.specs.Accesses.{edge}
 use Rattle.cg_c_order.specs.Chains.{HasEdge, IsAhead, Leads, LeadsOver, Turns, at_once, by}

@@ -4,7 +4,7 @@ use Rattle.std.proofs.lemmas.Bool.{cases_lt}
 use Rattle.cg_model.specs.Kernel.{Kernel}
 use Rattle.cg_model.specs.Order.{Chain, Links, more, one}
 use Rattle.cg_depend.specs.Depend.{Within}
-use Rattle.cg_c_order.specs.Chains.{HasEdge, IsAhead, Leads, LeadsOver, Turns, at_once, by, edges_of}
+use Rattle.cg_c_order.specs.Chains.{HasEdge, IsAhead, Leads, LeadsOver, at_once, by, edges_of}
 use Rattle.cg_c_order.proofs.Data.{link_from, link_has}
 use Rattle.cg_c_order.proofs.Paths.{leads_ahead}
 

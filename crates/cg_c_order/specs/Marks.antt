@@ -1,6 +1,5 @@
 -- Tables of marks, with a row for each node.
 use Rattle.std.specs.Prelude.{◌≡◌, ℕ, ◌<◌, Bool, true, false, not, ◌&&◌, ◌||◌, eqb, List, [], length, slice_index_or}
-use Rattle.cg_model.specs.declared.kernel.OrderEdge.{OrderEdge}
 
 -- mark y is set
 abbrev pub has : List Bool → ℕ → Bool

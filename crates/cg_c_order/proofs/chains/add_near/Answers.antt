@@ -1,4 +1,3 @@
-use Rattle.std.proofs.Common.{refl}
 use Rattle.cg_c_order.proofs.Joining.{near_joined, near_same}
 use Rattle.cg_c_order.proofs.chains.add_near.Goals as goal
 

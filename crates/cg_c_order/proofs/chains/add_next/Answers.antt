@@ -1,4 +1,3 @@
-use Rattle.std.proofs.Common.{refl}
 use Rattle.cg_c_order.proofs.Joining.{next_joined, next_same}
 use Rattle.cg_c_order.proofs.Tables.{join_square}
 use Rattle.cg_c_order.proofs.chains.add_next.Goals as goal

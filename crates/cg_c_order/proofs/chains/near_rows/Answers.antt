@@ -1,4 +1,4 @@
-use Rattle.std.proofs.Common.{◌≡◌, ◌<◌, [], arith, length, subst, sym}
+use Rattle.std.proofs.Common.{[], length, subst, sym}
 use Rattle.cg_c_order.specs.Marks.{IsSquare, IsTable}
 use Rattle.cg_c_order.specs.Chains.{Leads}
 use Rattle.cg_c_order.proofs.Joining.{joined_at, near_none, near_step}

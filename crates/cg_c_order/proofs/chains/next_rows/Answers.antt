@@ -1,8 +1,8 @@
-use Rattle.std.proofs.Common.{◌≡◌, ◌<◌, [], length, subst, sym}
+use Rattle.std.proofs.Common.{[], length, subst, sym}
 use Rattle.std.proofs.lemmas.List.{take_all}
 use Rattle.cg_c_order.specs.Marks.{IsSquare, IsTable}
 use Rattle.cg_c_order.specs.Chains.{LeadsOver}
-use Rattle.cg_c_order.proofs.Joining.{joined_at, next_none, next_step, square_step}
+use Rattle.cg_c_order.proofs.Joining.{next_none, next_step, square_step}
 use Rattle.cg_c_order.proofs.chains.next_rows.Goals as goal
 
 pub loop-place-init : goal.loop-place-init

@@ -1,4 +1,4 @@
-use Rattle.std.proofs.Common.{◌≡◌, ℕ, ◌<◌, ◌≤◌, length}
+use Rattle.std.proofs.Common.{◌≡◌, ℕ, ◌<◌, ◌≤◌}
 use Rattle.std.specs.Prelude.{◌||◌}
 use Rattle.cg_c_order.specs.Marks.{has}
 use Rattle.cg_c_order.proofs.marks.join_cells.Given as goal

@@ -4,7 +4,6 @@ use Rattle.cg_model.specs.declared.kernel.Node.{Node}
 use Rattle.cg_model.specs.declared.kernel.OrderEdge.{OrderEdge}
 use Rattle.cg_c_order.specs.Accesses.{kernel_with}
 use Rattle.cg_c_order.specs.Chains.{JoinBelow, data_edges, edges_of}
-use Rattle.cg_c_order.specs.Choosing.{IsDraft}
 use Rattle.cg_c_order.proofs.Drafts.{closing_join, closing_start}
 use Rattle.cg_c_order.proofs.closing.Closing.new.Goals as goal
 

@@ -1,9 +1,8 @@
 use Rattle.std.proofs.Common.{◌≡◌, ◌∙◌, ap, length, subst, sym}
 use Rattle.cg_model.specs.declared.kernel.Node.{Node}
-use Rattle.cg_model.specs.declared.kernel.OrderEdge.{OrderEdge}
 use Rattle.std.specs.Prelude.{List}
 use Rattle.cg_c_order.specs.Chains.{JoinBelow, data_edges}
-use Rattle.cg_c_order.proofs.Drafts.{data_join, draft_start}
+use Rattle.cg_c_order.proofs.Drafts.{data_join}
 use Rattle.cg_c_order.proofs.draft.Draft.new.Goals as goal
 
 pub near_rows-requires : goal.near_rows-requires
