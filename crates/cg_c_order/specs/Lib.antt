@@ -1,0 +1,4 @@
+pub mod Accesses
+pub mod Chains
+pub mod Marks
+pub mod Choosing
