@@ -8,7 +8,7 @@ use Rattle.cg_c_values.specs.Values.{Keeps, Fits, IsWordOf, Moment, Words, holds
 use Rattle.cg_c_forms.specs.Forms.{IsGuardOf, IsLoadOf, MayAct, behind, renamed}
 use Rattle.cg_c_forms.specs.Remade.{IsLoadAt, IsLoadUnder, IsNew}
 use Rattle.cg_c_forms.proofs.Computed.{word_of}
-use Rattle.cg_c_forms.proofs.Later.{fits_kept}
+use Rattle.cg_c_values.proofs.Known.{fits_kept}
 
 -- ---- guards that are constants
 

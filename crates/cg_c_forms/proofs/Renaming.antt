@@ -8,7 +8,7 @@ use Rattle.cg_c_values.specs.Values.{Keeps, IsBelow, IsWordOf, MayStand, Moment,
 use Rattle.cg_c_forms.specs.Forms.{IsForm, IsLoadOf, MayAct, behind, renamed}
 use Rattle.cg_c_forms.specs.Remade.{Adds, AddsLoadAt, AddsLoadFor, IsNew, RenamesFirst}
 use Rattle.cg_c_forms.proofs.Adding.{adds_keep}
-use Rattle.cg_c_forms.proofs.Later.{fits_kept}
+use Rattle.cg_c_values.proofs.Known.{fits_kept}
 use Rattle.cg_c_forms.proofs.Making.{Agrees, all_made_more, forms_more, made_more}
 
 -- ---- maps that agree

@@ -1,6 +1,6 @@
 use Rattle.std.proofs.Common.{refl}
 use Rattle.std.proofs.lemmas.Result.{IfOk-weaker}
-use Rattle.cg_c_forms.proofs.Later.{keeps}
+use Rattle.cg_c_values.proofs.Known.{keeps}
 use Rattle.cg_c_forms.proofs.Computed.{means_in, two_means_in}
 use Rattle.cg_c_forms.proofs.Later.{means_in_later, means_later}
 use Rattle.cg_c_forms.proofs.digits.masked_quotient.Goals as goal

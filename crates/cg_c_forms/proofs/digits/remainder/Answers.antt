@@ -1,6 +1,6 @@
 use Rattle.std.proofs.Common.{refl, arith}
 use Rattle.std.proofs.lemmas.Result.{IfOk-weaker}
-use Rattle.cg_c_forms.proofs.Later.{keeps}
+use Rattle.cg_c_values.proofs.Known.{keeps}
 use Rattle.cg_c_forms.proofs.Adding.{adds_keep}
 use Rattle.cg_c_forms.proofs.Computed.{means_in, same_in, two_means_in}
 use Rattle.cg_c_forms.proofs.Later.{means_in_later, means_later}

@@ -1,5 +1,5 @@
 use Rattle.std.proofs.lemmas.Result.{IfOk-weaker}
-use Rattle.cg_c_forms.proofs.Later.{keeps}
+use Rattle.cg_c_values.proofs.Known.{keeps}
 use Rattle.cg_c_forms.proofs.Computed.{turn_means, two_means}
 use Rattle.cg_c_forms.proofs.Later.{means_later}
 use Rattle.cg_c_forms.proofs.digits.scaled.Goals as goal

@@ -1,8 +1,7 @@
 use Rattle.std.proofs.Common.{sym, ap, ◌∙◌}
 use Rattle.cg_c_values.specs.Values.{holds}
-use Rattle.cg_c_forms.proofs.Adding.{inserts_keep}
 use Rattle.cg_c_forms.proofs.Computed.{added}
-use Rattle.cg_c_forms.proofs.Later.{keeps}
+use Rattle.cg_c_values.proofs.Known.{inserts_keep, keeps}
 use Rattle.cg_c_forms.proofs.Loading.{always, loaded, never_loaded}
 use Rattle.cg_c_forms.proofs.loads.load.Goals.{in-None, in-Some+in-Some-number, in-Some+in-None-number}
 use Rattle.cg_c_forms.proofs.loads.load.Goals as goal
