@@ -6,6 +6,8 @@ pub mod Composing
 pub mod Doing
 pub mod Elements
 pub mod Evaluating
+pub mod Everywhere
+pub mod Formed
 pub mod Growing
 pub mod Guarding
 pub mod History
