@@ -8,6 +8,7 @@ pub mod Doing
 pub mod Elements
 pub mod Evaluating
 pub mod Everywhere
+pub mod Formed
 pub mod Growing
 pub mod Guarding
 pub mod History
@@ -19,6 +20,7 @@ pub mod Loops
 pub mod Merging
 pub mod Operating
 pub mod Prefixes
+pub mod Quiet
 pub mod Sending
 pub mod Shapes
 pub mod Single

@@ -61,22 +61,56 @@ impl<'p> Draft<'p> {
     }
 
     /// Translates a statement.
+    #[cycle(stmts)]
     pub fn stmt(&mut self, stmt: &Stmt) -> Result<(), AllocError>
         requires formed { IsFormed (draft_of self.now) }
         requires typed { IsTypedStmt (draft_of self.now).arrays true (stmt_of stmt.now) }
         requires apart { AreApart (stmt_inputs (stmt_of stmt.now)) }
         ensures { OnOk result (IsTranslated (draft_of self.old) (draft_of self.new) (λ c. meaning.stmt c (stmt_of stmt.now)) (stmt_inputs (stmt_of stmt.now))) }
     {
-        Err(AllocError)
+        match stmt {
+            Stmt::Words(initials) => self.declare(initials),
+            Stmt::Block { stmts } => self.stmts(stmts),
+            Stmt::If {
+                condition,
+                chosen,
+                other,
+            } => {
+                let c = self.expr(condition, Wanted::ACondition)?;
+                match (self.values.number(c), other) {
+                    (Some(0), None) => Ok(()),
+                    (Some(0), Some(other)) => self.stmt(other),
+                    (Some(_), _) => self.stmt(chosen),
+                    (None, None) => {
+                        let arms = self.begin_arms(c)?;
+                        self.stmt(chosen)?;
+                        self.end_arm(arms, c)
+                    }
+                    (None, Some(other)) => {
+                        let arms = self.begin_arms(c)?;
+                        self.stmt(chosen)?;
+                        let switched = self.switch_arms(arms)?;
+                        self.stmt(other)?;
+                        self.end_arms(switched, c)
+                    }
+                }
+            }
+            Stmt::Output { port, value } => self.send(*port, value),
+            Stmt::Assign { target, op, value } => self.assign(target, *op, value),
+        }
     }
 
     /// Translates statements, one after another.
+    #[cycle(stmts)]
     pub fn stmts(&mut self, stmts: &[Stmt]) -> Result<(), AllocError>
         requires formed { IsFormed (draft_of self.now) }
         requires typed { AreTypedStmts (draft_of self.now).arrays true (stmts_of stmts.now) }
         requires apart { AreApart (stmts_inputs (stmts_of stmts.now)) }
         ensures { OnOk result (IsTranslated (draft_of self.old) (draft_of self.new) (λ c. meaning.stmts c (stmts_of stmts.now)) (stmts_inputs (stmts_of stmts.now))) }
     {
-        Err(AllocError)
+        for s in stmts {
+            self.stmt(s)?;
+        }
+        Ok(())
     }
 }

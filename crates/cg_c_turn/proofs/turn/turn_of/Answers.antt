@@ -9,7 +9,7 @@ use Rattle.cg_c_turn.specs.Nested.{AreQuiet, IsNested}
 use Rattle.cg_c_meaning.specs.Turns.{turns_of}
 use Rattle.cg_c_turn.proofs.Turning.{turn_is}
 use Rattle.cg_c_turn.proofs.Loops.{positive, whole_index}
-use Rattle.cg_c_turn.proofs.Everywhere.{quiet_levels}
+use Rattle.cg_c_turn.proofs.Quiet.{quiet_levels}
 use Rattle.cg_c_turn.proofs.Beginning.{turns_are}
 use Rattle.cg_c_turn.proofs.turn.turn_of.Goals as goal
 
