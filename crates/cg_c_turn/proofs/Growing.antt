@@ -5,7 +5,7 @@ use Rattle.std.proofs.lemmas.List.Elements.{Contains-append_left, Contains-appen
 use Rattle.cg_c_check.specs.declared.program.Array.{Array}
 use Rattle.cg_c_values.specs.declared.value.Value.{Value}
 use Rattle.cg_c_values.specs.declared.value.Value.TheVariants.{Loaded}
-use Rattle.cg_c_values.specs.Values.{Moment, Words, Fits, Extends, Keeps, IsBelow, IsWordOf}
+use Rattle.cg_c_values.specs.Values.{Moment, Words, Fits, Extends, Keeps, IsBelow}
 use Rattle.cg_c_values.proofs.Known.{extends_further, extends_itself, fits_before, fits_kept, keeps}
 use Rattle.cg_c_meaning.specs.Meaning.{State, Context}
 use Rattle.cg_c_meaning.specs.Taken.{TakesAlone, times}
