@@ -5,6 +5,7 @@ pub mod Branching
 pub mod Carrying
 pub mod Composing
 pub mod Doing
+pub mod EdgesGuarded
 pub mod Elements
 pub mod Evaluating
 pub mod Everywhere

@@ -3,13 +3,14 @@ use Rattle.std.specs.Prelude.{◌≡◌, ℕ, ◌/◌, ◌%◌, ◌<◌, ◌≤�
 use Rattle.cg_c_check.specs.declared.program.Array.{Array}
 use Rattle.cg_c_check.specs.declared.program.Range.{Range}
 use Rattle.cg_c_check.specs.Program.{Level, Stmts}
+use Rattle.cg_c_check.specs.Rules.{is_true}
 use Rattle.cg_c_values.specs.declared.value.Value.{Value}
 use Rattle.cg_c_values.specs.Values.{Moment, Words, Fits, Keeps, IsLoad, holds, value_at}
 use Rattle.cg_c_meaning.specs.Meaning.{Context, Run, counter as counter_of}
 use Rattle.cg_c_meaning.specs.Turns.{turn, turns_of, when}
 use Rattle.cg_c_meaning.specs.Typed.{AreTypedStmts, stmts_inputs}
-use Rattle.cg_c_turn.specs.Draft.{Draft, Effect, latest_in}
-use Rattle.cg_c_turn.specs.Stands.{Any, IsFormed, Performs}
+use Rattle.cg_c_turn.specs.Draft.{Draft, Effect, assigned_in, latest_in}
+use Rattle.cg_c_turn.specs.Stands.{ACondition, Agrees, Any, IsTouched, Performs}
 
 -- values were added at the end, none of them a load's
 pub record AddsNoLoad (old new : List Value) : Type 0 where
@@ -46,6 +47,20 @@ pub record IsAtFirst (d : Draft) : Type 0 where
 pub record IsFirst (before after : Draft) (run : Context → Run (Unit {0})) : Type 0 where
   pub added : List Effect
   pub performs : Performs before after added Any run []
+
+-- a part without inputs is translated that is done where the word of c isn't 0
+pub record IsGuarded (before after : Draft) (c : ℕ) (run : Context → Run (Unit {0})) : Type 0 where
+  pub added : List Effect
+  pub performs : (w : ℕ) → Performs before after added (λ E. Agrees ACondition (E c) w) (λ x. when (is_true w) (run x)) []
+
+-- a word was neither assigned in this turn nor used as it was when the turn began
+pub record IsUnused (d : Draft) (number : ℕ) : Type 0 where
+  pub unassigned : assigned_in d number ≡ None
+  pub untouched : IsTouched d number → ⊥
+
+-- the draft with other words when the first turn begins
+abbrev pub with_initial : Draft → List ℕ → Draft
+with_initial d words = record d { initial = words }
 
 -- statements are translated that are done in the turn whose index is `at`
 pub record IsEdge (before after : Draft) (index at : ℕ) (run : Context → Run (Unit {0})) : Type 0 where
