@@ -7,6 +7,8 @@ pub mod Doing
 pub mod EdgesGuarded
 pub mod Elements
 pub mod Evaluating
+pub mod FirstTurn
+pub mod FirstWords
 pub mod Growing
 pub mod Guarding
 pub mod History
