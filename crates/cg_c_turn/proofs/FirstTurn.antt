@@ -19,11 +19,10 @@ use Rattle.cg_c_turn.specs.Draft.{Draft, Effect, initial_in}
 use Rattle.cg_c_turn.specs.Stands.{IsFormed, Performs, Any, Grows, Runs, begun}
 use Rattle.cg_c_turn.specs.Branched.{Begins}
 use Rattle.cg_c_turn.specs.Nested.{IsAtFirst, IsFirst, IsOfTurn}
-use Rattle.cg_c_turn.specs.Translated.{IsTranslated}
 use Rattle.cg_c_turn.proofs.Prefixes.{fits_before}
 use Rattle.cg_c_turn.proofs.Doing.{Step, KeepsStreams, in_turn, does_nothing}
 use Rattle.cg_c_turn.proofs.Listed.{front}
-use Rattle.cg_c_turn.proofs.EdgesGuarded.{BeginsAlike, Nothing, portless}
+use Rattle.cg_c_turn.proofs.EdgesGuarded.{BeginsAlike, Nothing}
 
 -- ---- runs
 
@@ -225,8 +224,8 @@ turn_test index kept means = record { within = means.within; is = λ x E f. mean
 
 -- ---- the steps of the code
 
-pub plain_first : {d e : Draft} {run : Context → Step} {p : List ℕ} → p ≡ [] → IsTranslated d e run p → IsFirst d e run
-plain_first none one = record { added = one.added; performs = portless none one.performs }
+pub words_shape : (s : MadeStmt) (items now : List MadeInitial) → stmt_of s ≡ WordsStmt (map initial_of items) → now ≡ items → stmt_of s ≡ WordsStmt (map initial_of now)
+words_shape s items now is same = is ∙ ap (λ (z : List MadeInitial). WordsStmt (map initial_of z)) (sym same)
 
 pub words_first : {d e : Draft} (s : Stmt) (initials : List Initial) → s ≡ WordsStmt initials → IsFirst d e (λ c. declared c initials) → IsFirst d e (λ c. stmt c s)
 unfolding stmt
