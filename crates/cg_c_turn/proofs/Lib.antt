@@ -9,6 +9,8 @@ pub mod EdgesGuarded
 pub mod Elements
 pub mod Evaluating
 pub mod Everywhere
+pub mod FirstTurn
+pub mod FirstWords
 pub mod Formed
 pub mod Growing
 pub mod Guarding
