@@ -1,5 +1,6 @@
 pub mod Addressing
 pub mod Arms
+pub mod AssignWord
 pub mod Branching
 pub mod Carrying
 pub mod Composing
