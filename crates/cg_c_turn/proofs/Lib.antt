@@ -1,5 +1,6 @@
 pub mod Addressing
 pub mod Arms
+pub mod AssignTarget
 pub mod AssignWord
 pub mod Branching
 pub mod Carrying
