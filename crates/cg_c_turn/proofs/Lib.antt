@@ -1,5 +1,7 @@
 pub mod Addressing
 pub mod Arms
+pub mod AssignAfter
+pub mod AssignElement
 pub mod AssignTarget
 pub mod AssignWord
 pub mod Branching
