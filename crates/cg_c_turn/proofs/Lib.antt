@@ -24,6 +24,8 @@ pub mod Prefixes
 pub mod Sending
 pub mod Shapes
 pub mod Single
+pub mod StoreApart
+pub mod Storing
 pub mod Turning
 pub mod WordLists
 pub mod Yielding
