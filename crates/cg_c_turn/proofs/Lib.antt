@@ -1,5 +1,9 @@
 pub mod Addressing
 pub mod Arms
+pub mod AssignAfter
+pub mod AssignElement
+pub mod AssignTarget
+pub mod AssignWord
 pub mod Beginning
 pub mod Branching
 pub mod Carrying
@@ -27,6 +31,8 @@ pub mod Quiet
 pub mod Sending
 pub mod Shapes
 pub mod Single
+pub mod StoreApart
+pub mod Storing
 pub mod Turning
 pub mod WordLists
 pub mod Yielding
