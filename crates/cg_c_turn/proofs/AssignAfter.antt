@@ -1,6 +1,5 @@
 -- A part of a run with a result, and then what is done with the result.
 use Rattle.std.proofs.Common.{◌≡◌, ℕ, true, false, List, ◌++◌, sym, subst}
-use Rattle.cg_c_check.specs.declared.program.Array.{Array}
 use Rattle.cg_c_values.specs.Values.{Moment, Words, holds}
 use Rattle.cg_c_meaning.specs.Meaning.{State, Context, Run, ◌>>=◌}
 use Rattle.cg_c_meaning.specs.Typed.{AreApart}

@@ -1,5 +1,5 @@
 -- An assignment to an element of an array.
-use Rattle.std.proofs.Common.{◌≡◌, ℕ, ◌<◌, true, List, [], ◌∷◌, ◌++◌, length, map, Option, Some, None, refl, sym, ap, ◌∙◌, append-nil, subst}
+use Rattle.std.proofs.Common.{◌≡◌, ℕ, ◌<◌, true, List, [], ◌++◌, length, map, Option, Some, None, sym, ap, ◌∙◌, append-nil, subst}
 use Rattle.cg_c_syntax.specs.declared.expression.Binary.{Binary}
 use Rattle.cg_c_syntax.specs.declared.statement.Signedness.{Signedness}
 use Rattle.cg_c_check.specs.declared.program.Array.{Array}
@@ -7,16 +7,16 @@ use Rattle.cg_c_check.specs.Rules.{reading_of}
 use Rattle.cg_c_check.specs.Program.{Expr, Exprs, Assign, TheElement, signedness_of}
 use Rattle.cg_c_values.specs.declared.value.Value.{Value}
 use Rattle.cg_c_values.specs.Values.{Words}
-use Rattle.cg_c_meaning.specs.Meaning.{State, Context, Run, ◌>>=◌, address_in, array_at, changed, defined, give, loaded, stmt, stored, value, values}
+use Rattle.cg_c_meaning.specs.Meaning.{State, ◌>>=◌, address_in, array_at, changed, defined, give, loaded, stmt, stored, value, values}
 use Rattle.cg_c_meaning.specs.Typed.{AreApart, IsTypedExpr, IsTypedExprs, inputs, inputs_of}
 use Rattle.cg_c_turn.specs.Draft.{Draft, Effect}
 use Rattle.cg_c_turn.specs.Leads.{IsInside}
-use Rattle.cg_c_turn.specs.Pieces.{Addresses, AreTranslated, Joins, Leaves, Loads, Yields}
+use Rattle.cg_c_turn.specs.Pieces.{Addresses, AreTranslated, Joins, Leaves, Loads}
 use Rattle.cg_c_turn.specs.Stands.{Any, Agrees, IsFormed, Performs, TheWord, Translates}
 use Rattle.cg_c_turn.specs.Stores.{Changes, Stores}
 use Rattle.cg_c_turn.specs.Translated.{IsTranslated}
 use Rattle.cg_c_turn.proofs.Composing.{takes_value, under_word}
-use Rattle.cg_c_turn.proofs.Doing.{Step, given_more}
+use Rattle.cg_c_turn.proofs.Doing.{given_more}
 use Rattle.cg_c_turn.proofs.Elements.{addresses_yield, takes_defined, takes_values}
 use Rattle.cg_c_turn.proofs.Growing.{apart_second, leaves_all, steps_refl, steps_then, steps_with}
 use Rattle.cg_c_turn.proofs.Leaves.{result_of}

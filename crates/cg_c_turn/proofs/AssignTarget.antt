@@ -1,5 +1,5 @@
 -- What an assignment's target is.
-use Rattle.std.proofs.Common.{◌≡◌, ℕ, List, [], ◌++◌, Option, None, refl, sym, ap, ◌∙◌, subst, true}
+use Rattle.std.proofs.Common.{◌≡◌, ℕ, List, ◌++◌, Option, sym, ap, subst, true}
 use Rattle.cg_c_syntax.specs.declared.expression.Binary.{Binary}
 use Rattle.cg_c_syntax.specs.declared.statement.Signedness.{Signedness}
 use Rattle.cg_c_check.specs.declared.program.Array.{Array}
@@ -9,7 +9,7 @@ use Rattle.cg_c_check.specs.declared.program.Target.TheVariants as targets
 use Rattle.cg_c_check.specs.Program.{Expr, Assign, Target, TheWord, TheElement}
 use Rattle.cg_c_check.specs.Written.{exprs_of, target_of}
 use Rattle.cg_c_meaning.specs.Meaning.{stmt}
-use Rattle.cg_c_meaning.specs.Typed.{AreApart, IsArray, IsTypedExpr, IsTypedExprs, IsTypedStmt, IsTypedTarget, inputs, inputs_of, stmt_inputs, table_in, target_inputs}
+use Rattle.cg_c_meaning.specs.Typed.{AreApart, IsTypedExpr, IsTypedStmt, IsTypedTarget, inputs, stmt_inputs, target_inputs}
 use Rattle.cg_c_turn.specs.Draft.{Draft}
 use Rattle.cg_c_turn.specs.Translated.{IsTranslated}
 

@@ -6,8 +6,8 @@ use Rattle.cg_c_check.specs.Rules.{reading_of, two_words}
 use Rattle.cg_c_check.specs.Program.{Expr, Assign, TheWord as WordTarget, signedness_of}
 use Rattle.cg_c_values.specs.declared.value.Value.{Value}
 use Rattle.cg_c_values.specs.Values.{Moment, Words, Fits, Extends}
-use Rattle.cg_c_meaning.specs.Meaning.{Context, ◌>>=◌, changed, set_word, stmt, word_of}
-use Rattle.cg_c_meaning.specs.Typed.{AreApart, IsTypedExpr, inputs, stmt_inputs}
+use Rattle.cg_c_meaning.specs.Meaning.{◌>>=◌, changed, set_word, stmt, word_of}
+use Rattle.cg_c_meaning.specs.Typed.{AreApart, IsTypedExpr, inputs}
 use Rattle.cg_c_turn.specs.Draft.{Draft, Effect, assigned_in}
 use Rattle.cg_c_turn.specs.Conditions.{IsElsewhere}
 use Rattle.cg_c_turn.specs.Pieces.{Joins, side_of}

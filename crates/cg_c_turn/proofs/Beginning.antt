@@ -1,13 +1,12 @@
 -- A turn from its beginning to its end.
-use Rattle.std.proofs.Common.{◌≡◌, ℕ, zero, suc, ◌+◌, ◌<◌, ◌≤◌, ◌==◌, if◌then◌else◌, true, List, [], ◌++◌, length, Contains, Option, Some, None, slice_get, slice_index, slice_index_or, refl, sym, ap, ◌∙◌, subst, arith}
+use Rattle.std.proofs.Common.{◌≡◌, ℕ, ◌+◌, ◌<◌, ◌≤◌, ◌==◌, if◌then◌else◌, true, List, [], ◌++◌, length, Contains, Option, None, slice_get, slice_index, slice_index_or, refl, sym, ap, ◌∙◌, subst, arith}
 use Rattle.cg_c_check.specs.declared.program.Array.{Array}
 use Rattle.cg_c_check.specs.Program.{Program}
 use Rattle.cg_c_check.specs.Arrays.{size_of}
 use Rattle.cg_c_values.specs.Values.{Moment, Words, holds}
 use Rattle.cg_c_values.proofs.Known.{fits_kept}
-use Rattle.cg_c_meaning.specs.Meaning.{State, Context}
-use Rattle.cg_c_meaning.specs.Turns.{turn, turns_of}
-use Rattle.cg_c_meaning.specs.Typed.{stmts_inputs}
+use Rattle.cg_c_meaning.specs.Meaning.{State}
+use Rattle.cg_c_meaning.specs.Turns.{turns_of}
 use Rattle.cg_c_turn.specs.Draft.{Draft, Effect, Latest, Load, latest_in}
 use Rattle.cg_c_turn.specs.Leads.{Outcome, Leads}
 use Rattle.cg_c_turn.specs.Nested.{IsNested, IsOfTurn}

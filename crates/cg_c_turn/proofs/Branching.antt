@@ -76,8 +76,8 @@ formed_back a d b fa fd longer same guard words =
     (subst (λ (g : Option ℕ). IsBelow (length b.values) g) (sym guard) (below_on (length a.values) (length b.values) a.guard (omega (arith, longer.longer, same.values.longer)) fa.guard))
     (λ n. subst (λ (z : List (Option ℕ)). IsBelow (length b.values) (slice_index_or z n None)) (sym words) (below_on (length a.values) (length b.values) (assigned_in a n) (omega (arith, longer.longer, same.values.longer)) (fa.words n)))
 
-no_ports : {a b : Draft} {es : List Effect} {run : Context → Step} {p : List ℕ} → p ≡ [] → Performs a b es Any run p → Performs a b es Any run []
-no_ports {a = a} {b = b} {es = es} {run = run} none h = subst (λ (q : List ℕ). Performs a b es Any run q) none h
+pub no_ports : {a b : Draft} {es : List Effect} {G : Words → Type 0} {run : Context → Step} {p : List ℕ} → p ≡ [] → Performs a b es G run p → Performs a b es G run []
+no_ports {a = a} {b = b} {es = es} {G = G} {run = run} none h = subst (λ (q : List ℕ). Performs a b es G run q) none h
 
 pub both_is : (d d0 d1 d2 d3 d4 d5 d6 d7 : Draft) (c n : ℕ) (g h : Option ℕ) (ws us : List (Option ℕ)) (chosen other : Stmt) → IsFormed d → IsElsewhere d d0 → d0.guard ≡ d.guard → d0.words ≡ d.words → Means d0.values n (λ x E. one_if (not (nat_lt 0 (E c))))
     → EntersArm d0 d1 c → g ≡ d0.guard → ws ≡ d0.words → IsTranslated d1 d2 (λ x. stmt x chosen) (stmt_inputs chosen) → stmt_inputs chosen ≡ []

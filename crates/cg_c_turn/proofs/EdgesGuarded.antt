@@ -23,16 +23,13 @@ use Rattle.cg_c_turn.proofs.Prefixes.{begun_same, extends_same, keeps_on, fits_b
 use Rattle.cg_c_turn.proofs.Doing.{Step, does_nothing}
 use Rattle.cg_c_turn.proofs.Growing.{below_on, formed_with}
 use Rattle.cg_c_turn.proofs.Arms.{Arms, arms, elsewhere_on, formed_elsewhere, no_other}
-use Rattle.cg_c_turn.proofs.Branching.{from_before, settled, at_point, formed_back}
+use Rattle.cg_c_turn.proofs.Branching.{from_before, settled, at_point, formed_back, no_ports}
 
 -- ---- what is known of the words
 
 -- what follows from what is known of words that fit
 pub known_where : {a b : Draft} {es : List Effect} {run : Context → Step} {p : List ℕ} (G H : Words → Type 0) → ((x : Moment) (E : Words) → Runs b x E → H E → G E) → Performs a b es G run p → Performs a b es H run p
 known_where G H weaker h = record { grows = h.grows; formed = h.formed; leads = λ x E m c end r s does. h.leads x E m c end r s (λ t. (weaker x E r (does t).0, (does t).1)) }
-
-pub portless : {a b : Draft} {es : List Effect} {G : Words → Type 0} {run : Context → Step} {p : List ℕ} → p ≡ [] → Performs a b es G run p → Performs a b es G run []
-portless {a = a} {b = b} {es = es} {G = G} {run = run} none h = subst (λ (q : List ℕ). Performs a b es G run q) none h
 
 -- ---- under a condition
 
@@ -75,7 +72,7 @@ same_begins {d = d} {d2 = d2} b initial x E r t number = sym (begun_same x d d2 
 -- the condition is a constant
 pub always_guards : {d e : Draft} {c k : ℕ} {run : Context → Step} {p : List ℕ} → c < length d.values → value_at d.values c ≡ Const k → (k ≡ 0 → ⊥) → p ≡ [] → IsTranslated d e run p → IsGuarded d e c run
 always_guards {c = c} {k = k} {run = run} within is other none one =
-    record { added = one.added; performs = settled c k run Nothing run true within is (positive k other) (λ x. refl) (portless none one.performs) }
+    record { added = one.added; performs = settled c k run Nothing run true within is (positive k other) (λ x. refl) (no_ports none one.performs) }
   where
     positive : (k : ℕ) → (k ≡ 0 → ⊥) → nat_lt 0 k ≡ true
     positive zero other = absurd (other refl)

@@ -20,7 +20,7 @@ use Rattle.cg_c_turn.proofs.Doing.{same_end}
 use Rattle.cg_c_turn.proofs.Evaluating.{value_then}
 use Rattle.cg_c_turn.proofs.Sending.{set_is}
 use Rattle.cg_c_turn.proofs.WordLists.{pushed_default}
-use Rattle.cg_c_turn.proofs.EdgesGuarded.{portless}
+use Rattle.cg_c_turn.proofs.Branching.{no_ports}
 
 -- a word behind the last one is 0
 pub pushed_zero : (ws : List ℕ) (n : ℕ) → slice_index (ws ++ 0 ∷ []) n ≡ slice_index ws n
@@ -95,7 +95,7 @@ begun_is d e i k formed first unused literal same is =
 pub assigned_is : {d b : Draft} {es : List Effect} (e : Draft) (number v : ℕ) (value_is : Expr) → IsTypedExpr d.arrays true value_is → inputs value_is ≡ [] → Translates d b es value_is TheWord v → e ≡ with_words b e.words → ((n : ℕ) → assigned_in e n ≡ (if n == number then Some v else assigned_in b n)) → IsFirst d e (λ c. declared c (record { number = number; value = value_is } ∷ []))
 assigned_is {d = d} {b = b} {es = es} e number v value_is typed none one same assigned =
     let apart : AreApart (inputs value_is ++ []) = subst (λ (q : List ℕ). AreApart q) (sym (append-nil (inputs value_is) ∙ none)) tt in
-    record { added = es ++ []; performs = portless (append-nil (inputs value_is) ∙ none) (value_then d.arrays true typed one (set_is b e number v one.formed one.within same assigned) apart) }
+    record { added = es ++ []; performs = no_ports (append-nil (inputs value_is) ∙ none) (value_then d.arrays true typed one (set_is b e number v one.formed one.within same assigned) apart) }
 
 -- ---- the steps of the code
 

@@ -1,5 +1,5 @@
 -- Loops in one another, in a turn.
-use Rattle.std.proofs.Common.{◌≡◌, ℕ, zero, suc, ◌+◌, ◌-◌, ◌*◌, ◌/◌, ◌%◌, ◌<◌, ◌≤◌, ◌==◌, if◌then◌else◌, nat_lt, Bool, true, false, List, [], ◌∷◌, ◌++◌, length, Contains, Option, Some, None, slice_get, slice_index, refl, sym, ap, ap₂, ◌∙◌, subst, arith, append-nil, add-zero, mul-pos, suc-mul, take, inl, inr, eq-eqb, ne_eqb, eqb→eq, true≢false, ltb-true, length-append, ⊎_elim}
+use Rattle.std.proofs.Common.{◌≡◌, ℕ, zero, suc, ◌+◌, ◌-◌, ◌*◌, ◌/◌, ◌%◌, ◌<◌, ◌≤◌, ◌==◌, nat_lt, Bool, true, false, List, [], ◌∷◌, ◌++◌, length, Contains, Some, slice_get, slice_index, refl, sym, ap, ap₂, ◌∙◌, subst, arith, append-nil, add-zero, mul-pos, suc-mul, take, inl, inr, eq-eqb, ne_eqb, eqb→eq, true≢false, ltb-true, length-append, ⊎_elim}
 use Rattle.std.proofs.lemmas.Bool.{and_parts, cases_lt}
 use Rattle.std.proofs.Math.Seq.{take-append_seam}
 use Rattle.std.proofs.lemmas.List.Elements.{Contains-append_cases}
@@ -11,28 +11,24 @@ use Rattle.cg_c_check.specs.declared.program.Array.{Array}
 use Rattle.cg_c_check.specs.declared.program.Range.{Range}
 use Rattle.cg_c_check.specs.Program.{Level, Stmts}
 use Rattle.cg_c_values.specs.declared.value.Value.{Value}
-use Rattle.cg_c_values.specs.Values.{Moment, Words, Fits, Keeps, IsLoad, holds}
+use Rattle.cg_c_values.specs.Values.{Moment, Words, Keeps, IsLoad, holds}
 use Rattle.cg_c_values.proofs.Known.{fits_kept}
-use Rattle.cg_c_meaning.specs.Meaning.{State, Context, inside, counter, stmts, give, ◌>>◌}
+use Rattle.cg_c_meaning.specs.Meaning.{State, Context, inside, counter, stmts, ◌>>◌}
 use Rattle.cg_c_meaning.specs.Turns.{all_turn, turn, turns_of, when}
 use Rattle.cg_c_meaning.specs.Typed.{AreApart, AreTypedStmts, stmts_inputs}
 use Rattle.cg_c_turn.specs.Draft.{Draft, Effect, assigned_in, latest_in}
-use Rattle.cg_c_turn.specs.Leads.{Outcome, Leads}
+use Rattle.cg_c_turn.specs.Leads.{Outcome}
 use Rattle.cg_c_turn.specs.Nested.{AddsNoLoad, AreQuiet, EntersLoop, IsEdge, IsIndex, IsNested, IsOfTurn}
 use Rattle.cg_c_turn.specs.Translated.{IsTranslated}
-use Rattle.cg_c_turn.specs.Stands.{Any, AreReady, Does, Grows, IsDone, IsFormed, IsSound, Matches, Performs, Runs, word_or}
+use Rattle.cg_c_turn.specs.Stands.{Any, Grows, IsDone, IsFormed, IsSound, Matches, Performs, Runs, word_or}
+use Rattle.cg_c_turn.proofs.EdgesGuarded.{known_where}
 use Rattle.cg_c_turn.proofs.Leading.{leads_weaker}
 use Rattle.cg_c_turn.proofs.Growing.{below_on, contains_one, sound_on, stored_on}
 use Rattle.cg_c_turn.proofs.History.{history_with}
 use Rattle.cg_c_turn.proofs.Prefixes.{keeps_on}
-use Rattle.cg_c_meaning.specs.Taken.{Takes, times}
+use Rattle.cg_c_meaning.specs.Taken.{Takes}
 use Rattle.cg_c_meaning.proofs.Taking.{blocks_take}
 use Rattle.cg_c_turn.proofs.Doing.{Step, in_turn, moved_arrays, same_end, split}
-
--- ---- what is known where words fit
-
-pub given_where : {a b : Draft} {es : List Effect} {run : Context → Step} {p : List ℕ} (G H : Words → Type 0) → ((x : Moment) (E : Words) → Runs b x E → H E → G E) → Performs a b es G run p → Performs a b es H run p
-given_where G H weaker h = record { grows = h.grows; formed = h.formed; leads = λ x E m c end r s does. h.leads x E m c end r s (λ t. (weaker x E r (does t).0, (does t).1)) }
 
 -- ---- the counters around
 
@@ -244,7 +240,7 @@ nested_is {a = a} {b = b} {c = c} {d = d} {e = e} {index = index} {inner = inner
 -- no loop is left
 pub bare : {a b : Draft} (index : ℕ) (body : Stmts) → IsTranslated a b (λ x. stmts x body) (stmts_inputs body) → IsNested a b index [] body
 unfolding turn
-bare index body h = record { added = h.added; performs = λ t lt. given_where Any (λ E. E index ≡ t) (λ x E r k. tt) h.performs }
+bare index body h = record { added = h.added; performs = λ t lt. known_where Any (λ E. E index ≡ t) (λ x E r k. tt) h.performs }
 
 pub positive : (levels : List Level) → all_turn levels ≡ true → 0 < turns_of levels
 positive [] h = omega arith

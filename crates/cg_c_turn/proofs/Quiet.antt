@@ -1,5 +1,5 @@
 -- Loops that are typed have no inputs before and after them.
-use Rattle.std.proofs.Common.{true, List, [], ◌∷◌}
+use Rattle.std.proofs.Common.{List, [], ◌∷◌}
 use Rattle.cg_c_check.specs.declared.program.Array.{Array}
 use Rattle.cg_c_check.specs.Program.{Level}
 use Rattle.cg_c_meaning.specs.Typed.{AreTypedLevels}

@@ -1,11 +1,11 @@
 -- Arrays lie apart, so a store to one of them changes no other.
-use Rattle.std.proofs.Common.{◌≡◌, ℕ, zero, suc, ◌+◌, ◌<◌, ◌≤◌, List, [], ◌∷◌, length, Contains, Option, Some, None, get_or, slice_index, slice_set, refl, sym, ap, ◌∙◌, arith, subst, ⊎_elim}
+use Rattle.std.proofs.Common.{◌≡◌, ℕ, zero, suc, ◌+◌, ◌<◌, ◌≤◌, List, [], ◌∷◌, length, Contains, Option, Some, None, slice_index, slice_set, refl, sym, ap, ◌∙◌, arith, subst, ⊎_elim}
 use Rattle.std.proofs.lemmas.Bool.{cases_lt}
 use Rattle.std.proofs.lemmas.List.{get_or_default, get_or-set_other, length-set}
 use Rattle.std.proofs.lemmas.Option.{none-some}
 use Rattle.cg_c_check.specs.declared.program.Array.{Array}
 use Rattle.cg_c_check.specs.Arrays.{size_of}
-use Rattle.cg_c_values.specs.Values.{Words, holds}
+use Rattle.cg_c_values.specs.Values.{Words}
 use Rattle.cg_c_meaning.specs.Typed.{AreArranged, table_in}
 use Rattle.cg_c_turn.specs.Draft.{Stored}
 use Rattle.cg_c_turn.specs.Leads.{IsInside, array_of}

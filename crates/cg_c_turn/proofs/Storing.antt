@@ -1,9 +1,8 @@
 -- A store to an array.
-use Rattle.std.proofs.Common.{◌≡◌, ℕ, zero, suc, ◌+◌, ◌<◌, ◌≤◌, ◌==◌, if◌then◌else◌, Bool, true, false, List, [], ◌∷◌, ◌++◌, length, Contains, Option, Some, None, get_or, slice_index, slice_set, refl, sym, ap, ap₂, ◌∙◌, arith, subst, add-zero, inl, inr, ne_eqb, ⊎_elim}
+use Rattle.std.proofs.Common.{◌≡◌, ℕ, zero, suc, ◌+◌, ◌<◌, ◌≤◌, ◌==◌, if◌then◌else◌, Bool, true, false, List, [], ◌∷◌, ◌++◌, length, Contains, Option, Some, None, slice_set, refl, sym, ap, ap₂, ◌∙◌, arith, subst, add-zero, inl, inr, ne_eqb, ⊎_elim}
 use Rattle.std.proofs.lemmas.Bool.{cases_lt, eq-eqb}
 use Rattle.std.proofs.lemmas.List.{get_or-set_other, get_or-set_same, length-set}
 use Rattle.std.proofs.lemmas.List.Elements.{Contains-append_cases, Contains-get_or}
-use Rattle.cg_c_check.specs.declared.program.Array.{Array}
 use Rattle.cg_c_check.specs.Arrays.{size_of}
 use Rattle.cg_c_values.specs.declared.value.Value.{Value}
 use Rattle.cg_c_values.specs.declared.value.Value.TheVariants.{Loaded}
@@ -13,7 +12,7 @@ use Rattle.cg_c_meaning.specs.Meaning.{State, Context, stored}
 use Rattle.cg_c_meaning.specs.Typed.{IsArray, table_in}
 use Rattle.cg_c_turn.specs.Draft.{Draft, Effect, Latest, Load, Send, Store, latest_in}
 use Rattle.cg_c_turn.specs.Leads.{IsInside, Leads, Outcome, stored_at}
-use Rattle.cg_c_turn.specs.Stands.{Does, IsDone, IsFormed, IsFresh, IsSound, IsStoredBelow, Matches, Performs, Runs, stores_to}
+use Rattle.cg_c_turn.specs.Stands.{Does, IsDone, IsFormed, IsFresh, IsSound, IsStoredBelow, Matches, stores_to}
 use Rattle.cg_c_turn.specs.Stores.{Stores}
 use Rattle.cg_c_turn.proofs.Doing.{by_guard, not_both, same_end}
 use Rattle.cg_c_turn.proofs.History.{history_after}
@@ -133,11 +132,11 @@ of_another d array address word place version of at value here g b there is =
     let l = b.formed.loads g of at value here there in
     let same : l.version ≡ (latest_in (with_store d array address word place version) of).version = ap version_in (sym l.is ∙ is) in
     let apart : of ≡ array → ⊥ = λ e.
-        let now = ap (λ (z : Latest). z.version) (latest_same d array address word place version of b e) in
-        let old = l.so_far in
-        let at_array = ap (λ k. (latest_in d k).version) e in
-        let next = b.next in
-        absurd (omega (arith, same, now, old, at_array, next)) in
+    let now = ap (λ (z : Latest). z.version) (latest_same d array address word place version of b e) in
+    let old = l.so_far in
+    let at_array = ap (λ k. (latest_in d k).version) e in
+    let next = b.next in
+    absurd (omega (arith, same, now, old, at_array, next)) in
     record { apart = apart; is = is ∙ ap (λ (z : Latest). Loaded of z.version g at) (latest_other d array address word place version of apart) }
 
 -- where nothing is stored

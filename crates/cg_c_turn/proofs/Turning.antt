@@ -1,5 +1,5 @@
 -- Digits of the turn's number, and the counters of loops.
-use Rattle.std.proofs.Common.{◌≡◌, ℕ, ◌+◌, ◌*◌, ◌/◌, ◌%◌, ◌<◌, List, length, sym, ap, ap₂, ◌∙◌, subst, arith, mul_comm, add_comm}
+use Rattle.std.proofs.Common.{◌≡◌, ℕ, ◌+◌, ◌*◌, ◌/◌, ◌%◌, ◌<◌, List, length, ap, ap₂, ◌∙◌, subst, mul_comm, add_comm}
 use Rattle.std.proofs.Math.Nat.{mod-add-mod}
 use Rattle.std.specs.Prelude.{Result, Ok, Err, IfOk}
 use Rattle.cg_word.specs.declared.op.Op.TheVariants as ops
@@ -7,7 +7,7 @@ use Rattle.cg_word.specs.Word.{apply_of, words}
 use Rattle.cg_c_check.specs.declared.program.Range.{Range}
 use Rattle.cg_c_values.specs.declared.value.Value.{Value}
 use Rattle.cg_c_values.specs.declared.value.Value.TheVariants.{Digit, Turn}
-use Rattle.cg_c_values.specs.Values.{Moment, Words, Fits, Extends, IsWordOf, Means, value_at}
+use Rattle.cg_c_values.specs.Values.{Extends, IsWordOf, Means, value_at}
 use Rattle.cg_c_values.proofs.Known.{fits_before}
 use Rattle.cg_c_meaning.specs.Meaning.{counter}
 use Rattle.cg_c_turn.specs.Nested.{IsOfTurn}

@@ -60,12 +60,7 @@ impl<'p> Draft<'p> {
     }
 
     /// Translates the assignment of `value` to the word of a number, of which it makes what `change` says.
-    fn assign_word(
-        &mut self,
-        number: usize,
-        change: Change,
-        value: &Expr,
-    ) -> Result<(), AllocError>
+    fn assign_word(&mut self, number: usize, change: Change, value: &Expr) -> Result<(), AllocError>
         requires formed { IsFormed (draft_of self.now) }
         requires typed { IsTypedExpr (draft_of self.now).arrays true (expr_of value.now) }
         requires apart { AreApart (inputs (expr_of value.now)) }

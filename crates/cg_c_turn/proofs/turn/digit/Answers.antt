@@ -1,5 +1,3 @@
-use Rattle.std.proofs.Common.{◌<◌, length}
-use Rattle.std.specs.Prelude.{Result, Ok, Err, IfOk}
 use Rattle.cg_c_values.specs.Listed.{listed}
 use Rattle.cg_c_turn.proofs.Turning.{digit_is, both_ok}
 use Rattle.std.proofs.lemmas.Result.{IfOk-weaker}

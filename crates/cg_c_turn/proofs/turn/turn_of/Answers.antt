@@ -1,4 +1,4 @@
-use Rattle.std.proofs.Common.{map, sym, ap, subst, ◌∙◌, List}
+use Rattle.std.proofs.Common.{map, sym, subst, ◌∙◌, List}
 use Rattle.cg_c_check.specs.declared.program.Level.{Level as MadeLevel}
 use Rattle.cg_c_check.specs.declared.program.Array.{Array}
 use Rattle.cg_c_check.specs.declared.program.Stmt.{Stmt as MadeStmt}
@@ -6,7 +6,6 @@ use Rattle.cg_c_check.specs.Written.{level_of, stmts_of, program_of}
 use Rattle.cg_c_values.specs.Listed.{listed}
 use Rattle.cg_c_turn.specs.Draft.{draft_of}
 use Rattle.cg_c_turn.specs.Nested.{AreQuiet, IsNested}
-use Rattle.cg_c_meaning.specs.Turns.{turns_of}
 use Rattle.cg_c_turn.proofs.Turning.{turn_is}
 use Rattle.cg_c_turn.proofs.Loops.{positive, whole_index}
 use Rattle.cg_c_turn.proofs.Quiet.{quiet_levels}

@@ -1,5 +1,4 @@
-use Rattle.std.proofs.Common.{◌≡◌, ◌+◌, not, true, List, [], ◌++◌, ◌∙◌, Contains, drop, Ok, Err, refl, sym, ap, subst, Result, arith, rules}
-use Rattle.std.specs.Result.{IfOk}
+use Rattle.std.proofs.Common.{◌≡◌, ◌+◌, not, true, List, [], ◌++◌, ◌∙◌, Contains, drop, refl, sym, ap, subst, arith, rules}
 use Rattle.std.proofs.lemmas.Result.{IfOk-weaker}
 use Rattle.cg_c_check.specs.declared.program.Array.{Array}
 use Rattle.cg_c_check.specs.declared.program.Expr.{the_lemmas}
@@ -12,6 +11,7 @@ use Rattle.cg_c_meaning.specs.Typed.{IsTypedExpr}
 use Rattle.cg_c_turn.specs.Draft.{Draft, draft_of}
 use Rattle.cg_c_turn.specs.Stands.{Wanted, TheWord, ACondition, Agrees, Translates}
 use Rattle.cg_c_turn.specs.Pieces.{Addresses, AreTranslated, Guards, side_of}
+use Rattle.cg_c_turn.proofs.Turning.{both_ok}
 use Rattle.cg_c_turn.proofs.Guarding.{entered_is_formed}
 use Rattle.cg_c_turn.proofs.Operating.{agrees_same}
 use Rattle.cg_c_turn.proofs.Composing.{IsCondition, arm_guards, choice_is, served, pick_is, chosen_is, other_is, begun_wanted, led_begun, typed_first, apart_chain, links_settled, links_through, led_here, led_next, led_end, next_of, sign_is, cast_is}
@@ -19,10 +19,6 @@ use Rattle.cg_c_turn.proofs.Leaves.{with_values}
 use Rattle.cg_c_turn.proofs.Elements.{element_is, next_listed, listed_none, listed_more, listed_all}
 use Rattle.cg_c_turn.proofs.Shapes.{pick_shape, pick_typed, choice_shape, choice_typed, same_typed, same_apart, element_shape, element_typed, chain_shape, sign_shape, cast_shape, sign_typed, sign_apart, cast_typed, cast_apart}
 use Rattle.cg_c_turn.proofs.draft.Draft.+expression.Goals as goal
-
-both_ok : {A F : Type 0} (r : Result A F) (P Q : A → Type 0) → IfOk r P → IfOk r Q → IfOk r (λ a. P a × Q a)
-both_ok (Ok a) P Q p q = (p, q)
-both_ok (Err f) P Q p q = tt
 
 pub chain-link-requires : goal.chain-link-requires
 chain-link-requires t c =

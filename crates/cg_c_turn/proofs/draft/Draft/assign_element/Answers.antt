@@ -1,8 +1,7 @@
-use Rattle.std.proofs.Common.{List, [], ◌++◌, sym, subst}
+use Rattle.std.proofs.Common.{sym, subst}
 use Rattle.std.proofs.lemmas.Result.{on_ok_weaker}
 use Rattle.std.specs.List.{Contains}
 use Rattle.cg_c_check.specs.Written.{expr_of, exprs_of}
-use Rattle.cg_c_meaning.specs.Meaning.{changed}
 use Rattle.cg_c_meaning.specs.Typed.{AreApart, inputs, inputs_of}
 use Rattle.cg_c_turn.specs.Draft.{draft_of}
 use Rattle.cg_c_turn.specs.Pieces.{Addresses, AreTranslated}

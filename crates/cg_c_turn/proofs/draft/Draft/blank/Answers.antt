@@ -1,4 +1,4 @@
-use Rattle.std.proofs.Common.{◌∷◌, [], ◌++◌, ◌∙◌, List, None, ap, arith, length, refl, slice_index_or}
+use Rattle.std.proofs.Common.{◌∙◌, List, None, ap, arith, length, refl, slice_index_or}
 use Rattle.cg_c_turn.specs.Draft.{Latest}
 use Rattle.cg_c_turn.proofs.WordLists.{pushed_default}
 use Rattle.cg_c_turn.proofs.draft.Draft.blank.Goals as goal

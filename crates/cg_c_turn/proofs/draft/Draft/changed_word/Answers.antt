@@ -2,7 +2,7 @@ use Rattle.std.proofs.Common.{sym, ap, ◌∙◌}
 use Rattle.std.proofs.lemmas.Result.{IfOk-weaker}
 use Rattle.cg_c_values.specs.Listed.{listed}
 use Rattle.cg_c_turn.specs.Draft.{Draft, assigned_in, draft_of}
-use Rattle.cg_c_turn.proofs.AssignWord.{kept_is, word_changed}
+use Rattle.cg_c_turn.proofs.AssignWord.{word_changed}
 use Rattle.cg_c_turn.proofs.Growing.{extends_then}
 use Rattle.cg_c_turn.proofs.draft.Draft.changed_word.Goals as goal
 

@@ -1,5 +1,5 @@
 use Rattle.std.proofs.Common.{arith, ◌+◌, ◌<◌, List, [], ◌∷◌, length, None, sym, ap, ◌∙◌, subst}
-use Rattle.cg_c_turn.specs.Draft.{Draft, Effect, Latest, Store, draft_of}
+use Rattle.cg_c_turn.specs.Draft.{Effect, Latest, Store, draft_of}
 use Rattle.cg_c_turn.specs.Stores.{Stores}
 use Rattle.cg_c_turn.proofs.Loading.{latest_is}
 use Rattle.cg_c_turn.proofs.Storing.{stores, stores_counted, with_store}
