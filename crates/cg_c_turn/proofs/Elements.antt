@@ -19,7 +19,7 @@ use Rattle.cg_c_turn.proofs.Yielding.{TakesOnly, steps_of, translates_by, yields
 use Rattle.cg_c_turn.proofs.Composing.{under_word, takes_value}
 use Rattle.cg_c_meaning.proofs.Taking.{indices_take}
 
-takes_values : (arrays : List Array) (each : Bool) (es : Exprs) → IsTypedExprs arrays each es → TakesOnly (λ c. values c es) (inputs_of es)
+pub takes_values : (arrays : List Array) (each : Bool) (es : Exprs) → IsTypedExprs arrays each es → TakesOnly (λ c. values c es) (inputs_of es)
 takes_values arrays each es typed = record { takes = λ c s t ws goes. leaves_by s t (inputs_of es) (indices_take arrays each c es s t ws typed goes) }
 
 -- ---- what is there
@@ -41,12 +41,12 @@ unfolding number_in state_in
 there_of None s t a h = absurd (cc)
 there_of (Some b) s t a h = record { is = ap number_in h; same = ap (state_in s) h }
 
-takes_defined : (address : Context → Option ℕ) → TakesOnly (λ c. defined (address c)) []
+pub takes_defined : (address : Context → Option ℕ) → TakesOnly (λ c. defined (address c)) []
 takes_defined address = record { takes = λ c s t a goes. subst (λ (z : State). Leaves s z []) (there_of (address c) s t a goes).same (leaves_all s []) }
 
 -- ---- elements
 
-addresses_yield : (b d : Draft) (array : ℕ) (vs : List ℕ) (v : ℕ) (ws : List ℕ) → IsFormed b → Addresses b d array vs v
+pub addresses_yield : (b d : Draft) (array : ℕ) (vs : List ℕ) (v : ℕ) (ws : List ℕ) → IsFormed b → Addresses b d array vs v
     → Yields b d [] (λ E. Unit {0} × (map E vs ≡ ws)) (λ c. defined (address_in (array_at c array) ws)) [] (λ E a. (E v ≡ a) × IsInside b.arrays array a)
 addresses_yield b d array vs v ws formed h =
     yields_pure b d (λ E. Unit {0} × (map E vs ≡ ws)) (λ c. defined (address_in (array_at c array) ws)) [] (λ E a. (E v ≡ a) × IsInside b.arrays array a) formed h.steps

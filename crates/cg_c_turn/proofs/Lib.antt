@@ -1,5 +1,9 @@
 pub mod Addressing
 pub mod Arms
+pub mod AssignAfter
+pub mod AssignElement
+pub mod AssignTarget
+pub mod AssignWord
 pub mod Branching
 pub mod Carrying
 pub mod Composing
@@ -20,6 +24,8 @@ pub mod Prefixes
 pub mod Sending
 pub mod Shapes
 pub mod Single
+pub mod StoreApart
+pub mod Storing
 pub mod Turning
 pub mod WordLists
 pub mod Yielding

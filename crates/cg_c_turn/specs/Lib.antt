@@ -5,6 +5,7 @@ pub mod Leads
 pub mod Nested
 pub mod Pieces
 pub mod Stands
+pub mod Stores
 pub mod Translated
 pub mod Turn
 pub mod Words

@@ -456,7 +456,7 @@ impl<'p> Draft<'p> {
     }
 
     /// Returns the value that the word of this number was last assigned in this turn, if it was.
-    fn assigned(&self, number: usize) -> Option<usize>
+    pub(crate) fn assigned(&self, number: usize) -> Option<usize>
         ensures { result ≡ assigned_in (draft_of self.now) number }
     {
         match self.words.get(number) {

@@ -3,6 +3,7 @@
 //! is selected. Expressions, declarations and outputs are translated.
 #![tactic(auto)]
 
+mod assignments;
 mod branches;
 mod draft;
 mod edges;

@@ -10,8 +10,7 @@ ghost use Rattle.cg_c_turn.specs.Translated.{IsTranslated};
 
 use crate::draft::{Draft, Wanted};
 use crate::effect::Effect;
-use cg_c_check::{Expr, Initial, Stmt, Target};
-use cg_c_syntax::Binary;
+use cg_c_check::{Expr, Initial, Stmt};
 use std::alloc::AllocError;
 
 impl<'p> Draft<'p> {
@@ -43,21 +42,6 @@ impl<'p> Draft<'p> {
             word,
         })?;
         Ok(())
-    }
-
-    /// Translates an assignment.
-    pub fn assign(
-        &mut self,
-        target: &Target,
-        op: Option<Binary>,
-        value: &Expr,
-    ) -> Result<(), AllocError>
-        requires formed { IsFormed (draft_of self.now) }
-        requires typed { IsTypedStmt (draft_of self.now).arrays true (program.Assign (target_of target.now) op (expr_of value.now)) }
-        requires apart { AreApart (stmt_inputs (program.Assign (target_of target.now) op (expr_of value.now))) }
-        ensures { OnOk result (IsTranslated (draft_of self.old) (draft_of self.new) (λ c. meaning.stmt c (program.Assign (target_of target.now) op (expr_of value.now))) (stmt_inputs (program.Assign (target_of target.now) op (expr_of value.now)))) }
-    {
-        Err(AllocError)
     }
 
     /// Translates a statement.
