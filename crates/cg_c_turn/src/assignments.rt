@@ -1,5 +1,5 @@
-//! Assignments.
-ghost use Rattle.std.specs.Prelude.{◌≡◌, ℕ, true, ◌<◌, List, ◌++◌, None, length, OnOk, IfOk};
+//! Assignments to words and to elements of arrays.
+ghost use Rattle.std.specs.Prelude.{◌≡◌, true, ◌<◌, List, ◌++◌, None, length, OnOk, IfOk};
 ghost use Rattle.cg_c_check.specs.Written.{expr_of, exprs_of, target_of};
 ghost use Rattle.cg_c_check.specs.Program as program;
 ghost use Rattle.cg_c_meaning.specs.Meaning as meaning;
@@ -20,10 +20,10 @@ use std::alloc::AllocError;
 
 /// What an assignment makes of a word: its operator, and how the word and the value are read.
 #[derive(Clone, Copy)]
-pub(crate) struct Change {
-    pub op: Option<Binary>,
-    pub target: Signedness,
-    pub value: Signedness,
+struct Change {
+    op: Option<Binary>,
+    target: Signedness,
+    value: Signedness,
 }
 
 impl<'p> Draft<'p> {
