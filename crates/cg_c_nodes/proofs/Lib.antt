@@ -1,0 +1,3 @@
+pub mod WordsMade
+pub mod WordsNodes
+pub mod WordsRun

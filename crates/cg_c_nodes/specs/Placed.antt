@@ -188,6 +188,9 @@ pub record IsQuiet (P : Placing) (m : ℕ) : Type 0 where
 -- the values and effects of the draft d have their nodes
 pub record IsPlaced (d : Draft) (turns : ℕ) (P : Placing) : Type 0 where
   pub stand : AllStand P.new
+  -- the numbers of the turns are words, and so are the words that words have when the first turn begins
+  pub few : turns ≤ words
+  pub initial : (number : ℕ) → initial_in d number < words
   pub renames : Renames d.values P.new turns P.map
   pub values_at : (v m : ℕ) → P.at v ≡ Some m → (v < length P.new) × Computes P m (value_at P.new v)
   pub apart : (u v m : ℕ) → P.at u ≡ Some m → P.at v ≡ Some m → u ≡ v
