@@ -1,5 +1,5 @@
 -- The words of a turn's values fit them.
-use Rattle.std.proofs.Common.{◌≡◌, ℕ, zero, suc, ◌+◌, ◌/◌, ◌%◌, ◌<◌, ◌≤◌, List, [], length, refl, sym, ap, ◌∙◌, subst, arith, ⊎_elim}
+use Rattle.std.proofs.Common.{◌≡◌, ℕ, zero, suc, ◌/◌, ◌%◌, ◌<◌, ◌≤◌, List, [], length, refl, sym, ap, ◌∙◌, subst, arith, ⊎_elim}
 use Rattle.std.specs.Prelude.{Option, Some, None, slice_index, slice_index_or}
 use Rattle.std.proofs.Math.Nat.{div-le_self, mod-eq_of_lt, mod-le}
 use Rattle.std.proofs.lemmas.Bool.{cases_lt}
@@ -17,13 +17,13 @@ use Rattle.cg_c_values.specs.declared.value.Value.{Value}
 use Rattle.cg_c_values.specs.declared.value.Value.TheVariants.{Const, Turn, Quotient, Digit, Carried, Input, Loaded, Two, Select}
 use Rattle.cg_c_values.specs.Values.{Fits, IsBelow, IsWordOf, MayStand, Moment, Words, value_at}
 use Rattle.cg_c_forms.specs.Forms.{IsForm, behind, renamed}
-use Rattle.cg_c_turn.specs.Draft.{Draft, assigned_in, initial_in}
+use Rattle.cg_c_turn.specs.Draft.{Draft, assigned_in}
 use Rattle.cg_c_turn.specs.Stands.{IsFormed, begun, word_or}
 use Rattle.cg_c_nodes.specs.Placed.{Computes, IsOperand, IsPlaced, Placing}
 use Rattle.cg_c_nodes.specs.Running.{AreWords, Memories}
 use Rattle.cg_c_nodes.proofs.WordsMade.{carried_at, made_word, moment_at, word_by, words_at}
 use Rattle.cg_c_nodes.proofs.WordsNodes.{digit_gives, input_gives, quotient_gives, select_gives, turn_gives, two_gives}
-use Rattle.cg_c_nodes.proofs.WordsCarried.{begun_is, next_is, node_word, operand_has}
+use Rattle.cg_c_nodes.proofs.WordsCarried.{begun_is, node_word, operand_has}
 
 -- what a value is of words is a word of it
 word_by_fits : (x : Moment) (memory : List ℕ) (E : Words) (value : Value) → IsWordOf x E value (word_by x memory E value)
@@ -49,8 +49,8 @@ small : (op : Op) (a b c : ℕ) → a < words → b < words → c < words → ap
 small op a b c h k l = let v = value_small op a b c h k l in omega arith
 
 module _ (d : Draft) (count : ℕ) (P : Placing) (image : Image) (memories : Memories) (formed : IsFormed d) (placed : IsPlaced d count P) (kernel : IsKernel P.kernel) (good : IsImage image) (are : AreWords memories) where
-  abbrev c : (t number : ℕ) → ℕ
-  c t number = carried_at d P image memories t number
+  abbrev carried : (t number : ℕ) → ℕ
+  carried t number = carried_at d P image memories t number
 
   abbrev E : (t v : ℕ) → ℕ
   E t v = words_at d P image memories t v
@@ -68,7 +68,7 @@ module _ (d : Draft) (count : ℕ) (P : Placing) (image : Image) (memories : Mem
   unfolding IsWordOf
   computed t m v (Const word) l n s f = absurd n
   computed t m v Turn l n s f =
-      let w = placed.few in
+      let few = placed.few in
       let b : t < words = omega arith in
       turn_gives P image kernel.wired m t n ∙ mod-eq_of_lt b
   computed t m v (Quotient divisor) l n s f =
@@ -108,13 +108,13 @@ module _ (d : Draft) (count : ℕ) (P : Placing) (image : Image) (memories : Mem
   AreSmall t n = (v : ℕ) → v < n → E t v < words
 
   -- where those before it are, and those that the turn begins with
-  word_small : (t v : ℕ) (value : Value) → t < count → ((number : ℕ) → c t number < words) → AreSmall t v → MayStand v value →
+  word_small : (t v : ℕ) (value : Value) → t < count → ((number : ℕ) → carried t number < words) → AreSmall t v → MayStand v value →
       word_by (x t) (memories t v) (words_at d P image memories t) value < words
   word_small t v (Const word) l b h s = s
-  word_small t v Turn l b h s = let w = placed.few in omega arith
-  word_small t v (Quotient divisor) l b h s = let w = placed.few in let q = div-le_self t divisor in omega arith
+  word_small t v Turn l b h s = let few = placed.few in omega arith
+  word_small t v (Quotient divisor) l b h s = let few = placed.few in let q = div-le_self t divisor in omega arith
   word_small t v (Digit divisor radix) l b h s =
-      let w = placed.few in
+      let few = placed.few in
       let q = div-le_self t divisor in
       let r = mod-le (t / divisor) radix in
       omega arith
@@ -125,7 +125,7 @@ module _ (d : Draft) (count : ℕ) (P : Placing) (image : Image) (memories : Mem
   word_small t v (Select condition chosen other) l b h s =
       small ops.Select (E t condition) (E t chosen) (E t other) (h condition s.0) (h chosen s.1) (h other s.2)
 
-  one_small : (t v : ℕ) → t < count → ((number : ℕ) → c t number < words) → v < length P.new → AreSmall t v → E t v < words
+  one_small : (t v : ℕ) → t < count → ((number : ℕ) → carried t number < words) → v < length P.new → AreSmall t v → E t v < words
   one_small t v l b k h = by (P.at v) refl
     where
       by : (q : Option ℕ) → P.at v ≡ q → E t v < words
@@ -136,20 +136,20 @@ module _ (d : Draft) (count : ℕ) (P : Placing) (image : Image) (memories : Mem
           subst (λ z. z < words) (sym (node_word d count P image memories placed kernel.wired t v m e))
           (val_word P.kernel kernel image good m t)
 
-  are_small : (t : ℕ) → t < count → ((number : ℕ) → c t number < words) → (n : ℕ) → n ≤ length P.new → AreSmall t n
+  are_small : (t : ℕ) → t < count → ((number : ℕ) → carried t number < words) → (n : ℕ) → n ≤ length P.new → AreSmall t n
   are_small t l b zero k v m = absurd (omega arith)
   are_small t l b (suc n) k v m =
       one_small t v l b (omega arith) (λ u g. are_small t l b n (omega arith) u (omega arith))
 
   -- the words of words
-  next_small : (t number : ℕ) → t < count → ((other : ℕ) → c t other < words) → (q : Option ℕ) → IsBelow (length d.values) q →
+  next_small : (t number : ℕ) → t < count → ((other : ℕ) → carried t other < words) → (q : Option ℕ) → IsBelow (length d.values) q →
       word_or (behind (words_at d P image memories t) P.map) (begun (x t) d number) q < words
   next_small t number l b None h =
       subst (λ z. z < words) (sym (begun_is d count P image memories placed kernel.wired t number)) (b number)
   next_small t number l b (Some v) h =
       are_small t l b (length P.new) (omega arith) (renamed P.map v) (placed.renames.within v h)
 
-  carried_small : (t : ℕ) → t < count → (number : ℕ) → c t number < words
+  carried_small : (t : ℕ) → t < count → (number : ℕ) → carried t number < words
   unfolding carried_at
   carried_small zero l number = placed.initial number
   carried_small (suc t) l number =

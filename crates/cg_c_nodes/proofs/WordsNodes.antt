@@ -1,5 +1,5 @@
 -- What nodes give in a turn.
-use Rattle.std.proofs.Common.{◌≡◌, ℕ, zero, suc, ◌+◌, ◌-◌, ◌*◌, ◌/◌, ◌%◌, ◌<◌, ◌≤◌, List, [], ◌∷◌, true, false, refl, sym, ap, ◌∙◌, arith}
+use Rattle.std.proofs.Common.{◌≡◌, ℕ, zero, suc, ◌+◌, ◌-◌, ◌*◌, ◌%◌, ◌<◌, ◌≤◌, List, [], ◌∷◌, true, refl, sym, ap, ◌∙◌, arith}
 use Rattle.std.specs.Prelude.{map, slice_index, slice_index_or}
 use Rattle.std.proofs.Math.Nat.{add-mod_right}
 use Rattle.std.proofs.lemmas.Bool.{lt-ltb, le-ltb}
@@ -8,7 +8,7 @@ use Rattle.cg_word.specs.declared.op.Op.TheVariants as ops
 use Rattle.cg_word.specs.Word.{apply_of, words}
 use Rattle.cg_model.specs.declared.kernel.Operand.{Operand}
 use Rattle.cg_model.specs.declared.kernel.Operand.TheVariants.{Const as Constant, Edge}
-use Rattle.cg_model.specs.Kernel.{IsWired, node, size}
+use Rattle.cg_model.specs.Kernel.{IsWired, size}
 use Rattle.cg_model.specs.Turns.{before, operand, val}
 use Rattle.cg_model.specs.Work.{Image, value, value_by}
 use Rattle.cg_overlap.proofs.Sequence.{work_is}
@@ -115,11 +115,11 @@ module _ (P : Placing) (image : Image) (wired : IsWired P.kernel) where
   remainder_gives m p t b r e =
       let w : word t (now m) ≡ wraps b = word_now m t ∙ wraps_gives m p t b r e in
       let again : word t (now (m + 1)) ≡ apply_of ops.Add b (apply_of ops.Sub 2 p 0) 0 =
-          word_now (m + 1) t ∙ two_gives (m + 1) ops.Add t (remainder_before m) (Constant (apply_of ops.Sub 2 p 0)) refl r.again
-          ∙ ap (λ z. apply_of ops.Add z (apply_of ops.Sub 2 p 0) 0) e in
+      word_now (m + 1) t ∙ two_gives (m + 1) ops.Add t (remainder_before m) (Constant (apply_of ops.Sub 2 p 0)) refl r.again
+      ∙ ap (λ z. apply_of ops.Add z (apply_of ops.Sub 2 p 0) 0) e in
       let further : word t (now (m + 2)) ≡ apply_of ops.Add b 2 0 =
-          word_now (m + 2) t ∙ two_gives (m + 2) ops.Add t (remainder_before m) (Constant 2) refl r.further
-          ∙ ap (λ z. apply_of ops.Add z 2 0) e in
+      word_now (m + 2) t ∙ two_gives (m + 2) ops.Add t (remainder_before m) (Constant 2) refl r.further
+      ∙ ap (λ z. apply_of ops.Add z 2 0) e in
       select_gives (m + 3) t (now m) (now (m + 1)) (now (m + 2)) r.remainder
       ∙ ap (λ z. apply_of ops.Select z (word t (now (m + 1))) (word t (now (m + 2)))) w
       ∙ ap (λ z. apply_of ops.Select (wraps b) z (word t (now (m + 2)))) again
