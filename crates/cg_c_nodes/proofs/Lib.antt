@@ -1,0 +1,5 @@
+pub mod WordsCarried
+pub mod WordsFit
+pub mod WordsMade
+pub mod WordsNodes
+pub mod WordsRun
