@@ -1,3 +1,4 @@
+pub mod CompiledTurns
 pub mod WordsCarried
 pub mod WordsFit
 pub mod WordsMade

@@ -1,3 +1,4 @@
 pub mod Beside
+pub mod Compiled
 pub mod Placed
 pub mod Running

@@ -66,7 +66,7 @@ turns_are p b d index begun at some nested =
           subst (λ (z : List Effect). Leads p.arrays E z m (IsTurnEnd d x E end)) (sym effects)
           (subst (λ (z : List Array). Leads z E nested.added m (IsTurnEnd d x E end)) begun.arrays_are
           (leads_weaker b.arrays E nested.added m (IsDone d x E m (outside_loops p x) end) (IsTurnEnd d x E end)
-          (λ n h. let k = h.matches on in record { memory = k.memory; outputs = k.outputs; words = λ number. sym (k.words number) })
+          (λ n h. let k = h.matches on in record { memory = k.memory; outputs = k.outputs; words = λ number. sym (k.words number); arrays = record { room = h.sound.room; tables = h.sound.tables } })
           (part.leads x E m (outside_loops p x) end runs (begun_sound p.arrays b E m begun has)
           (λ h. (at.is x E (fits_kept b.values d.values x E part.grows.values runs.fits), record { before = s; matches = begun_matches p b x E m s begun starts; ready = starts.ready; runs = done })))));
     }

@@ -32,6 +32,7 @@ pub record IsTurnEnd (d : Draft) (x : Moment) (E : Words) (s : State) (n : Outco
   pub memory : s.memory ≡ n.memory
   pub outputs : (port : ℕ) → s.outputs port ≡ n.outputs port
   pub words : (number : ℕ) → s.words number ≡ word_in x E d number
+  pub arrays : HasArrays d.arrays n.memory
 
 -- the draft does what the program does in each of its turns
 pub record Turns (p : Program) (d : Draft) : Type 0 where
