@@ -255,7 +255,7 @@ module _ {d : Draft} {count : ℕ} {P : Placing} {image : Image} {memories : Mem
     pub may : (holds new_words new_guard ≡ true → holds old_words guard ≡ true) ⊎ ((v : ℕ) × (v < length d.values) × (value_at d.values v ≡ values.Loaded array version None address))
 
   new_load : (array version address : ℕ) (guard : Option ℕ) (value : Value) → IsLoadOf d.values P.new count P.map array version guard address value →
-      IsNewLoad array version guard address value ⊎ (((k : ℕ) → Computes P k value → ⊥) × (holds old_words guard ≡ false))
+      IsNewLoad array version guard address value ⊎ (((word : ℕ) × (value ≡ values.Const word)) × (holds old_words guard ≡ false))
   unfolding IsLoadOf
   new_load array version address guard (values.Loaded array' version' guard' address') h =
       inl (record {
@@ -264,7 +264,7 @@ module _ {d : Draft} {count : ℕ} {P : Placing} {image : Image} {memories : Mem
         acts = λ on. h.3 (s.run.moment t) new_words fits in_turn on;
         may = ⊎_elim (λ back. inl (λ on. back (s.run.moment t) new_words fits in_turn on)) (λ v. inr v) h.4;
       })
-  new_load array version address guard (values.Const word) h = inr ((λ k c. c), h (s.run.moment t) new_words fits in_turn)
+  new_load array version address guard (values.Const word) h = inr ((word, refl), h (s.run.moment t) new_words fits in_turn)
   new_load array version address guard values.Turn h = absurd h
   new_load array version address guard (values.Quotient divisor) h = absurd h
   new_load array version address guard (values.Digit divisor radix) h = absurd h
@@ -274,7 +274,7 @@ module _ {d : Draft} {count : ℕ} {P : Placing} {image : Image} {memories : Mem
   new_load array version address guard (values.Select a b c) h = absurd h
 
   pub renewed : (value array version address : ℕ) (guard : Option ℕ) → value < length d.values → value_at d.values value ≡ values.Loaded array version guard address →
-      IsNewLoad array version guard address (value_at P.new (renamed P.map value)) ⊎ (((k : ℕ) → Computes P k (value_at P.new (renamed P.map value)) → ⊥) × (holds old_words guard ≡ false))
+      IsNewLoad array version guard address (value_at P.new (renamed P.map value)) ⊎ (((word : ℕ) × (value_at P.new (renamed P.map value) ≡ values.Const word)) × (holds old_words guard ≡ false))
   renewed value array version address guard l is = new_load array version address guard (value_at P.new (renamed P.map value)) (s.placed.renames.loads value array version address guard l is)
 
   -- ---- one effect
@@ -295,7 +295,7 @@ module _ {d : Draft} {count : ℕ} {P : Placing} {image : Image} {memories : Mem
       ⊎_elim
       (λ (new : IsNewLoad array (stores_to array (take i d.effects)) guard address (value_at P.new (renamed P.map value))).
       a_node i k m m (slice_get_within d.effects i _ at) o (load_node (renamed P.map value) k array (stores_to array (take i d.effects)) (renamed P.map address) new.new_guard m done new.is) same)
-      (λ none. absurd (none.0 k (s.placed.values_at (renamed P.map value) k done).1))
+      (λ none. absurd (subst (Computes P k) none.0.1 (s.placed.values_at (renamed P.map value) k done).1))
       (renewed value array (stores_to array (take i d.effects)) address guard there.0 there.1)
   effect_by i (Store guard array address word place) m None at o done same =
       subst (λ (b : Bool). Same (if b then stored_at m (old_words address) (old_words word) else m) (at_node P image s.good.wired t (P.before (suc i)))) (sym (done (s.run.moment t) new_words fits in_turn))
