@@ -1,6 +1,5 @@
 -- The accesses of a turn are inside their arrays, and so inside the memory.
-use Rattle.std.proofs.Common.{◌≡◌, ℕ, zero, suc, ◌+◌, ◌*◌, ◌<◌, ◌≤◌, nat_lt, leb, true, false, List, length, Contains, Option, Some, None, slice_get, refl, sym, ap, ◌∙◌, subst, arith, ⊎_elim}
-use Rattle.std.specs.Prelude.{◌&&◌}
+use Rattle.std.proofs.Common.{◌≡◌, ℕ, zero, suc, ◌+◌, ◌*◌, ◌<◌, ◌≤◌, true, false, List, length, Contains, Option, Some, None, slice_get, refl, sym, ap, ◌∙◌, subst, arith, ⊎_elim}
 use Rattle.std.proofs.lemmas.Bool.{and_parts, cases_Bool, cases_lt, cond-false, leb-true, true≢false}
 use Rattle.std.proofs.lemmas.Option.{get_or_from_slice_get, slice_get_within}
 use Rattle.cg_word.specs.declared.op.Op.TheVariants as ops
@@ -18,7 +17,6 @@ use Rattle.cg_c_turn.specs.declared.effect.Effect.{Effect}
 use Rattle.cg_c_turn.specs.declared.effect.Effect.TheVariants.{Load, Store, Send}
 use Rattle.cg_c_turn.specs.Draft.{Draft}
 use Rattle.cg_c_turn.specs.Leads.{IsInside}
-use Rattle.cg_c_turn.specs.Stands.{IsLoadedBy, stores_to}
 use Rattle.cg_c_turn.specs.Turn.{HasArrays}
 use Rattle.cg_c_nodes.specs.Placed.{AreListed, Computes, IsDone, Placing, Stores}
 use Rattle.cg_c_nodes.specs.Running.{Memories}
@@ -124,7 +122,7 @@ module _ {d : Draft} {count : ℕ} {P : Placing} {image : Image} {memories : Mem
       let earlier = outside_to accesses n has inside (omega (arith, l)) in
       let room : length (at_node P image s.good.wired t n).memory ≡ length (turns P.kernel t image).memory = memory_stays P.kernel image (t * size P.kernel + n) ∙ sym (memory_stays P.kernel image (t * size P.kernel)) in
       let none = missed_none (length (at_node P image s.good.wired t n).memory) (work_here P image s.good.wired t n)
-          (λ a r. let found = inside n a (omega (arith, l)) r in let b = inside_memory d.arrays (turns P.kernel t image).memory found.0.array a has found.3 in omega (arith, b, room)) in
+      (λ a r. let found = inside n a (omega (arith, l)) r in let b = inside_memory d.arrays (turns P.kernel t image).memory found.0.array a has found.3 in omega (arith, b, room)) in
       ap (λ p. p.outside) (next_node P image s.good.wired t n) ∙ omega (arith, none, earlier)
 
   pub none_outside : (accesses : List Access) → HasArrays d.arrays (turns P.kernel t image).memory → AreInside d P.kernel image accesses t → (turns P.kernel (suc t) image).outside ≡ (turns P.kernel t image).outside

@@ -1,18 +1,17 @@
 -- The nodes of effects in a turn.
-use Rattle.std.proofs.Common.{◌≡◌, ℕ, zero, suc, ◌+◌, ◌-◌, ◌*◌, ◌<◌, ◌≤◌, ◌⊎◌, inl, inr, nat_lt, eqb, if◌then◌else◌, Bool, true, false, List, [], ◌∷◌, ◌++◌, length, map, take, Contains, Option, Some, None, slice_get, refl, sym, ap, ◌∙◌, subst, arith, ⊎_elim, append-nil}
+use Rattle.std.proofs.Common.{◌≡◌, ℕ, zero, suc, ◌+◌, ◌-◌, ◌<◌, ◌≤◌, ◌⊎◌, inl, inr, nat_lt, eqb, if◌then◌else◌, Bool, true, false, List, [], ◌∷◌, ◌++◌, length, take, Contains, Option, Some, None, slice_get, refl, sym, ap, ◌∙◌, subst, arith, ⊎_elim, append-nil}
 use Rattle.std.specs.Prelude.{◌&&◌, ◌==◌, slice_index, slice_set}
 use Rattle.std.proofs.lemmas.Bool.{cases_eq, cond-true, eq-eqb, ne_eqb}
 use Rattle.std.proofs.lemmas.Option.{get_or_from_slice_get, none-some, same_Some, slice_get_within}
 use Rattle.cg_word.specs.declared.op.Op.{Op}
 use Rattle.cg_word.specs.declared.op.Op.TheVariants as ops
-use Rattle.cg_word.specs.Word.{is_access, is_output, is_store}
-use Rattle.cg_model.specs.declared.kernel.Operand.{Operand}
-use Rattle.cg_model.specs.Kernel.{IsKernel, node, size}
+use Rattle.cg_word.specs.Word.{is_output, is_store}
+use Rattle.cg_model.specs.Kernel.{IsKernel, size}
 use Rattle.cg_model.specs.Turns.{after, operand, val}
 use Rattle.cg_model.specs.Work.{Image, Work, sent, stored, value, value_by}
 use Rattle.cg_c_values.specs.declared.value.Value.{Value}
 use Rattle.cg_c_values.specs.declared.value.Value.TheVariants as values
-use Rattle.cg_c_values.specs.Values.{Moment, Words, Fits, IsBelow, MayStand, holds, value_at}
+use Rattle.cg_c_values.specs.Values.{Words, Fits, MayStand, holds, value_at}
 use Rattle.cg_c_forms.specs.Forms.{IsLoadOf, behind, renamed}
 use Rattle.cg_c_meaning.specs.Meaning.{updated}
 use Rattle.cg_c_turn.specs.declared.effect.Effect.{Effect}
@@ -20,9 +19,9 @@ use Rattle.cg_c_turn.specs.declared.effect.Effect.TheVariants.{Load, Store, Send
 use Rattle.cg_c_turn.specs.Draft.{Draft}
 use Rattle.cg_c_turn.specs.Leads.{Outcome, sent_to, stored_at}
 use Rattle.cg_c_turn.specs.Stands.{IsFormed, stores_to}
-use Rattle.cg_c_nodes.specs.Placed.{Is, IsDone, IsPlaced, IsQuiet, One, Placing, Sends, Stores, Three, Two, Computes}
+use Rattle.cg_c_nodes.specs.Placed.{IsDone, IsPlaced, One, Placing, Sends, Stores, Three, Two, Computes}
 use Rattle.cg_c_nodes.specs.Running.{Memories, ValuesRun}
-use Rattle.cg_c_nodes.proofs.EffectsSteps.{Same, at_node, next_node, node_work, one_between, operand_here, quiet_between, same_after, same_still, sent_none, stored_none, work_here}
+use Rattle.cg_c_nodes.proofs.EffectsSteps.{Same, at_node, next_node, node_work, one_between, quiet_between, same_after, same_still, sent_none, work_here}
 
 -- a turn in which the values have their words
 pub record Setting (d : Draft) (count : ℕ) (P : Placing) (image : Image) (memories : Memories) (t : ℕ) : Type 0 where
@@ -53,7 +52,7 @@ module _ {d : Draft} {count : ℕ} {P : Placing} {image : Image} {memories : Mem
 
   -- ---- what nodes do
 
-  pub one_work : (m : ℕ) (op : Op) (port a : ℕ) → a < length P.new → One P m op port a →
+  one_work : (m : ℕ) (op : Op) (port a : ℕ) → a < length P.new → One P m op port a →
       work_here P image s.good.wired t m ≡ record { op = op; port = port; turn = t; args = new_words a ∷ [] }
   one_work m op port a l one =
       node_work P image s.good.wired t m op port (one.first ∷ []) one.is
@@ -76,11 +75,11 @@ module _ {d : Draft} {count : ℕ} {P : Placing} {image : Image} {memories : Mem
 
   -- ---- where the nodes of effects are
 
-  pub before_up : (n i : ℕ) → P.before i ≤ P.before (i + n)
+  before_up : (n i : ℕ) → P.before i ≤ P.before (i + n)
   before_up zero i = let e : i ≡ i + zero = omega arith in subst (λ z. P.before i ≤ P.before z) e (let r : P.before i ≤ P.before i = omega arith in r)
   before_up (suc n) i = let e : suc (i + n) ≡ i + suc n = omega arith in let up = before_up n i in let r = s.placed.rising (i + n) in subst (λ z. P.before i ≤ P.before z) e (omega (arith, up, r))
 
-  pub before_within : (i : ℕ) → i < length d.effects → P.before (suc i) ≤ size P.kernel
+  before_within : (i : ℕ) → i < length d.effects → P.before (suc i) ≤ size P.kernel
   before_within i l =
       let e : suc i + (length d.effects - suc i) ≡ length d.effects = omega arith in
       let up = before_up (length d.effects - suc i) (suc i) in
@@ -88,12 +87,12 @@ module _ {d : Draft} {count : ℕ} {P : Placing} {image : Image} {memories : Mem
       let up' : P.before (suc i) ≤ P.before (length d.effects) = subst (λ z. P.before (suc i) ≤ P.before z) e up in
       omega (arith, up', last)
 
-  pub no_node : (i : ℕ) (m : Outcome) → i < length d.effects → P.done i ≡ None → Same m (at_node P image s.good.wired t (P.before i)) → Same m (at_node P image s.good.wired t (P.before (suc i)))
+  no_node : (i : ℕ) (m : Outcome) → i < length d.effects → P.done i ≡ None → Same m (at_node P image s.good.wired t (P.before i)) → Same m (at_node P image s.good.wired t (P.before (suc i)))
   no_node i m l none same =
       quiet_between P image s.good.wired t (P.before i) (P.before (suc i)) m (s.placed.rising i) (before_within i l)
       (λ k a b. s.placed.quiet i k a b (λ h. none-some k (sym none ∙ h))) same
 
-  pub a_node : (i k : ℕ) (m n : Outcome) → i < length d.effects → P.done i ≡ Some k →
+  a_node : (i k : ℕ) (m n : Outcome) → i < length d.effects → P.done i ≡ Some k →
       (Same m (at_node P image s.good.wired t k) → Same n (at_node P image s.good.wired t (suc k))) →
       Same m (at_node P image s.good.wired t (P.before i)) → Same n (at_node P image s.good.wired t (P.before (suc i)))
   a_node i k m n l at step same =
@@ -110,16 +109,17 @@ module _ {d : Draft} {count : ℕ} {P : Placing} {image : Image} {memories : Mem
       (λ j a b. s.placed.quiet i j a (omega (arith, b, between.1)) (λ h. absurd (let e = same_Some k j (sym at ∙ h) in omega (arith, e, b)))) same
 
   -- a step whose work is known
-  pub by_work : (k : ℕ) (w : Work) (m n : Outcome) → work_here P image s.good.wired t k ≡ w → n.memory ≡ stored m.memory w → ((port : ℕ) → n.outputs port ≡ m.outputs port ++ sent port w) →
+  by_work : (k : ℕ) (w : Work) (m n : Outcome) → work_here P image s.good.wired t k ≡ w → n.memory ≡ stored m.memory w → ((port : ℕ) → n.outputs port ≡ m.outputs port ++ sent port w) →
       Same m (at_node P image s.good.wired t k) → Same n (at_node P image s.good.wired t (suc k))
   by_work k w m n e h j same =
-      subst (Same n) (sym (next_node P image s.good.wired t k) )
+      subst (Same n) (sym (next_node P image s.good.wired t k))
       (subst (λ z. Same n (after image z (at_node P image s.good.wired t k))) (sym e) (same_after image w m n (at_node P image s.good.wired t k) same h j))
 
-  pub still_by_work : (k : ℕ) (w : Work) (m : Outcome) → work_here P image s.good.wired t k ≡ w → is_store w.op ≡ false → is_output w.op ≡ false →
+  still_by_work : (k : ℕ) (w : Work) (m : Outcome) → work_here P image s.good.wired t k ≡ w → is_store w.op ≡ false → is_output w.op ≡ false →
       Same m (at_node P image s.good.wired t k) → Same m (at_node P image s.good.wired t (suc k))
   still_by_work k w m e h j same =
-      by_work k w m m e (sym (stored_none m.memory w h)) (λ port. sym (append-nil (m.outputs port)) ∙ ap (λ z. m.outputs port ++ z) (sym (sent_none port w j))) same
+      subst (Same m) (sym (next_node P image s.good.wired t k))
+      (subst (λ z. Same m (after image z (at_node P image s.good.wired t k))) (sym e) (same_still image w m (at_node P image s.good.wired t k) h j same))
 
   -- ---- stores
 
@@ -150,7 +150,7 @@ module _ {d : Draft} {count : ℕ} {P : Placing} {image : Image} {memories : Mem
       (stored_if b m (new_words a) (new_words w) ∙ ap (λ z. if z then slice_set m.memory (new_words a) (new_words w) else m.memory) on)
       (none_sent b m (new_words a) (new_words w) _ refl)
 
-  pub store_node : (k : ℕ) (guard : Option ℕ) (address word : ℕ) (m : Outcome) → renamed P.map address < length P.new → renamed P.map word < length P.new →
+  store_node : (k : ℕ) (guard : Option ℕ) (address word : ℕ) (m : Outcome) → renamed P.map address < length P.new → renamed P.map word < length P.new →
       Stores P count guard (renamed P.map address) (renamed P.map word) k →
       Same m (at_node P image s.good.wired t k) → Same (if holds old_words guard then stored_at m (old_words address) (old_words word) else m) (at_node P image s.good.wired t (suc k))
   store_node k guard address word m la lw stores same =
@@ -197,7 +197,7 @@ module _ {d : Draft} {count : ℕ} {P : Placing} {image : Image} {memories : Mem
       (memory_if b m port (new_words w))
       (λ at. sent_if b m port (new_words w) at ∙ ap (λ z. m.outputs at ++ (if z && eqb port at then new_words w ∷ [] else [])) on)
 
-  pub send_node : (k : ℕ) (guard : Option ℕ) (port word : ℕ) (m : Outcome) → renamed P.map word < length P.new →
+  send_node : (k : ℕ) (guard : Option ℕ) (port word : ℕ) (m : Outcome) → renamed P.map word < length P.new →
       Sends P count guard port (renamed P.map word) k →
       Same m (at_node P image s.good.wired t k) → Same (if holds old_words guard then sent_to m port (old_words word) else m) (at_node P image s.good.wired t (suc k))
   send_node k guard port word m lw sends same =
@@ -232,7 +232,7 @@ module _ {d : Draft} {count : ℕ} {P : Placing} {image : Image} {memories : Mem
       let there = s.placed.values_at u k at in
       load_is u k array version address guard there.0 (subst (MayStand u) is (s.placed.stand u there.0)) (subst (Computes P k) is there.1)
 
-  pub load_node : (u k array version address : ℕ) (guard : Option ℕ) (m : Outcome) → P.at u ≡ Some k → value_at P.new u ≡ values.Loaded array version guard address →
+  load_node : (u k array version address : ℕ) (guard : Option ℕ) (m : Outcome) → P.at u ≡ Some k → value_at P.new u ≡ values.Loaded array version guard address →
       Same m (at_node P image s.good.wired t k) → Same m (at_node P image s.good.wired t (suc k))
   load_node u k array version address guard m at is =
       let writes = load_writes guard address in

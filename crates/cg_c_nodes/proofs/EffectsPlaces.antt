@@ -1,11 +1,10 @@
 -- Which effect an access is the node of.
-use Rattle.std.proofs.Common.{◌≡◌, ℕ, zero, suc, ◌+◌, ◌*◌, ◌<◌, ◌≤◌, ◌⊎◌, true, false, List, [], ◌∷◌, ◌++◌, length, Contains, Option, Some, None, slice_get, slice_index_or, refl, sym, ap, ◌∙◌, subst, arith, ⊎_elim, length-append}
+use Rattle.std.proofs.Common.{◌≡◌, ℕ, zero, suc, ◌+◌, ◌<◌, ◌≤◌, ◌⊎◌, true, false, List, ◌++◌, length, Contains, Option, Some, None, slice_get, slice_index_or, refl, sym, ap, ◌∙◌, subst, arith, ⊎_elim, length-append}
 use Rattle.std.proofs.lemmas.Bool.{cases_eq, cases_lt, true≢false}
 use Rattle.std.proofs.lemmas.List.{get_or_append_left}
 use Rattle.std.proofs.lemmas.Option.{none-some, same_Some, slice_get-get_or, get_or_from_slice_get}
-use Rattle.cg_word.specs.declared.op.Op.TheVariants as ops
-use Rattle.cg_word.specs.Word.{is_access, is_output, is_store}
-use Rattle.cg_model.specs.Kernel.{node, size}
+use Rattle.cg_word.specs.Word.{is_access, is_store}
+use Rattle.cg_model.specs.Kernel.{node}
 use Rattle.cg_model.specs.Work.{Image}
 use Rattle.cg_c_values.specs.declared.value.Value.TheVariants.{Loaded}
 use Rattle.cg_c_values.specs.Values.{value_at}
@@ -20,13 +19,13 @@ use Rattle.cg_c_nodes.proofs.EffectsNodes.{Setting}
 
 module _ {d : Draft} {count : ℕ} {P : Placing} {image : Image} {memories : Memories} {t : ℕ} (s : Setting d count P image memories t) where
   -- the effect whose nodes are around node k
-  pub record IsAround (n k : ℕ) : Type 0 where
+  record IsAround (n k : ℕ) : Type 0 where
     pub effect : ℕ
     pub below : effect < n
     pub from : P.before effect ≤ k
     pub to : k < P.before (suc effect)
 
-  pub around : (n k : ℕ) → k < P.before n → IsAround n k
+  around : (n k : ℕ) → k < P.before n → IsAround n k
   around zero k l = absurd (let z = s.placed.first in omega (arith, z))
   around (suc n) k l =
       ⊎_elim
@@ -72,7 +71,7 @@ module _ {d : Draft} {count : ℕ} {P : Placing} {image : Image} {memories : Mem
 
   -- ---- operations
 
-  pub store_op : {turns : ℕ} {guard : Option ℕ} {address word k : ℕ} → Stores P turns guard address word k → is_store (node P.kernel k).op ≡ true
+  store_op : {turns : ℕ} {guard : Option ℕ} {address word k : ℕ} → Stores P turns guard address word k → is_store (node P.kernel k).op ≡ true
   store_op h = ⊎_elim (λ a. ap is_store a.1.is.op_is) (λ g. ap is_store g.3.is.op_is) h.is
 
   pub send_op : {turns : ℕ} {guard : Option ℕ} {port word k : ℕ} → Sends P turns guard port word k → is_access (node P.kernel k).op ≡ false
@@ -82,7 +81,7 @@ module _ {d : Draft} {count : ℕ} {P : Placing} {image : Image} {memories : Mem
   load_op k array version address None one = (ap is_access one.is.op_is, ap is_store one.is.op_is)
   load_op k array version address (Some g) two = (ap is_access two.is.op_is, ap is_store two.is.op_is)
 
-  pub loads_op : (u k array version address : ℕ) (guard : Option ℕ) → P.at u ≡ Some k → value_at P.new u ≡ Loaded array version guard address → (is_access (node P.kernel k).op ≡ true) × (is_store (node P.kernel k).op ≡ false)
+  loads_op : (u k array version address : ℕ) (guard : Option ℕ) → P.at u ≡ Some k → value_at P.new u ≡ Loaded array version guard address → (is_access (node P.kernel k).op ≡ true) × (is_store (node P.kernel k).op ≡ false)
   loads_op u k array version address guard at is = load_op k array version address guard (subst (Computes P k) is (s.placed.values_at u k at).1)
 
   -- ---- loads

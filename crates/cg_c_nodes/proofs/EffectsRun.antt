@@ -1,12 +1,11 @@
 -- The turns do the effects of the draft, where the values have their words.
-use Rattle.std.proofs.Common.{◌≡◌, ℕ, ◌<◌, List, sym, ap, ◌∙◌, subst}
+use Rattle.std.proofs.Common.{ℕ, List, sym, ap, ◌∙◌}
 use Rattle.cg_model.specs.Kernel.{IsKernel}
 use Rattle.cg_model.specs.Turns.{turns}
 use Rattle.cg_model.specs.Work.{Image}
-use Rattle.cg_c_values.specs.Values.{Moment}
 use Rattle.cg_c_forms.specs.Forms.{behind}
 use Rattle.cg_c_order.specs.declared.access.Access.{Access}
-use Rattle.cg_c_turn.specs.Draft.{Draft, initial_in}
+use Rattle.cg_c_turn.specs.Draft.{Draft}
 use Rattle.cg_c_turn.specs.Leads.{Leads}
 use Rattle.cg_c_turn.specs.Stands.{IsFormed, Runs}
 use Rattle.cg_c_turn.specs.Turn.{HasArrays}

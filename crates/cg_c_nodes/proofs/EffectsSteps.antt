@@ -1,15 +1,14 @@
 -- What the nodes of a turn do to memory and streams.
-use Rattle.std.proofs.Common.{◌≡◌, ℕ, zero, suc, ◌+◌, ◌-◌, ◌*◌, ◌<◌, ◌≤◌, List, [], ◌∷◌, ◌++◌, map, false, eqb, refl, sym, ap, ◌∙◌, subst, arith, append-nil}
-use Rattle.std.specs.Prelude.{◌&&◌, slice_index, slice_set}
+use Rattle.std.proofs.Common.{◌≡◌, ℕ, zero, suc, ◌+◌, ◌-◌, ◌*◌, ◌<◌, ◌≤◌, List, [], ◌++◌, map, false, eqb, refl, sym, ap, ◌∙◌, subst, arith, append-nil}
+use Rattle.std.specs.Prelude.{◌&&◌}
 use Rattle.std.proofs.lemmas.Bool.{cond-false, and_left}
 use Rattle.cg_word.specs.declared.op.Op.{Op}
-use Rattle.cg_word.specs.declared.op.Op.TheVariants.{Load, Store, LoadIf, StoreIf, Output, OutputIf}
+use Rattle.cg_word.specs.declared.op.Op.TheVariants.{Store, StoreIf}
 use Rattle.cg_word.specs.Word.{is_access, is_store, is_output}
-use Rattle.cg_model.specs.Work.{Image, Work, value, stored, sent, acts, address, last_operand}
+use Rattle.cg_model.specs.Work.{Image, Work, stored, sent, acts}
 use Rattle.cg_model.specs.declared.kernel.Operand.{Operand}
-use Rattle.cg_model.specs.declared.kernel.Node.{Node}
-use Rattle.cg_model.specs.Kernel.{Kernel, IsWired, node, size}
-use Rattle.cg_model.specs.Turns.{Progress, operand, work_of, before, after, work, val}
+use Rattle.cg_model.specs.Kernel.{IsWired, node, size}
+use Rattle.cg_model.specs.Turns.{Progress, operand, before, after, work, val}
 use Rattle.cg_overlap.proofs.Sequence.{work_is}
 use Rattle.cg_c_turn.specs.Leads.{Outcome}
 use Rattle.cg_c_nodes.specs.Placed.{Is, IsQuiet, Placing}
@@ -20,12 +19,12 @@ pub record Same (m : Outcome) (p : Progress) : Type 0 where
   pub outputs : (port : ℕ) → m.outputs port ≡ p.streams port
 
 -- operations that don't write
-pub no_store : (op : Op) → is_access op ≡ false → is_store op ≡ false
+no_store : (op : Op) → is_access op ≡ false → is_store op ≡ false
 no_store Store h = absurd (cc)
 no_store StoreIf h = absurd (cc)
 no_store _ h = refl
 
-pub stored_none : (memory : List ℕ) (w : Work) → is_store w.op ≡ false → stored memory w ≡ memory
+stored_none : (memory : List ℕ) (w : Work) → is_store w.op ≡ false → stored memory w ≡ memory
 unfolding stored
 stored_none memory w h = cond-false (is_store w.op && acts w.op w.args) _ memory (and_left _ _ h)
 
@@ -68,7 +67,7 @@ module _ (P : Placing) (image : Image) (good : IsWired P.kernel) (t : ℕ) where
   unfolding before
   next_node m = ap (before P.kernel image) (let e : t * size P.kernel + suc m ≡ suc (t * size P.kernel + m) = omega arith in e)
 
-  pub quiet_step : (m : ℕ) (o : Outcome) → m < size P.kernel → IsQuiet P m → Same o (at_node m) → Same o (at_node (suc m))
+  quiet_step : (m : ℕ) (o : Outcome) → m < size P.kernel → IsQuiet P m → Same o (at_node m) → Same o (at_node (suc m))
   quiet_step m o l q s =
       let is = work_is P.kernel image good t m l in
       let op = ap (λ (w : Work). w.op) is in
@@ -78,7 +77,7 @@ module _ (P : Placing) (image : Image) (good : IsWired P.kernel) (t : ℕ) where
       (ap is_output op ∙ q.no_output) s)
 
   -- nodes that neither access memory nor send
-  pub quiet_nodes : (n from : ℕ) (o : Outcome) → from + n ≤ size P.kernel → ((m : ℕ) → from ≤ m → m < from + n → IsQuiet P m) → Same o (at_node from) → Same o (at_node (from + n))
+  quiet_nodes : (n from : ℕ) (o : Outcome) → from + n ≤ size P.kernel → ((m : ℕ) → from ≤ m → m < from + n → IsQuiet P m) → Same o (at_node from) → Same o (at_node (from + n))
   quiet_nodes zero from o l q s = subst (λ z. Same o (at_node z)) (let e : from ≡ from + zero = omega arith in e) s
   quiet_nodes (suc n) from o l q s =
       subst (λ z. Same o (at_node z)) (let e : suc (from + n) ≡ from + suc n = omega arith in e)

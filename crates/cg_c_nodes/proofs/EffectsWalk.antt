@@ -1,6 +1,5 @@
 -- The effects of a turn, one after another.
 use Rattle.std.proofs.Common.{◌≡◌, ℕ, zero, suc, ◌+◌, ◌*◌, ◌<◌, ◌≤◌, ◌==◌, ◌⊎◌, if◌then◌else◌, Bool, true, false, List, [], ◌∷◌, ◌++◌, length, take, Contains, Option, Some, None, slice_get, slice_index, refl, sym, ap, ◌∙◌, subst, arith, ⊎_elim, append-nil, append_assoc, length-append}
-use Rattle.std.specs.Prelude.{slice_set}
 use Rattle.std.proofs.Math.Seq.{get_or-append_seam, take-append_seam}
 use Rattle.std.proofs.lemmas.Bool.{cases_eq, eq-eqb, ne_eqb, true≢false}
 use Rattle.std.proofs.lemmas.List.{get_or-set_other}
@@ -18,7 +17,6 @@ use Rattle.cg_c_turn.specs.Draft.{Draft}
 use Rattle.cg_c_turn.specs.Leads.{IsInside, Leads, Outcome, sent_to, stored_at}
 use Rattle.cg_c_turn.specs.Stands.{stores_to}
 use Rattle.cg_c_nodes.specs.Placed.{IsDone, Placing}
-use Rattle.cg_c_nodes.specs.Running.{Memories}
 use Rattle.cg_c_nodes.specs.Beside.{LeadTo, Whatever, outcome}
 use Rattle.cg_c_nodes.proofs.EffectsArrays.{one_array}
 use Rattle.cg_c_nodes.proofs.EffectsLoads.{AreBefore, Loads, loads_cases, loads_none, loads_or_before, first, first_here, memories_of, stores_more}
@@ -256,7 +254,7 @@ module _ {d : Draft} {count : ℕ} {P : Placing} {image : Image} {t : ℕ} (s : 
   next_same pre es e m whole same =
       let long : suc (length pre) ≡ length (pre ++ e ∷ []) = let r = length-append pre (e ∷ []) in omega (arith, r) in
       subst (λ i. Same (done_by (old_words s) e m) (at_node P image s.good.wired t (P.before i))) long
-      (effect_step s (length pre) e m (ap (λ (es : List Effect). slice_get es (length pre)) whole ∙ at_seam pre es e) same)
+      (effect_step s (length pre) e m (this_at pre es e whole) same)
 
   next_whole : (pre es : List Effect) (e : Effect) → d.effects ≡ pre ++ e ∷ es → d.effects ≡ (pre ++ e ∷ []) ++ es
   next_whole pre es e whole = whole ∙ sym (append_assoc pre (e ∷ []) es)
