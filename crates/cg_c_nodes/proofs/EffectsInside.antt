@@ -6,7 +6,7 @@ use Rattle.cg_word.specs.declared.op.Op.TheVariants as ops
 use Rattle.cg_word.specs.Word.{is_access}
 use Rattle.cg_model.specs.Kernel.{node, size}
 use Rattle.cg_model.specs.Turns.{before, turns}
-use Rattle.cg_model.specs.Work.{Image, Reaches, Work, acts, address as address_of, misses, missed}
+use Rattle.cg_model.specs.Work.{Image, Reaches, Work, address as address_of, misses, missed}
 use Rattle.cg_model.proofs.Lengths.{memory_stays}
 use Rattle.cg_overlap.proofs.Sequence.{work_is}
 use Rattle.cg_c_values.specs.declared.value.Value.TheVariants.{Loaded}
@@ -22,9 +22,9 @@ use Rattle.cg_c_nodes.specs.Placed.{AreListed, Computes, IsDone, Placing, Stores
 use Rattle.cg_c_nodes.specs.Running.{Memories}
 use Rattle.cg_c_nodes.specs.Beside.{AreInside}
 use Rattle.cg_c_nodes.proofs.EffectsArrays.{inside_memory}
-use Rattle.cg_c_nodes.proofs.EffectsNodes.{IsNewLoad, Setting, fits, in_turn, load_node_work, load_work, loads_at, new_words, old_words, renewed, three_work, two_work}
+use Rattle.cg_c_nodes.proofs.EffectsNodes.{IsNewLoad, Setting, at_this, fits, in_turn, load_node_work, load_work, loads_at, new_words, old_words, renewed, three_work, two_work, work_this}
 use Rattle.cg_c_nodes.proofs.EffectsPlaces.{access_node, send_op}
-use Rattle.cg_c_nodes.proofs.EffectsSteps.{at_node, next_node, work_here}
+use Rattle.cg_c_nodes.proofs.EffectsSteps.{next_node}
 use Rattle.cg_c_nodes.proofs.EffectsWalk.{AreIn, same_loaded}
 
 module _ {d : Draft} {count : ℕ} {P : Placing} {image : Image} {memories : Memories} {t : ℕ} (s : Setting d count P image memories t) where
@@ -46,7 +46,7 @@ module _ {d : Draft} {count : ℕ} {P : Placing} {image : Image} {memories : Mem
       subst (λ z. IsInside d.arrays z (old_words s address)) same.0 (subst (λ z. IsInside d.arrays by.array (old_words s z)) same.3 here)
 
   load_inside : (i k a : ℕ) (guard : Option ℕ) (array address value place : ℕ) → AreIn d (old_words s) d.effects → slice_get d.effects i ≡ Some (Load guard array address value place) →
-      P.at (renamed P.map value) ≡ Some k → Reaches (work_here P image s.good.wired t k) a → IsInside d.arrays array a
+      P.at (renamed P.map value) ≡ Some k → Reaches (work_this s k) a → IsInside d.arrays array a
   load_inside i k a guard array address value place inside at here reaches =
       let there = loads_at s i guard array address value place at in
       ⊎_elim
@@ -63,7 +63,7 @@ module _ {d : Draft} {count : ℕ} {P : Placing} {image : Image} {memories : Mem
   -- ---- stores
 
   store_inside : (i k a : ℕ) (guard : Option ℕ) (array address word place : ℕ) → AreIn d (old_words s) d.effects → slice_get d.effects i ≡ Some (Store guard array address word place) →
-      Stores P count guard (renamed P.map address) (renamed P.map word) k → Reaches (work_here P image s.good.wired t k) a → IsInside d.arrays array a
+      Stores P count guard (renamed P.map address) (renamed P.map word) k → Reaches (work_this s k) a → IsInside d.arrays array a
   store_inside i k a guard array address word place inside at stores reaches =
       let uses = s.formed.history.usable i (Store guard array address word place) at in
       let la = s.placed.renames.within address uses.1.within in
@@ -84,7 +84,7 @@ module _ {d : Draft} {count : ℕ} {P : Placing} {image : Image} {memories : Mem
   Found accesses k a = (access : Access) × Contains accesses access × (access.node ≡ k) × IsInside d.arrays access.array a
 
   found : (accesses : List Access) (i k a : ℕ) (e : Effect) → AreListed d P accesses → AreIn d (old_words s) d.effects → slice_get d.effects i ≡ Some e → P.done i ≡ Some k → IsDone P count (P.before i) e (Some k) →
-      is_access (node P.kernel k).op ≡ true → Reaches (work_here P image s.good.wired t k) a → Found accesses k a
+      is_access (node P.kernel k).op ≡ true → Reaches (work_this s k) a → Found accesses k a
   found accesses i k a (Load guard array address value place) listed inside at is done access reaches =
       (record { node = k; array = array; stores = false }, listed i k _ _ at is refl, refl, load_inside i k a guard array address value place inside at done reaches)
   found accesses i k a (Store guard array address word place) listed inside at is done access reaches =
@@ -116,12 +116,12 @@ module _ {d : Draft} {count : ℕ} {P : Placing} {image : Image} {memories : Mem
       (cases_Bool (misses room w))
 
   outside_to : (accesses : List Access) (n : ℕ) → HasArrays d.arrays (turns P.kernel t image).memory → AreInside d P.kernel image accesses t → n ≤ size P.kernel →
-      (at_node P image s.good.wired t n).outside ≡ (at_node P image s.good.wired t 0).outside
+      (at_this s n).outside ≡ (at_this s 0).outside
   outside_to accesses zero has inside l = refl
   outside_to accesses (suc n) has inside l =
       let earlier = outside_to accesses n has inside (omega (arith, l)) in
-      let room : length (at_node P image s.good.wired t n).memory ≡ length (turns P.kernel t image).memory = memory_stays P.kernel image (t * size P.kernel + n) ∙ sym (memory_stays P.kernel image (t * size P.kernel)) in
-      let none = missed_none (length (at_node P image s.good.wired t n).memory) (work_here P image s.good.wired t n)
+      let room : length (at_this s n).memory ≡ length (turns P.kernel t image).memory = memory_stays P.kernel image (t * size P.kernel + n) ∙ sym (memory_stays P.kernel image (t * size P.kernel)) in
+      let none = missed_none (length (at_this s n).memory) (work_this s n)
       (λ a r. let found = inside n a (omega (arith, l)) r in let b = inside_memory d.arrays (turns P.kernel t image).memory found.0.array a has found.3 in omega (arith, b, room)) in
       ap (λ p. p.outside) (next_node P image s.good.wired t n) ∙ omega (arith, none, earlier)
 

@@ -7,7 +7,7 @@ use Rattle.cg_word.specs.declared.op.Op.{Op}
 use Rattle.cg_word.specs.declared.op.Op.TheVariants as ops
 use Rattle.cg_word.specs.Word.{is_output, is_store}
 use Rattle.cg_model.specs.Kernel.{IsKernel, size}
-use Rattle.cg_model.specs.Turns.{after, operand, val}
+use Rattle.cg_model.specs.Turns.{Progress, after, operand, val}
 use Rattle.cg_model.specs.Work.{Image, Work, sent, stored, value, value_by}
 use Rattle.cg_c_values.specs.declared.value.Value.{Value}
 use Rattle.cg_c_values.specs.declared.value.Value.TheVariants as values
@@ -44,6 +44,13 @@ module _ {d : Draft} {count : ℕ} {P : Placing} {image : Image} {memories : Mem
   abbrev pub old_words : Words
   old_words = behind (s.run.word t) P.map
 
+  -- before a node of the turn, and what that node does
+  abbrev pub at_this : ℕ → Progress
+  at_this k = at_node P image s.good.wired t k
+
+  abbrev pub work_this : ℕ → Work
+  work_this k = work_here P image s.good.wired t k
+
   pub in_turn : (s.run.moment t).turn < count
   in_turn = subst (λ z. z < count) (sym (s.run.turn t)) s.below
 
@@ -53,20 +60,20 @@ module _ {d : Draft} {count : ℕ} {P : Placing} {image : Image} {memories : Mem
   -- ---- what nodes do
 
   one_work : (m : ℕ) (op : Op) (port a : ℕ) → a < length P.new → One P m op port a →
-      work_here P image s.good.wired t m ≡ record { op = op; port = port; turn = t; args = new_words a ∷ [] }
+      work_this m ≡ record { op = op; port = port; turn = t; args = new_words a ∷ [] }
   one_work m op port a l one =
       node_work P image s.good.wired t m op port (one.first ∷ []) one.is
       ∙ ap (λ z. record { op = op; port = port; turn = t; args = z ∷ [] }) (s.run.operand_is t a one.first s.below l one.first_is)
 
   pub two_work : (m : ℕ) (op : Op) (port a b : ℕ) → a < length P.new → b < length P.new → Two P m op port a b →
-      work_here P image s.good.wired t m ≡ record { op = op; port = port; turn = t; args = new_words a ∷ new_words b ∷ [] }
+      work_this m ≡ record { op = op; port = port; turn = t; args = new_words a ∷ new_words b ∷ [] }
   two_work m op port a b l k two =
       node_work P image s.good.wired t m op port (two.first ∷ two.second ∷ []) two.is
       ∙ ap (λ z. record { op = op; port = port; turn = t; args = z ∷ operand (val P.kernel image) t two.second ∷ [] }) (s.run.operand_is t a two.first s.below l two.first_is)
       ∙ ap (λ z. record { op = op; port = port; turn = t; args = new_words a ∷ z ∷ [] }) (s.run.operand_is t b two.second s.below k two.second_is)
 
   pub three_work : (m : ℕ) (op : Op) (a b c : ℕ) → a < length P.new → b < length P.new → c < length P.new → Three P m op a b c →
-      work_here P image s.good.wired t m ≡ record { op = op; port = 0; turn = t; args = new_words a ∷ new_words b ∷ new_words c ∷ [] }
+      work_this m ≡ record { op = op; port = 0; turn = t; args = new_words a ∷ new_words b ∷ new_words c ∷ [] }
   three_work m op a b c l k j three =
       node_work P image s.good.wired t m op 0 (three.first ∷ three.second ∷ three.third ∷ []) three.is
       ∙ ap (λ z. record { op = op; port = 0; turn = t; args = z ∷ operand (val P.kernel image) t three.second ∷ operand (val P.kernel image) t three.third ∷ [] }) (s.run.operand_is t a three.first s.below l three.first_is)
@@ -87,21 +94,21 @@ module _ {d : Draft} {count : ℕ} {P : Placing} {image : Image} {memories : Mem
       let up' : P.before (suc i) ≤ P.before (length d.effects) = subst (λ z. P.before (suc i) ≤ P.before z) e up in
       omega (arith, up', last)
 
-  no_node : (i : ℕ) (m : Outcome) → i < length d.effects → P.done i ≡ None → Same m (at_node P image s.good.wired t (P.before i)) → Same m (at_node P image s.good.wired t (P.before (suc i)))
+  no_node : (i : ℕ) (m : Outcome) → i < length d.effects → P.done i ≡ None → Same m (at_this (P.before i)) → Same m (at_this (P.before (suc i)))
   no_node i m l none same =
       quiet_between P image s.good.wired t (P.before i) (P.before (suc i)) m (s.placed.rising i) (before_within i l)
       (λ k a b. s.placed.quiet i k a b (λ h. none-some k (sym none ∙ h))) same
 
   a_node : (i k : ℕ) (m n : Outcome) → i < length d.effects → P.done i ≡ Some k →
-      (Same m (at_node P image s.good.wired t k) → Same n (at_node P image s.good.wired t (suc k))) →
-      Same m (at_node P image s.good.wired t (P.before i)) → Same n (at_node P image s.good.wired t (P.before (suc i)))
+      (Same m (at_this k) → Same n (at_this (suc k))) →
+      Same m (at_this (P.before i)) → Same n (at_this (P.before (suc i)))
   a_node i k m n l at step same =
       let between = s.placed.between i k at in
       one_between P image s.good.wired t (P.before i) k (P.before (suc i)) m n between.0 between.1 (before_within i l)
       (λ j a b other. s.placed.quiet i j a b (λ h. other (same_Some k j (sym at ∙ h)))) step same
 
   pub up_to_node : (i k : ℕ) (m : Outcome) → i < length d.effects → P.done i ≡ Some k →
-      Same m (at_node P image s.good.wired t (P.before i)) → Same m (at_node P image s.good.wired t k)
+      Same m (at_this (P.before i)) → Same m (at_this k)
   up_to_node i k m l at same =
       let between = s.placed.between i k at in
       let within = before_within i l in
@@ -109,17 +116,17 @@ module _ {d : Draft} {count : ℕ} {P : Placing} {image : Image} {memories : Mem
       (λ j a b. s.placed.quiet i j a (omega (arith, b, between.1)) (λ h. absurd (let e = same_Some k j (sym at ∙ h) in omega (arith, e, b)))) same
 
   -- a step whose work is known
-  by_work : (k : ℕ) (w : Work) (m n : Outcome) → work_here P image s.good.wired t k ≡ w → n.memory ≡ stored m.memory w → ((port : ℕ) → n.outputs port ≡ m.outputs port ++ sent port w) →
-      Same m (at_node P image s.good.wired t k) → Same n (at_node P image s.good.wired t (suc k))
+  by_work : (k : ℕ) (w : Work) (m n : Outcome) → work_this k ≡ w → n.memory ≡ stored m.memory w → ((port : ℕ) → n.outputs port ≡ m.outputs port ++ sent port w) →
+      Same m (at_this k) → Same n (at_this (suc k))
   by_work k w m n e h j same =
       subst (Same n) (sym (next_node P image s.good.wired t k))
-      (subst (λ z. Same n (after image z (at_node P image s.good.wired t k))) (sym e) (same_after image w m n (at_node P image s.good.wired t k) same h j))
+      (subst (λ z. Same n (after image z (at_this k))) (sym e) (same_after image w m n (at_this k) same h j))
 
-  still_by_work : (k : ℕ) (w : Work) (m : Outcome) → work_here P image s.good.wired t k ≡ w → is_store w.op ≡ false → is_output w.op ≡ false →
-      Same m (at_node P image s.good.wired t k) → Same m (at_node P image s.good.wired t (suc k))
+  still_by_work : (k : ℕ) (w : Work) (m : Outcome) → work_this k ≡ w → is_store w.op ≡ false → is_output w.op ≡ false →
+      Same m (at_this k) → Same m (at_this (suc k))
   still_by_work k w m e h j same =
       subst (Same m) (sym (next_node P image s.good.wired t k))
-      (subst (λ z. Same m (after image z (at_node P image s.good.wired t k))) (sym e) (same_still image w m (at_node P image s.good.wired t k) h j same))
+      (subst (λ z. Same m (after image z (at_this k))) (sym e) (same_still image w m (at_this k) h j same))
 
   -- ---- stores
 
@@ -135,7 +142,7 @@ module _ {d : Draft} {count : ℕ} {P : Placing} {image : Image} {memories : Mem
   none_sent b m a w done h port = outputs_if b m a w port ∙ sym (append-nil (m.outputs port)) ∙ ap (λ z. m.outputs port ++ z) (sym (sent_none port done h))
 
   store_always : (k a w : ℕ) (m : Outcome) (b : Bool) → b ≡ true → a < length P.new → w < length P.new → Two P k ops.Store 0 a w →
-      Same m (at_node P image s.good.wired t k) → Same (if b then stored_at m (new_words a) (new_words w) else m) (at_node P image s.good.wired t (suc k))
+      Same m (at_this k) → Same (if b then stored_at m (new_words a) (new_words w) else m) (at_this (suc k))
   unfolding stored
   store_always k a w m b on la lw two =
       by_work k _ m (if b then stored_at m (new_words a) (new_words w) else m) (two_work k ops.Store 0 a w la lw two)
@@ -143,7 +150,7 @@ module _ {d : Draft} {count : ℕ} {P : Placing} {image : Image} {memories : Mem
       (none_sent b m (new_words a) (new_words w) _ refl)
 
   store_guarded : (k g a w : ℕ) (m : Outcome) (b : Bool) → b ≡ nat_lt 0 (new_words g) → g < length P.new → a < length P.new → w < length P.new → Three P k ops.StoreIf g a w →
-      Same m (at_node P image s.good.wired t k) → Same (if b then stored_at m (new_words a) (new_words w) else m) (at_node P image s.good.wired t (suc k))
+      Same m (at_this k) → Same (if b then stored_at m (new_words a) (new_words w) else m) (at_this (suc k))
   unfolding stored
   store_guarded k g a w m b on lg la lw three =
       by_work k _ m (if b then stored_at m (new_words a) (new_words w) else m) (three_work k ops.StoreIf g a w lg la lw three)
@@ -152,7 +159,7 @@ module _ {d : Draft} {count : ℕ} {P : Placing} {image : Image} {memories : Mem
 
   store_node : (k : ℕ) (guard : Option ℕ) (address word : ℕ) (m : Outcome) → renamed P.map address < length P.new → renamed P.map word < length P.new →
       Stores P count guard (renamed P.map address) (renamed P.map word) k →
-      Same m (at_node P image s.good.wired t k) → Same (if holds old_words guard then stored_at m (old_words address) (old_words word) else m) (at_node P image s.good.wired t (suc k))
+      Same m (at_this k) → Same (if holds old_words guard then stored_at m (old_words address) (old_words word) else m) (at_this (suc k))
   store_node k guard address word m la lw stores same =
       ⊎_elim
       (λ h. store_always k (renamed P.map address) (renamed P.map word) m (holds old_words guard) (h.0 (s.run.moment t) new_words fits in_turn) la lw h.1 same)
@@ -182,7 +189,7 @@ module _ {d : Draft} {count : ℕ} {P : Placing} {image : Image} {memories : Mem
   memory_if false m port w = refl
 
   send_always : (k port w : ℕ) (m : Outcome) (b : Bool) → b ≡ true → w < length P.new → One P k ops.Output port w →
-      Same m (at_node P image s.good.wired t k) → Same (if b then sent_to m port (new_words w) else m) (at_node P image s.good.wired t (suc k))
+      Same m (at_this k) → Same (if b then sent_to m port (new_words w) else m) (at_this (suc k))
   unfolding stored sent
   send_always k port w m b on lw one =
       by_work k _ m (if b then sent_to m port (new_words w) else m) (one_work k ops.Output port w lw one)
@@ -190,7 +197,7 @@ module _ {d : Draft} {count : ℕ} {P : Placing} {image : Image} {memories : Mem
       (λ at. sent_if b m port (new_words w) at ∙ ap (λ z. m.outputs at ++ (if z && eqb port at then new_words w ∷ [] else [])) on)
 
   send_guarded : (k g port w : ℕ) (m : Outcome) (b : Bool) → b ≡ nat_lt 0 (new_words g) → g < length P.new → w < length P.new → Two P k ops.OutputIf port g w →
-      Same m (at_node P image s.good.wired t k) → Same (if b then sent_to m port (new_words w) else m) (at_node P image s.good.wired t (suc k))
+      Same m (at_this k) → Same (if b then sent_to m port (new_words w) else m) (at_this (suc k))
   unfolding stored sent
   send_guarded k g port w m b on lg lw two =
       by_work k _ m (if b then sent_to m port (new_words w) else m) (two_work k ops.OutputIf port g w lg lw two)
@@ -199,7 +206,7 @@ module _ {d : Draft} {count : ℕ} {P : Placing} {image : Image} {memories : Mem
 
   send_node : (k : ℕ) (guard : Option ℕ) (port word : ℕ) (m : Outcome) → renamed P.map word < length P.new →
       Sends P count guard port (renamed P.map word) k →
-      Same m (at_node P image s.good.wired t k) → Same (if holds old_words guard then sent_to m port (old_words word) else m) (at_node P image s.good.wired t (suc k))
+      Same m (at_this k) → Same (if holds old_words guard then sent_to m port (old_words word) else m) (at_this (suc k))
   send_node k guard port word m lw sends same =
       ⊎_elim
       (λ h. send_always k port (renamed P.map word) m (holds old_words guard) (h.0 (s.run.moment t) new_words fits in_turn) lw h.1 same)
@@ -213,7 +220,7 @@ module _ {d : Draft} {count : ℕ} {P : Placing} {image : Image} {memories : Mem
   load_work (Some g) address = record { op = ops.LoadIf; port = 0; turn = t; args = new_words g ∷ new_words address ∷ [] }
 
   load_is : (u k array version address : ℕ) (guard : Option ℕ) → u < length P.new → MayStand u (values.Loaded array version guard address) → Computes P k (values.Loaded array version guard address) →
-      work_here P image s.good.wired t k ≡ load_work guard address
+      work_this k ≡ load_work guard address
   load_is u k array version address None l stand one = one_work k ops.Load 0 address (omega (arith, stand.1)) one
   load_is u k array version address (Some g) l stand two = two_work k ops.LoadIf 0 g address (omega (arith, stand.0)) (omega (arith, stand.1)) two
 
@@ -227,23 +234,23 @@ module _ {d : Draft} {count : ℕ} {P : Placing} {image : Image} {memories : Mem
   load_gives memory (Some g) address h = cond-true (nat_lt 0 (new_words g)) (slice_index memory (new_words address)) 0 h
 
   -- the work of a load's node
-  pub load_node_work : (u k array version address : ℕ) (guard : Option ℕ) → P.at u ≡ Some k → value_at P.new u ≡ values.Loaded array version guard address → work_here P image s.good.wired t k ≡ load_work guard address
+  pub load_node_work : (u k array version address : ℕ) (guard : Option ℕ) → P.at u ≡ Some k → value_at P.new u ≡ values.Loaded array version guard address → work_this k ≡ load_work guard address
   load_node_work u k array version address guard at is =
       let there = s.placed.values_at u k at in
       load_is u k array version address guard there.0 (subst (MayStand u) is (s.placed.stand u there.0)) (subst (Computes P k) is there.1)
 
   load_node : (u k array version address : ℕ) (guard : Option ℕ) (m : Outcome) → P.at u ≡ Some k → value_at P.new u ≡ values.Loaded array version guard address →
-      Same m (at_node P image s.good.wired t k) → Same m (at_node P image s.good.wired t (suc k))
+      Same m (at_this k) → Same m (at_this (suc k))
   load_node u k array version address guard m at is =
       let writes = load_writes guard address in
       still_by_work k (load_work guard address) m (load_node_work u k array version address guard at is) writes.0 writes.1
 
   pub load_finds : (u k array version address : ℕ) (guard : Option ℕ) → P.at u ≡ Some k → value_at P.new u ≡ values.Loaded array version guard address → holds new_words guard ≡ true →
-      new_words u ≡ slice_index (at_node P image s.good.wired t k).memory (new_words address)
+      new_words u ≡ slice_index (at_this k).memory (new_words address)
   load_finds u k array version address guard at is h =
       s.run.node t u k at
-      ∙ ap (value image (at_node P image s.good.wired t k).memory) (load_node_work u k array version address guard at is)
-      ∙ load_gives (at_node P image s.good.wired t k).memory guard address h
+      ∙ ap (value image (at_this k).memory) (load_node_work u k array version address guard at is)
+      ∙ load_gives (at_this k).memory guard address h
 
   -- ---- what has become of loads
 
@@ -288,7 +295,7 @@ module _ {d : Draft} {count : ℕ} {P : Placing} {image : Image} {memories : Mem
       ((s.formed.loads guard array address value place c).within, s.formed.history.numbered i (Load guard array address value place) at)
 
   effect_by : (i : ℕ) (e : Effect) (m : Outcome) (o : Option ℕ) → slice_get d.effects i ≡ Some e → P.done i ≡ o → IsDone P count (P.before i) e o →
-      Same m (at_node P image s.good.wired t (P.before i)) → Same (done_by old_words e m) (at_node P image s.good.wired t (P.before (suc i)))
+      Same m (at_this (P.before i)) → Same (done_by old_words e m) (at_this (P.before (suc i)))
   effect_by i (Load guard array address value place) m None at o done same = no_node i m (slice_get_within d.effects i _ at) o same
   effect_by i (Load guard array address value place) m (Some k) at o done same =
       let there = loads_at i guard array address value place at in
@@ -298,14 +305,14 @@ module _ {d : Draft} {count : ℕ} {P : Placing} {image : Image} {memories : Mem
       (λ none. absurd (subst (Computes P k) none.0.1 (s.placed.values_at (renamed P.map value) k done).1))
       (renewed value array (stores_to array (take i d.effects)) address guard there.0 there.1)
   effect_by i (Store guard array address word place) m None at o done same =
-      subst (λ (b : Bool). Same (if b then stored_at m (old_words address) (old_words word) else m) (at_node P image s.good.wired t (P.before (suc i)))) (sym (done (s.run.moment t) new_words fits in_turn))
+      subst (λ (b : Bool). Same (if b then stored_at m (old_words address) (old_words word) else m) (at_this (P.before (suc i)))) (sym (done (s.run.moment t) new_words fits in_turn))
       (no_node i m (slice_get_within d.effects i _ at) o same)
   effect_by i (Store guard array address word place) m (Some k) at o done same =
       let uses = s.formed.history.usable i (Store guard array address word place) at in
       a_node i k m (done_by old_words (Store guard array address word place) m) (slice_get_within d.effects i _ at) o
       (store_node k guard address word m (s.placed.renames.within address uses.1.within) (s.placed.renames.within word uses.2.within) done) same
   effect_by i (Send guard port word) m None at o done same =
-      subst (λ (b : Bool). Same (if b then sent_to m port (old_words word) else m) (at_node P image s.good.wired t (P.before (suc i)))) (sym (done (s.run.moment t) new_words fits in_turn))
+      subst (λ (b : Bool). Same (if b then sent_to m port (old_words word) else m) (at_this (P.before (suc i)))) (sym (done (s.run.moment t) new_words fits in_turn))
       (no_node i m (slice_get_within d.effects i _ at) o same)
   effect_by i (Send guard port word) m (Some k) at o done same =
       let uses = s.formed.history.usable i (Send guard port word) at in
@@ -313,5 +320,5 @@ module _ {d : Draft} {count : ℕ} {P : Placing} {image : Image} {memories : Mem
       (send_node k guard port word m (s.placed.renames.within word uses.1.within) done) same
 
   pub effect_step : (i : ℕ) (e : Effect) (m : Outcome) → slice_get d.effects i ≡ Some e →
-      Same m (at_node P image s.good.wired t (P.before i)) → Same (done_by old_words e m) (at_node P image s.good.wired t (P.before (suc i)))
+      Same m (at_this (P.before i)) → Same (done_by old_words e m) (at_this (P.before (suc i)))
   effect_step i e m at same = effect_by i e m (P.done i) at refl (s.placed.done i e at) same

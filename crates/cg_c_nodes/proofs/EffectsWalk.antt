@@ -20,9 +20,9 @@ use Rattle.cg_c_nodes.specs.Placed.{IsDone, Placing}
 use Rattle.cg_c_nodes.specs.Beside.{LeadTo, Whatever, outcome}
 use Rattle.cg_c_nodes.proofs.EffectsArrays.{one_array}
 use Rattle.cg_c_nodes.proofs.EffectsLoads.{AreBefore, Loads, loads_cases, loads_none, loads_or_before, first, first_here, memories_of, stores_more}
-use Rattle.cg_c_nodes.proofs.EffectsNodes.{IsNewLoad, Setting, done_by, effect_step, load_finds, loads_at, new_words, old_words, renewed, up_to_node}
+use Rattle.cg_c_nodes.proofs.EffectsNodes.{IsNewLoad, Setting, at_this, done_by, effect_step, load_finds, loads_at, new_words, old_words, renewed, up_to_node}
 use Rattle.cg_c_nodes.proofs.EffectsPlaces.{loaded_before}
-use Rattle.cg_c_nodes.proofs.EffectsSteps.{Same, at_node, quiet_between}
+use Rattle.cg_c_nodes.proofs.EffectsSteps.{Same, quiet_between}
 
 -- what was loaded since the last store to its array is what the memory has
 pub record Fresh (d : Draft) (P : Placing) (E : Words) (pre : List Effect) (memory : List ℕ) : Type 0 where
@@ -61,7 +61,7 @@ no_load h = absurd (cc)
 no_load_sent : {A : Type 0} {g h : Option ℕ} {a b e v w q : ℕ} → Send g a v ≡ Load h b e w q → A
 no_load_sent h = absurd (cc)
 
-pub no_constant : {A : Type 0} {a v c w : ℕ} {g : Option ℕ} → Loaded a v g c ≡ Const w → A
+no_constant : {A : Type 0} {a v c w : ℕ} {g : Option ℕ} → Loaded a v g c ≡ Const w → A
 no_constant h = absurd (cc)
 
 -- another word than the stored one
@@ -82,13 +82,7 @@ module _ {d : Draft} {count : ℕ} {P : Placing} {image : Image} {t : ℕ} (s : 
 
   -- ---- loads
 
-  -- what is known of the value of this load
-  record IsThis (pre : List Effect) (guard : Option ℕ) (array address : ℕ) (array' version' address' : ℕ) (guard' : Option ℕ) : Type 0 where
-    pub array_is : array' ≡ array
-    pub version_is : version' ≡ stores_to array pre
-    pub address_is : address' ≡ renamed P.map address
-    pub acts : holds (old_words s) guard ≡ true → holds (new_words s) guard' ≡ true
-
+  -- the effect between those before and those after it
   this_pre : (pre es : List Effect) (e : Effect) → d.effects ≡ pre ++ e ∷ es → take (length pre) d.effects ≡ pre
   this_pre pre es e whole = ap (take (length pre)) whole ∙ take-append_seam pre (e ∷ es)
 
@@ -101,19 +95,18 @@ module _ {d : Draft} {count : ℕ} {P : Placing} {image : Image} {t : ℕ} (s : 
       let there = loads_at s (length pre) guard array address value place (this_at pre es _ whole) in
       renewed s value array (stores_to array pre) address guard there.0 (there.1 ∙ ap (λ (es : List Effect). Loaded array (stores_to array es) guard address) (this_pre pre es _ whole))
 
+  -- its new value names its array, and as many stores as there were
   this_load : (pre es : List Effect) (guard : Option ℕ) (array address value place : ℕ) → d.effects ≡ pre ++ Load guard array address value place ∷ es →
-      (array' version' address' : ℕ) (guard' : Option ℕ) → value_at P.new (renamed P.map value) ≡ Loaded array' version' guard' address' → IsThis pre guard array address array' version' address' guard'
+      (array' version' address' : ℕ) (guard' : Option ℕ) → value_at P.new (renamed P.map value) ≡ Loaded array' version' guard' address' → (array' ≡ array) × (version' ≡ stores_to array pre)
   this_load pre es guard array address value place whole array' version' address' guard' is =
       ⊎_elim
-      (λ (new : IsNewLoad s array (stores_to array pre) guard address (value_at P.new (renamed P.map value))).
-      let same = same_loaded (sym is ∙ new.is) in
-      record { array_is = same.0; version_is = same.1; address_is = same.3; acts = λ on. subst (λ (g : Option ℕ). holds (new_words s) g ≡ true) (sym same.2) (new.acts on) })
-      (λ none. absurd (let e = sym is ∙ none.0.1 in no_constant e))
+      (λ (new : IsNewLoad s array (stores_to array pre) guard address (value_at P.new (renamed P.map value))). let same = same_loaded (sym is ∙ new.is) in (same.0, same.1))
+      (λ none. no_constant (sym is ∙ none.0.1))
       (this_renewed pre es guard array address value place whole)
 
   -- a load finds its word, unless one of the same value did before
   found_by : (pre es : List Effect) (value : ℕ) (guard : Option ℕ) (array address place : ℕ) (m : Outcome) → d.effects ≡ pre ++ Load guard array address value place ∷ es →
-      Same m (at_node P image s.good.wired t (P.before (length pre))) → Fresh d P (new_words s) pre m.memory →
+      Same m (at_this s (P.before (length pre))) → Fresh d P (new_words s) pre m.memory →
       (array' version' address' : ℕ) (guard' : Option ℕ) → value_at P.new (renamed P.map value) ≡ Loaded array' version' guard' address' → version' ≡ stores_to array' pre →
       holds (new_words s) guard' ≡ true → IsInside d.arrays array' (new_words s address') →
       length pre < length d.effects → first P.map (renamed P.map value) d.effects ≡ length pre → (o at : Option ℕ) → P.done (length pre) ≡ o → P.at (renamed P.map value) ≡ at →
@@ -125,11 +118,11 @@ module _ {d : Draft} {count : ℕ} {P : Placing} {image : Image} {t : ℕ} (s : 
       fresh.word (renamed P.map value) array' version' address' guard' (loaded_before s pre (Load guard array address value place ∷ es) (renamed P.map value) k array' version' address' guard' whole a is (done k a)) is numbered on inside
   found_by pre es value guard array address place m whole same fresh array' version' address' guard' is numbered on inside l here None None o a done =
       s.run.loaded t (renamed P.map value) array' version' address' guard' (s.placed.renames.within value (loads_at s (length pre) guard array address value place (this_at pre es _ whole)).0) is a
-      ∙ ap (λ (i : ℕ). slice_index (at_node P image s.good.wired t (P.before i)).memory (new_words s address')) here
+      ∙ ap (λ (i : ℕ). slice_index (at_this s (P.before i)).memory (new_words s address')) here
       ∙ ap (λ (z : List ℕ). slice_index z (new_words s address')) (sym same.memory)
 
   found : (pre es : List Effect) (guard : Option ℕ) (array address value place : ℕ) (m : Outcome) → d.effects ≡ pre ++ Load guard array address value place ∷ es →
-      Same m (at_node P image s.good.wired t (P.before (length pre))) → Fresh d P (new_words s) pre m.memory →
+      Same m (at_this s (P.before (length pre))) → Fresh d P (new_words s) pre m.memory →
       (array' version' address' : ℕ) (guard' : Option ℕ) → value_at P.new (renamed P.map value) ≡ Loaded array' version' guard' address' → version' ≡ stores_to array' pre →
       holds (new_words s) guard' ≡ true → IsInside d.arrays array' (new_words s address') →
       new_words s (renamed P.map value) ≡ slice_index m.memory (new_words s address')
@@ -144,7 +137,7 @@ module _ {d : Draft} {count : ℕ} {P : Placing} {image : Image} {t : ℕ} (s : 
       (loads_or_before P.map pre u)
 
   fresh_load : (pre es : List Effect) (guard : Option ℕ) (array address value place : ℕ) (m : Outcome) → d.effects ≡ pre ++ Load guard array address value place ∷ es →
-      Same m (at_node P image s.good.wired t (P.before (length pre))) → Fresh d P (new_words s) pre m.memory →
+      Same m (at_this s (P.before (length pre))) → Fresh d P (new_words s) pre m.memory →
       Fresh d P (new_words s) (pre ++ Load guard array address value place ∷ []) m.memory
   fresh_load pre es guard array address value place m whole same fresh = record {
     bound = λ u array' version' address' guard' h is.
@@ -153,7 +146,7 @@ module _ {d : Draft} {count : ℕ} {P : Placing} {image : Image} {t : ℕ} (s : 
         (λ (old : Loads P.map pre u). let b = fresh.bound u array' version' address' guard' old is in omega (arith, b, more))
         (λ new.
         let this = this_load pre es guard array address value place whole array' version' address' guard' (ap (value_at P.new) (ap (renamed P.map) (this_value new.5) ∙ new.6) ∙ is) in
-        let b : version' ≡ stores_to array' pre = this.version_is ∙ ap (λ z. stores_to z pre) (sym this.array_is) in
+        let b : version' ≡ stores_to array' pre = this.1 ∙ ap (λ z. stores_to z pre) (sym this.0) in
         omega (arith, b, more))
         (loads_cases P.map pre (Load guard array address value place) u h);
     word = λ u array' version' address' guard' h is numbered on inside.
@@ -226,11 +219,11 @@ module _ {d : Draft} {count : ℕ} {P : Placing} {image : Image} {t : ℕ} (s : 
     pub leads : LeadTo (old_words s) es m (outcome P.kernel image (suc t))
     pub inside : AreIn d (old_words s) es
 
-  walk_end : (pre : List Effect) (m : Outcome) → d.effects ≡ pre ++ [] → Same m (at_node P image s.good.wired t (P.before (length pre))) → Walked [] m
+  walk_end : (pre : List Effect) (m : Outcome) → d.effects ≡ pre ++ [] → Same m (at_this s (P.before (length pre))) → Walked [] m
   unfolding LeadTo
   walk_end pre m whole same =
       let long : length pre ≡ length d.effects = sym (ap length (whole ∙ append-nil pre)) in
-      let last : Same m (at_node P image s.good.wired t (P.before (length d.effects))) = subst (λ i. Same m (at_node P image s.good.wired t (P.before i))) long same in
+      let last : Same m (at_this s (P.before (length d.effects))) = subst (λ i. Same m (at_this s (P.before i))) long same in
       let end = quiet_between P image s.good.wired t (P.before (length d.effects)) (size P.kernel) m s.placed.last (omega arith) (λ k a b. s.placed.quiet_after k a) last in
       let next : Same m (before P.kernel image (suc t * size P.kernel)) = subst (λ k. Same m (before P.kernel image k)) (let e : t * size P.kernel + size P.kernel ≡ suc t * size P.kernel = omega arith in e) end in
       record { leads = (sym next.memory, λ port. sym (next.outputs port)); inside = λ e c. absurd (let b : c.0 < 0 = c.1 in omega (arith, b)) }
@@ -249,17 +242,17 @@ module _ {d : Draft} {count : ℕ} {P : Placing} {image : Image} {t : ℕ} (s : 
       (this_renewed pre es guard array address value place whole)
 
   -- the next effect is done
-  next_same : (pre es : List Effect) (e : Effect) (m : Outcome) → d.effects ≡ pre ++ e ∷ es → Same m (at_node P image s.good.wired t (P.before (length pre))) →
-      Same (done_by (old_words s) e m) (at_node P image s.good.wired t (P.before (length (pre ++ e ∷ []))))
+  next_same : (pre es : List Effect) (e : Effect) (m : Outcome) → d.effects ≡ pre ++ e ∷ es → Same m (at_this s (P.before (length pre))) →
+      Same (done_by (old_words s) e m) (at_this s (P.before (length (pre ++ e ∷ []))))
   next_same pre es e m whole same =
       let long : suc (length pre) ≡ length (pre ++ e ∷ []) = let r = length-append pre (e ∷ []) in omega (arith, r) in
-      subst (λ i. Same (done_by (old_words s) e m) (at_node P image s.good.wired t (P.before i))) long
+      subst (λ i. Same (done_by (old_words s) e m) (at_this s (P.before i))) long
       (effect_step s (length pre) e m (this_at pre es e whole) same)
 
   next_whole : (pre es : List Effect) (e : Effect) → d.effects ≡ pre ++ e ∷ es → d.effects ≡ (pre ++ e ∷ []) ++ es
   next_whole pre es e whole = whole ∙ sym (append_assoc pre (e ∷ []) es)
 
-  pub walk : (pre es : List Effect) (m : Outcome) → d.effects ≡ pre ++ es → Same m (at_node P image s.good.wired t (P.before (length pre))) →
+  pub walk : (pre es : List Effect) (m : Outcome) → d.effects ≡ pre ++ es → Same m (at_this s (P.before (length pre))) →
       Fresh d P (new_words s) pre m.memory → Leads d.arrays (old_words s) es m Whatever → Walked es m
   unfolding LeadTo Leads
   walk pre [] m whole same fresh leads = walk_end pre m whole same
@@ -275,7 +268,7 @@ module _ {d : Draft} {count : ℕ} {P : Placing} {image : Image} {t : ℕ} (s : 
       let rest = walk (pre ++ Send guard port word ∷ []) es (if holds (old_words s) guard then sent_to m port (old_words s word) else m) (next_whole pre es _ whole) (next_same pre es (Send guard port word) m whole same) (fresh_send pre guard port word m fresh) leads in
       record { leads = rest.leads; inside = are_in d (old_words s) (Send guard port word) es tt rest.inside }
 
-  begun : Same (outcome P.kernel image t) (at_node P image s.good.wired t (P.before 0))
+  begun : Same (outcome P.kernel image t) (at_this s (P.before 0))
   begun =
       let e : t * size P.kernel ≡ t * size P.kernel + P.before 0 = let z = s.placed.first in omega (arith, z) in
       subst (λ k. Same (outcome P.kernel image t) (before P.kernel image k)) e (let r : Same (outcome P.kernel image t) (before P.kernel image (t * size P.kernel)) = record { memory = refl; outputs = λ port. refl } in r)
