@@ -1,5 +1,6 @@
 -- A run of a program, turn by turn, beside the turns of a kernel.
-use Rattle.std.proofs.Common.{◌≡◌, ℕ, zero, suc, ◌+◌, ◌*◌, ◌<◌, ◌≤◌, ◌==◌, if◌then◌else◌, Bool, true, false, List, [], ◌∷◌, ◌++◌, length, map, take, drop, Contains, Option, Some, None, slice_index, refl, sym, ap, ap₂, ◌∙◌, subst, arith, zero-mul, eq-eqb, ne_eqb}
+use Rattle.std.proofs.Common.{◌≡◌, ℕ, zero, suc, ◌+◌, ◌*◌, ◌<◌, ◌≤◌, ◌==◌, if◌then◌else◌, Bool, true, false, List, [], ◌∷◌, ◌++◌, length, map, take, drop, Contains, Option, Some, None, slice_index, refl, sym, ap, ap₂, ◌∙◌, subst, arith, zero-mul, eq-eqb, ne_eqb, suc-ne-zero}
+use Rattle.std.proofs.lemmas.List.{get_or-drop, get_or-take}
 use Rattle.std.proofs.lemmas.Option.{same_Some, none-some}
 use Rattle.cg_model.specs.Kernel.{Kernel, size}
 use Rattle.cg_model.specs.Turns.{Progress, before, turns}
@@ -49,7 +50,11 @@ same_size (d ∷ ds) = ap (λ n. d * n) (same_size ds)
 
 table_is : (image : Image) (a : Array) (o : Option (List ℕ)) → HoldsTable image a o → HasTableWords a o → HasTable image.memory a o
 table_is image a None h k = tt
-table_is image a (Some table) h k = (k, λ i lt. ?)
+table_is image a (Some table) h k = (
+  k,
+  λ i lt.
+      sym (get_or-drop a.start image.memory i 0) ∙ sym (get_or-take (length table) (drop a.start image.memory) i 0 lt) ∙ ap (λ (z : List ℕ). slice_index z i) h,
+)
 
 -- an element of a list is its first one or one of the others
 first_or : {X : Type 0} (x y : X) (xs : List X) (P : X → Type 0) → P x → ((z : X) → Contains xs z → P z) → Contains (x ∷ xs) y → P y
@@ -65,8 +70,7 @@ table_words start (x ∷ xs) h a there = first_or x a xs (λ z. HasTableWords z 
 times_zero : (port : ℕ) (ps : List ℕ) → (Contains ps port → ⊥) → times port ps ≡ 0
 times_zero port [] none = refl
 times_zero port (q ∷ ps) none =
-    ap (λ (t : Bool). (if t then 1 else 0) + times port ps) (ne_eqb q port (λ same. none (0, omega arith, same)))
-    ∙ times_zero port ps (λ h. none (suc h.0, omega (arith, h.1), h.2))
+    ap₂ (λ (t : Bool) (n : ℕ). (if t then 1 else 0) + n) (ne_eqb q port (λ same. none (0, omega arith, same))) (times_zero port ps (λ h. none (suc h.0, omega (arith, h.1), h.2)))
 
 -- each input takes one word
 times_one : (port : ℕ) (ps : List ℕ) → AreApart ps → Contains ps port → times port ps ≡ 1
@@ -147,7 +151,7 @@ module _ (p : Program) (d : Draft) (K : Kernel) (image : Image) (accesses : List
       record {
         memory = e.is.memory ∙ sym e.memory;
         outputs = λ port. e.is.outputs port ∙ sym (e.outputs port);
-        words = λ number. e.is.words number ∙ sym (b.next t number);
+        words = λ number. e.is.words number ∙ sym (b.next t number) ∙ sym (ap (λ (z : Bool). if z then 0 else (b.moment (suc t)).carried number) (ne_eqb (suc t) 0 (suc-ne-zero t)));
         ready = λ port there. let once = times_one port (stmts_inputs p.body) typed.taken_once there in let before = h.ready port there in taken port ∙ omega (arith, once, before);
         arrays = subst (λ (z : List Array). HasArrays z (turns K (suc t) image).memory) does.arrays (subst (λ (z : List ℕ). HasArrays d.arrays z) (sym e.memory) e.is.arrays);
         outside = D.outside ∙ h.outside;

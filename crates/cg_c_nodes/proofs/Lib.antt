@@ -1,4 +1,12 @@
 pub mod CompiledTurns
+pub mod EffectsArrays
+pub mod EffectsInside
+pub mod EffectsLoads
+pub mod EffectsNodes
+pub mod EffectsPlaces
+pub mod EffectsRun
+pub mod EffectsSteps
+pub mod EffectsWalk
 pub mod WordsCarried
 pub mod WordsFit
 pub mod WordsMade

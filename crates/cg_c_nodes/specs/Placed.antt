@@ -161,11 +161,11 @@ Guards P turns guard g = (x : Moment) (E : Words) → Fits P.new x E → x.turn 
 -- node m stores a word, or sends it
 pub record Stores (P : Placing) (turns : ℕ) (guard : Option ℕ) (address word m : ℕ) : Type 0 where
   pub is : (Always P turns guard × Two P m ops.Store 0 address word)
-      ⊎ ((g : ℕ) × Guards P turns guard g × Three P m ops.StoreIf g address word)
+      ⊎ ((g : ℕ) × (g < length P.new) × Guards P turns guard g × Three P m ops.StoreIf g address word)
 
 pub record Sends (P : Placing) (turns : ℕ) (guard : Option ℕ) (port word m : ℕ) : Type 0 where
   pub is : (Always P turns guard × One P m ops.Output port word)
-      ⊎ ((g : ℕ) × Guards P turns guard g × Two P m ops.OutputIf port g word)
+      ⊎ ((g : ℕ) × (g < length P.new) × Guards P turns guard g × Two P m ops.OutputIf port g word)
 
 -- what has become of an effect: its node, if it has one. A load without a node is one of a value that has none or has it
 -- already

@@ -147,3 +147,7 @@ module _ (K : Kernel) (good : IsKernel K) (image : Image) (words_are : IsImage i
       let w = work_at K k p.values in
       let h = all_words k in
       value_word image p.memory w.port w.turn w.args w.op words_are h.memory (step_args k p.values h.values)
+
+  -- so is each word of the memory
+  pub memory_words : (k : ℕ) → HasWords (before K image k).memory
+  memory_words k = (all_words k).memory
