@@ -1,16 +1,15 @@
 -- A run of a program, turn by turn, beside the turns of a kernel.
-use Rattle.std.proofs.Common.{◌≡◌, ℕ, zero, suc, ◌+◌, ◌*◌, ◌<◌, ◌≤◌, ◌==◌, if◌then◌else◌, Bool, true, false, List, [], ◌∷◌, ◌++◌, length, map, take, drop, Contains, Option, Some, None, slice_index, refl, sym, ap, ap₂, ◌∙◌, subst, arith, zero-mul, eq-eqb, ne_eqb, suc-ne-zero}
+use Rattle.std.proofs.Common.{◌≡◌, ℕ, zero, suc, ◌+◌, ◌*◌, ◌<◌, ◌≤◌, ◌==◌, if◌then◌else◌, Bool, List, [], ◌∷◌, length, drop, Contains, Option, Some, None, slice_index, refl, sym, ap, ap₂, ◌∙◌, subst, arith, zero-mul, eq-eqb, ne_eqb, suc-ne-zero}
 use Rattle.std.proofs.lemmas.List.{get_or-drop, get_or-take}
-use Rattle.std.proofs.lemmas.Option.{same_Some, none-some}
 use Rattle.cg_model.specs.Kernel.{Kernel, size}
 use Rattle.cg_model.specs.Turns.{Progress, before, turns}
 use Rattle.cg_model.specs.Work.{Image}
 use Rattle.cg_c_check.specs.declared.program.Array.{Array}
 use Rattle.cg_c_check.specs.Arrays.{size_of}
 use Rattle.cg_c_check.specs.Program.{Program}
-use Rattle.cg_c_values.specs.Values.{Moment, Words, holds}
+use Rattle.cg_c_values.specs.Values.{Words, holds}
 use Rattle.cg_c_meaning.specs.Meaning.{Holds, HasTable as HoldsTable, State, Run, beginning, context_of, give, repeated}
-use Rattle.cg_c_meaning.specs.Taken.{times, Takes}
+use Rattle.cg_c_meaning.specs.Taken.{times}
 use Rattle.cg_c_meaning.specs.Turns.{turn, turns_of}
 use Rattle.cg_c_meaning.specs.Typed.{AreApart, AreArranged, HasTableWords, IsTyped, stmts_inputs}
 use Rattle.cg_c_order.specs.declared.access.Access.{Access}
@@ -18,9 +17,8 @@ use Rattle.cg_c_turn.specs.declared.effect.Effect.{Effect}
 use Rattle.cg_c_turn.specs.declared.effect.Effect.TheVariants.{Load, Store, Send}
 use Rattle.cg_c_turn.specs.Draft.{Draft}
 use Rattle.cg_c_turn.specs.Leads.{Leads, Outcome, sent_to, stored_at}
-use Rattle.cg_c_turn.specs.Stands.{HasTable, word_in}
+use Rattle.cg_c_turn.specs.Stands.{HasTable}
 use Rattle.cg_c_turn.specs.Turn.{HasArrays, IsTurnEnd, Starts, Turns, outside_loops}
-use Rattle.cg_c_turn.proofs.Doing.{same_end, split}
 use Rattle.cg_c_turn.proofs.Leading.{leads_weaker}
 use Rattle.cg_c_turn.proofs.Loops.{turn_takes}
 use Rattle.cg_c_turn.proofs.Quiet.{quiet_levels}

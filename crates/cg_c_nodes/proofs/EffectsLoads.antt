@@ -10,7 +10,6 @@ use Rattle.cg_c_forms.specs.Forms.{renamed}
 use Rattle.cg_c_turn.specs.declared.effect.Effect.{Effect}
 use Rattle.cg_c_turn.specs.declared.effect.Effect.TheVariants.{Load, Store, Send}
 use Rattle.cg_c_turn.specs.Draft.{Draft}
-use Rattle.cg_c_turn.specs.Stands.{stores_to}
 use Rattle.cg_c_nodes.specs.Placed.{Placing}
 use Rattle.cg_c_nodes.specs.Running.{AreWords, Memories}
 
@@ -80,10 +79,3 @@ memories_of d P image t u = (before P.kernel image (t * size P.kernel + P.before
 
 pub memories_words : (d : Draft) (P : Placing) (image : Image) → IsKernel P.kernel → IsImage image → AreWords (memories_of d P image)
 memories_words d P image good words_are t u a = memory_words P.kernel good image words_are (t * size P.kernel + P.before (first P.map u d.effects)) a
-
--- the number of stores after one effect more
-pub stores_more : (array : ℕ) (es fs : List Effect) → stores_to array (es ++ fs) ≡ stores_to array es + stores_to array fs
-stores_more array [] fs = omega arith
-stores_more array (Load guard of address value place ∷ es) fs = stores_more array es fs
-stores_more array (Store guard of address word place ∷ es) fs = let n = stores_more array es fs in omega (arith, n)
-stores_more array (Send guard port word ∷ es) fs = stores_more array es fs

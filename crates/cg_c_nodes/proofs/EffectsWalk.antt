@@ -11,6 +11,7 @@ use Rattle.cg_model.specs.Work.{Image}
 use Rattle.cg_c_values.specs.declared.value.Value.TheVariants.{Const, Loaded}
 use Rattle.cg_c_values.specs.Values.{Words, holds, value_at}
 use Rattle.cg_c_forms.specs.Forms.{renamed}
+use Rattle.cg_c_turn.proofs.History.{stores_one_more}
 use Rattle.cg_c_turn.specs.declared.effect.Effect.{Effect}
 use Rattle.cg_c_turn.specs.declared.effect.Effect.TheVariants.{Load, Store, Send}
 use Rattle.cg_c_turn.specs.Draft.{Draft}
@@ -18,8 +19,8 @@ use Rattle.cg_c_turn.specs.Leads.{IsInside, Leads, Outcome, sent_to, stored_at}
 use Rattle.cg_c_turn.specs.Stands.{stores_to}
 use Rattle.cg_c_nodes.specs.Placed.{IsDone, Placing}
 use Rattle.cg_c_nodes.specs.Beside.{LeadTo, Whatever, outcome}
-use Rattle.cg_c_nodes.proofs.EffectsArrays.{one_array}
-use Rattle.cg_c_nodes.proofs.EffectsLoads.{AreBefore, Loads, loads_cases, loads_none, loads_or_before, first, first_here, memories_of, stores_more}
+use Rattle.cg_c_turn.proofs.StoreApart.{one_array}
+use Rattle.cg_c_nodes.proofs.EffectsLoads.{AreBefore, Loads, loads_cases, loads_none, loads_or_before, first, first_here, memories_of}
 use Rattle.cg_c_nodes.proofs.EffectsNodes.{IsNewLoad, Setting, at_this, done_by, effect_step, load_finds, loads_at, new_words, old_words, renewed, up_to_node}
 use Rattle.cg_c_nodes.proofs.EffectsPlaces.{loaded_before}
 use Rattle.cg_c_nodes.proofs.EffectsSteps.{Same, quiet_between}
@@ -141,7 +142,7 @@ module _ {d : Draft} {count : ℕ} {P : Placing} {image : Image} {t : ℕ} (s : 
       Fresh d P (new_words s) (pre ++ Load guard array address value place ∷ []) m.memory
   fresh_load pre es guard array address value place m whole same fresh = record {
     bound = λ u array' version' address' guard' h is.
-        let more = stores_more array' pre (Load guard array address value place ∷ []) in
+        let more = stores_one_more array' pre (Load guard array address value place ∷ []) in
         ⊎_elim
         (λ (old : Loads P.map pre u). let b = fresh.bound u array' version' address' guard' old is in omega (arith, b, more))
         (λ new.
@@ -150,7 +151,7 @@ module _ {d : Draft} {count : ℕ} {P : Placing} {image : Image} {t : ℕ} (s : 
         omega (arith, b, more))
         (loads_cases P.map pre (Load guard array address value place) u h);
     word = λ u array' version' address' guard' h is numbered on inside.
-        let more = stores_more array' pre (Load guard array address value place ∷ []) in
+        let more = stores_one_more array' pre (Load guard array address value place ∷ []) in
         let numbered' : version' ≡ stores_to array' pre = omega (arith, more, numbered) in
         ⊎_elim
         (λ (old : Loads P.map pre u). fresh.word u array' version' address' guard' old is numbered' on inside)
@@ -168,13 +169,13 @@ module _ {d : Draft} {count : ℕ} {P : Placing} {image : Image} {t : ℕ} (s : 
       Fresh d P (new_words s) (pre ++ Store guard array address word place ∷ []) (if holds (old_words s) guard then stored_at m (old_words s address) (old_words s word) else m).memory
   fresh_store pre guard array address word place m inside fresh = record {
     bound = λ u array' version' address' guard' h is.
-        let more = stores_more array' pre (Store guard array address word place ∷ []) in
+        let more = stores_one_more array' pre (Store guard array address word place ∷ []) in
         ⊎_elim
         (λ (old : Loads P.map pre u). let b = fresh.bound u array' version' address' guard' old is in omega (arith, b, more))
         (λ new. no_load new.5)
         (loads_cases P.map pre (Store guard array address word place) u h);
     word = λ u array' version' address' guard' h is numbered on there.
-        let more = stores_more array' pre (Store guard array address word place ∷ []) in
+        let more = stores_one_more array' pre (Store guard array address word place ∷ []) in
         ⊎_elim
         (λ (old : Loads P.map pre u).
         let b = fresh.bound u array' version' address' guard' old is in
@@ -197,13 +198,13 @@ module _ {d : Draft} {count : ℕ} {P : Placing} {image : Image} {t : ℕ} (s : 
       Fresh d P (new_words s) (pre ++ Send guard port word ∷ []) (if holds (old_words s) guard then sent_to m port (old_words s word) else m).memory
   fresh_send pre guard port word m fresh = record {
     bound = λ u array' version' address' guard' h is.
-        let more = stores_more array' pre (Send guard port word ∷ []) in
+        let more = stores_one_more array' pre (Send guard port word ∷ []) in
         ⊎_elim
         (λ (old : Loads P.map pre u). let b = fresh.bound u array' version' address' guard' old is in omega (arith, b, more))
         (λ new. no_load_sent new.5)
         (loads_cases P.map pre (Send guard port word) u h);
     word = λ u array' version' address' guard' h is numbered on there.
-        let more = stores_more array' pre (Send guard port word ∷ []) in
+        let more = stores_one_more array' pre (Send guard port word ∷ []) in
         let numbered' : version' ≡ stores_to array' pre = omega (arith, more, numbered) in
         ⊎_elim
         (λ (old : Loads P.map pre u).
@@ -232,7 +233,7 @@ module _ {d : Draft} {count : ℕ} {P : Placing} {image : Image} {t : ℕ} (s : 
       Fresh d P (new_words s) (pre ++ Load guard array address value place ∷ []) m.memory → (holds (old_words s) guard ≡ true → IsInside d.arrays array (old_words s address)) →
       holds (old_words s) guard ≡ true → old_words s value ≡ slice_index m.memory (old_words s address)
   found_old pre es guard array address value place m whole fresh inside on =
-      let more = stores_more array pre (Load guard array address value place ∷ []) in
+      let more = stores_one_more array pre (Load guard array address value place ∷ []) in
       ⊎_elim
       (λ (new : IsNewLoad s array (stores_to array pre) guard address (value_at P.new (renamed P.map value))).
       fresh.word (renamed P.map value) array (stores_to array pre) (renamed P.map address) new.new_guard

@@ -1,3 +1,4 @@
+pub mod CompiledRun
 pub mod CompiledTurns
 pub mod EffectsArrays
 pub mod EffectsInside

@@ -1,16 +1,16 @@
 -- When the turns of a kernel do what a program in C does.
-use Rattle.std.specs.Prelude.{◌≡◌, ℕ, List, Contains, Some}
+use Rattle.std.specs.Prelude.{◌≡◌, List, Contains, Some}
 use Rattle.cg_word.specs.Word.{is_store}
-use Rattle.cg_model.specs.Kernel.{Kernel, IsKernel, node, size}
+use Rattle.cg_model.specs.Kernel.{Kernel, node}
 use Rattle.cg_model.specs.Order.{IsUnaliased}
 use Rattle.cg_model.specs.Turns.{turns_left}
-use Rattle.cg_model.specs.Work.{Image, IsImage}
+use Rattle.cg_model.specs.Work.{Image}
 use Rattle.cg_c_check.specs.Program.{Program}
 use Rattle.cg_c_meaning.specs.Meaning.{Holds, c_left}
 use Rattle.cg_c_meaning.specs.Turns.{turns_of}
 use Rattle.cg_c_meaning.specs.Typed.{IsTyped}
 use Rattle.cg_c_order.specs.declared.access.Access.{Access}
-use Rattle.cg_c_order.specs.Accesses.{AreAccesses, AreOrdered}
+use Rattle.cg_c_order.specs.Accesses.{AreOrdered}
 use Rattle.cg_c_turn.specs.Draft.{Draft}
 use Rattle.cg_c_turn.specs.Turn.{Turns}
 use Rattle.cg_c_nodes.specs.Beside.{RunsBeside}
@@ -30,5 +30,5 @@ pub record DoesProgram (p : Program) (K : Kernel) (image left : Image) : Type 0 
 -- kernel does what the program does on each image of which C says what is left
 abbrev pub KernelsDoPrograms : Type 0
 KernelsDoPrograms = (p : Program) (d : Draft) (K : Kernel) (accesses : List Access) (image left : Image) →
-    IsTyped p → Turns p d → IsKernel K → AreAccesses (size K) accesses → AreTrue K accesses → AreOrdered accesses K →
+    IsTyped p → Turns p d → AreTrue K accesses → AreOrdered accesses K →
     RunsBeside d K image accesses (turns_of p.levels) → Holds p image → c_left p image ≡ Some left → DoesProgram p K image left

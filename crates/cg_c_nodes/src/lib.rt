@@ -12,5 +12,4 @@ pub fn turns_run_beside()
 /// Says that a kernel whose turns run beside a turn of a program does what the program does.
 pub fn kernels_do_programs()
     ensures { KernelsDoPrograms }
-{
-}
+{}

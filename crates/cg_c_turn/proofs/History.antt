@@ -105,7 +105,7 @@ all_used d (Load guard array address value place) h u = (guard_used d guard h u.
 all_used d (Store guard array address word place) h u = (guard_used d guard h u.0, used d address h u.1, used d word h u.2)
 all_used d (Send guard port word) h u = (guard_used d guard h u.0, used d word h u.1)
 
-stores_one_more : (array : ℕ) (es fs : List Effect) → stores_to array (es ++ fs) ≡ stores_to array es + stores_to array fs
+pub stores_one_more : (array : ℕ) (es fs : List Effect) → stores_to array (es ++ fs) ≡ stores_to array es + stores_to array fs
 stores_one_more array [] fs = omega arith
 stores_one_more array (Load guard of address value place ∷ es) fs = stores_one_more array es fs
 stores_one_more array (Store guard of address word place ∷ es) fs = let n = stores_one_more array es fs in omega (arith, n)
