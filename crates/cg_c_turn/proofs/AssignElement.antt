@@ -1,5 +1,5 @@
 -- An assignment to an element of an array.
-use Rattle.std.proofs.Common.{◌≡◌, ℕ, ◌<◌, true, List, [], ◌++◌, length, map, Option, Some, None, sym, ap, ◌∙◌, append-nil, subst}
+use Rattle.std.proofs.Common.{◌≡◌, ℕ, ◌<◌, true, List, [], ◌++◌, length, map, Option, Some, None, refl, sym, ap, ◌∙◌, append-nil, subst}
 use Rattle.cg_c_syntax.specs.declared.expression.Binary.{Binary}
 use Rattle.cg_c_syntax.specs.declared.statement.Signedness.{Signedness}
 use Rattle.cg_c_check.specs.declared.program.Array.{Array}
@@ -23,6 +23,7 @@ use Rattle.cg_c_turn.proofs.Leaves.{result_of}
 use Rattle.cg_c_turn.proofs.Yielding.{TakesOnly, steps_of, yields_pure, yields_then, yields_weaker}
 use Rattle.cg_c_turn.proofs.AssignAfter.{performs_after}
 use Rattle.cg_c_turn.proofs.AssignWord.{joins_words, kept_is, more_values, operated_is}
+use Rattle.cg_c_turn.proofs.Sent.{sends_nothing, sends_then}
 
 -- ---- the word that is stored
 
@@ -83,7 +84,7 @@ store_after b n k l gs hs array address new word at z vs ws f same ch st =
 
 pub element_assigned : (a b d n k l : Draft) (es fs gs hs : List Effect) (array place address new word : ℕ) (vs : List ℕ) (is : Exprs) (e : Expr) (o : Option Binary) (s t : Signedness) → IsTypedExprs a.arrays true is → IsTypedExpr a.arrays true e → AreApart (inputs_of is ++ inputs e) → t ≡ signedness_of e
     → AreTranslated a b es is vs → Addresses b d array vs address → Translates d n fs e TheWord new → Changes n k gs array address (changed o s t) new word → Stores k l hs array address word
-    → IsTranslated a l (λ c. stmt c (Assign (TheElement array place s is) o e)) (inputs_of is ++ inputs e)
+    → IsTranslated a l (λ c. stmt c (Assign (TheElement array place s is) o e)) (inputs_of is ++ inputs e) []
 unfolding stmt
 element_assigned a b d n k l es fs gs hs array place address new word vs is e o s t typed_is typed apart read tr ad va ch st =
     let last = append-nil (inputs e) in
@@ -104,6 +105,11 @@ element_assigned a b d n k l es fs gs hs array place address new word vs is e o 
           (steps_of d n fs e TheWord new va) (takes_value a.arrays true e typed) (apart_value apart') (under_word d n fs e TheWord new (IsAt b array address vs ws at) va)
           (λ z. store_after b n k l gs hs array address new word at z vs ws (changed o s t) (va.grows.arrays ∙ ad.steps.grows.arrays) ch st)))));
       initial = st.initial ∙ ch.steps.initial ∙ va.initial ∙ ad.steps.initial ∙ tr.steps.initial;
+      sends = sends_then a b l [] [] (sends_nothing a b es tr.steps.grows.effects tr.steps.silent)
+          (sends_then b d l [] [] (sends_nothing b d [] ad.steps.grows.effects refl)
+          (sends_then d n l [] [] (sends_nothing d n fs va.grows.effects va.silent)
+          (sends_then n k l [] [] (sends_nothing n k gs ch.steps.grows.effects ch.steps.silent)
+          (sends_nothing k l hs (st.performs 0 0).grows.effects st.silent))));
     }
   where
     apart_value : AreApart (inputs_of is ++ (inputs e ++ [])) → AreApart (inputs e ++ [])

@@ -1,5 +1,5 @@
 -- What an assignment's target is.
-use Rattle.std.proofs.Common.{◌≡◌, ℕ, List, ◌++◌, Option, sym, ap, subst, true}
+use Rattle.std.proofs.Common.{◌≡◌, ℕ, List, [], ◌++◌, Option, sym, ap, subst, true}
 use Rattle.cg_c_syntax.specs.declared.expression.Binary.{Binary}
 use Rattle.cg_c_syntax.specs.declared.statement.Signedness.{Signedness}
 use Rattle.cg_c_check.specs.declared.program.Array.{Array}
@@ -31,6 +31,6 @@ pub apart_parts : (target whole : Target) (op : Option Binary) (e : Expr) → ta
 unfolding stmt_inputs
 apart_parts target whole op e is h = subst (λ (z : Target). AreApart (target_inputs z ++ inputs e)) is h
 
-pub assigned_to : (a b : Draft) (target whole : Target) (op : Option Binary) (e : Expr) → target ≡ whole → IsTranslated a b (λ c. stmt c (Assign whole op e)) (target_inputs whole ++ inputs e) → IsTranslated a b (λ c. stmt c (Assign target op e)) (stmt_inputs (Assign target op e))
+pub assigned_to : (a b : Draft) (target whole : Target) (op : Option Binary) (e : Expr) → target ≡ whole → IsTranslated a b (λ c. stmt c (Assign whole op e)) (target_inputs whole ++ inputs e) [] → IsTranslated a b (λ c. stmt c (Assign target op e)) (stmt_inputs (Assign target op e)) []
 unfolding stmt_inputs
-assigned_to a b target whole op e is h = subst (λ (z : Target). IsTranslated a b (λ c. stmt c (Assign z op e)) (target_inputs z ++ inputs e)) (sym is) h
+assigned_to a b target whole op e is h = subst (λ (z : Target). IsTranslated a b (λ c. stmt c (Assign z op e)) (target_inputs z ++ inputs e) []) (sym is) h

@@ -20,6 +20,7 @@ use Rattle.cg_c_turn.proofs.Operating.{agrees_same}
 use Rattle.cg_c_turn.proofs.Prefixes.{begun_same, runs_shorter}
 use Rattle.cg_c_turn.proofs.Sending.{without_ports}
 use Rattle.cg_c_turn.proofs.Single.{changes}
+use Rattle.cg_c_turn.proofs.Sent.{sends_nothing}
 
 -- what an operator makes of the words of two values
 pub joins_words : (old new : List Value) (op : Binary) (reading : Signedness) (v u r : ℕ) → Joins old new op reading v u TheWord r → (x : Moment) (E : Words) → Fits new x E → E r ≡ two_words op reading (E v) (E u)
@@ -58,7 +59,7 @@ word_set b d f number new v o s t es a e one same kept within is set assigned w 
 pub word_assigned : (a b d f : Draft) (es : List Effect) (e : Expr) (number new v : ℕ) (o : Option Binary) (s t : Signedness) → IsTypedExpr a.arrays true e → AreApart (inputs e) → t ≡ signedness_of e → Translates a b es e TheWord new → d ≡ with_values b d → Extends b.values d.values → v < length d.values
     → ((x : Moment) (E : Words) → Runs d x E → E v ≡ changed o s t (word_in x E d number) (E new))
     → f ≡ with_words d f.words → ((n : ℕ) → assigned_in f n ≡ (if n == number then Some v else assigned_in d n))
-    → IsTranslated a f (λ c. stmt c (Assign (WordTarget number s) o e)) (inputs e)
+    → IsTranslated a f (λ c. stmt c (Assign (WordTarget number s) o e)) (inputs e) []
 unfolding stmt
 word_assigned a b d f es e number new v o s t typed apart read one same kept within is set assigned =
     record {
@@ -69,4 +70,5 @@ word_assigned a b d f es e number new v o s t typed apart read one same kept wit
           (word_set b d f number new v o s t es a e one same kept within is set assigned w))
           (subst (λ (q : List ℕ). AreApart q) (sym (append-nil (inputs e))) apart));
       initial = ap (λ (z : Draft). z.initial) set ∙ ap (λ (z : Draft). z.initial) same ∙ one.initial;
+      sends = sends_nothing a f es (ap (λ (z : Draft). z.effects) set ∙ ap (λ (z : Draft). z.effects) same ∙ one.grows.effects) one.silent;
     }

@@ -7,12 +7,14 @@ use Rattle.cg_c_values.specs.Values.{Moment, Words, holds}
 use Rattle.cg_c_values.proofs.Known.{fits_kept}
 use Rattle.cg_c_meaning.specs.Meaning.{State}
 use Rattle.cg_c_meaning.specs.Turns.{turns_of}
+use Rattle.cg_c_meaning.specs.Typed.{AreApart, nest_outputs}
 use Rattle.cg_c_turn.specs.Draft.{Draft, Effect, Latest, Load, latest_in}
 use Rattle.cg_c_turn.specs.Leads.{Outcome, Leads}
 use Rattle.cg_c_turn.specs.Nested.{IsNested, IsOfTurn}
-use Rattle.cg_c_turn.specs.Stands.{HasTable, IsDone, IsFresh, IsSound, Matches, begun, word_in, word_or}
+use Rattle.cg_c_turn.specs.Stands.{AreBelow, HasTable, IsDone, IsFresh, IsSound, Matches, begun, word_in, word_or}
 use Rattle.cg_c_turn.specs.Turn.{HasArrays, IsTurnEnd, Starts, Turns, outside_loops}
 use Rattle.cg_c_turn.proofs.Leading.{leads_weaker}
+use Rattle.cg_c_turn.proofs.Sent.{sent_apart}
 
 -- nothing is in an empty list
 none_there : {X : Type 0} (x : X) → Contains [] x → ⊥
@@ -54,11 +56,12 @@ begun_matches p d x E m s b starts =
       loops = ap (λ (z : List ℕ). length z) (sym b.counters);
     }
 
-pub turns_are : (p : Program) (b d : Draft) (index : ℕ) → IsBegun p.arrays b → IsOfTurn b.values index (λ t. t) → 0 < turns_of p.levels → IsNested b d index p.levels p.body → Turns p d
-turns_are p b d index begun at some nested =
+pub turns_are : (p : Program) (b d : Draft) (index : ℕ) → IsBegun p.arrays b → IsOfTurn b.values index (λ t. t) → 0 < turns_of p.levels → AreApart (nest_outputs p.levels p.body) → AreBelow 16 (nest_outputs p.levels p.body) → IsNested b d index p.levels p.body → Turns p d
+turns_are p b d index begun at some apart below nested =
     record {
       formed = (nested.performs 0 some).formed;
       arrays = (nested.performs 0 some).grows.arrays ∙ begun.arrays_are;
+      sends = sent_apart b d (nest_outputs p.levels p.body) begun.effects nested.sends apart below;
       leads = λ x E m s end lt runs has starts done.
           let part = nested.performs x.turn lt in
           let effects : d.effects ≡ nested.added = part.grows.effects ∙ ap (λ (z : List Effect). z ++ nested.added) begun.effects in

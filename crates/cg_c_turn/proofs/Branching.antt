@@ -6,13 +6,13 @@ use Rattle.cg_c_values.specs.declared.value.Value.{Value}
 use Rattle.cg_c_values.specs.declared.value.Value.TheVariants.{Const}
 use Rattle.cg_c_values.specs.Values.{Moment, Words, Fits, Keeps, IsBelow, IsWordOf, Means, holds, value_at}
 use Rattle.cg_c_meaning.specs.Meaning.{Context, ◌>>=◌, give, value, stmt}
-use Rattle.cg_c_meaning.specs.Typed.{AreApart, IsTypedExpr, inputs, stmt_inputs}
+use Rattle.cg_c_meaning.specs.Typed.{AreApart, IsTypedExpr, inputs, stmt_inputs, stmt_outputs}
 use Rattle.cg_c_values.proofs.Known.{keeps}
 use Rattle.cg_c_turn.specs.Draft.{Draft, Effect, assigned_in}
-use Rattle.cg_c_turn.specs.Stands.{ACondition, Agrees, IsFormed, IsDone, Performs, Any, Translates}
+use Rattle.cg_c_turn.specs.Stands.{ACondition, Agrees, IsFormed, IsDone, Performs, Any, Sends, Translates}
 use Rattle.cg_c_turn.specs.Conditions.{IsElsewhere, EntersArm, IsMerged, with_point}
 use Rattle.cg_c_turn.specs.Branched.{Begins, Switches, Ends}
-use Rattle.cg_c_turn.specs.Translated.{IsTranslated, IsBranched, branch_run}
+use Rattle.cg_c_turn.specs.Translated.{IsTranslated, IsBranched, branch_outputs, branch_run}
 use Rattle.cg_c_turn.specs.Words.{Merges}
 use Rattle.cg_c_turn.proofs.Prefixes.{begun_same, keeps_on, fits_before}
 use Rattle.cg_c_turn.proofs.Growing.{below_on}
@@ -20,6 +20,7 @@ use Rattle.cg_c_turn.proofs.Doing.{Step, does_nothing, moved_arrays}
 use Rattle.cg_c_turn.proofs.Evaluating.{value_then}
 use Rattle.cg_c_turn.proofs.Sending.{without_ports}
 use Rattle.cg_c_turn.proofs.Arms.{Arms, Either, arms, other_arm, no_other, elsewhere_on, with_point_elsewhere, sound_elsewhere, formed_elsewhere, matches_at, words_as, true_is}
+use Rattle.cg_c_turn.proofs.Sent.{sends_idle, sends_moved, sends_nothing, sends_then}
 
 -- ---- from a point with fewer values on
 
@@ -80,8 +81,8 @@ pub no_ports : {a b : Draft} {es : List Effect} {G : Words → Type 0} {run : Co
 no_ports {a = a} {b = b} {es = es} {G = G} {run = run} none h = subst (λ (q : List ℕ). Performs a b es G run q) none h
 
 pub both_is : (d d0 d1 d2 d3 d4 d5 d6 d7 : Draft) (c n : ℕ) (g h : Option ℕ) (ws us : List (Option ℕ)) (chosen other : Stmt) → IsFormed d → IsElsewhere d d0 → d0.guard ≡ d.guard → d0.words ≡ d.words → Means d0.values n (λ x E. one_if (not (nat_lt 0 (E c))))
-    → EntersArm d0 d1 c → g ≡ d0.guard → ws ≡ d0.words → IsTranslated d1 d2 (λ x. stmt x chosen) (stmt_inputs chosen) → stmt_inputs chosen ≡ []
-    → d3 ≡ with_point d2 g ws → EntersArm d3 d4 n → h ≡ d3.guard → us ≡ d3.words → IsTranslated d4 d5 (λ x. stmt x other) (stmt_inputs other) → stmt_inputs other ≡ []
+    → EntersArm d0 d1 c → g ≡ d0.guard → ws ≡ d0.words → IsTranslated d1 d2 (λ x. stmt x chosen) (stmt_inputs chosen) (stmt_outputs chosen) → stmt_inputs chosen ≡ []
+    → d3 ≡ with_point d2 g ws → EntersArm d3 d4 n → h ≡ d3.guard → us ≡ d3.words → IsTranslated d4 d5 (λ x. stmt x other) (stmt_inputs other) (stmt_outputs other) → stmt_inputs other ≡ []
     → d6 ≡ with_point d5 h us → IsMerged d6 d7 c d2.words d5.words → IsBranched d d7 c chosen (Some other)
 both_is d d0 d1 d2 d3 d4 d5 d6 d7 c n g h ws us chosen other formed same guard words negation enter1 g_is ws_is first none1 is3 enter2 h_is us_is second none2 is6 merged =
     let to3 : IsElsewhere d2 d3 = at_point d2 d3 g ws is3 in
@@ -106,10 +107,13 @@ both_is d d0 d1 d2 d3 d4 d5 d6 d7 c n g h ws us chosen other formed same guard w
       added = first.added ++ second.added;
       performs = λ w. from_before formed same guard words (arms parts formed0 w);
       initial = merged.same.initial ∙ to6.initial ∙ second.initial ∙ enter2.same.initial ∙ to3.initial ∙ first.initial ∙ enter1.same.initial ∙ same.initial;
+      sends = sends_then d d2 d7 (stmt_outputs chosen) (stmt_outputs other)
+          (sends_moved d d1 d2 d2 (stmt_outputs chosen) (enter1.same.effects ∙ same.effects) first.sends refl)
+          (sends_moved d2 d4 d5 d7 (stmt_outputs other) (enter2.same.effects ∙ to3.effects) second.sends (merged.same.effects ∙ to6.effects));
     }
 
 pub one_is : (d d0 d1 d2 d3 d7 : Draft) (c : ℕ) (g : Option ℕ) (ws us : List (Option ℕ)) (chosen : Stmt) → IsFormed d → IsElsewhere d d0 → d0.guard ≡ d.guard → d0.words ≡ d.words
-    → EntersArm d0 d1 c → g ≡ d0.guard → ws ≡ d0.words → IsTranslated d1 d2 (λ x. stmt x chosen) (stmt_inputs chosen) → stmt_inputs chosen ≡ []
+    → EntersArm d0 d1 c → g ≡ d0.guard → ws ≡ d0.words → IsTranslated d1 d2 (λ x. stmt x chosen) (stmt_inputs chosen) (stmt_outputs chosen) → stmt_inputs chosen ≡ []
     → d3 ≡ with_point d2 g ws → us ≡ d3.words → IsMerged d3 d7 c d2.words us → IsBranched d d7 c chosen None
 one_is d d0 d1 d2 d3 d7 c g ws us chosen formed same guard words enter1 g_is ws_is first none1 is3 us_is merged =
     let to3 : IsElsewhere d2 d3 = at_point d2 d3 g ws is3 in
@@ -134,6 +138,7 @@ one_is d d0 d1 d2 d3 d7 c g ws us chosen formed same guard words enter1 g_is ws_
       added = first.added ++ [];
       performs = λ w. from_before formed same guard words (arms parts formed0 w);
       initial = merged.same.initial ∙ to3.initial ∙ first.initial ∙ enter1.same.initial ∙ same.initial;
+      sends = sends_moved d d1 d2 d7 (stmt_outputs chosen) (enter1.same.effects ∙ same.effects) first.sends (merged.same.effects ∙ to3.effects);
     }
 
 -- ---- the statement
@@ -151,18 +156,25 @@ unfolding stmt_inputs
 if_inputs c a None h = sym (ap (λ (z : List ℕ). inputs c ++ z) h ∙ append-nil (inputs c))
 if_inputs c a (Some b) h = sym (ap (λ (z : List ℕ). (inputs c ++ z) ++ stmt_inputs b) h.0 ∙ ap (λ (z : List ℕ). (inputs c ++ []) ++ z) h.1 ∙ append-nil (inputs c ++ []) ∙ append-nil (inputs c))
 
+if_outputs : (c : Expr) (chosen : Stmt) (other : Option Stmt) → branch_outputs chosen other ≡ stmt_outputs (if_stmt c chosen other)
+unfolding stmt_outputs
+if_outputs c chosen None = refl
+if_outputs c chosen (Some other) = refl
+
 as_stmt : {a e : Draft} {es : List Effect} (c : Expr) (chosen : Stmt) (other : Option Stmt) → Performs a e es Any (λ x. value x c >>= (λ w. branch_run chosen other w x)) (inputs c) → Performs a e es Any (λ x. stmt x (if_stmt c chosen other)) (inputs c)
 unfolding stmt
 as_stmt c chosen None h = h
 as_stmt c chosen (Some other) h = h
 
-pub if_is : {a b e : Draft} {es : List Effect} {v : ℕ} (c : Expr) (chosen : Stmt) (other : Option Stmt) → IsTypedExpr a.arrays true c → HasNoInputs chosen other → AreApart (inputs c) → Translates a b es c ACondition v → IsBranched b e v chosen other → IsTranslated a e (λ x. stmt x (if_stmt c chosen other)) (stmt_inputs (if_stmt c chosen other))
+pub if_is : {a b e : Draft} {es : List Effect} {v : ℕ} (c : Expr) (chosen : Stmt) (other : Option Stmt) → IsTypedExpr a.arrays true c → HasNoInputs chosen other → AreApart (inputs c) → Translates a b es c ACondition v → IsBranched b e v chosen other → IsTranslated a e (λ x. stmt x (if_stmt c chosen other)) (stmt_inputs (if_stmt c chosen other)) (stmt_outputs (if_stmt c chosen other))
 if_is {a = a} {b = b} {e = e} {es = es} c chosen other typed none apart one two =
     let all = as_stmt c chosen other (without_ports (inputs c) (value_then a.arrays true typed one two.performs (subst (λ (q : List ℕ). AreApart q) (sym (append-nil (inputs c))) apart))) in
     record {
       added = es ++ two.added;
       performs = subst (λ (q : List ℕ). Performs a e (es ++ two.added) Any (λ x. stmt x (if_stmt c chosen other)) q) (if_inputs c chosen other none) all;
       initial = two.initial ∙ one.initial;
+      sends = subst (λ (q : List ℕ). Sends a e q) (if_outputs c chosen other)
+          (sends_then a b e [] (branch_outputs chosen other) (sends_nothing a b es one.grows.effects one.silent) two.sends);
     }
 
 -- ---- the steps of the code
@@ -171,26 +183,26 @@ pub begun_formed : {d d1 d2 : Draft} {c n : ℕ} {g : Option ℕ} {ws : List (Op
 begun_formed {d = d} {d2 = d2} {g = g} {ws = ws} formed b longer f2 =
     formed_back d d2 (with_point d2 g ws) formed f2 (keeps_on (keeps b.same.values) (keeps_on (keeps b.enters.same.values) longer)) (with_point_elsewhere d2 g ws) (b.guard_is ∙ b.guard) (b.words_are ∙ b.words)
 
-pub arms_are : {d d1 d2 d4 d5 d7 : Draft} {c n : ℕ} {g h : Option ℕ} {ws us cs : List (Option ℕ)} (chosen other : Stmt) → IsFormed d → Begins d d1 c n g ws → IsTranslated d1 d2 (λ x. stmt x chosen) (stmt_inputs chosen) → stmt_inputs chosen ≡ [] → Switches d2 d4 n g ws h us → cs ≡ d2.words → IsTranslated d4 d5 (λ x. stmt x other) (stmt_inputs other) → stmt_inputs other ≡ [] → Ends d5 d7 c h us cs d5.words → IsBranched d d7 c chosen (Some other)
+pub arms_are : {d d1 d2 d4 d5 d7 : Draft} {c n : ℕ} {g h : Option ℕ} {ws us cs : List (Option ℕ)} (chosen other : Stmt) → IsFormed d → Begins d d1 c n g ws → IsTranslated d1 d2 (λ x. stmt x chosen) (stmt_inputs chosen) (stmt_outputs chosen) → stmt_inputs chosen ≡ [] → Switches d2 d4 n g ws h us → cs ≡ d2.words → IsTranslated d4 d5 (λ x. stmt x other) (stmt_inputs other) (stmt_outputs other) → stmt_inputs other ≡ [] → Ends d5 d7 c h us cs d5.words → IsBranched d d7 c chosen (Some other)
 arms_are {d = d} {d1 = d1} {d2 = d2} {d4 = d4} {d5 = d5} {d7 = d7} {c = c} {n = n} {g = g} {h = h} {ws = ws} {us = us} chosen other formed b first none1 s cs_is second none2 e =
     both_is d b.first d1 d2 s.between d4 d5 e.between d7 c n g h ws us chosen other formed b.same b.guard b.words b.negation b.enters b.guard_is b.words_are first none1 s.is s.enters s.guard_is s.words_are second none2 e.is
     (subst (λ (z : List (Option ℕ)). IsMerged e.between d7 c z d5.words) cs_is e.merged)
 
-pub arm_is : {d d1 d2 d7 : Draft} {c n : ℕ} {g : Option ℕ} {ws : List (Option ℕ)} (chosen : Stmt) → IsFormed d → Begins d d1 c n g ws → IsTranslated d1 d2 (λ x. stmt x chosen) (stmt_inputs chosen) → stmt_inputs chosen ≡ [] → Ends d2 d7 c g ws d2.words ws → IsBranched d d7 c chosen None
+pub arm_is : {d d1 d2 d7 : Draft} {c n : ℕ} {g : Option ℕ} {ws : List (Option ℕ)} (chosen : Stmt) → IsFormed d → Begins d d1 c n g ws → IsTranslated d1 d2 (λ x. stmt x chosen) (stmt_inputs chosen) (stmt_outputs chosen) → stmt_inputs chosen ≡ [] → Ends d2 d7 c g ws d2.words ws → IsBranched d d7 c chosen None
 arm_is {d = d} {d1 = d1} {d2 = d2} {d7 = d7} {c = c} {g = g} {ws = ws} chosen formed b first none1 e =
     one_is d b.first d1 d2 e.between d7 c g ws ws chosen formed b.same b.guard b.words b.enters b.guard_is b.words_are first none1 e.is (sym (ap (λ (z : Draft). z.words) e.is)) e.merged
 
 -- the condition is a constant
-pub known_first : {d e : Draft} (c k : ℕ) (chosen : Stmt) (other : Option Stmt) → c < length d.values → value_at d.values c ≡ Const k → nat_lt 0 k ≡ true → stmt_inputs chosen ≡ [] → IsTranslated d e (λ x. stmt x chosen) (stmt_inputs chosen) → IsBranched d e c chosen other
-known_first c k chosen None within is positive none one =
-    record { added = one.added; performs = settled c k (λ x. stmt x chosen) (λ x. give tt) (λ x. stmt x chosen) true within is positive (λ x. refl) (no_ports none one.performs); initial = one.initial }
-known_first c k chosen (Some other) within is positive none one =
-    record { added = one.added; performs = settled c k (λ x. stmt x chosen) (λ x. stmt x other) (λ x. stmt x chosen) true within is positive (λ x. refl) (no_ports none one.performs); initial = one.initial }
+pub known_first : {d e : Draft} (c k : ℕ) (chosen : Stmt) (other : Option Stmt) → c < length d.values → value_at d.values c ≡ Const k → nat_lt 0 k ≡ true → stmt_inputs chosen ≡ [] → IsTranslated d e (λ x. stmt x chosen) (stmt_inputs chosen) (stmt_outputs chosen) → IsBranched d e c chosen other
+known_first {d = d} {e = e} c k chosen None within is positive none one =
+    record { added = one.added; performs = settled c k (λ x. stmt x chosen) (λ x. give tt) (λ x. stmt x chosen) true within is positive (λ x. refl) (no_ports none one.performs); initial = one.initial; sends = one.sends }
+known_first {d = d} {e = e} c k chosen (Some other) within is positive none one =
+    record { added = one.added; performs = settled c k (λ x. stmt x chosen) (λ x. stmt x other) (λ x. stmt x chosen) true within is positive (λ x. refl) (no_ports none one.performs); initial = one.initial; sends = sends_then d e e (stmt_outputs chosen) (stmt_outputs other) one.sends (sends_idle e (stmt_outputs other)) }
 
-pub known_second : {d e : Draft} (c : ℕ) (chosen other : Stmt) → c < length d.values → value_at d.values c ≡ Const 0 → stmt_inputs other ≡ [] → IsTranslated d e (λ x. stmt x other) (stmt_inputs other) → IsBranched d e c chosen (Some other)
-known_second c chosen other within is none one =
-    record { added = one.added; performs = settled c 0 (λ x. stmt x chosen) (λ x. stmt x other) (λ x. stmt x other) false within is refl (λ x. refl) (no_ports none one.performs); initial = one.initial }
+pub known_second : {d e : Draft} (c : ℕ) (chosen other : Stmt) → c < length d.values → value_at d.values c ≡ Const 0 → stmt_inputs other ≡ [] → IsTranslated d e (λ x. stmt x other) (stmt_inputs other) (stmt_outputs other) → IsBranched d e c chosen (Some other)
+known_second {d = d} {e = e} c chosen other within is none one =
+    record { added = one.added; performs = settled c 0 (λ x. stmt x chosen) (λ x. stmt x other) (λ x. stmt x other) false within is refl (λ x. refl) (no_ports none one.performs); initial = one.initial; sends = sends_then d d e (stmt_outputs chosen) (stmt_outputs other) (sends_idle d (stmt_outputs chosen)) one.sends }
 
 pub known_none : {d : Draft} (c : ℕ) (chosen : Stmt) → IsFormed d → c < length d.values → value_at d.values c ≡ Const 0 → IsBranched d d c chosen None
 known_none {d = d} c chosen formed within is =
-    record { added = []; performs = settled c 0 (λ x. stmt x chosen) (λ x. give tt) (λ x. give tt) false within is refl (λ x. refl) (does_nothing d Any formed); initial = refl }
+    record { added = []; performs = settled c 0 (λ x. stmt x chosen) (λ x. give tt) (λ x. give tt) false within is refl (λ x. refl) (does_nothing d Any formed); initial = refl; sends = sends_idle d (stmt_outputs chosen) }

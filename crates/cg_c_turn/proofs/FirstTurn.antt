@@ -12,17 +12,18 @@ use Rattle.cg_c_values.specs.declared.value.Value.{Value}
 use Rattle.cg_c_values.specs.Values.{Moment, Words, Fits, Extends, Means, holds}
 use Rattle.cg_c_values.proofs.Known.{keeps}
 use Rattle.cg_c_meaning.specs.Meaning.{State, Context, ◌>>◌, onward, give, set_word, declared, value, stmt, stmts}
-use Rattle.cg_c_meaning.specs.Typed.{AreTypedInitials, AreTypedStmts, IsTypedExpr, IsTypedStmt, initial_inputs, inputs, stmt_inputs, stmts_inputs}
+use Rattle.cg_c_meaning.specs.Typed.{AreTypedInitials, AreTypedStmts, IsTypedExpr, IsTypedStmt, initial_inputs, inputs, stmt_inputs, stmt_outputs, stmts_inputs, stmts_outputs}
 use Rattle.cg_c_meaning.specs.Taken.{Takes}
 use Rattle.cg_c_meaning.proofs.Taking.{statements_take}
 use Rattle.cg_c_turn.specs.Draft.{Draft, Effect, initial_in}
-use Rattle.cg_c_turn.specs.Stands.{IsFormed, Performs, Any, Grows, Runs, begun}
+use Rattle.cg_c_turn.specs.Stands.{IsFormed, Performs, Any, Grows, Runs, Sends, begun}
 use Rattle.cg_c_turn.specs.Branched.{Begins}
 use Rattle.cg_c_turn.specs.Nested.{IsAtFirst, IsFirst, IsOfTurn}
 use Rattle.cg_c_turn.proofs.Prefixes.{fits_before}
 use Rattle.cg_c_turn.proofs.Doing.{Step, KeepsStreams, in_turn, does_nothing}
 use Rattle.cg_c_turn.proofs.Listed.{front}
 use Rattle.cg_c_turn.proofs.EdgesGuarded.{BeginsAlike, Nothing}
+use Rattle.cg_c_turn.proofs.Sent.{sends_idle, sends_then}
 
 -- ---- runs
 
@@ -56,40 +57,40 @@ after_one i is x (Some r) = refl
 -- ---- one part after another
 
 -- a part is done of what is done in the first turn
-pub record Follows (d0 d : Draft) (whole rest : Context → Step) : Type 0 where
+pub record Follows (d0 d : Draft) (whole rest : Context → Step) (outs unsent : List ℕ) : Type 0 where
   pub formed : IsFormed d
   pub first : IsAtFirst d
   pub arrays : d.arrays ≡ d0.arrays
-  pub ends : (e : Draft) (fs : List Effect) → Performs d e fs Any rest [] → IsFirst d0 e whole
+  pub ends : (e : Draft) (fs : List Effect) → Performs d e fs Any rest [] → Sends d e unsent → IsFirst d0 e whole outs
 
 still_first : {d e : Draft} {es : List Effect} → Grows d e es → IsAtFirst d → IsAtFirst e
 still_first grows h = record { first = λ x E f on. h.first x E (fits_before grows.values f) (ap (λ (z : Option ℕ). holds E z) (sym grows.guard) ∙ on) }
 
-follows_none : (d : Draft) (run : Context → Step) → IsFormed d → IsAtFirst d → Follows d d run run
-follows_none d run formed first = record { formed = formed; first = first; arrays = refl; ends = λ e fs h. record { added = fs; performs = h } }
+follows_none : (d : Draft) (run : Context → Step) (outs : List ℕ) → IsFormed d → IsAtFirst d → Follows d d run run outs outs
+follows_none d run outs formed first = record { formed = formed; first = first; arrays = refl; ends = λ e fs h sent. record { added = fs; performs = h; sends = sent } }
 
-follows_one : {d0 d e : Draft} {whole whole_rest f rest : Context → Step} → IsFirst d e f → KeepsStreams f [] → ((x : Context) (s : State) → whole_rest x s ≡ (f x >> rest x) s) → Follows d0 d whole whole_rest → Follows d0 e whole rest
-follows_one {f = f} {rest = rest} one keeps same h =
+follows_one : {d0 d e : Draft} {whole whole_rest f rest : Context → Step} {outs p q : List ℕ} → IsFirst d e f p → KeepsStreams f [] → ((x : Context) (s : State) → whole_rest x s ≡ (f x >> rest x) s) → Follows d0 d whole whole_rest outs (p ++ q) → Follows d0 e whole rest outs q
+follows_one {d = d} {e = e} {f = f} {rest = rest} {p = p} {q = q} one keeps same h =
     record {
       formed = one.performs.formed;
       first = still_first one.performs.grows h.first;
       arrays = one.performs.grows.arrays ∙ h.arrays;
-      ends = λ c fs later. h.ends c (one.added ++ fs) (run_same same (in_turn Any one.performs later tt keeps));
+      ends = λ c fs later sent. h.ends c (one.added ++ fs) (run_same same (in_turn Any one.performs later tt keeps)) (sends_then d e c p q one.sends sent);
     }
 
-follows_all : {d0 d : Draft} {whole : Context → Step} → Follows d0 d whole (λ x. give tt) → IsFirst d0 d whole
-follows_all {d = d} h = h.ends d [] (does_nothing d Any h.formed)
+follows_all : {d0 d : Draft} {whole : Context → Step} {outs : List ℕ} → Follows d0 d whole (λ x. give tt) outs [] → IsFirst d0 d whole outs
+follows_all {d = d} h = h.ends d [] (does_nothing d Any h.formed) (sends_idle d [])
 
 -- ---- statements
 
 -- from the k-th statement on
 pub record FirstStmts (d0 d : Draft) (all : List MadeStmt) (k : ℕ) : Type 0 where
-  pub follows : Follows d0 d (λ x. stmts x (stmts_of all)) (λ x. stmts x (stmts_of (drop k all)))
+  pub follows : Follows d0 d (λ x. stmts x (stmts_of all)) (λ x. stmts x (stmts_of (drop k all))) (stmts_outputs (stmts_of all)) (stmts_outputs (stmts_of (drop k all)))
   pub typed : AreTypedStmts d.arrays true (stmts_of (drop k all))
   pub none : stmts_inputs (stmts_of (drop k all)) ≡ []
 
 pub stmts_begin : (d : Draft) (all : List MadeStmt) → IsFormed d → IsAtFirst d → AreTypedStmts d.arrays true (stmts_of all) → stmts_inputs (stmts_of all) ≡ [] → FirstStmts d d all 0
-stmts_begin d all formed first typed none = record { follows = follows_none d (λ x. stmts x (stmts_of all)) formed first; typed = typed; none = none }
+stmts_begin d all formed first typed none = record { follows = follows_none d (λ x. stmts x (stmts_of all)) (stmts_outputs (stmts_of all)) formed first; typed = typed; none = none }
 
 -- what is known of the next statement, and of those behind it
 pub record NextStmt (d0 d : Draft) (all : List MadeStmt) (k : ℕ) (s : MadeStmt) : Type 0 where
@@ -97,7 +98,7 @@ pub record NextStmt (d0 d : Draft) (all : List MadeStmt) (k : ℕ) (s : MadeStmt
   pub first : IsAtFirst d
   pub typed : IsTypedStmt d.arrays true (stmt_of s)
   pub none : stmt_inputs (stmt_of s) ≡ []
-  pub follows : Follows d0 d (λ x. stmts x (stmts_of all)) (λ x. stmts x (MoreStmts (stmt_of s) (stmts_of (drop (k + 1) all))))
+  pub follows : Follows d0 d (λ x. stmts x (stmts_of all)) (λ x. stmts x (MoreStmts (stmt_of s) (stmts_of (drop (k + 1) all)))) (stmts_outputs (stmts_of all)) (stmts_outputs (MoreStmts (stmt_of s) (stmts_of (drop (k + 1) all))))
   pub typed_rest : AreTypedStmts d.arrays true (stmts_of (drop (k + 1) all))
   pub none_rest : stmts_inputs (stmts_of (drop (k + 1) all)) ≡ []
 
@@ -113,13 +114,13 @@ stmts_next {d0 = d0} {d = d} all k s lt is h =
       first = h.follows.first;
       typed = typed.0;
       none = nil_first (stmt_inputs (stmt_of s)) (stmts_inputs (stmts_of rest)) none;
-      follows = subst (λ (z : List MadeStmt). Follows d0 d (λ x. stmts x (stmts_of all)) (λ x. stmts x (stmts_of z))) e h.follows;
+      follows = subst (λ (z : List MadeStmt). Follows d0 d (λ x. stmts x (stmts_of all)) (λ x. stmts x (stmts_of z)) (stmts_outputs (stmts_of all)) (stmts_outputs (stmts_of z))) e h.follows;
       typed_rest = typed.1;
       none_rest = nil_rest (stmt_inputs (stmt_of s)) (stmts_inputs (stmts_of rest)) none;
     }
 
-pub stmts_go_on : {d0 d e : Draft} (all : List MadeStmt) (k : ℕ) (s : MadeStmt) → k < length all → s ≡ get_or all k s → FirstStmts d0 d all k → IsFirst d e (λ x. stmt x (stmt_of s)) → FirstStmts d0 e all (k + 1)
-unfolding stmts
+pub stmts_go_on : {d0 d e : Draft} (all : List MadeStmt) (k : ℕ) (s : MadeStmt) → k < length all → s ≡ get_or all k s → FirstStmts d0 d all k → IsFirst d e (λ x. stmt x (stmt_of s)) (stmt_outputs (stmt_of s)) → FirstStmts d0 e all (k + 1)
+unfolding stmts stmts_outputs
 stmts_go_on {d = d} all k s lt is h one =
     let n = stmts_next all k s lt is h in
     let rest = stmts_of (drop (k + 1) all) in
@@ -129,21 +130,21 @@ stmts_go_on {d = d} all k s lt is h one =
       none = n.none_rest;
     }
 
-pub stmts_end : {d0 d : Draft} (all : List MadeStmt) (k : ℕ) → length all ≤ k → FirstStmts d0 d all k → IsFirst d0 d (λ x. stmts x (stmts_of all))
-unfolding stmts
+pub stmts_end : {d0 d : Draft} (all : List MadeStmt) (k : ℕ) → length all ≤ k → FirstStmts d0 d all k → IsFirst d0 d (λ x. stmts x (stmts_of all)) (stmts_outputs (stmts_of all))
+unfolding stmts stmts_outputs
 stmts_end {d0 = d0} {d = d} all k le h =
-    follows_all (subst (λ (z : List MadeStmt). Follows d0 d (λ x. stmts x (stmts_of all)) (λ x. stmts x (stmts_of z))) (drop_of_length-le all le) h.follows)
+    follows_all (subst (λ (z : List MadeStmt). Follows d0 d (λ x. stmts x (stmts_of all)) (λ x. stmts x (stmts_of z)) (stmts_outputs (stmts_of all)) (stmts_outputs (stmts_of z))) (drop_of_length-le all le) h.follows)
 
 -- ---- declarations
 
 -- from the k-th declaration on
 pub record FirstInitials (d0 d : Draft) (all : List MadeInitial) (k : ℕ) : Type 0 where
-  pub follows : Follows d0 d (λ x. declared x (map initial_of all)) (λ x. declared x (map initial_of (drop k all)))
+  pub follows : Follows d0 d (λ x. declared x (map initial_of all)) (λ x. declared x (map initial_of (drop k all))) [] []
   pub typed : AreTypedInitials d.arrays true (map initial_of (drop k all))
   pub none : initial_inputs (map initial_of (drop k all)) ≡ []
 
 pub initials_begin : (d : Draft) (all : List MadeInitial) → IsFormed d → IsAtFirst d → AreTypedInitials d.arrays true (map initial_of all) → initial_inputs (map initial_of all) ≡ [] → FirstInitials d d all 0
-initials_begin d all formed first typed none = record { follows = follows_none d (λ x. declared x (map initial_of all)) formed first; typed = typed; none = none }
+initials_begin d all formed first typed none = record { follows = follows_none d (λ x. declared x (map initial_of all)) [] formed first; typed = typed; none = none }
 
 -- what is known of the next declaration, and of those behind it
 pub record NextInitial (d0 d : Draft) (all : List MadeInitial) (k : ℕ) (i : MadeInitial) : Type 0 where
@@ -151,7 +152,7 @@ pub record NextInitial (d0 d : Draft) (all : List MadeInitial) (k : ℕ) (i : Ma
   pub first : IsAtFirst d
   pub typed : IsTypedExpr d.arrays true (expr_of i.value)
   pub none : inputs (expr_of i.value) ≡ []
-  pub follows : Follows d0 d (λ x. declared x (map initial_of all)) (λ x. declared x (initial_of i ∷ map initial_of (drop (k + 1) all)))
+  pub follows : Follows d0 d (λ x. declared x (map initial_of all)) (λ x. declared x (initial_of i ∷ map initial_of (drop (k + 1) all))) [] []
   pub typed_rest : AreTypedInitials d.arrays true (map initial_of (drop (k + 1) all))
   pub none_rest : initial_inputs (map initial_of (drop (k + 1) all)) ≡ []
 
@@ -166,7 +167,7 @@ initials_next {d0 = d0} {d = d} all k i lt is h =
       first = h.follows.first;
       typed = typed.0;
       none = nil_first (inputs (expr_of i.value)) (initial_inputs (map initial_of rest)) none;
-      follows = subst (λ (z : List MadeInitial). Follows d0 d (λ x. declared x (map initial_of all)) (λ x. declared x (map initial_of z))) e h.follows;
+      follows = subst (λ (z : List MadeInitial). Follows d0 d (λ x. declared x (map initial_of all)) (λ x. declared x (map initial_of z)) [] []) e h.follows;
       typed_rest = typed.1;
       none_rest = nil_rest (inputs (expr_of i.value)) (initial_inputs (map initial_of rest)) none;
     }
@@ -175,7 +176,7 @@ declaration_takes_none : (arrays : List Array) (i : Initial) → IsTypedExpr arr
 unfolding IsTypedStmt stmt_inputs stmt
 declaration_takes_none arrays i typed none = takes_none arrays (WordsStmt (i ∷ [])) (typed, tt) (ap (λ (p : List ℕ). p ++ []) none)
 
-pub initials_go_on : {d0 d e : Draft} (all : List MadeInitial) (k : ℕ) (i : MadeInitial) → k < length all → i ≡ get_or all k i → FirstInitials d0 d all k → IsFirst d e (λ x. declared x (initial_of i ∷ [])) → FirstInitials d0 e all (k + 1)
+pub initials_go_on : {d0 d e : Draft} (all : List MadeInitial) (k : ℕ) (i : MadeInitial) → k < length all → i ≡ get_or all k i → FirstInitials d0 d all k → IsFirst d e (λ x. declared x (initial_of i ∷ [])) [] → FirstInitials d0 e all (k + 1)
 initials_go_on {d = d} all k i lt is h one =
     let n = initials_next all k i lt is h in
     let rest = map initial_of (drop (k + 1) all) in
@@ -185,9 +186,9 @@ initials_go_on {d = d} all k i lt is h one =
       none = n.none_rest;
     }
 
-pub initials_end : {d0 d : Draft} (all : List MadeInitial) (k : ℕ) → length all ≤ k → FirstInitials d0 d all k → IsFirst d0 d (λ x. declared x (map initial_of all))
+pub initials_end : {d0 d : Draft} (all : List MadeInitial) (k : ℕ) → length all ≤ k → FirstInitials d0 d all k → IsFirst d0 d (λ x. declared x (map initial_of all)) []
 initials_end {d0 = d0} {d = d} all k le h =
-    follows_all (subst (λ (z : List MadeInitial). Follows d0 d (λ x. declared x (map initial_of all)) (λ x. declared x (map initial_of z))) (drop_of_length-le all le) h.follows)
+    follows_all (subst (λ (z : List MadeInitial). Follows d0 d (λ x. declared x (map initial_of all)) (λ x. declared x (map initial_of z)) [] []) (drop_of_length-le all le) h.follows)
 
 -- ---- the arm
 
@@ -227,9 +228,9 @@ turn_test index kept means = record { within = means.within; is = λ x E f. mean
 pub words_shape : (s : MadeStmt) (items now : List MadeInitial) → stmt_of s ≡ WordsStmt (map initial_of items) → now ≡ items → stmt_of s ≡ WordsStmt (map initial_of now)
 words_shape s items now is same = is ∙ ap (λ (z : List MadeInitial). WordsStmt (map initial_of z)) (sym same)
 
-pub words_first : {d e : Draft} (s : Stmt) (initials : List Initial) → s ≡ WordsStmt initials → IsFirst d e (λ c. declared c initials) → IsFirst d e (λ c. stmt c s)
-unfolding stmt
-words_first {d = d} {e = e} s initials is h = subst (λ (z : Stmt). IsFirst d e (λ c. stmt c z)) (sym is) h
+pub words_first : {d e : Draft} (s : Stmt) (initials : List Initial) → s ≡ WordsStmt initials → IsFirst d e (λ c. declared c initials) [] → IsFirst d e (λ c. stmt c s) (stmt_outputs s)
+unfolding stmt stmt_outputs
+words_first {d = d} {e = e} s initials is h = subst (λ (z : Stmt). IsFirst d e (λ c. stmt c z) (stmt_outputs z)) (sym is) h
 
 pub words_typed : (arrays : List Array) (s : Stmt) (initials : List Initial) → s ≡ WordsStmt initials → IsTypedStmt arrays true s → AreTypedInitials arrays true initials
 unfolding IsTypedStmt

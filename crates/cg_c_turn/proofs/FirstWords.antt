@@ -21,6 +21,7 @@ use Rattle.cg_c_turn.proofs.Evaluating.{value_then}
 use Rattle.cg_c_turn.proofs.Sending.{set_is}
 use Rattle.cg_c_turn.proofs.WordLists.{pushed_default}
 use Rattle.cg_c_turn.proofs.Branching.{no_ports}
+use Rattle.cg_c_turn.proofs.Sent.{sends_nothing}
 
 -- a word behind the last one is 0
 pub pushed_zero : (ws : List ℕ) (n : ℕ) → slice_index (ws ++ 0 ∷ []) n ≡ slice_index ws n
@@ -84,18 +85,18 @@ begins_is d ws number k formed first unused is =
           };
     }
 
-pub begun_is : (d e : Draft) (i : MadeInitial) (k : Constant) → IsFormed d → IsAtFirst d → IsUnused d i.number → expr_of i.value ≡ Literal k → e ≡ with_initial d e.initial → ((n : ℕ) → initial_in e n ≡ (if n == i.number then k.word else initial_in d n)) → IsFirst d e (λ c. declared c (initial_of i ∷ []))
+pub begun_is : (d e : Draft) (i : MadeInitial) (k : Constant) → IsFormed d → IsAtFirst d → IsUnused d i.number → expr_of i.value ≡ Literal k → e ≡ with_initial d e.initial → ((n : ℕ) → initial_in e n ≡ (if n == i.number then k.word else initial_in d n)) → IsFirst d e (λ c. declared c (initial_of i ∷ [])) []
 begun_is d e i k formed first unused literal same is =
-    subst (λ (z : Expr). IsFirst d e (λ c. declared c (record { number = i.number; value = z } ∷ []))) (sym literal)
-    (subst (λ (z : Draft). IsFirst d z (λ c. declared c (record { number = i.number; value = Literal k } ∷ []))) (sym same)
-    (record { added = []; performs = begins_is d e.initial i.number k formed first unused is }))
+    subst (λ (z : Expr). IsFirst d e (λ c. declared c (record { number = i.number; value = z } ∷ [])) []) (sym literal)
+    (subst (λ (z : Draft). IsFirst d z (λ c. declared c (record { number = i.number; value = Literal k } ∷ [])) []) (sym same)
+    (record { added = []; performs = begins_is d e.initial i.number k formed first unused is; sends = sends_nothing d (with_initial d e.initial) [] (sym (append-nil d.effects)) refl }))
 
 -- ---- a word that is assigned
 
-pub assigned_is : {d b : Draft} {es : List Effect} (e : Draft) (number v : ℕ) (value_is : Expr) → IsTypedExpr d.arrays true value_is → inputs value_is ≡ [] → Translates d b es value_is TheWord v → e ≡ with_words b e.words → ((n : ℕ) → assigned_in e n ≡ (if n == number then Some v else assigned_in b n)) → IsFirst d e (λ c. declared c (record { number = number; value = value_is } ∷ []))
+pub assigned_is : {d b : Draft} {es : List Effect} (e : Draft) (number v : ℕ) (value_is : Expr) → IsTypedExpr d.arrays true value_is → inputs value_is ≡ [] → Translates d b es value_is TheWord v → e ≡ with_words b e.words → ((n : ℕ) → assigned_in e n ≡ (if n == number then Some v else assigned_in b n)) → IsFirst d e (λ c. declared c (record { number = number; value = value_is } ∷ [])) []
 assigned_is {d = d} {b = b} {es = es} e number v value_is typed none one same assigned =
     let apart : AreApart (inputs value_is ++ []) = subst (λ (q : List ℕ). AreApart q) (sym (append-nil (inputs value_is) ∙ none)) tt in
-    record { added = es ++ []; performs = no_ports (append-nil (inputs value_is) ∙ none) (value_then d.arrays true typed one (set_is b e number v one.formed one.within same assigned) apart) }
+    record { added = es ++ []; performs = no_ports (append-nil (inputs value_is) ∙ none) (value_then d.arrays true typed one (set_is b e number v one.formed one.within same assigned) apart); sends = sends_nothing d e es (ap (λ (z : Draft). z.effects) same ∙ one.grows.effects) one.silent }
 
 -- ---- the steps of the code
 

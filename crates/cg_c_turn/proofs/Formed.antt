@@ -1,5 +1,5 @@
 -- The statements that values of the program denote, by their parts.
-use Rattle.std.proofs.Common.{◌≡◌, ◌++◌, true, List, [], Option, Some, None, refl, sym, ap, Vec, ◌∙◌, rules, subst, Box, Global, map, ℕ, length, slice_index_or, nat_lt, arith}
+use Rattle.std.proofs.Common.{◌≡◌, ◌++◌, true, List, [], ◌∷◌, Option, Some, None, refl, sym, ap, Vec, ◌∙◌, rules, subst, Box, Global, map, ℕ, length, slice_index_or, nat_lt, arith}
 use Rattle.std.proofs.lemmas.Bool.{lt-ltb}
 use Rattle.cg_c_syntax.specs.declared.expression.Binary.{Binary}
 use Rattle.cg_c_check.specs.declared.program.Array.{Array}
@@ -8,10 +8,10 @@ use Rattle.cg_c_check.specs.declared.program.Initial.{Initial as MadeInitial}
 use Rattle.cg_c_check.specs.declared.program.Target.{Target as MadeTarget}
 use Rattle.cg_c_check.specs.declared.program.Stmt.{Stmt as MadeStmt, Row_of-Stmt, end_of-Stmt, more_of-Stmt, items-the_row-Stmt, the_lemmas}
 use Rattle.cg_c_check.specs.declared.program.Stmt as made
-use Rattle.cg_c_check.specs.Program.{Expr, Initial, Stmt, Stmts, MoreStmts, Words, Block, If, IfElse, Output, Assign}
+use Rattle.cg_c_check.specs.Program.{Expr, Initial, Stmt, Stmts, MoreStmts, Words, Block, If, IfElse, Output, Assign, Target}
 use Rattle.cg_c_check.specs.Written.{expr_of, initial_of, stmt_of, stmts_of, row_stmts, target_of}
 use Rattle.cg_c_meaning.specs.Meaning.{declared, stmt, stmts}
-use Rattle.cg_c_meaning.specs.Typed.{AreApart, IsTypedExpr, IsTypedStmt, AreTypedStmts, AreTypedInitials, inputs, initial_inputs, stmt_inputs, stmts_inputs}
+use Rattle.cg_c_meaning.specs.Typed.{AreApart, IsTypedExpr, IsTypedStmt, AreTypedStmts, AreTypedInitials, inputs, initial_inputs, stmt_inputs, stmt_outputs, stmts_inputs, stmts_outputs}
 use Rattle.cg_c_meaning.proofs.Taking.{none_stmt}
 use Rattle.cg_c_values.specs.declared.value.Value.{Value}
 use Rattle.cg_c_values.specs.declared.value.Value.TheVariants.{Const}
@@ -135,22 +135,26 @@ branch_apart s o k none = subst (λ (z : List ℕ). AreApart z) (sym (ap (λ (z 
 -- ---- the statement
 
 abbrev pub Stands : Draft → Draft → Stmt → Type 0
-Stands a d s = IsTranslated a d (λ x. stmt x s) (stmt_inputs s)
+Stands a d s = IsTranslated a d (λ x. stmt x s) (stmt_inputs s) (stmt_outputs s)
 
 pub same_stands : {a d : Draft} (s t : Stmt) → s ≡ t → Stands a d t → Stands a d s
 same_stands {a = a} {d = d} s t h one = subst (λ (z : Stmt). Stands a d z) (sym h) one
 
-pub words_stand : {a d : Draft} (whole : Stmt) (is : List Initial) → whole ≡ Words is → IsTranslated a d (λ x. declared x is) (initial_inputs is) → Stands a d whole
-unfolding stmt stmt_inputs
+pub words_stand : {a d : Draft} (whole : Stmt) (is : List Initial) → whole ≡ Words is → IsTranslated a d (λ x. declared x is) (initial_inputs is) [] → Stands a d whole
+unfolding stmt stmt_inputs stmt_outputs
 words_stand whole is h one = same_stands whole (Words is) h one
 
-pub block_stands : {a d : Draft} (whole : Stmt) (ss : Stmts) → whole ≡ Block ss → IsTranslated a d (λ x. stmts x ss) (stmts_inputs ss) → Stands a d whole
-unfolding stmt stmt_inputs
+pub block_stands : {a d : Draft} (whole : Stmt) (ss : Stmts) → whole ≡ Block ss → IsTranslated a d (λ x. stmts x ss) (stmts_inputs ss) (stmts_outputs ss) → Stands a d whole
+unfolding stmt stmt_inputs stmt_outputs
 block_stands whole ss h one = same_stands whole (Block ss) h one
 
-pub output_stands : {a d : Draft} (whole : Stmt) (port : ℕ) (e : Expr) → whole ≡ Output port e → IsTranslated a d (λ x. stmt x (Output port e)) (inputs e) → Stands a d whole
-unfolding stmt_inputs
+pub output_stands : {a d : Draft} (whole : Stmt) (port : ℕ) (e : Expr) → whole ≡ Output port e → IsTranslated a d (λ x. stmt x (Output port e)) (inputs e) (port ∷ []) → Stands a d whole
+unfolding stmt_inputs stmt_outputs
 output_stands whole port e h one = same_stands whole (Output port e) h one
+
+pub assign_stands : {a d : Draft} (whole : Stmt) (target : Target) (op : Option Binary) (e : Expr) → whole ≡ Assign target op e → IsTranslated a d (λ x. stmt x (Assign target op e)) (stmt_inputs (Assign target op e)) [] → Stands a d whole
+unfolding stmt_outputs
+assign_stands whole target op e h one = same_stands whole (Assign target op e) h one
 
 pub if_stands : {a b e : Draft} {es : List Effect} {v : ℕ} (whole : Stmt) (c : Expr) (chosen : Stmt) (other : Option Stmt) → whole ≡ if_stmt c chosen other → IfTyped a.arrays c chosen other → Translates a b es c ACondition v → IsBranched b e v chosen other → Stands a e whole
 if_stands whole c chosen other h k one two = same_stands whole (if_stmt c chosen other) h (if_is c chosen other k.condition k.none k.apart one two)

@@ -15,6 +15,7 @@ use Rattle.cg_c_turn.specs.Leads.{Outcome, IsInside}
 use Rattle.cg_c_turn.specs.Stands.{IsFresh, IsStoredBelow, IsFormed, IsTouched, Grows, Runs, IsSound, Matches, AreReady, word_in, word_or, begun}
 use Rattle.cg_c_turn.specs.Pieces.{Leaves, Steps}
 use Rattle.cg_c_turn.proofs.History.{history_with, pure_adds_none}
+use Rattle.cg_c_turn.proofs.Sent.{sent_silent}
 
 -- ---- values
 
@@ -47,6 +48,7 @@ steps_refl d f = record {
   words = refl;
   initial = refl;
   latest = refl;
+  silent = refl;
 }
 
 pub steps_then : (a b c : Draft) (es fs : List Effect) → Steps a b es → Steps b c fs → Steps a c (es ++ fs)
@@ -63,6 +65,7 @@ steps_then a b c es fs p q = record {
   words = q.words ∙ p.words;
   initial = q.initial ∙ p.initial;
   latest = q.latest ∙ p.latest;
+  silent = sent_silent es fs p.silent q.silent;
 }
 
 -- ---- turns
@@ -196,4 +199,5 @@ steps_with a vs f values = record {
   words = refl;
   initial = refl;
   latest = refl;
+  silent = refl;
 }

@@ -41,6 +41,7 @@ guards_steps a d H go b es e wanted v f n t =
       words = t.words ∙ ap (λ (z : Draft). z.words) n.rest;
       initial = t.initial ∙ ap (λ (z : Draft). z.initial) n.rest;
       latest = t.latest ∙ ap (λ (z : Draft). z.latest) n.rest;
+      silent = t.silent;
     }
 
 evaluates_under : (a d : Draft) (x : Moment) (E : Words) (m : Outcome) (e : Expr) (goes_on : Bool) (w : ℕ)

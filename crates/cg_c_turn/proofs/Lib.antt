@@ -26,9 +26,11 @@ pub mod Loading
 pub mod Loops
 pub mod Merging
 pub mod Operating
+pub mod PortsBelow
 pub mod Prefixes
 pub mod Quiet
 pub mod Sending
+pub mod Sent
 pub mod Shapes
 pub mod Single
 pub mod StoreApart

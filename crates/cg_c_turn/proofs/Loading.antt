@@ -117,6 +117,7 @@ loads_anew a vs array address v place f below kept single within is =
         words = refl;
         initial = refl;
         latest = refl;
+        silent = refl;
       };
       within = within;
       yields = λ at. record {

@@ -15,7 +15,7 @@ use Rattle.cg_c_values.specs.Values.{Moment, Words, Keeps, IsLoad, holds}
 use Rattle.cg_c_values.proofs.Known.{fits_kept}
 use Rattle.cg_c_meaning.specs.Meaning.{State, Context, inside, counter, stmts, ◌>>◌}
 use Rattle.cg_c_meaning.specs.Turns.{all_turn, turn, turns_of, when}
-use Rattle.cg_c_meaning.specs.Typed.{AreApart, AreTypedStmts, stmts_inputs}
+use Rattle.cg_c_meaning.specs.Typed.{AreApart, AreTypedStmts, nest_outputs, stmts_inputs, stmts_outputs}
 use Rattle.cg_c_turn.specs.Draft.{Draft, Effect, assigned_in, latest_in}
 use Rattle.cg_c_turn.specs.Leads.{Outcome}
 use Rattle.cg_c_turn.specs.Nested.{AddsNoLoad, AreQuiet, EntersLoop, IsEdge, IsIndex, IsNested, IsOfTurn}
@@ -29,6 +29,7 @@ use Rattle.cg_c_turn.proofs.Prefixes.{keeps_on}
 use Rattle.cg_c_meaning.specs.Taken.{Takes}
 use Rattle.cg_c_meaning.proofs.Taking.{blocks_take}
 use Rattle.cg_c_turn.proofs.Doing.{Step, in_turn, moved_arrays, same_end, split}
+use Rattle.cg_c_turn.proofs.Sent.{sends_moved, sends_then}
 
 -- ---- the counters around
 
@@ -216,7 +217,7 @@ loop_words a {b = b} {c = c} {d = d} {index = index} l ls t at some few values e
 
 -- the statements before a loop, what is in it, and the statements after it
 pub nested_is : {a b c d e : Draft} {index inner : ℕ} (l : Level) (ls : List Level) (body : Stmts) → IsFormed a → IsIndex a.values index (turns_of (l ∷ ls)) → 0 < l.range.trips → 0 < turns_of ls → AreQuiet a.arrays (l ∷ ls) → AreTypedStmts a.arrays true body → AreApart (stmts_inputs body)
-    → IsEdge a b index 0 (λ x. stmts x l.before) → EntersLoop b c l.range (turns_of ls) inner → IsNested c d inner ls body → IsEdge (with_counters d b.counters) e index (turns_of (l ∷ ls) - 1) (λ x. stmts x l.after) → IsNested a e index (l ∷ ls) body
+    → IsEdge a b index 0 (λ x. stmts x l.before) (stmts_outputs l.before) → EntersLoop b c l.range (turns_of ls) inner → IsNested c d inner ls body → IsEdge (with_counters d b.counters) e index (turns_of (l ∷ ls) - 1) (λ x. stmts x l.after) (stmts_outputs l.after) → IsNested a e index (l ∷ ls) body
 unfolding turn
 nested_is {a = a} {b = b} {c = c} {d = d} {e = e} {index = index} {inner = inner} l ls body formed at some few quiet typed apart one enters two three =
     record {
@@ -235,12 +236,15 @@ nested_is {a = a} {b = b} {c = c} {d = d} {e = e} {index = index} {inner = inner
           let back = in_turn G middle last (subst AreApart (sym (append-nil (stmts_inputs body))) apart) (λ x before after h. turn_takes a.arrays ls body (inside x word) rest before after quiet.4 typed h) in
           in_turn G first (subst (λ (z : List ℕ). Performs b e (two.added ++ three.added) G (λ x. turn (inside x word) ls body rest >> when (t + 1 == span) (stmts x l.after)) z) (append-nil (stmts_inputs body)) back) apart
           (λ x before after h. take_none a.arrays l.before x (t == 0) before after quiet.0 quiet.2 h);
+      sends = sends_then a d e (stmts_outputs l.before ++ nest_outputs ls body) (stmts_outputs l.after)
+          (sends_then a b d (stmts_outputs l.before) (nest_outputs ls body) one.sends (sends_moved b c d d (nest_outputs ls body) (ap (λ (z : Draft). z.effects) enters.rest) two.sends refl))
+          (sends_moved d (with_counters d b.counters) e e (stmts_outputs l.after) refl three.sends refl);
     }
 
 -- no loop is left
-pub bare : {a b : Draft} (index : ℕ) (body : Stmts) → IsTranslated a b (λ x. stmts x body) (stmts_inputs body) → IsNested a b index [] body
+pub bare : {a b : Draft} (index : ℕ) (body : Stmts) → IsTranslated a b (λ x. stmts x body) (stmts_inputs body) (stmts_outputs body) → IsNested a b index [] body
 unfolding turn
-bare index body h = record { added = h.added; performs = λ t lt. known_where Any (λ E. E index ≡ t) (λ x E r k. tt) h.performs }
+bare index body h = record { added = h.added; performs = λ t lt. known_where Any (λ E. E index ≡ t) (λ x E r k. tt) h.performs; sends = h.sends }
 
 pub positive : (levels : List Level) → all_turn levels ≡ true → 0 < turns_of levels
 positive [] h = omega arith

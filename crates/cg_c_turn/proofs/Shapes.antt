@@ -1,5 +1,5 @@
 -- The expressions that values of the program denote, by their parts.
-use Rattle.std.proofs.Common.{◌≡◌, ◌++◌, append_assoc, true, false, List, refl, sym, ap, ap₂, Vec, ◌∙◌, rules, subst, Box, Global}
+use Rattle.std.proofs.Common.{◌≡◌, ℕ, ◌<◌, ◌++◌, append_assoc, true, false, List, refl, sym, ap, ap₂, Vec, ◌∙◌, rules, subst, Box, Global}
 use Rattle.cg_c_syntax.specs.declared.expression.Cast.{Cast}
 use Rattle.cg_c_syntax.specs.declared.expression.Pick.{Pick}
 use Rattle.cg_c_syntax.specs.declared.expression.Sign.{Sign}
@@ -9,7 +9,7 @@ use Rattle.cg_c_check.specs.declared.program.Expr.{Expr as MadeExpr, Row_of-Expr
 use Rattle.cg_c_check.specs.declared.program.Element.{Element as MadeElement}
 use Rattle.cg_c_check.specs.declared.program.Link.{Link}
 use Rattle.cg_c_check.specs.declared.program.Expr as made
-use Rattle.cg_c_check.specs.Program.{Expr, Element, Signed, Converted, Picked, Two, Choice, MoreExprs}
+use Rattle.cg_c_check.specs.Program.{Expr, Element, Signed, Converted, Input, Picked, Two, Choice, MoreExprs}
 use Rattle.cg_c_check.specs.Written.{expr_of, row_exprs, row_linked, exprs_of, linked}
 use Rattle.cg_c_meaning.specs.Typed.{AreApart, IsArray, IsTypedExpr, IsTypedExprs, inputs, inputs_of}
 use Rattle.cg_c_turn.proofs.Growing.{apart_first, apart_second}
@@ -42,6 +42,10 @@ cast_typed arrays whole e to h t = subst (IsTypedExpr arrays true) h t
 pub cast_apart : (whole e : Expr) (to : Cast) → whole ≡ Converted to e → AreApart (inputs whole) → AreApart (inputs e)
 unfolding inputs
 cast_apart whole e to h t = subst (λ (z : Expr). AreApart (inputs z)) h t
+
+pub input_port : (arrays : List Array) (E : MadeExpr) (port : ℕ) → E ≡ made.Input port → IsTypedExpr arrays true (expr_of E) → port < 16
+unfolding IsTypedExpr
+input_port arrays E port h t = (let k : IsTypedExpr arrays true (Input port) = subst (λ (z : MadeExpr). IsTypedExpr arrays true (expr_of z)) h t in k.1)
 
 -- ---- chains and elements
 

@@ -214,4 +214,5 @@ stores d array address word place version b =
         leads = λ x E m c end r s does. (λ on. inside_of d array address word at w E (does on).0, store_done d array address word place version at w x E m c end b s does);
       };
       initial = refl;
+      silent = refl;
     }

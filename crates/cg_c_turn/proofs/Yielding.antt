@@ -25,7 +25,7 @@ yields_of a b es e wanted v t = record {
 }
 
 pub steps_of : (a b : Draft) (es : List Effect) (e : Expr) (wanted : Wanted) (v : ℕ) → Translates a b es e wanted v → Steps a b es
-steps_of a b es e wanted v t = record { grows = t.grows; formed = t.formed; words = t.words; initial = t.initial; latest = t.latest }
+steps_of a b es e wanted v t = record { grows = t.grows; formed = t.formed; words = t.words; initial = t.initial; latest = t.latest; silent = t.silent }
 
 pub translates_by : (a b : Draft) (es : List Effect) (e : Expr) (wanted : Wanted) (v : ℕ) → Steps a b es → v < length b.values → Yields a b es (λ E. Unit {0}) (λ c. value c e) (inputs e) (λ E w. Agrees wanted (E v) w) → Translates a b es e wanted v
 translates_by a b es e wanted v p within y = record {
@@ -34,6 +34,7 @@ translates_by a b es e wanted v p within y = record {
   words = p.words;
   initial = p.initial;
   latest = p.latest;
+  silent = p.silent;
   within = within;
   leads = λ x E m w runs sound goes.
       leads_weaker a.arrays E es m (IsLeft b E m (Agrees wanted (E v) w)) (IsEvaluated b E m wanted v w)

@@ -8,9 +8,9 @@ use Rattle.cg_c_values.specs.declared.value.Value.{Value}
 use Rattle.cg_c_values.specs.Values.{Moment, Words, Fits, Keeps, IsLoad, holds, value_at}
 use Rattle.cg_c_meaning.specs.Meaning.{Context, Run, counter as counter_of}
 use Rattle.cg_c_meaning.specs.Turns.{turn, turns_of, when}
-use Rattle.cg_c_meaning.specs.Typed.{AreTypedStmts, stmts_inputs}
+use Rattle.cg_c_meaning.specs.Typed.{AreTypedStmts, nest_outputs, stmts_inputs}
 use Rattle.cg_c_turn.specs.Draft.{Draft, Effect, assigned_in, latest_in}
-use Rattle.cg_c_turn.specs.Stands.{ACondition, Agrees, Any, IsTouched, Performs}
+use Rattle.cg_c_turn.specs.Stands.{ACondition, Agrees, Any, IsTouched, Performs, Sends}
 
 -- values were added at the end, none of them a load's
 pub record AddsNoLoad (old new : List Value) : Type 0 where
@@ -43,15 +43,18 @@ pub record IsBlank (arrays : List Array) (d : Draft) : Type 0 where
 pub record IsAtFirst (d : Draft) : Type 0 where
   pub first : (x : Moment) (E : Words) → Fits d.values x E → holds E d.guard ≡ true → x.turn ≡ 0
 
--- a part without inputs of the first turn is translated, which may say what words have when the turn begins
-pub record IsFirst (before after : Draft) (run : Context → Run (Unit {0})) : Type 0 where
+-- a part without inputs of the first turn is translated, which sends words to the streams of `outs` and may say what words
+-- have when the turn begins
+pub record IsFirst (before after : Draft) (run : Context → Run (Unit {0})) (outs : List ℕ) : Type 0 where
   pub added : List Effect
   pub performs : Performs before after added Any run []
+  pub sends : Sends before after outs
 
--- a part without inputs is translated that is done where the word of c isn't 0
-pub record IsGuarded (before after : Draft) (c : ℕ) (run : Context → Run (Unit {0})) : Type 0 where
+-- a part without inputs, which sends words to the streams of `outs`, is translated that is done where the word of c isn't 0
+pub record IsGuarded (before after : Draft) (c : ℕ) (run : Context → Run (Unit {0})) (outs : List ℕ) : Type 0 where
   pub added : List Effect
   pub performs : (w : ℕ) → Performs before after added (λ E. Agrees ACondition (E c) w) (λ x. when (is_true w) (run x)) []
+  pub sends : Sends before after outs
 
 -- a word was neither assigned in this turn nor used as it was when the turn began
 pub record IsUnused (d : Draft) (number : ℕ) : Type 0 where
@@ -62,10 +65,11 @@ pub record IsUnused (d : Draft) (number : ℕ) : Type 0 where
 abbrev pub with_initial : Draft → List ℕ → Draft
 with_initial d words = record d { initial = words }
 
--- statements are translated that are done in the turn whose index is `at`
-pub record IsEdge (before after : Draft) (index at : ℕ) (run : Context → Run (Unit {0})) : Type 0 where
+-- statements, which send words to the streams of `outs`, are translated that are done in the turn whose index is `at`
+pub record IsEdge (before after : Draft) (index at : ℕ) (run : Context → Run (Unit {0})) (outs : List ℕ) : Type 0 where
   pub added : List Effect
   pub performs : (t : ℕ) → Performs before after added (λ E. E index ≡ t) (λ c. when (t == at) (run c)) []
+  pub sends : Sends before after outs
 
 -- from a point before a loop to one in it: `counter` is the value of the loop's counter, and `index` the number of the turn
 -- among those of an iteration, of which there are `span`
@@ -87,3 +91,4 @@ AreQuiet arrays (l ∷ ls) =
 pub record IsNested (before after : Draft) (index : ℕ) (levels : List Level) (body : Stmts) : Type 0 where
   pub added : List Effect
   pub performs : (t : ℕ) → t < turns_of levels → Performs before after added (λ E. E index ≡ t) (λ c. turn c levels body t) (stmts_inputs body)
+  pub sends : Sends before after (nest_outputs levels body)

@@ -19,7 +19,7 @@ use Rattle.cg_c_meaning.specs.Meaning.{State, Context, Run, ◌>>=◌, give, loa
 use Rattle.cg_c_meaning.specs.Typed.{AreApart, IsTypedExpr, inputs, inputs_of}
 use Rattle.cg_c_turn.specs.Draft.{Draft, Effect}
 use Rattle.cg_c_turn.specs.Leads.{Outcome, Leads, IsInside, array_of}
-use Rattle.cg_c_turn.specs.Stands.{Wanted, TheWord, ACondition, Agrees, AreBelow, AreReady, Grows, IsFormed, IsSound, Matches, Runs, Translates}
+use Rattle.cg_c_turn.specs.Stands.{Wanted, TheWord, ACondition, Agrees, AreBelow, AreReady, Grows, IsFormed, IsSound, Matches, Runs, Translates, sent_ports}
 
 -- ---- operations on values
 
@@ -77,13 +77,14 @@ direct_op _ s = ops.Add
 
 -- ---- parts of a run
 
--- values and effects were added, and nothing else changed
+-- values and effects were added that send nothing, and nothing else changed
 pub record Steps (before after : Draft) (added : List Effect) : Type 0 where
   pub grows : Grows before after added
   pub formed : IsFormed after
   pub words : after.words ≡ before.words
   pub initial : after.initial ≡ before.initial
   pub latest : after.latest ≡ before.latest
+  pub silent : sent_ports added ≡ []
 
 -- a part of a run changed nothing but the streams of these ports
 pub record Leaves (before after : State) (ports : List ℕ) : Type 0 where

@@ -1,5 +1,5 @@
 -- How the draft of a turn stands to a run of the program at the same point.
-use Rattle.std.specs.Prelude.{◌≡◌, ℕ, suc, ◌+◌, ◌<◌, ◌≤◌, ◌==◌, nat_lt, if◌then◌else◌, true, false, List, [], ◌∷◌, ◌++◌, length, take, Contains, Option, Some, None, slice_get, slice_index}
+use Rattle.std.specs.Prelude.{◌≡◌, ◌⊎◌, ℕ, suc, ◌+◌, ◌<◌, ◌≤◌, ◌==◌, nat_lt, if◌then◌else◌, true, false, List, [], ◌∷◌, ◌++◌, length, take, Contains, Option, Some, None, slice_get, slice_index}
 use Rattle.cg_c_check.specs.declared.program.Array.{Array}
 use Rattle.cg_c_check.specs.Arrays.{size_of}
 use Rattle.cg_c_check.specs.Program.{Expr}
@@ -34,6 +34,23 @@ abbrev pub stores_to : (array : ℕ) → List Effect → ℕ
 stores_to array [] = 0
 stores_to array (Store guard of address word place ∷ es) = (if of == array then 1 else 0) + stores_to array es
 stores_to array (_ ∷ es) = stores_to array es
+
+-- the ports that effects send to, in order
+abbrev pub sent_ports : List Effect → List ℕ
+sent_ports [] = []
+sent_ports (Send guard port word ∷ es) = port ∷ sent_ports es
+sent_ports (_ ∷ es) = sent_ports es
+
+-- the numbers qs are the numbers ps, in their order, with some left out
+abbrev pub IsAmong : (qs ps : List ℕ) → Type 0
+IsAmong qs [] = qs ≡ []
+IsAmong qs (p ∷ ps) = IsAmong qs ps ⊎ ((rest : List ℕ) × (qs ≡ p ∷ rest) × IsAmong rest ps)
+
+-- the ports that further effects send to are among these
+pub record Sends (before after : Draft) (outs : List ℕ) : Type 0 where
+  pub ports : List ℕ
+  pub sent : sent_ports after.effects ≡ sent_ports before.effects ++ ports
+  pub among : IsAmong ports outs
 
 -- one of these effects loads the value
 pub record IsLoadedBy (effects : List Effect) (value : ℕ) : Type 0 where
@@ -180,6 +197,7 @@ pub record Translates (before after : Draft) (added : List Effect) (e : Expr) (w
   pub words : after.words ≡ before.words
   pub initial : after.initial ≡ before.initial
   pub latest : after.latest ≡ before.latest
+  pub silent : sent_ports added ≡ []
   pub within : v < length after.values
   pub leads : (x : Moment) (E : Words) (m : Outcome) (w : ℕ) → Runs after x E → IsSound before E m →
       (holds E before.guard ≡ true → Evaluates before x E m e w) →

@@ -4,7 +4,7 @@ use Rattle.cg_c_meaning.specs.Meaning.{loaded, stored}
 use Rattle.cg_c_turn.specs.Draft.{Draft, Effect}
 use Rattle.cg_c_turn.specs.Leads.{IsInside}
 use Rattle.cg_c_turn.specs.Pieces.{Steps, Yields}
-use Rattle.cg_c_turn.specs.Stands.{Performs}
+use Rattle.cg_c_turn.specs.Stands.{Performs, sent_ports}
 
 -- v is the value of what f makes of the word that is at an address in an array, and of the word of the value `new`
 pub record Changes (before after : Draft) (added : List Effect) (array address : ℕ) (f : (old new : ℕ) → ℕ) (new v : ℕ) : Type 0 where
@@ -16,3 +16,4 @@ pub record Changes (before after : Draft) (added : List Effect) (array address :
 pub record Stores (before after : Draft) (added : List Effect) (array address word : ℕ) : Type 0 where
   pub performs : (at w : ℕ) → Performs before after added (λ E. (E address ≡ at) × IsInside before.arrays array at × (E word ≡ w)) (λ c. stored at w) []
   pub initial : after.initial ≡ before.initial
+  pub silent : sent_ports added ≡ []

@@ -6,10 +6,10 @@ use Rattle.cg_c_check.specs.Program.{Program}
 use Rattle.cg_c_values.specs.Values.{Moment, Words}
 use Rattle.cg_c_meaning.specs.Meaning.{State, Context}
 use Rattle.cg_c_meaning.specs.Turns.{turn, turns_of}
-use Rattle.cg_c_meaning.specs.Typed.{stmts_inputs}
+use Rattle.cg_c_meaning.specs.Typed.{AreApart, stmts_inputs}
 use Rattle.cg_c_turn.specs.Draft.{Draft}
 use Rattle.cg_c_turn.specs.Leads.{Outcome, Leads}
-use Rattle.cg_c_turn.specs.Stands.{AreReady, HasTable, IsFormed, Runs, word_in}
+use Rattle.cg_c_turn.specs.Stands.{AreBelow, AreReady, HasTable, IsFormed, Runs, sent_ports, word_in}
 
 -- the memory has room for the arrays, and tables have their words
 pub record HasArrays (arrays : List Array) (memory : List ℕ) : Type 0 where
@@ -34,10 +34,11 @@ pub record IsTurnEnd (d : Draft) (x : Moment) (E : Words) (s : State) (n : Outco
   pub words : (number : ℕ) → s.words number ≡ word_in x E d number
   pub arrays : HasArrays d.arrays n.memory
 
--- the draft does what the program does in each of its turns
+-- the draft does what the program does in each of its turns, and sends to each of the 16 ports from one place at most
 pub record Turns (p : Program) (d : Draft) : Type 0 where
   pub formed : IsFormed d
   pub arrays : d.arrays ≡ p.arrays
+  pub sends : AreApart (sent_ports d.effects) × AreBelow 16 (sent_ports d.effects)
   pub leads : (x : Moment) (E : Words) (m : Outcome) (s end : State) → x.turn < turns_of p.levels → Runs d x E → HasArrays p.arrays m.memory → Starts p x m s →
       turn (outside_loops p x) p.levels p.body x.turn s ≡ Some (tt, end) →
       Leads p.arrays E d.effects m (IsTurnEnd d x E end)

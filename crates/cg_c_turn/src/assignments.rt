@@ -1,5 +1,5 @@
 //! Assignments to words and to elements of arrays.
-ghost use Rattle.std.specs.Prelude.{◌≡◌, true, ◌<◌, List, ◌++◌, None, length, OnOk, IfOk};
+ghost use Rattle.std.specs.Prelude.{◌≡◌, true, ◌<◌, List, [], ◌++◌, None, length, OnOk, IfOk};
 ghost use Rattle.cg_c_check.specs.Written.{expr_of, exprs_of, target_of};
 ghost use Rattle.cg_c_check.specs.Program as program;
 ghost use Rattle.cg_c_meaning.specs.Meaning as meaning;
@@ -37,7 +37,7 @@ impl<'p> Draft<'p> {
         requires formed { IsFormed (draft_of self.now) }
         requires typed { IsTypedStmt (draft_of self.now).arrays true (program.Assign (target_of target.now) op (expr_of value.now)) }
         requires apart { AreApart (stmt_inputs (program.Assign (target_of target.now) op (expr_of value.now))) }
-        ensures { OnOk result (IsTranslated (draft_of self.old) (draft_of self.new) (λ c. meaning.stmt c (program.Assign (target_of target.now) op (expr_of value.now))) (stmt_inputs (program.Assign (target_of target.now) op (expr_of value.now)))) }
+        ensures { OnOk result (IsTranslated (draft_of self.old) (draft_of self.new) (λ c. meaning.stmt c (program.Assign (target_of target.now) op (expr_of value.now))) (stmt_inputs (program.Assign (target_of target.now) op (expr_of value.now))) []) }
     {
         match target {
             Target::Word { number, signedness } => {
@@ -65,7 +65,7 @@ impl<'p> Draft<'p> {
         requires typed { IsTypedExpr (draft_of self.now).arrays true (expr_of value.now) }
         requires apart { AreApart (inputs (expr_of value.now)) }
         requires read { change.value ≡ program.signedness_of (expr_of value.now) }
-        ensures { OnOk result (IsTranslated (draft_of self.old) (draft_of self.new) (λ c. meaning.stmt c (program.Assign (program.TheWord number change.target) change.op (expr_of value.now))) (inputs (expr_of value.now))) }
+        ensures { OnOk result (IsTranslated (draft_of self.old) (draft_of self.new) (λ c. meaning.stmt c (program.Assign (program.TheWord number change.target) change.op (expr_of value.now))) (inputs (expr_of value.now)) []) }
     {
         let new = self.expr(value, Wanted::TheWord)?;
         let word = self.changed_word(number, change, new)?;
@@ -110,7 +110,7 @@ impl<'p> Draft<'p> {
         requires typed { IsTypedExpr (draft_of self.now).arrays true (expr_of value.now) }
         requires apart { AreApart (inputs_of (exprs_of element.now.indices.items) ++ inputs (expr_of value.now)) }
         requires read { change.value ≡ program.signedness_of (expr_of value.now) }
-        ensures { OnOk result (IsTranslated (draft_of self.old) (draft_of self.new) (λ c. meaning.stmt c (program.Assign (program.TheElement element.now.array element.now.place change.target (exprs_of element.now.indices.items)) change.op (expr_of value.now))) (inputs_of (exprs_of element.now.indices.items) ++ inputs (expr_of value.now))) }
+        ensures { OnOk result (IsTranslated (draft_of self.old) (draft_of self.new) (λ c. meaning.stmt c (program.Assign (program.TheElement element.now.array element.now.place change.target (exprs_of element.now.indices.items)) change.op (expr_of value.now))) (inputs_of (exprs_of element.now.indices.items) ++ inputs (expr_of value.now)) []) }
     {
         let indices = self.exprs(&element.indices)?;
         let address = self.address(element.array, &indices)?;

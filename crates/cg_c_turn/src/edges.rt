@@ -3,7 +3,7 @@ ghost use Rattle.std.specs.Prelude.{◌≡◌, ℕ, ◌<◌, ◌==◌, if◌then
 ghost use Rattle.cg_word.specs.Word.{one_if};
 ghost use Rattle.cg_c_check.specs.Written.{expr_of, initial_of, stmt_of, stmts_of};
 ghost use Rattle.cg_c_meaning.specs.Meaning as meaning;
-ghost use Rattle.cg_c_meaning.specs.Typed.{AreTypedInitials, AreTypedStmts, IsTypedExpr, IsTypedStmt, initial_inputs, inputs, stmt_inputs, stmts_inputs};
+ghost use Rattle.cg_c_meaning.specs.Typed.{AreTypedInitials, AreTypedStmts, IsTypedExpr, IsTypedStmt, initial_inputs, inputs, stmt_inputs, stmt_outputs, stmts_inputs, stmts_outputs};
 ghost use Rattle.cg_c_turn.specs.Draft.{draft_of, initial_in};
 ghost use Rattle.cg_c_turn.specs.Nested.{IsAtFirst, IsEdge, IsFirst, IsGuarded, IsOfTurn, IsUnused, with_initial};
 ghost use Rattle.cg_c_turn.specs.Stands.{IsFormed};
@@ -23,7 +23,7 @@ impl<'p> Draft<'p> {
         requires index { index < length (draft_of self.now).values }
         requires typed { AreTypedStmts (draft_of self.now).arrays true (stmts_of stmts.now) }
         requires none { stmts_inputs (stmts_of stmts.now) ≡ [] }
-        ensures { OnOk result (IsEdge (draft_of self.old) (draft_of self.new) index at (λ c. meaning.stmts c (stmts_of stmts.now))) }
+        ensures { OnOk result (IsEdge (draft_of self.old) (draft_of self.new) index at (λ c. meaning.stmts c (stmts_of stmts.now)) (stmts_outputs (stmts_of stmts.now))) }
     {
         if stmts.is_empty() {
             return Ok(());
@@ -50,7 +50,7 @@ impl<'p> Draft<'p> {
         requires condition { condition < length (draft_of self.now).values }
         requires typed { AreTypedStmts (draft_of self.now).arrays true (stmts_of stmts.now) }
         requires none { stmts_inputs (stmts_of stmts.now) ≡ [] }
-        ensures { OnOk result (IsGuarded (draft_of self.old) (draft_of self.new) condition (λ c. meaning.stmts c (stmts_of stmts.now))) }
+        ensures { OnOk result (IsGuarded (draft_of self.old) (draft_of self.new) condition (λ c. meaning.stmts c (stmts_of stmts.now)) (stmts_outputs (stmts_of stmts.now))) }
     {
         match self.values.number(condition) {
             Some(0) => Ok(()),
@@ -65,7 +65,7 @@ impl<'p> Draft<'p> {
         requires condition { condition < length (draft_of self.now).values }
         requires typed { AreTypedStmts (draft_of self.now).arrays true (stmts_of stmts.now) }
         requires none { stmts_inputs (stmts_of stmts.now) ≡ [] }
-        ensures { OnOk result (IsGuarded (draft_of self.old) (draft_of self.new) condition (λ c. meaning.stmts c (stmts_of stmts.now))) }
+        ensures { OnOk result (IsGuarded (draft_of self.old) (draft_of self.new) condition (λ c. meaning.stmts c (stmts_of stmts.now)) (stmts_outputs (stmts_of stmts.now))) }
     {
         let arms = self.begin_arms(condition)?;
         self.stmts(stmts)?;
@@ -79,7 +79,7 @@ impl<'p> Draft<'p> {
         requires index { IsOfTurn (draft_of self.now).values index (λ t. t) }
         requires typed { AreTypedStmts (draft_of self.now).arrays true (stmts_of stmts.now) }
         requires none { stmts_inputs (stmts_of stmts.now) ≡ [] }
-        ensures { OnOk result (IsEdge (draft_of self.old) (draft_of self.new) index 0 (λ c. meaning.stmts c (stmts_of stmts.now))) }
+        ensures { OnOk result (IsEdge (draft_of self.old) (draft_of self.new) index 0 (λ c. meaning.stmts c (stmts_of stmts.now)) (stmts_outputs (stmts_of stmts.now))) }
     {
         if stmts.is_empty() {
             return Ok(());
@@ -94,7 +94,7 @@ impl<'p> Draft<'p> {
         requires condition { Means (draft_of self.now).values condition (λ x E. one_if (x.turn == 0)) }
         requires typed { AreTypedStmts (draft_of self.now).arrays true (stmts_of stmts.now) }
         requires none { stmts_inputs (stmts_of stmts.now) ≡ [] }
-        ensures { OnOk result (IsGuarded (draft_of self.old) (draft_of self.new) condition (λ c. meaning.stmts c (stmts_of stmts.now))) }
+        ensures { OnOk result (IsGuarded (draft_of self.old) (draft_of self.new) condition (λ c. meaning.stmts c (stmts_of stmts.now)) (stmts_outputs (stmts_of stmts.now))) }
     {
         match self.values.number(condition) {
             Some(_) => self.guarded(stmts, condition),
@@ -108,7 +108,7 @@ impl<'p> Draft<'p> {
         requires condition { Means (draft_of self.now).values condition (λ x E. one_if (x.turn == 0)) }
         requires typed { AreTypedStmts (draft_of self.now).arrays true (stmts_of stmts.now) }
         requires none { stmts_inputs (stmts_of stmts.now) ≡ [] }
-        ensures { OnOk result (IsGuarded (draft_of self.old) (draft_of self.new) condition (λ c. meaning.stmts c (stmts_of stmts.now))) }
+        ensures { OnOk result (IsGuarded (draft_of self.old) (draft_of self.new) condition (λ c. meaning.stmts c (stmts_of stmts.now)) (stmts_outputs (stmts_of stmts.now))) }
     {
         let arms = self.begin_arms(condition)?;
         self.first_stmts(stmts)?;
@@ -121,7 +121,7 @@ impl<'p> Draft<'p> {
         requires first { IsAtFirst (draft_of self.now) }
         requires typed { AreTypedStmts (draft_of self.now).arrays true (stmts_of stmts.now) }
         requires none { stmts_inputs (stmts_of stmts.now) ≡ [] }
-        ensures { OnOk result (IsFirst (draft_of self.old) (draft_of self.new) (λ c. meaning.stmts c (stmts_of stmts.now))) }
+        ensures { OnOk result (IsFirst (draft_of self.old) (draft_of self.new) (λ c. meaning.stmts c (stmts_of stmts.now)) (stmts_outputs (stmts_of stmts.now))) }
     {
         for stmt in stmts {
             self.first_stmt(stmt)?;
@@ -135,7 +135,7 @@ impl<'p> Draft<'p> {
         requires first { IsAtFirst (draft_of self.now) }
         requires typed { IsTypedStmt (draft_of self.now).arrays true (stmt_of stmt.now) }
         requires none { stmt_inputs (stmt_of stmt.now) ≡ [] }
-        ensures { OnOk result (IsFirst (draft_of self.old) (draft_of self.new) (λ c. meaning.stmt c (stmt_of stmt.now))) }
+        ensures { OnOk result (IsFirst (draft_of self.old) (draft_of self.new) (λ c. meaning.stmt c (stmt_of stmt.now)) (stmt_outputs (stmt_of stmt.now))) }
     {
         match stmt {
             Stmt::Words(initials) => self.first_words(initials.as_slice()),
@@ -149,7 +149,7 @@ impl<'p> Draft<'p> {
         requires first { IsAtFirst (draft_of self.now) }
         requires typed { AreTypedInitials (draft_of self.now).arrays true (map initial_of initials.now) }
         requires none { initial_inputs (map initial_of initials.now) ≡ [] }
-        ensures { OnOk result (IsFirst (draft_of self.old) (draft_of self.new) (λ c. meaning.declared c (map initial_of initials.now))) }
+        ensures { OnOk result (IsFirst (draft_of self.old) (draft_of self.new) (λ c. meaning.declared c (map initial_of initials.now)) []) }
     {
         for initial in initials {
             self.first_word(initial)?;
@@ -164,7 +164,7 @@ impl<'p> Draft<'p> {
         requires first { IsAtFirst (draft_of self.now) }
         requires typed { IsTypedExpr (draft_of self.now).arrays true (expr_of initial.now.value) }
         requires none { inputs (expr_of initial.now.value) ≡ [] }
-        ensures { OnOk result (IsFirst (draft_of self.old) (draft_of self.new) (λ c. meaning.declared c (initial_of initial.now ∷ []))) }
+        ensures { OnOk result (IsFirst (draft_of self.old) (draft_of self.new) (λ c. meaning.declared c (initial_of initial.now ∷ [])) []) }
     {
         match &initial.value {
             Expr::Literal(constant) if self.is_unused(initial.number) => {
@@ -179,7 +179,7 @@ impl<'p> Draft<'p> {
         requires formed { IsFormed (draft_of self.now) }
         requires typed { IsTypedExpr (draft_of self.now).arrays true (expr_of value.now) }
         requires none { inputs (expr_of value.now) ≡ [] }
-        ensures { OnOk result (IsFirst (draft_of self.old) (draft_of self.new) (λ c. meaning.declared c (record { number = number; value = expr_of value.now } ∷ []))) }
+        ensures { OnOk result (IsFirst (draft_of self.old) (draft_of self.new) (λ c. meaning.declared c (record { number = number; value = expr_of value.now } ∷ [])) []) }
     {
         let v = self.expr(value, Wanted::TheWord)?;
         self.set_word(number, v)
@@ -221,7 +221,7 @@ impl<'p> Draft<'p> {
         requires outermost { outermost ≡ true → IsOfTurn (draft_of self.now).values index (λ t. t) }
         requires typed { AreTypedStmts (draft_of self.now).arrays true (stmts_of stmts.now) }
         requires none { stmts_inputs (stmts_of stmts.now) ≡ [] }
-        ensures { OnOk result (IsEdge (draft_of self.old) (draft_of self.new) index 0 (λ c. meaning.stmts c (stmts_of stmts.now))) }
+        ensures { OnOk result (IsEdge (draft_of self.old) (draft_of self.new) index 0 (λ c. meaning.stmts c (stmts_of stmts.now)) (stmts_outputs (stmts_of stmts.now))) }
     {
         if outermost {
             self.first_edge(stmts, index)

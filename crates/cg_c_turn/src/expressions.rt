@@ -489,6 +489,7 @@ impl<'p> Draft<'p> {
     /// Returns the value of the next word from a port.
     fn input(&mut self, port: u32, wanted: Wanted) -> Result<usize, AllocError>
         requires formed { IsFormed (draft_of self.now) }
+        requires port { port < 16 }
         ensures { IfOk result (λ v. (added : List Effect) × Translates (draft_of self.old) (draft_of self.new) added (program.Input port) wanted v) }
     {
         let v = self.values.add(Value::Input(port))?;

@@ -1,9 +1,9 @@
 //! Statements.
-ghost use Rattle.std.specs.Prelude.{◌≡◌, ℕ, true, false, ◌<◌, List, [], Option, Some, None, length, OnOk, IfOk, IfSome, map};
+ghost use Rattle.std.specs.Prelude.{◌≡◌, ℕ, true, false, ◌<◌, List, [], ◌∷◌, Option, Some, None, length, OnOk, IfOk, IfSome, map};
 ghost use Rattle.cg_c_check.specs.Written.{expr_of, initial_of, stmt_of, stmts_of, target_of};
 ghost use Rattle.cg_c_check.specs.Program as program;
 ghost use Rattle.cg_c_meaning.specs.Meaning as meaning;
-ghost use Rattle.cg_c_meaning.specs.Typed.{AreApart, AreTypedInitials, AreTypedStmts, IsTypedExpr, IsTypedStmt, IsTypedTarget, initial_inputs, inputs, stmt_inputs, stmts_inputs};
+ghost use Rattle.cg_c_meaning.specs.Typed.{AreApart, AreTypedInitials, AreTypedStmts, IsTypedExpr, IsTypedStmt, IsTypedTarget, initial_inputs, inputs, stmt_inputs, stmt_outputs, stmts_inputs, stmts_outputs};
 ghost use Rattle.cg_c_turn.specs.Draft.{draft_of};
 ghost use Rattle.cg_c_turn.specs.Stands.{IsFormed};
 ghost use Rattle.cg_c_turn.specs.Translated.{IsTranslated};
@@ -19,7 +19,7 @@ impl<'p> Draft<'p> {
         requires formed { IsFormed (draft_of self.now) }
         requires typed { AreTypedInitials (draft_of self.now).arrays true (map initial_of initials.now) }
         requires apart { AreApart (initial_inputs (map initial_of initials.now)) }
-        ensures { OnOk result (IsTranslated (draft_of self.old) (draft_of self.new) (λ c. meaning.declared c (map initial_of initials.now)) (initial_inputs (map initial_of initials.now))) }
+        ensures { OnOk result (IsTranslated (draft_of self.old) (draft_of self.new) (λ c. meaning.declared c (map initial_of initials.now)) (initial_inputs (map initial_of initials.now)) []) }
     {
         for initial in initials {
             let v = self.expr(&initial.value, Wanted::TheWord)?;
@@ -33,7 +33,7 @@ impl<'p> Draft<'p> {
         requires formed { IsFormed (draft_of self.now) }
         requires typed { IsTypedExpr (draft_of self.now).arrays true (expr_of value.now) }
         requires apart { AreApart (inputs (expr_of value.now)) }
-        ensures { OnOk result (IsTranslated (draft_of self.old) (draft_of self.new) (λ c. meaning.stmt c (program.Output port (expr_of value.now))) (inputs (expr_of value.now))) }
+        ensures { OnOk result (IsTranslated (draft_of self.old) (draft_of self.new) (λ c. meaning.stmt c (program.Output port (expr_of value.now))) (inputs (expr_of value.now)) (port ∷ [])) }
     {
         let word = self.expr(value, Wanted::TheWord)?;
         self.effects.push(Effect::Send {
@@ -50,7 +50,7 @@ impl<'p> Draft<'p> {
         requires formed { IsFormed (draft_of self.now) }
         requires typed { IsTypedStmt (draft_of self.now).arrays true (stmt_of stmt.now) }
         requires apart { AreApart (stmt_inputs (stmt_of stmt.now)) }
-        ensures { OnOk result (IsTranslated (draft_of self.old) (draft_of self.new) (λ c. meaning.stmt c (stmt_of stmt.now)) (stmt_inputs (stmt_of stmt.now))) }
+        ensures { OnOk result (IsTranslated (draft_of self.old) (draft_of self.new) (λ c. meaning.stmt c (stmt_of stmt.now)) (stmt_inputs (stmt_of stmt.now)) (stmt_outputs (stmt_of stmt.now))) }
     {
         match stmt {
             Stmt::Words(initials) => self.declare(initials),
@@ -90,7 +90,7 @@ impl<'p> Draft<'p> {
         requires formed { IsFormed (draft_of self.now) }
         requires typed { AreTypedStmts (draft_of self.now).arrays true (stmts_of stmts.now) }
         requires apart { AreApart (stmts_inputs (stmts_of stmts.now)) }
-        ensures { OnOk result (IsTranslated (draft_of self.old) (draft_of self.new) (λ c. meaning.stmts c (stmts_of stmts.now)) (stmts_inputs (stmts_of stmts.now))) }
+        ensures { OnOk result (IsTranslated (draft_of self.old) (draft_of self.new) (λ c. meaning.stmts c (stmts_of stmts.now)) (stmts_inputs (stmts_of stmts.now)) (stmts_outputs (stmts_of stmts.now))) }
     {
         for s in stmts {
             self.stmt(s)?;

@@ -83,13 +83,14 @@ abbrev pub IsBelow : ℕ → Option ℕ → Type 0
 IsBelow v None = Unit {0}
 IsBelow v (Some guard) = guard < v
 
--- a value that may stand at number v: what it is computed from stands before it, its operation is one on two words, and
--- a constant is a word
+-- a value that may stand at number v: what it is computed from stands before it, its operation is one on two words, a
+-- constant is a word, and an input has one of the 16 ports
 abbrev pub MayStand : ℕ → Value → Type 0
 MayStand v (Const word) = word < words
 MayStand v (Loaded array version guard address) = IsBelow v guard × (address < v)
 MayStand v (Two op first second) = (is_plain op ≡ true) × (first < v) × (second < v)
 MayStand v (Select condition chosen other) = (condition < v) × (chosen < v) × (other < v)
+MayStand v (Input port) = port < 16
 MayStand v _ = Unit {0}
 
 -- ---- guards: a part of a turn acts where its guard isn't 0, or always if it has none

@@ -11,6 +11,7 @@ use Rattle.cg_c_turn.proofs.Loops.{positive, whole_index}
 use Rattle.cg_c_turn.proofs.Quiet.{quiet_levels}
 use Rattle.cg_c_turn.proofs.Beginning.{turns_are}
 use Rattle.cg_c_turn.proofs.turn.turn_of.Goals as goal
+use Rattle.cg_c_turn.proofs.PortsBelow.{nest_below}
 
 pub nest-requires-clause-index : goal.nest-requires-clause-index
 nest-requires-clause-index c = whole_index (listed c.add.new.self) c.in_ok-index.index _ (turn_is (listed c.add.new.self) c.in_ok-index.index c.in_ok-index.ensures.within c.in_ok-index.ensures.added)
@@ -33,5 +34,7 @@ returns c =
     (record { arrays_are = blank.arrays_are ∙ c.as_slice.ensures.value; counters = blank.counters; effects = blank.effects; guard = blank.guard; words = blank.words; initial = blank.initial; latest = blank.latest })
     (turn_is (listed c.add.new.self) c.in_ok-index.index c.in_ok-index.ensures.within c.in_ok-index.ensures.added)
     (positive p.levels c.requires.typed.iterates)
+    c.requires.typed.sent_once
+    (nest_below p.arrays p.levels p.body c.requires.typed.levels c.requires.typed.body)
     (subst (λ (z : List MadeStmt). IsNested b d c.in_ok-index.index p.levels (stmts_of z)) c.as_slice-3.ensures.value
     (subst (λ (z : List MadeLevel). IsNested b d c.in_ok-index.index (map level_of z) (stmts_of c.as_slice-3.result.now)) c.as_slice-2.ensures.value c.in_ok-nest.ensures))

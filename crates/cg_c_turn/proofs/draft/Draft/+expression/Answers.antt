@@ -17,7 +17,7 @@ use Rattle.cg_c_turn.proofs.Operating.{agrees_same}
 use Rattle.cg_c_turn.proofs.Composing.{IsCondition, arm_guards, choice_is, served, pick_is, chosen_is, other_is, begun_wanted, led_begun, typed_first, apart_chain, links_settled, links_through, led_here, led_next, led_end, next_of, sign_is, cast_is}
 use Rattle.cg_c_turn.proofs.Leaves.{with_values}
 use Rattle.cg_c_turn.proofs.Elements.{element_is, next_listed, listed_none, listed_more, listed_all}
-use Rattle.cg_c_turn.proofs.Shapes.{pick_shape, pick_typed, choice_shape, choice_typed, same_typed, same_apart, element_shape, element_typed, chain_shape, sign_shape, cast_shape, sign_typed, sign_apart, cast_typed, cast_apart}
+use Rattle.cg_c_turn.proofs.Shapes.{pick_shape, pick_typed, choice_shape, choice_typed, same_typed, same_apart, element_shape, element_typed, chain_shape, sign_shape, cast_shape, sign_typed, sign_apart, cast_typed, cast_apart, input_port}
 use Rattle.cg_c_turn.proofs.draft.Draft.+expression.Goals as goal
 
 pub chain-link-requires : goal.chain-link-requires
@@ -83,6 +83,9 @@ expr-expr-requires-in-Cast t c =
         ),
       ),
     )
+
+pub expr-input-requires-clause-port : goal.expr-input-requires-clause-port
+expr-input-requires-clause-port t c = input_port c.args.self.now.arrays.now c.args.e.now c.in-Input.port c.in-Input.is c.requires.typed
 
 pub expr-expr-requires-in-Pick : goal.expr-expr-requires-in-Pick
 expr-expr-requires-in-Pick t c =

@@ -9,7 +9,7 @@ use Rattle.cg_c_check.specs.Program.{Level}
 use Rattle.cg_c_values.specs.Listed.{listed}
 use Rattle.cg_c_meaning.specs.Meaning.{stmts}
 use Rattle.cg_c_meaning.specs.Turns.{all_turn, turns_of}
-use Rattle.cg_c_meaning.specs.Typed.{AreTypedStmts, stmts_inputs}
+use Rattle.cg_c_meaning.specs.Typed.{AreTypedStmts, stmts_inputs, stmts_outputs}
 use Rattle.cg_c_turn.specs.Draft.{Draft, draft_of}
 use Rattle.cg_c_turn.specs.Nested.{AreQuiet, EntersLoop, IsEdge, IsIndex, IsNested}
 use Rattle.cg_c_turn.proofs.Loops.{bare, nested_is, positive, entered_formed, fewer, inner_few, popped, first_trips, inner_turns, index_in, with_counters, with_counters_formed}
@@ -125,12 +125,12 @@ returns t c =
     let body = stmts_of c.args.body.now in
     on_ok_weaker c.edge.result
     (λ h.
-    let one : IsEdge (draft_of c.args.self.now) (draft_of c.before-2.new.self) c.args.index 0 (λ x. stmts x l.before) = subst (λ (z : List MadeStmt). IsEdge (draft_of c.args.self.now) (draft_of c.before-2.new.self) c.args.index 0 (λ x. stmts x (stmts_of z))) c.as_slice.ensures.value c.in_ok-before.ensures in
+    let one : IsEdge (draft_of c.args.self.now) (draft_of c.before-2.new.self) c.args.index 0 (λ x. stmts x l.before) (stmts_outputs l.before) = subst (λ (z : List MadeStmt). IsEdge (draft_of c.args.self.now) (draft_of c.before-2.new.self) c.args.index 0 (λ x. stmts x (stmts_of z)) (stmts_outputs (stmts_of z))) c.as_slice.ensures.value c.in_ok-before.ensures in
     let enters_by : EntersLoop (draft_of c.before-2.new.self) (draft_of c.enter_loop.new.self) l.range (turns_of ls) c.in_ok-inner_index.inner_index = subst (λ n. EntersLoop (draft_of c.before-2.new.self) (draft_of c.enter_loop.new.self) l.range n c.in_ok-inner_index.inner_index) c.span_of.ensures enters in
-    let last : IsEdge (with_counters (draft_of c.nest.new.self) (draft_of c.before-2.new.self).counters) (draft_of c.edge.new.self) c.args.index (turns_of (l ∷ ls) - 1) (λ x. stmts x l.after) =
-    subst (λ (z : List ℕ). IsEdge (with_counters (draft_of c.nest.new.self) z) (draft_of c.edge.new.self) c.args.index (turns_of (l ∷ ls) - 1) (λ x. stmts x l.after)) counters
-    (subst (λ (n : ℕ). IsEdge (with_counters (draft_of c.nest.new.self) c.pop.new.self.items) (draft_of c.edge.new.self) c.args.index n (λ x. stmts x l.after)) span
-    (subst (λ (z : List MadeStmt). IsEdge (with_counters (draft_of c.nest.new.self) c.pop.new.self.items) (draft_of c.edge.new.self) c.args.index (c.span_of-span.result - 1) (λ x. stmts x (stmts_of z))) c.as_slice-2.ensures.value h)) in
+    let last : IsEdge (with_counters (draft_of c.nest.new.self) (draft_of c.before-2.new.self).counters) (draft_of c.edge.new.self) c.args.index (turns_of (l ∷ ls) - 1) (λ x. stmts x l.after) (stmts_outputs l.after) =
+    subst (λ (z : List ℕ). IsEdge (with_counters (draft_of c.nest.new.self) z) (draft_of c.edge.new.self) c.args.index (turns_of (l ∷ ls) - 1) (λ x. stmts x l.after) (stmts_outputs l.after)) counters
+    (subst (λ (n : ℕ). IsEdge (with_counters (draft_of c.nest.new.self) c.pop.new.self.items) (draft_of c.edge.new.self) c.args.index n (λ x. stmts x l.after) (stmts_outputs l.after)) span
+    (subst (λ (z : List MadeStmt). IsEdge (with_counters (draft_of c.nest.new.self) c.pop.new.self.items) (draft_of c.edge.new.self) c.args.index (c.span_of-span.result - 1) (λ x. stmts x (stmts_of z)) (stmts_outputs (stmts_of z))) c.as_slice-2.ensures.value h)) in
     subst (λ (z : List Level). IsNested (draft_of c.args.self.now) (draft_of c.edge.new.self) c.args.index z body) (sym cons)
     (nested_is l ls body c.requires.formed at some few quiet c.requires.body c.requires.apart one enters_by c.in_ok-nest.ensures last))
     c.edge.ensures

@@ -1,11 +1,11 @@
 use Rattle.std.proofs.Common.{map, Some, None, Ok, Err, Result, sym, ap, ◌∙◌, rules}
 use Rattle.std.specs.Result.{OnOk}
 use Rattle.cg_c_check.specs.declared.program.Stmt.{the_lemmas}
-use Rattle.cg_c_check.specs.Written.{expr_of, initial_of, stmt_of, stmts_of}
+use Rattle.cg_c_check.specs.Written.{expr_of, initial_of, stmt_of, stmts_of, target_of}
 use Rattle.cg_c_turn.specs.Draft.{draft_of}
 use Rattle.cg_c_turn.proofs.Branching.{begun_formed, arms_are, arm_is, known_first, known_second, known_none}
 use Rattle.cg_c_turn.proofs.Listed.{stmts_start, next_stmt, stmts_step, stmts_done}
-use Rattle.cg_c_turn.proofs.Formed.{words_shape, block_shape, output_shape, lone_shape, else_shape, if_shape, held, else_known, lone_known, held_known, first_none, first_formed, first_arrays, second_formed, second_arrays, is_positive, zero_is, words_typed, words_apart, block_typed, block_apart, output_typed, output_apart, branch_typed, branch_apart, same_stands, words_stand, block_stands, output_stands, if_stands}
+use Rattle.cg_c_turn.proofs.Formed.{words_shape, block_shape, output_shape, assign_shape, lone_shape, else_shape, if_shape, held, else_known, lone_known, held_known, first_none, first_formed, first_arrays, second_formed, second_arrays, is_positive, zero_is, words_typed, words_apart, block_typed, block_apart, output_typed, output_apart, branch_typed, branch_apart, same_stands, words_stand, block_stands, output_stands, assign_stands, if_stands}
 use Rattle.cg_c_turn.proofs.draft.Draft.+stmts.Goals as goal
 
 on_ok : {A F : Type 0} (r : Result A F) (P Q : Type 0) → (P → Q) → OnOk r P → OnOk r Q
@@ -152,6 +152,10 @@ stmt-returns-in-Block t c = on_ok c.stmts.result _ _ (block_stands (stmt_of c.ar
 
 pub stmt-returns-in-Output : goal.stmt-returns-in-Output
 stmt-returns-in-Output t c = on_ok c.send.result _ _ (output_stands (stmt_of c.args.stmt.now) c.in-Output.port (expr_of c.in-Output.value) (output_shape c.args.stmt.now c.in-Output.port c.in-Output.value c.in-Output.is)) c.send.ensures
+
+pub stmt-returns-in-Assign : goal.stmt-returns-in-Assign
+stmt-returns-in-Assign t c =
+    on_ok c.assign.result _ _ (assign_stands (stmt_of c.args.stmt.now) (target_of c.in-Assign.target) c.in-Assign.op (expr_of c.in-Assign.value) (assign_shape c.args.stmt.now c.in-Assign.target c.in-Assign.op c.in-Assign.value c.in-Assign.is)) c.assign.ensures
 
 pub stmt-returns-in-Some-eq0-None : goal.stmt-returns-in-Some-eq0-None
 stmt-returns-in-Some-eq0-None t c =

@@ -10,4 +10,4 @@ pub returns : goal.returns
 returns c =
     let b = c.in_ok-arms.ensures in
     let one = c.in_ok-stmts.ensures in
-    on_ok_weaker c.end_arm.result (λ e. arm_guards c.requires.formed b (no_ports c.requires.none one.performs) (same_begins b one.initial) e) c.end_arm.ensures
+    on_ok_weaker c.end_arm.result (λ e. arm_guards c.requires.formed b (no_ports c.requires.none one.performs) one.sends (same_begins b one.initial) e) c.end_arm.ensures

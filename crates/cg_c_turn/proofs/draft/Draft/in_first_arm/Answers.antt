@@ -14,4 +14,4 @@ pub returns : goal.returns
 returns c =
     let b = c.in_ok-arms.ensures in
     let one = c.in_ok-first_stmts.ensures in
-    on_ok_weaker c.end_arm.result (λ e. arm_guards c.requires.formed b one.performs (later_begins (draft_of c.args.self.now) (draft_of c.first_stmts.new.self) c.args.condition c.requires.condition (arm_fits b one.performs.grows)) e) c.end_arm.ensures
+    on_ok_weaker c.end_arm.result (λ e. arm_guards c.requires.formed b one.performs one.sends (later_begins (draft_of c.args.self.now) (draft_of c.first_stmts.new.self) c.args.condition c.requires.condition (arm_fits b one.performs.grows)) e) c.end_arm.ensures
