@@ -1,5 +1,6 @@
 -- New values of values that aren't loads.
-use Rattle.std.proofs.Common.{◌≡◌, ℕ, ◌/◌, ◌%◌, ◌<◌, List, length, ◌∙◌, inl, inr}
+use Rattle.std.proofs.Common.{◌≡◌, ℕ, ◌/◌, ◌%◌, ◌<◌, List, length, ap, ◌∙◌, inl, inr}
+use Rattle.std.proofs.Math.Nat.{div-one, mod-eq_of_lt}
 use Rattle.std.specs.Prelude.{◌⊎◌}
 use Rattle.cg_word.specs.declared.op.Op.{Op}
 use Rattle.cg_word.specs.declared.op.Op.TheVariants as ops
@@ -21,6 +22,16 @@ unfolding IsWordOf
 digit_new old new turns map p r v m =
     record { within = m.within; is = λ x E l f. m.is x E l f; load = λ array version address guard e. absurd (cc) }
 
+-- the number of the turn is its digit of radix `turns`
+pub turn_new : (old new : List Value) (turns : ℕ) (map : List ℕ) (v : ℕ) → MeansIn turns new v (λ t. t / 1 % turns) → IsNew old new turns map Turn v
+unfolding IsWordOf
+turn_new old new turns map v m =
+    record {
+      within = m.within;
+      is = λ x E l f. m.is x E l f ∙ ap (λ z. z % turns) (div-one x.turn) ∙ mod-eq_of_lt l;
+      load = λ array version address guard e. absurd (cc);
+    }
+
 pub quotient_new : (old new : List Value) (turns : ℕ) (map : List ℕ) (p v : ℕ) → MeansIn turns new v (λ t. t / p) → IsNew old new turns map (Quotient p) v
 unfolding IsWordOf
 quotient_new old new turns map p v m =
@@ -41,11 +52,6 @@ select_new old new turns map condition chosen other v m =
 
 -- ---- leaves that are added as they are
 
-turn_new : (old new : List Value) (turns : ℕ) (map : List ℕ) (v : ℕ) → v < length new → value_at new v ≡ Turn → IsNew old new turns map Turn v
-unfolding IsWordOf
-turn_new old new turns map v l e =
-    record { within = l; is = λ x E b f. word_of new v Turn x E l e f; load = λ array version address guard i. absurd (cc) }
-
 carried_new : (old new : List Value) (turns : ℕ) (map : List ℕ) (number v : ℕ) → v < length new → value_at new v ≡ Carried number → IsNew old new turns map (Carried number) v
 unfolding IsWordOf
 carried_new old new turns map number v l e =
@@ -57,8 +63,7 @@ input_new old new turns map port v l e =
     record { within = l; is = λ x E b f. word_of new v (Input port) x E l e f; load = λ array version address guard i. absurd (cc) }
 
 pub leaf_new : (old new : List Value) (turns : ℕ) (map : List ℕ) (value : Value) (v : ℕ) →
-    (value ≡ Turn) ⊎ ((x : ℕ) × (value ≡ Carried x)) ⊎ ((x : ℕ) × (value ≡ Input x)) →
+    ((x : ℕ) × (value ≡ Carried x)) ⊎ ((x : ℕ) × (value ≡ Input x)) →
     v < length new → value_at new v ≡ value → IsNew old new turns map value v
-leaf_new old new turns map value v (inl i) l e = rw i (turn_new old new turns map v l (e ∙ i))
-leaf_new old new turns map value v (inr (inl (n, i))) l e = rw i (carried_new old new turns map n v l (e ∙ i))
-leaf_new old new turns map value v (inr (inr (n, i))) l e = rw i (input_new old new turns map n v l (e ∙ i))
+leaf_new old new turns map value v (inl (n, i)) l e = rw i (carried_new old new turns map n v l (e ∙ i))
+leaf_new old new turns map value v (inr (n, i)) l e = rw i (input_new old new turns map n v l (e ∙ i))

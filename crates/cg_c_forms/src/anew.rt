@@ -35,6 +35,8 @@ fn remade(
 {
     match value {
         Value::Const(word) => values.constant(word),
+        // the number of the turn is its digit of radix `turns`, and so 0 if there is one turn
+        Value::Turn => digit(values, 1, turns, turns),
         Value::Quotient(divisor) => any_quotient(values, divisor, turns),
         Value::Digit { divisor, radix } => digit(values, divisor, radix, turns),
         Value::Loaded {
@@ -61,7 +63,7 @@ fn remade(
             chosen,
             other,
         } => values.select(map[condition], map[chosen], map[other]),
-        Value::Turn | Value::Carried(_) | Value::Input(_) => values.add(value),
+        Value::Carried(_) | Value::Input(_) => values.add(value),
     }
 }
 
