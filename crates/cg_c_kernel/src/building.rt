@@ -1,0 +1,86 @@
+//! Nodes of the kernel from nodes that were made.
+
+use crate::edges::Edges;
+use crate::sketch::{Ref, Refs, Sketch};
+use cg_model::{Name, Node, Operand, Operands, Words};
+use std::alloc::{AllocError, Global};
+
+/// Returns an operand: the value of node `from` some turns ago, one for each of the initial words `words`.
+fn edge(alloc: Global, from: u32, words: &[u32]) -> Result<Operand, AllocError> {
+    let Ok(distance) = u32::try_from(words.len()) else {
+        return Err(AllocError);
+    };
+    Ok(Operand::Edge {
+        from,
+        distance,
+        init: Words::new(Vec::from_slice(alloc, words)?),
+    })
+}
+
+/// Returns the number of the node `by` nodes after node `first`.
+fn after(first: u32, by: u32) -> Result<u32, AllocError> {
+    first.checked_add(by).ok_or(AllocError)
+}
+
+/// Returns `operand` as an operand of the kernel, where carried words have these edges.
+fn operand_of(alloc: Global, edges: &Edges, operand: Ref) -> Result<Operand, AllocError> {
+    match operand {
+        Ref::Word(word) => Ok(Operand::Const(word)),
+        Ref::Now(node) => edge(alloc, node, &[]),
+        Ref::Rotation(node) => edge(alloc, node, &[0, 1, 2]),
+        Ref::Remainder(first) => edge(alloc, after(first, 3)?, &[u32::MAX - 1, u32::MAX]),
+        Ref::Quotient(first) => edge(alloc, after(first, 4)?, &[u32::MAX, u32::MAX]),
+        Ref::Carried(number) => match edges.get(number) {
+            Some(carry) => edge(alloc, carry.from, &carry.words),
+            None => Ok(Operand::Const(0)),
+        },
+    }
+}
+
+/// Returns `operands` as operands of the kernel.
+fn operands_of(alloc: Global, edges: &Edges, operands: Refs) -> Result<Operands, AllocError> {
+    let list = match operands {
+        Refs::Zero => Vec::new(alloc),
+        Refs::One(a) => vec![in alloc; operand_of(alloc, edges, a)?]?,
+        Refs::Two(a, b) => {
+            let first = operand_of(alloc, edges, a)?;
+            let second = operand_of(alloc, edges, b)?;
+            vec![in alloc; first, second]?
+        }
+        Refs::Three(a, b, c) => {
+            let first = operand_of(alloc, edges, a)?;
+            let second = operand_of(alloc, edges, b)?;
+            let third = operand_of(alloc, edges, c)?;
+            vec![in alloc; first, second, third]?
+        }
+    };
+    Ok(Operands::new(list))
+}
+
+/// Returns a node that was made as node `number` of the kernel.
+fn node_of(
+    alloc: Global,
+    edges: &Edges,
+    number: usize,
+    sketch: Sketch,
+) -> Result<Node, AllocError> {
+    Ok(Node {
+        name: Name::new(format!(in alloc; "n{number}")?),
+        op: sketch.op,
+        port: sketch.port,
+        operands: operands_of(alloc, edges, sketch.operands)?,
+    })
+}
+
+/// Returns the nodes of the kernel, where carried words have these edges.
+pub(crate) fn nodes_from(
+    alloc: Global,
+    edges: &Edges,
+    sketches: &[Sketch],
+) -> Result<Vec<Node>, AllocError> {
+    let mut nodes = Vec::new(alloc);
+    for (number, sketch) in sketches.iter().enumerate() {
+        nodes.push(node_of(alloc, edges, number, *sketch)?)?;
+    }
+    Ok(nodes)
+}

@@ -1,0 +1,153 @@
+//! Which edge carries a word from turn to turn.
+
+use crate::edges::{Edge, Edges};
+use crate::emission::Emission;
+use crate::live::Live;
+use crate::marks::final_of;
+use crate::sketch::Ref;
+use cg_c_values::Value;
+use std::alloc::{AllocError, Global};
+
+/// The initial words of words, by their numbers, and their edges so far.
+#[derive(Drop)]
+pub(crate) struct Carrying<'a> {
+    alloc: Global,
+    initial: &'a [u32],
+    pub edges: Edges,
+}
+
+impl<'a> Carrying<'a> {
+    /// Returns no edges, for words with these initial words.
+    pub fn new(alloc: Global, initial: &'a [u32]) -> Carrying<'a> {
+        Carrying {
+            alloc,
+            initial,
+            edges: Edges::new(alloc),
+        }
+    }
+
+    /// Returns the word that the word of a number has when the first turn begins.
+    fn initial_of(&self, number: usize) -> u32 {
+        if number < self.initial.len() {
+            self.initial[number]
+        } else {
+            0
+        }
+    }
+
+    /// Returns the edge of a word with the initial word `word` that becomes word `next`: a turn more than that one's, or
+    /// one from a copy of it.
+    fn follow(
+        &self,
+        emission: &mut Emission,
+        next: usize,
+        word: u32,
+    ) -> Result<Edge, AllocError> {
+        if let Some(edge) = self.edges.over_more(next, word)? {
+            return Ok(edge);
+        }
+        let from = emission.constant(Ref::Carried(next))?;
+        emission.meet(next)?;
+        self.edges.over_one(from, word)
+    }
+
+    /// Returns the edge of a word with the initial word `word` that becomes the value `v`.
+    fn edge_to(
+        &self,
+        emission: &mut Emission,
+        live: &Live,
+        v: usize,
+        word: u32,
+    ) -> Result<Edge, AllocError> {
+        let from = match live.values.value(v) {
+            Value::Carried(next) => return self.follow(emission, next, word),
+            Value::Const(word) => emission.constant(Ref::Word(word))?,
+            _ => {
+                emission.emit(live, v)?;
+                match emission.at[v] {
+                    Some(from) => from,
+                    None => unreachable!(),
+                }
+            }
+        };
+        self.edges.over_one(from, word)
+    }
+
+    /// Gives the word of a number its edge, unless it has one.
+    fn settle(
+        &mut self,
+        emission: &mut Emission,
+        live: &Live,
+        number: usize,
+    ) -> Result<(), AllocError> {
+        if self.edges.get(number).is_some() {
+            return Ok(());
+        }
+        let word = self.initial_of(number);
+        let edge = match final_of(live.finals, number) {
+            None => self.follow(emission, number, word)?,
+            Some(v) => self.edge_to(emission, live, v, word)?,
+        };
+        self.edges.set(number, edge)
+    }
+
+    /// Returns the word that the word of a number becomes, if that one has no edge yet.
+    fn next_of(&self, live: &Live, number: usize) -> Option<usize> {
+        let v = final_of(live.finals, number)?;
+        match live.values.value(v) {
+            Value::Carried(next) if self.edges.get(next).is_none() => Some(next),
+            _ => None,
+        }
+    }
+
+    /// Returns the word of a number and those that it becomes, one after another, up to one that has an edge or comes
+    /// again.
+    fn way_from(&self, live: &Live, number: usize) -> Result<Vec<usize>, AllocError> {
+        let mut way = vec![in self.alloc; number]?;
+        let mut last = number;
+        for _ in 0..live.finals.len() {
+            match self.next_of(live, last) {
+                Some(next) if !way.contains(&next) => {
+                    way.push(next)?;
+                    last = next;
+                }
+                _ => break,
+            }
+        }
+        Ok(way)
+    }
+
+    /// Gives the word of a number its edge, after the words that it becomes.
+    fn resolve(
+        &mut self,
+        emission: &mut Emission,
+        live: &Live,
+        number: usize,
+    ) -> Result<(), AllocError> {
+        let way = self.way_from(live, number)?;
+        for number in way.iter().rev() {
+            self.settle(emission, live, *number)?;
+        }
+        Ok(())
+    }
+
+    /// Gives the words that were met their edges, in their order.
+    pub fn resolve_met(&mut self, emission: &mut Emission, live: &Live) -> Result<(), AllocError> {
+        for i in 0..live.values.len() {
+            if i < emission.met.len() {
+                self.resolve(emission, live, emission.met[i])?;
+            }
+        }
+        Ok(())
+    }
+
+    /// Gives each live word its edge.
+    pub fn settle_all(&mut self, emission: &mut Emission, live: &Live) -> Result<(), AllocError> {
+        for v in 0..live.values.len() {
+            if let Value::Carried(number) = live.values.value(v) && live.marks[v] {
+                self.settle(emission, live, number)?;
+            }
+        }
+        Ok(())
+    }
+}
