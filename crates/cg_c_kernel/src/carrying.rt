@@ -134,8 +134,8 @@ impl<'a> Carrying<'a> {
     /// Gives the words that were met their edges, in their order.
     pub fn resolve_met(&mut self, emission: &mut Emission, live: &Live) -> Result<(), AllocError> {
         for i in 0..live.values.len() {
-            if i < emission.met.len() {
-                self.resolve(emission, live, emission.met[i])?;
+            if let Some(number) = emission.met_at(i) {
+                self.resolve(emission, live, number)?;
             }
         }
         Ok(())

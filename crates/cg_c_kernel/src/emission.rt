@@ -59,6 +59,15 @@ impl Emission {
         Ok(())
     }
 
+    /// Returns the word that was met as number `i`, if so many were.
+    pub fn met_at(&self, i: usize) -> Option<usize> {
+        if i < self.met.len() {
+            Some(self.met[i])
+        } else {
+            None
+        }
+    }
+
     /// Returns the operand that has the word of value `a`, which is a constant, carried or has a node. A constant gets a
     /// node if `more` constants follow it in the same node.
     fn operand(&mut self, values: &Values, a: usize, more: bool) -> Result<Ref, AllocError> {
