@@ -11,7 +11,10 @@ pub(crate) enum Act {
     /// A store or an output that never acts.
     Idle,
     /// Loads a value, if that is a load still, from an array.
-    Load { array: usize, value: usize },
+    Load {
+        array: usize,
+        value: usize,
+    },
     /// Stores a word at an address in an array.
     Store {
         guard: Option<usize>,

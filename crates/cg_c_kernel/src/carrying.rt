@@ -2,7 +2,7 @@
 
 use crate::edges::{Edge, Edges};
 use crate::emission::Emission;
-use crate::live::Live;
+use crate::marked::Live;
 use crate::marks::final_of;
 use crate::sketch::Ref;
 use cg_c_values::Value;
@@ -37,12 +37,7 @@ impl<'a> Carrying<'a> {
 
     /// Returns the edge of a word with the initial word `word` that becomes word `next`: a turn more than that one's, or
     /// one from a copy of it.
-    fn follow(
-        &self,
-        emission: &mut Emission,
-        next: usize,
-        word: u32,
-    ) -> Result<Edge, AllocError> {
+    fn follow(&self, emission: &mut Emission, next: usize, word: u32) -> Result<Edge, AllocError> {
         if let Some(edge) = self.edges.over_more(next, word)? {
             return Ok(edge);
         }
@@ -144,7 +139,9 @@ impl<'a> Carrying<'a> {
     /// Gives each live word its edge.
     pub fn settle_all(&mut self, emission: &mut Emission, live: &Live) -> Result<(), AllocError> {
         for v in 0..live.values.len() {
-            if let Value::Carried(number) = live.values.value(v) && live.marks[v] {
+            if let Value::Carried(number) = live.values.value(v)
+                && live.marks[v]
+            {
                 self.settle(emission, live, number)?;
             }
         }

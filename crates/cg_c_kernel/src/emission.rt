@@ -1,6 +1,9 @@
 //! Nodes that are made one by one, each after those of its operands.
 
-use crate::live::Live;
+ghost use Rattle.std.specs.Prelude.{◌≡◌, ◌<◌, ◌++◌, ◌∷◌, [], true, length, IfOk, IfSome, Some, slice_get};
+ghost use Rattle.cg_c_kernel.specs.Made.{One, Sketch};
+
+use crate::marked::Live;
 use crate::sketch::{Ref, Refs, Sketch};
 use cg_c_values::{Value, Values};
 use cg_word::Op;
@@ -15,22 +18,41 @@ pub(crate) struct Emission {
     pub met: Vec<usize>,
 }
 
-impl Emission {
-    /// Returns an emission without nodes for `count` values.
-    pub fn new(alloc: Global, count: usize) -> Result<Emission, AllocError> {
-        let mut at = Vec::new(alloc);
-        for _ in 0..count {
-            at.push(None)?;
+/// Returns the number of a node that is `wanted`, if there is one.
+fn found(nodes: &[Sketch], wanted: Sketch) -> Option<usize>
+    ensures { IfSome result (λ m. slice_get nodes.now m ≡ Some wanted) }
+{
+    for (m, node) in nodes.iter().enumerate() {
+        if *node == wanted {
+            return Some(m);
         }
+    }
+    None
+}
+
+impl Emission {
+    ghost use Rattle.std.specs.Prelude.{◌≡◌, ◌⊎◌, ℕ, ◌+◌, ◌<◌, ◌++◌, ◌∷◌, [], true, length, IfOk, IfSome, Some, None, Contains, replicate};
+    ghost use Rattle.cg_c_values.specs.Listed.{listed};
+    ghost use Rattle.cg_c_values.specs.Values.{value_at};
+    ghost use Rattle.cg_word.specs.declared.op.Op.TheVariants as ops;
+    ghost use Rattle.cg_c_kernel.specs.Made.{Adds, AddsQuiet, Carried, GrowsByConstant, Grows, Is, IsGrownBy, IsReadyAs, IsLiveWord, IsReady, IsRef, Made, MayBeMade, OnOne, OnThree, OnTwo, One, Recurs, Rotation, Stands, Uses, made_of, sketch};
+
+    /// Returns an emission without nodes for `count` values.
+    pub fn new(alloc: Global, count: usize) -> Result<Emission, AllocError>
+        ensures { IfOk result (λ e. made_of e ≡ record { nodes = []; at = replicate count None; met = [] }) }
+    {
         Ok(Emission {
             nodes: Vec::new(alloc),
-            at,
+            at: vec![in alloc; None; count]?,
             met: Vec::new(alloc),
         })
     }
 
     /// Adds a node and returns its number.
-    pub fn push(&mut self, op: Op, port: u32, operands: Refs) -> Result<u32, AllocError> {
+    pub fn push(&mut self, op: Op, port: u32, operands: Refs) -> Result<u32, AllocError>
+        ensures number { IfOk result (λ m. m ≡ length (made_of self.old).nodes) }
+        ensures added { IfOk result (λ m. made_of self.new ≡ record (made_of self.old) { nodes = (made_of self.old).nodes ++ sketch op port operands ∷ [] }) }
+    {
         let Ok(number) = u32::try_from(self.nodes.len()) else {
             return Err(AllocError);
         };
@@ -39,20 +61,26 @@ impl Emission {
     }
 
     /// Returns the number of the node of a constant with this operand, which is added if there is none.
-    pub fn constant(&mut self, operand: Ref) -> Result<u32, AllocError> {
+    pub fn constant(&mut self, operand: Ref) -> Result<u32, AllocError>
+        ensures grows { IfOk result (λ m. IsGrownBy (made_of self.old) (made_of self.new) (sketch ops.Const 0 (One operand))) }
+        ensures is { IfOk result (λ m. Is (made_of self.new) m ops.Const 0 (One operand)) }
+    {
         let wanted = Sketch {
             op: Op::Const,
             port: 0,
             operands: Refs::One(operand),
         };
-        match self.nodes.iter().position(|node| *node == wanted) {
+        match found(&self.nodes, wanted) {
             Some(number) => u32::try_from(number).map_err(|_| AllocError),
             None => self.push(Op::Const, 0, Refs::One(operand)),
         }
     }
 
     /// Notes that the word of a number is met.
-    pub fn meet(&mut self, number: usize) -> Result<(), AllocError> {
+    pub fn meet(&mut self, number: usize) -> Result<(), AllocError>
+        ensures same { (made_of self.new).nodes ≡ (made_of self.old).nodes × (made_of self.new).at ≡ (made_of self.old).at }
+        ensures met { IfOk result (λ u. (n : ℕ) → Contains (made_of self.new).met n → Contains (made_of self.old).met n ⊎ (n ≡ number)) }
+    {
         if !self.met.contains(&number) {
             self.met.push(number)?;
         }
@@ -60,7 +88,9 @@ impl Emission {
     }
 
     /// Returns the word that was met as number `i`, if so many were.
-    pub fn met_at(&self, i: usize) -> Option<usize> {
+    pub fn met_at(&self, i: usize) -> Option<usize>
+        ensures { IfSome result (λ number. Contains (made_of self.now).met number) }
+    {
         if i < self.met.len() {
             Some(self.met[i])
         } else {
@@ -70,7 +100,13 @@ impl Emission {
 
     /// Returns the operand that has the word of value `a`, which is a constant, carried or has a node. A constant gets a
     /// node if `more` constants follow it in the same node.
-    fn operand(&mut self, values: &Values, a: usize, more: bool) -> Result<Ref, AllocError> {
+    fn operand(&mut self, values: &Values, a: usize, more: bool) -> Result<Ref, AllocError>
+        requires within { a < length (listed values.now) }
+        requires long { length (made_of self.now).at ≡ length (listed values.now) }
+        requires ready { IsReadyAs (made_of self.now) a (value_at (listed values.now) a) }
+        ensures grows { IfOk result (λ r. GrowsByConstant (made_of self.old) (made_of self.new)) }
+        ensures is { IfOk result (λ r. IsRef (listed values.now) (made_of self.new) a r) }
+    {
         match values.value(a) {
             Value::Const(word) if more => Ok(Ref::Now(self.constant(Ref::Word(word))?)),
             Value::Const(word) => Ok(Ref::Word(word)),

@@ -4,7 +4,8 @@ use crate::acts::{Act, acts_of};
 use crate::building::nodes_from;
 use crate::carrying::Carrying;
 use crate::emission::Emission;
-use crate::live::{Live, live_of};
+use crate::live::live_of;
+use crate::marked::Live;
 use cg_c_forms::made_anew;
 use cg_c_order::Access;
 use cg_c_turn::Draft;
@@ -168,7 +169,9 @@ fn access_of(act: Act, node: u32) -> Option<Access> {
 fn accesses_of(alloc: Global, acts: &[Act], done: &[Done]) -> Result<Vec<Access>, AllocError> {
     let mut accesses = Vec::new(alloc);
     for (act, done) in acts.iter().zip(done) {
-        if let Some(node) = done.node && let Some(access) = access_of(*act, node) {
+        if let Some(node) = done.node
+            && let Some(access) = access_of(*act, node)
+        {
             accesses.push(access)?;
         }
     }

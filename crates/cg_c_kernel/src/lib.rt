@@ -12,6 +12,7 @@ mod edges;
 mod emission;
 mod kernel;
 mod live;
+mod marked;
 mod marks;
 mod sketch;
 

@@ -1,15 +1,21 @@
 //! Marks of values.
+ghost use Rattle.std.specs.Prelude.{◌≡◌};
+ghost use Rattle.cg_c_kernel.specs.Live.{final_in, has_any_mark, has_mark, needs_marked, parts_marked};
 
 use crate::acts::Act;
 use cg_c_values::Value;
 
 /// Returns whether the value `v` has a mark.
-pub(crate) fn is_marked(marks: &[bool], v: usize) -> bool {
+pub(crate) fn is_marked(marks: &[bool], v: usize) -> bool
+    ensures { result ≡ has_mark marks.now v }
+{
     v < marks.len() && marks[v]
 }
 
 /// Returns whether the value `v`, if there is one, has a mark.
-pub(crate) fn is_none_or_marked(marks: &[bool], v: Option<usize>) -> bool {
+pub(crate) fn is_none_or_marked(marks: &[bool], v: Option<usize>) -> bool
+    ensures { result ≡ has_any_mark marks.now v }
+{
     match v {
         Some(v) => is_marked(marks, v),
         None => true,
@@ -17,7 +23,9 @@ pub(crate) fn is_none_or_marked(marks: &[bool], v: Option<usize>) -> bool {
 }
 
 /// Returns the value of word `number` when the turn ends, if it was assigned.
-pub(crate) fn final_of(finals: &[Option<usize>], number: usize) -> Option<usize> {
+pub(crate) fn final_of(finals: &[Option<usize>], number: usize) -> Option<usize>
+    ensures { result ≡ final_in finals.now number }
+{
     if number < finals.len() {
         finals[number]
     } else {
@@ -26,7 +34,9 @@ pub(crate) fn final_of(finals: &[Option<usize>], number: usize) -> Option<usize>
 }
 
 /// Returns whether all that `value` needs has marks: its operands or, for a word that is carried, its final value.
-pub(crate) fn are_parts_marked(marks: &[bool], finals: &[Option<usize>], value: Value) -> bool {
+pub(crate) fn are_parts_marked(marks: &[bool], finals: &[Option<usize>], value: Value) -> bool
+    ensures { result ≡ parts_marked marks.now finals.now value }
+{
     match value {
         Value::Carried(number) => is_none_or_marked(marks, final_of(finals, number)),
         Value::Loaded { guard, address, .. } => {
@@ -43,7 +53,9 @@ pub(crate) fn are_parts_marked(marks: &[bool], finals: &[Option<usize>], value: 
 }
 
 /// Returns whether all that `act` needs has marks.
-pub(crate) fn are_needs_marked(marks: &[bool], act: Act) -> bool {
+pub(crate) fn are_needs_marked(marks: &[bool], act: Act) -> bool
+    ensures { result ≡ needs_marked marks.now act }
+{
     match act {
         Act::Store {
             guard,
