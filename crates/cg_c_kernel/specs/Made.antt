@@ -1,5 +1,5 @@
 -- The nodes that were made so far, and the values that they compute.
-use Rattle.std.specs.Prelude.{◌≡◌, ◌⊎◌, ℕ, suc, ◌+◌, ◌-◌, ◌<◌, ◌≤◌, Bool, true, false, List, [], ◌∷◌, ◌++◌, length, Contains, Option, Some, None, slice_get, slice_index_or}
+use Rattle.std.specs.Prelude.{◌≡◌, ◌⊎◌, ℕ, suc, ◌+◌, ◌-◌, ◌<◌, ◌≤◌, Bool, true, false, List, [], ◌∷◌, ◌++◌, length, Contains, Option, Some, None, slice_get, slice_index_or, slice_set}
 use Rattle.cg_word.specs.declared.op.Op.{Op}
 use Rattle.cg_word.specs.declared.op.Op.TheVariants as ops
 use Rattle.cg_word.specs.Word.{words, apply_of, is_access, is_output}
@@ -69,6 +69,10 @@ pub record OnThree (old : List Value) (s : Made) (m : ℕ) (op : Op) (a b c : �
   pub first_is : IsRef old s a first
   pub second_is : IsRef old s b second
   pub third_is : IsRef old s c third
+
+-- nodes are added at the end
+abbrev pub with_nodes : Made → List Sketch → Made
+with_nodes s xs = record { nodes = s.nodes ++ xs; at = s.at; met = s.met }
 
 -- the five nodes from m on are a recurrence over two turns for the quotient by `divisor`
 pub record Recurs (s : Made) (m divisor : ℕ) : Type 0 where
@@ -176,3 +180,25 @@ pub record AddsQuiet (old : List Value) (marks : List Bool) (s t : Made) : Type 
   pub stands : Stands old marks t
   pub grows : Grows s t
   pub quiet : AreQuiet t (length s.nodes) (length t.nodes)
+
+-- a node was added as number m
+pub record IsPushed (s t : Made) (m : ℕ) (x : Sketch) : Type 0 where
+  pub number : m ≡ length s.nodes
+  pub added : t ≡ with_nodes s (x ∷ [])
+
+-- a value that is computed from no others
+abbrev pub IsLeaf : Value → Type 0
+IsLeaf values.Turn = Unit {0}
+IsLeaf (values.Quotient divisor) = Unit {0}
+IsLeaf (values.Digit divisor radix) = Unit {0}
+IsLeaf (values.Input port) = Unit {0}
+IsLeaf _ = ⊥
+
+-- nodes were added, the last of them, m, for this value
+pub record Gains (old : List Value) (marks : List Bool) (s t : Made) (m : ℕ) (value : Value) : Type 0 where
+  pub adds : Adds old marks s t m
+  pub computes : Computes old t m value
+
+-- value v got the node m
+abbrev pub with_place : Made → (v m : ℕ) → Made
+with_place s v m = record { nodes = s.nodes; at = slice_set s.at v (Some m); met = s.met }

@@ -1,7 +1,8 @@
 //! Nodes that are made one by one, each after those of its operands.
 
 ghost use Rattle.std.specs.Prelude.{◌≡◌, ◌<◌, ◌++◌, ◌∷◌, [], true, length, IfOk, IfSome, Some, slice_get};
-ghost use Rattle.cg_c_kernel.specs.Made.{One, Sketch};
+ghost use Rattle.cg_word.specs.declared.op.Op.TheVariants as ops;
+ghost use Rattle.cg_c_kernel.specs.Made.{One, sketch};
 
 use crate::marked::Live;
 use crate::sketch::{Ref, Refs, Sketch};
@@ -18,12 +19,41 @@ pub(crate) struct Emission {
     pub met: Vec<usize>,
 }
 
-/// Returns the number of a node that is `wanted`, if there is one.
-fn found(nodes: &[Sketch], wanted: Sketch) -> Option<usize>
-    ensures { IfSome result (λ m. slice_get nodes.now m ≡ Some wanted) }
+/// Two values, by their numbers.
+#[derive(Clone, Copy, Debug, PartialEq, Eq)]
+pub(crate) struct Pair {
+    pub first: usize,
+    pub second: usize,
+}
+
+/// Three values, by their numbers.
+#[derive(Clone, Copy, Debug, PartialEq, Eq)]
+pub(crate) struct Triple {
+    pub first: usize,
+    pub second: usize,
+    pub third: usize,
+}
+
+/// Returns whether a node is that of a constant with this operand, a word or a word that is carried.
+fn is_constant_of(node: Sketch, operand: Ref) -> bool
+    ensures { result ≡ true → node ≡ sketch ops.Const 0 (One operand) }
 {
-    for (m, node) in nodes.iter().enumerate() {
-        if *node == wanted {
+    if node.op != Op::Const || node.port != 0 {
+        return false;
+    }
+    match (node.operands, operand) {
+        (Refs::One(Ref::Word(own)), Ref::Word(word)) => own == word,
+        (Refs::One(Ref::Carried(own)), Ref::Carried(number)) => own == number,
+        _ => false,
+    }
+}
+
+/// Returns the number of a node of a constant with this operand, if there is one.
+fn found(nodes: &[Sketch], operand: Ref) -> Option<usize>
+    ensures { IfSome result (λ m. slice_get nodes.now m ≡ Some (sketch ops.Const 0 (One operand))) }
+{
+    for m in 0..nodes.len() {
+        if is_constant_of(nodes[m], operand) {
             return Some(m);
         }
     }
@@ -35,7 +65,8 @@ impl Emission {
     ghost use Rattle.cg_c_values.specs.Listed.{listed};
     ghost use Rattle.cg_c_values.specs.Values.{value_at};
     ghost use Rattle.cg_word.specs.declared.op.Op.TheVariants as ops;
-    ghost use Rattle.cg_c_kernel.specs.Made.{Adds, AddsQuiet, Carried, GrowsByConstant, Grows, Is, IsGrownBy, IsReadyAs, IsLiveWord, IsReady, IsRef, Made, MayBeMade, OnOne, OnThree, OnTwo, One, Recurs, Rotation, Stands, Uses, made_of, sketch};
+    ghost use Rattle.cg_c_values.specs.declared.value.Value.TheVariants.{Quotient};
+    ghost use Rattle.cg_c_kernel.specs.Made.{Adds, AddsQuiet, Gains, GrowsByConstant, Is, IsGrownBy, IsLeaf, IsPushed, IsReady, IsReadyAs, IsRef, MayBeMade, OnOne, OnThree, OnTwo, One, Rotation, Stands, made_of, sketch, with_place};
 
     /// Returns an emission without nodes for `count` values.
     pub fn new(alloc: Global, count: usize) -> Result<Emission, AllocError>
@@ -50,8 +81,7 @@ impl Emission {
 
     /// Adds a node and returns its number.
     pub fn push(&mut self, op: Op, port: u32, operands: Refs) -> Result<u32, AllocError>
-        ensures number { IfOk result (λ m. m ≡ length (made_of self.old).nodes) }
-        ensures added { IfOk result (λ m. made_of self.new ≡ record (made_of self.old) { nodes = (made_of self.old).nodes ++ sketch op port operands ∷ [] }) }
+        ensures { IfOk result (λ m. IsPushed (made_of self.old) (made_of self.new) m (sketch op port operands)) }
     {
         let Ok(number) = u32::try_from(self.nodes.len()) else {
             return Err(AllocError);
@@ -62,15 +92,9 @@ impl Emission {
 
     /// Returns the number of the node of a constant with this operand, which is added if there is none.
     pub fn constant(&mut self, operand: Ref) -> Result<u32, AllocError>
-        ensures grows { IfOk result (λ m. IsGrownBy (made_of self.old) (made_of self.new) (sketch ops.Const 0 (One operand))) }
-        ensures is { IfOk result (λ m. Is (made_of self.new) m ops.Const 0 (One operand)) }
+        ensures { IfOk result (λ m. IsGrownBy (made_of self.old) (made_of self.new) (sketch ops.Const 0 (One operand)) × Is (made_of self.new) m ops.Const 0 (One operand)) }
     {
-        let wanted = Sketch {
-            op: Op::Const,
-            port: 0,
-            operands: Refs::One(operand),
-        };
-        match found(&self.nodes, wanted) {
+        match found(&self.nodes, operand) {
             Some(number) => u32::try_from(number).map_err(|_| AllocError),
             None => self.push(Op::Const, 0, Refs::One(operand)),
         }
@@ -119,40 +143,51 @@ impl Emission {
     }
 
     /// Adds a node with the word of value `a` as its operand, and returns its number.
-    pub fn one(&mut self, values: &Values, op: Op, port: u32, a: usize) -> Result<u32, AllocError> {
-        let first = self.operand(values, a, false)?;
+    pub fn one(&mut self, live: &Live, op: Op, port: u32, a: usize) -> Result<u32, AllocError>
+        requires stands { Stands (listed live.now.values.now) live.now.marks.items (made_of self.now) }
+        requires ready { IsReady (listed live.now.values.now) live.now.marks.items (made_of self.now) a }
+        ensures adds { IfOk result (λ m. Adds (listed live.now.values.now) live.now.marks.items (made_of self.old) (made_of self.new) m) }
+        ensures is { IfOk result (λ m. OnOne (listed live.now.values.now) (made_of self.new) m op port a) }
+    {
+        let first = self.operand(live.values, a, false)?;
         self.push(op, port, Refs::One(first))
     }
 
-    /// Adds a node with the words of the values `a` and `b` as its operands, and returns its number.
-    pub fn two(
-        &mut self,
-        values: &Values,
-        op: Op,
-        port: u32,
-        (a, b): (usize, usize),
-    ) -> Result<u32, AllocError> {
-        let first = self.operand(values, a, values.number(b).is_some())?;
-        let second = self.operand(values, b, false)?;
+    /// Adds a node with the words of the values `parts` as its operands, and returns its number.
+    pub fn two(&mut self, live: &Live, op: Op, port: u32, parts: Pair) -> Result<u32, AllocError>
+        requires stands { Stands (listed live.now.values.now) live.now.marks.items (made_of self.now) }
+        requires first { IsReady (listed live.now.values.now) live.now.marks.items (made_of self.now) parts.first }
+        requires second { IsReady (listed live.now.values.now) live.now.marks.items (made_of self.now) parts.second }
+        ensures adds { IfOk result (λ m. Adds (listed live.now.values.now) live.now.marks.items (made_of self.old) (made_of self.new) m) }
+        ensures is { IfOk result (λ m. OnTwo (listed live.now.values.now) (made_of self.new) m op port parts.first parts.second) }
+    {
+        let more = live.values.number(parts.second).is_some();
+        let first = self.operand(live.values, parts.first, more)?;
+        let second = self.operand(live.values, parts.second, false)?;
         self.push(op, port, Refs::Two(first, second))
     }
 
-    /// Adds a node with the words of the values `a`, `b` and `c` as its operands, and returns its number.
-    pub fn three(
-        &mut self,
-        values: &Values,
-        op: Op,
-        (a, b, c): (usize, usize, usize),
-    ) -> Result<u32, AllocError> {
-        let last = values.number(c).is_some();
-        let first = self.operand(values, a, last || values.number(b).is_some())?;
-        let second = self.operand(values, b, last)?;
-        let third = self.operand(values, c, false)?;
+    /// Adds a node with the words of the values `parts` as its operands, and returns its number.
+    pub fn three(&mut self, live: &Live, op: Op, parts: Triple) -> Result<u32, AllocError>
+        requires stands { Stands (listed live.now.values.now) live.now.marks.items (made_of self.now) }
+        requires first { IsReady (listed live.now.values.now) live.now.marks.items (made_of self.now) parts.first }
+        requires second { IsReady (listed live.now.values.now) live.now.marks.items (made_of self.now) parts.second }
+        requires third { IsReady (listed live.now.values.now) live.now.marks.items (made_of self.now) parts.third }
+        ensures adds { IfOk result (λ m. Adds (listed live.now.values.now) live.now.marks.items (made_of self.old) (made_of self.new) m) }
+        ensures is { IfOk result (λ m. OnThree (listed live.now.values.now) (made_of self.new) m op parts.first parts.second parts.third) }
+    {
+        let last = live.values.number(parts.third).is_some();
+        let more = last || live.values.number(parts.second).is_some();
+        let first = self.operand(live.values, parts.first, more)?;
+        let second = self.operand(live.values, parts.second, last)?;
+        let third = self.operand(live.values, parts.third, false)?;
         self.push(op, 0, Refs::Three(first, second, third))
     }
 
     /// Adds the node of the lowest digit of the turn's number of radix 3, and returns its number.
-    fn rotation(&mut self) -> Result<u32, AllocError> {
+    fn rotation(&mut self) -> Result<u32, AllocError>
+        ensures { IfOk result (λ m. IsPushed (made_of self.old) (made_of self.new) m (sketch ops.Const 0 (One (Rotation m)))) }
+    {
         let Ok(number) = u32::try_from(self.nodes.len()) else {
             return Err(AllocError);
         };
@@ -161,7 +196,10 @@ impl Emission {
 
     /// Adds the nodes of the quotient of the turn's number by `divisor`, a recurrence over two turns, and returns the
     /// number of the last.
-    fn recurrence(&mut self, divisor: u32) -> Result<u32, AllocError> {
+    fn recurrence(&mut self, live: &Live, divisor: u32) -> Result<u32, AllocError>
+        requires { Stands (listed live.now.values.now) live.now.marks.items (made_of self.now) }
+        ensures { IfOk result (λ m. Gains (listed live.now.values.now) live.now.marks.items (made_of self.old) (made_of self.new) m (Quotient divisor)) }
+    {
         let Ok(first) = u32::try_from(self.nodes.len()) else {
             return Err(AllocError);
         };
@@ -176,24 +214,48 @@ impl Emission {
         self.push(Op::Add, 0, counted)
     }
 
+    /// Adds the node of a value that is computed from no others, and returns its number.
+    fn leaf(&mut self, live: &Live, value: Value) -> Result<u32, AllocError>
+        requires leaf { IsLeaf value }
+        requires stands { Stands (listed live.now.values.now) live.now.marks.items (made_of self.now) }
+        ensures { IfOk result (λ m. Gains (listed live.now.values.now) live.now.marks.items (made_of self.old) (made_of self.new) m value) }
+    {
+        match value {
+            Value::Input(port) => self.push(Op::Input, port, Refs::Zero),
+            Value::Digit { .. } => self.rotation(),
+            Value::Quotient(divisor) => self.recurrence(live, divisor),
+            _ => self.push(Op::Iter, 0, Refs::Zero),
+        }
+    }
+
+    /// Gives the value `v` the node `m`.
+    pub fn place(&mut self, v: usize, m: u32)
+        requires { v < length (made_of self.now).at }
+        ensures { made_of self.new ≡ with_place (made_of self.old) v m }
+    {
+        self.at[v] = Some(m);
+    }
+
     /// Adds the node of the live value `v` after those of its operands, unless it has one, or is a constant or carried.
-    pub fn emit(&mut self, live: &Live, v: usize) -> Result<(), AllocError> {
+    pub fn emit(&mut self, live: &Live, v: usize) -> Result<(), AllocError>
+        requires stands { Stands (listed live.now.values.now) live.now.marks.items (made_of self.now) }
+        requires may { MayBeMade (listed live.now.values.now) live.now.marks.items (made_of self.now) v }
+        ensures adds { IfOk result (λ u. AddsQuiet (listed live.now.values.now) live.now.marks.items (made_of self.old) (made_of self.new)) }
+        ensures ready { IfOk result (λ u. IsReady (listed live.now.values.now) live.now.marks.items (made_of self.new) v) }
+    {
         if self.at[v].is_some() {
             return Ok(());
         }
-        let values = live.values;
-        let node = match values.value(v) {
-            Value::Const(_) => return Ok(()),
-            Value::Carried(number) => return self.meet(number),
-            Value::Turn => self.push(Op::Iter, 0, Refs::Zero)?,
-            Value::Input(port) => self.push(Op::Input, port, Refs::Zero)?,
-            Value::Digit { .. } => self.rotation()?,
-            Value::Quotient(divisor) => self.recurrence(divisor)?,
+        match live.values.value(v) {
+            Value::Const(_) => Ok(()),
+            Value::Carried(number) => self.meet(number),
             Value::Loaded { .. } => unreachable!(),
             Value::Two { op, first, second } => {
                 self.emit(live, first)?;
                 self.emit(live, second)?;
-                self.two(values, op, 0, (first, second))?
+                let m = self.two(live, op, 0, Pair { first, second })?;
+                self.place(v, m);
+                Ok(())
             }
             Value::Select {
                 condition,
@@ -203,10 +265,20 @@ impl Emission {
                 self.emit(live, condition)?;
                 self.emit(live, chosen)?;
                 self.emit(live, other)?;
-                self.three(values, Op::Select, (condition, chosen, other))?
+                let parts = Triple {
+                    first: condition,
+                    second: chosen,
+                    third: other,
+                };
+                let m = self.three(live, Op::Select, parts)?;
+                self.place(v, m);
+                Ok(())
             }
-        };
-        self.at[v] = Some(node);
-        Ok(())
+            value => {
+                let m = self.leaf(live, value)?;
+                self.place(v, m);
+                Ok(())
+            }
+        }
     }
 }

@@ -3,7 +3,7 @@
 use crate::acts::{Act, acts_of};
 use crate::building::nodes_from;
 use crate::carrying::Carrying;
-use crate::emission::Emission;
+use crate::emission::{Emission, Pair, Triple};
 use crate::live::live_of;
 use crate::marked::Live;
 use cg_c_forms::made_anew;
@@ -57,7 +57,7 @@ fn load(emission: &mut Emission, live: &Live, v: usize) -> Result<Option<u32>, A
             ..
         } => {
             emission.emit(live, address)?;
-            emission.one(live.values, Op::Load, 0, address)?
+            emission.one(live, Op::Load, 0, address)?
         }
         Value::Loaded {
             guard: Some(guard),
@@ -66,7 +66,11 @@ fn load(emission: &mut Emission, live: &Live, v: usize) -> Result<Option<u32>, A
         } => {
             emission.emit(live, guard)?;
             emission.emit(live, address)?;
-            emission.two(live.values, Op::LoadIf, 0, (guard, address))?
+            let parts = Pair {
+                first: guard,
+                second: address,
+            };
+            emission.two(live, Op::LoadIf, 0, parts)?
         }
         _ => return Ok(None),
     };
@@ -74,24 +78,29 @@ fn load(emission: &mut Emission, live: &Live, v: usize) -> Result<Option<u32>, A
     Ok(Some(node))
 }
 
-/// Makes the node of a store, after those of its operands.
+/// Makes the node of a store of `parts`, an address and a word, after those of its operands.
 fn store(
     emission: &mut Emission,
     live: &Live,
     guard: Option<usize>,
-    (address, word): (usize, usize),
+    parts: Pair,
 ) -> Result<u32, AllocError> {
     match guard {
         None => {
-            emission.emit(live, address)?;
-            emission.emit(live, word)?;
-            emission.two(live.values, Op::Store, 0, (address, word))
+            emission.emit(live, parts.first)?;
+            emission.emit(live, parts.second)?;
+            emission.two(live, Op::Store, 0, parts)
         }
         Some(guard) => {
             emission.emit(live, guard)?;
-            emission.emit(live, address)?;
-            emission.emit(live, word)?;
-            emission.three(live.values, Op::StoreIf, (guard, address, word))
+            emission.emit(live, parts.first)?;
+            emission.emit(live, parts.second)?;
+            let parts = Triple {
+                first: guard,
+                second: parts.first,
+                third: parts.second,
+            };
+            emission.three(live, Op::StoreIf, parts)
         }
     }
 }
@@ -107,12 +116,16 @@ fn send(
     match guard {
         None => {
             emission.emit(live, word)?;
-            emission.one(live.values, Op::Output, port, word)
+            emission.one(live, Op::Output, port, word)
         }
         Some(guard) => {
             emission.emit(live, guard)?;
             emission.emit(live, word)?;
-            emission.two(live.values, Op::OutputIf, port, (guard, word))
+            let parts = Pair {
+                first: guard,
+                second: word,
+            };
+            emission.two(live, Op::OutputIf, port, parts)
         }
     }
 }
@@ -127,7 +140,13 @@ fn perform(emission: &mut Emission, live: &Live, act: Act) -> Result<Option<u32>
             address,
             word,
             ..
-        } => Ok(Some(store(emission, live, guard, (address, word))?)),
+        } => {
+            let parts = Pair {
+                first: address,
+                second: word,
+            };
+            Ok(Some(store(emission, live, guard, parts)?))
+        }
         Act::Send { guard, port, word } => Ok(Some(send(emission, live, guard, port, word)?)),
     }
 }
