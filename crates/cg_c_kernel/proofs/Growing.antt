@@ -31,7 +31,7 @@ is_new xs y x m is l =
     let w = slice_get_within (xs ++ y ∷ []) m x is in
     let s : m < length xs + 1 = omega (arith, simp length-append at w) in
     let e : m ≡ length xs = omega arith in
-    sym (get_or_from_slice_get (xs ++ y ∷ []) m x y is) ∙ get_or_push xs y y m e
+    sym (get_or_from_slice_get (xs ++ y ∷ []) m x y is) ∙ get_or_push xs y y m (sym e)
 
 -- ---- growing
 
@@ -52,7 +52,7 @@ pub grows_twice : (s t u : Made) → Grows s t → Grows t u → Grows s u
 grows_twice s t u g h =
     record { longer = omega (arith, g.longer, h.longer); nodes = λ m x k. h.nodes m x (g.nodes m x k); at = λ v m k. h.at v m (g.at v m k) }
 
-is_grows : (s t : Made) (m port : ℕ) (op : Op) (rs : Refs) → Grows s t → Is s m op port rs → Is t m op port rs
+pub is_grows : (s t : Made) (m port : ℕ) (op : Op) (rs : Refs) → Grows s t → Is s m op port rs → Is t m op port rs
 is_grows s t m port op rs g i = record { there = g.nodes m _ i.there }
 
 at_grows : (s t : Made) (a : ℕ) (r : Ref) → Grows s t → IsAt (node_in s a) r → IsAt (node_in t a) r

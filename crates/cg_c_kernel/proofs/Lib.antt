@@ -1,3 +1,5 @@
 pub mod Growing
 pub mod Making
 pub mod Needs
+pub mod Placing
+pub mod Recurring

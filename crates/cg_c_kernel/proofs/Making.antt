@@ -148,3 +148,25 @@ two_is old t u w m port a b op r q g i j p =
       first_is = ref_grows old t w a r (grows_twice t u w g last) i;
       second_is = ref_grows old u w b q last j;
     }
+
+pub three_adds : (old : List Value) (marks : List Bool) (s t u w z : Made) (m a b c : ℕ) (op : Op) (r q o : Ref) → Stands old marks s → IsReady old marks s a → IsReady old marks s b → IsReady old marks s c →
+    GrowsByConstant s t → IsRef old t a r → GrowsByConstant t u → IsRef old u b q → GrowsByConstant u w → IsRef old w c o → IsPushed w z m (sketch op 0 (Three r q o)) → Adds old marks s z m
+three_adds old marks s t u w z m a b c op r q o st x y v g i h j k l p =
+    let f = word_adds old marks s t st g in
+    let n = adds_twice old marks s t u f (word_adds old marks t u f.stands h) in
+    pushed_adds old marks s w z m (sketch op 0 (Three r q o)) (adds_twice old marks s u w n (word_adds old marks u w n.stands k)) (k.grown.at ∙ h.grown.at ∙ g.grown.at) p
+    (λ number. ⊎_elim (ref_live old marks s t a r x i number) (⊎_elim (ref_live old marks s u b q y j number) (ref_live old marks s w c o v l number)))
+
+pub three_is : (old : List Value) (t u w z : Made) (m a b c : ℕ) (op : Op) (r q o : Ref) → Grows t u → Grows u w → IsRef old t a r → IsRef old u b q → IsRef old w c o →
+    IsPushed w z m (sketch op 0 (Three r q o)) → OnThree old z m op a b c
+three_is old t u w z m a b c op r q o g h i j k p =
+    let last = pushed_grows w z m _ p in
+    record {
+      first = r;
+      second = q;
+      third = o;
+      is = pushed_is w z m 0 op (Three r q o) p;
+      first_is = ref_grows old t z a r (grows_twice t w z (grows_twice t u w g h) last) i;
+      second_is = ref_grows old u z b q (grows_twice u w z h last) j;
+      third_is = ref_grows old w z c o last k;
+    }

@@ -2,6 +2,7 @@
 
 ghost use Rattle.std.specs.Prelude.{◌≡◌, ◌<◌, ◌++◌, ◌∷◌, [], true, length, IfOk, IfSome, Some, slice_get};
 ghost use Rattle.cg_word.specs.declared.op.Op.TheVariants as ops;
+ghost use Rattle.cg_word.specs.Word.{apply_of};
 ghost use Rattle.cg_c_kernel.specs.Made.{One, sketch};
 
 use crate::marked::Live;
@@ -32,6 +33,13 @@ pub(crate) struct Triple {
     pub first: usize,
     pub second: usize,
     pub third: usize,
+}
+
+/// Returns 2 less `divisor`, as a word.
+fn two_less(divisor: u32) -> u32
+    ensures { result ≡ apply_of ops.Sub 2 divisor 0 }
+{
+    2u32.wrapping_sub(divisor)
 }
 
 /// Returns whether a node is that of a constant with this operand, a word or a word that is carried.
@@ -66,7 +74,7 @@ impl Emission {
     ghost use Rattle.cg_c_values.specs.Values.{value_at};
     ghost use Rattle.cg_word.specs.declared.op.Op.TheVariants as ops;
     ghost use Rattle.cg_c_values.specs.declared.value.Value.TheVariants.{Quotient};
-    ghost use Rattle.cg_c_kernel.specs.Made.{Adds, AddsQuiet, Gains, GrowsByConstant, Is, IsGrownBy, IsLeaf, IsPushed, IsReady, IsReadyAs, IsRef, MayBeMade, OnOne, OnThree, OnTwo, One, Rotation, Stands, made_of, sketch, with_place};
+    ghost use Rattle.cg_c_kernel.specs.Made.{Adds, AddsQuiet, Gains, GrowsByConstant, Is, IsGrownBy, IsLeaf, IsPushed, IsReady, IsReadyAs, IsRef, MayBeMade, OnOne, OnThree, OnTwo, One, Rotation, Stands, made_of, node_in, sketch, with_place};
 
     /// Returns an emission without nodes for `count` values.
     pub fn new(alloc: Global, count: usize) -> Result<Emission, AllocError>
@@ -79,13 +87,18 @@ impl Emission {
         })
     }
 
+    /// Returns the number of nodes.
+    fn count(&self) -> Result<u32, AllocError>
+        ensures { IfOk result (λ m. m ≡ length (made_of self.now).nodes) }
+    {
+        u32::try_from(self.nodes.len()).map_err(|_| AllocError)
+    }
+
     /// Adds a node and returns its number.
     pub fn push(&mut self, op: Op, port: u32, operands: Refs) -> Result<u32, AllocError>
         ensures { IfOk result (λ m. IsPushed (made_of self.old) (made_of self.new) m (sketch op port operands)) }
     {
-        let Ok(number) = u32::try_from(self.nodes.len()) else {
-            return Err(AllocError);
-        };
+        let number = self.count()?;
         self.nodes.push(Sketch { op, port, operands })?;
         Ok(number)
     }
@@ -188,9 +201,7 @@ impl Emission {
     fn rotation(&mut self) -> Result<u32, AllocError>
         ensures { IfOk result (λ m. IsPushed (made_of self.old) (made_of self.new) m (sketch ops.Const 0 (One (Rotation m)))) }
     {
-        let Ok(number) = u32::try_from(self.nodes.len()) else {
-            return Err(AllocError);
-        };
+        let number = self.count()?;
         self.push(Op::Const, 0, Refs::One(Ref::Rotation(number)))
     }
 
@@ -200,11 +211,9 @@ impl Emission {
         requires { Stands (listed live.now.values.now) live.now.marks.items (made_of self.now) }
         ensures { IfOk result (λ m. Gains (listed live.now.values.now) live.now.marks.items (made_of self.old) (made_of self.new) m (Quotient divisor)) }
     {
-        let Ok(first) = u32::try_from(self.nodes.len()) else {
-            return Err(AllocError);
-        };
+        let first = self.count()?;
         let remainder = Ref::Remainder(first);
-        let less = 2u32.wrapping_sub(divisor);
+        let less = two_less(divisor);
         let wraps = self.push(Op::Lts, 0, Refs::Two(Ref::Word(u32::MAX - 2), remainder))?;
         let again = self.push(Op::Add, 0, Refs::Two(remainder, Ref::Word(less)))?;
         let further = self.push(Op::Add, 0, Refs::Two(remainder, Ref::Word(2)))?;
@@ -224,7 +233,8 @@ impl Emission {
             Value::Input(port) => self.push(Op::Input, port, Refs::Zero),
             Value::Digit { .. } => self.rotation(),
             Value::Quotient(divisor) => self.recurrence(live, divisor),
-            _ => self.push(Op::Iter, 0, Refs::Zero),
+            Value::Turn => self.push(Op::Iter, 0, Refs::Zero),
+            _ => unreachable!(),
         }
     }
 
@@ -242,6 +252,7 @@ impl Emission {
         requires may { MayBeMade (listed live.now.values.now) live.now.marks.items (made_of self.now) v }
         ensures adds { IfOk result (λ u. AddsQuiet (listed live.now.values.now) live.now.marks.items (made_of self.old) (made_of self.new)) }
         ensures ready { IfOk result (λ u. IsReady (listed live.now.values.now) live.now.marks.items (made_of self.new) v) }
+        ensures frame { IfOk result (λ u. (w : ℕ) → v < w → node_in (made_of self.new) w ≡ node_in (made_of self.old) w) }
     {
         if self.at[v].is_some() {
             return Ok(());
