@@ -9,7 +9,7 @@ use Rattle.cg_c_values.specs.declared.value.Value.{Value}
 use Rattle.cg_c_values.specs.declared.value.Value.TheVariants as values
 use Rattle.cg_c_values.specs.Values.{value_at}
 use Rattle.cg_c_kernel.specs.Live.{has_mark}
-use Rattle.cg_c_kernel.specs.Made.{Made, Sketch, Ref, Refs, Zero, One, Two, Three, Word, Now, Carried, Is, IsRef, IsRefOf, IsAt, OnOne, OnTwo, OnThree, Computes, IsLiveWord, Uses, Stands, IsQuiet, Grows, IsGrownBy, GrowsByConstant, AreQuiet, AddsQuiet, Adds, IsReady, IsReadyAs, IsPushed, sketch, node_in}
+use Rattle.cg_c_kernel.specs.Made.{Made, Sketch, Ref, Refs, Zero, One, Two, Three, Word, Now, Carried, Is, IsRef, IsRefOf, IsAt, OnOne, OnTwo, OnThree, Computes, IsLiveWord, Uses, Stands, IsQuiet, Grows, IsGrownBy, GrowsByConstant, AreQuiet, AddsQuiet, Adds, IsReady, IsReadyAs, AddsNode, IsPushed, sketch, node_in}
 use Rattle.cg_c_kernel.proofs.Growing.{stands_more, stands_same, same_grows, more_grows, grows_twice, ref_grows, comes, is_new, was}
 
 -- ---- quiet nodes
@@ -169,4 +169,22 @@ three_is old t u w z m a b c op r q o g h i j k p =
       first_is = ref_grows old t z a r (grows_twice t w z (grows_twice t u w g h) last) i;
       second_is = ref_grows old u z b q (grows_twice u w z h last) j;
       third_is = ref_grows old w z c o last k;
+    }
+
+-- a node was added after quiet ones
+pub adds_then : (old : List Value) (marks : List Bool) (s b t : Made) (m : ℕ) → AddsQuiet old marks s b → Adds old marks b t m → AddsNode old marks s t m
+adds_then old marks s b t m a d =
+    record {
+      stands = d.stands;
+      grows = grows_twice s b t a.grows d.grows;
+      last = d.last;
+      fresh = omega (arith, a.grows.longer, d.fresh);
+      quiet = λ k x n h is.
+          ⊎_elim
+          (λ (early : k < length b.nodes).
+          let here = slice_get-get_or b.nodes k x early in
+          let there = d.grows.nodes k (get_or b.nodes k x) here in
+          let same : get_or b.nodes k x ≡ x = cc in
+          a.quiet k x n early (here ∙ ap Some same))
+          (λ (late : length b.nodes ≤ k). d.quiet k x late h is) (cases_lt k (length b.nodes));
     }

@@ -1,5 +1,5 @@
 -- Values that get their nodes.
-use Rattle.std.proofs.Common.{◌≡◌, ◌≢◌, ◌⊎◌, ℕ, suc, ◌+◌, ◌-◌, ◌<◌, ◌≤◌, Bool, ◌&&◌, true, false, List, [], ◌∷◌, ◌++◌, length, Option, Some, None, slice_get, set, get_or, refl, sym, ap, ◌∙◌, subst, arith, ⊎_elim, length-set, get_or-set_same, get_or-set_other}
+use Rattle.std.proofs.Common.{Contains, ◌≡◌, ◌≢◌, ◌⊎◌, ℕ, suc, ◌+◌, ◌-◌, ◌<◌, ◌≤◌, Bool, ◌&&◌, true, false, List, [], ◌∷◌, ◌++◌, length, Option, Some, None, slice_get, set, get_or, refl, sym, ap, ◌∙◌, subst, arith, ⊎_elim, length-set, get_or-set_same, get_or-set_other}
 use Rattle.std.proofs.lemmas.Option.{slice_get-get_or}
 use Rattle.std.proofs.lemmas.Bool.{and_parts, cases_eq, cases_lt}
 use Rattle.cg_word.specs.declared.op.Op.{Op}
@@ -9,9 +9,9 @@ use Rattle.cg_c_values.specs.declared.value.Value.{Value}
 use Rattle.cg_c_values.specs.declared.value.Value.TheVariants as values
 use Rattle.cg_c_values.specs.Values.{IsLoad, MayStand, is_plain, value_at}
 use Rattle.cg_c_kernel.specs.Live.{AreClosed, has_mark, parts_marked}
-use Rattle.cg_c_kernel.specs.Made.{Made, Sketch, Ref, Refs, Is, OnOne, OnTwo, OnThree, Recurs, Computes, Gains, Stands, IsLeaf, IsQuiet, Grows, AddsQuiet, Adds, HasLoads, IsReady, IsReadyAs, MayBeMade, node_in, sketch, with_place}
+use Rattle.cg_c_kernel.specs.Made.{Made, Sketch, Ref, Refs, Is, OnOne, OnTwo, OnThree, Recurs, Computes, Gains, Stands, IsLeaf, IsQuiet, Grows, AddsQuiet, Adds, HasLoads, IsLiveWord, IsReady, IsReadyAs, MayBeMade, node_in, sketch, with_place}
 use Rattle.cg_c_kernel.proofs.Growing.{computes_grows, grows_twice}
-use Rattle.cg_c_kernel.proofs.Making.{ready_grows}
+use Rattle.cg_c_kernel.proofs.Making.{adds_none, adds_twice}
 
 -- ---- quiet nodes
 
@@ -71,7 +71,7 @@ pub place_stands : (old : List Value) (marks : List Bool) (t : Made) (v m n : �
     ((w k : ℕ) → node_in t w ≡ Some k → k < n) → Computes old t m (value_at old v) → Stands old marks (with_place t v m)
 place_stands old marks t v m n st l none within fresh earlier c =
     record {
-      long = length-set ∙ st.long;
+      long = simp length-set st.long;
       computed = λ w k is.
           ⊎_elim
           (λ (e : w ≡ v).
@@ -166,3 +166,59 @@ selected_may old finals marks s v condition chosen other closed may is st =
     let parts = and_parts _ _ (rw (sym is) at (closed v may.within may.live)) in
     let more = and_parts _ _ parts.1 in
     (may_less old marks s v condition may st.0 parts.0, may_less old marks s v chosen may st.1 more.0, may_less old marks s v other may st.2 more.1)
+
+-- a value that has a node is ready
+pub some_ready : (old : List Value) (marks : List Bool) (s : Made) (v : ℕ) → MayBeMade old marks s v → (m : ℕ) × (node_in s v ≡ Some m) → IsReady old marks s v
+some_ready old marks s v may (m, e) = record { within = may.within; live = may.live; ready = by (value_at old v) }
+  where
+    by : (value : Value) → IsReadyAs s v value
+    by values.Turn = (m, e)
+    by (values.Quotient d) = (m, e)
+    by (values.Digit d x) = (m, e)
+    by (values.Input p) = (m, e)
+    by (values.Loaded x y z w) = (m, e)
+    by (values.Two x y z) = (m, e)
+    by (values.Select x y z) = (m, e)
+    by (values.Const word) = tt
+    by (values.Carried number) = tt
+
+-- a word is met
+pub met_adds : (old : List Value) (marks : List Bool) (s t : Made) (v number : ℕ) → Stands old marks s → MayBeMade old marks s v → values.Carried number ≡ value_at old v → t.nodes ≡ s.nodes → t.at ≡ s.at →
+    ((n : ℕ) → Contains t.met n → Contains s.met n ⊎ (n ≡ number)) → AddsQuiet old marks s t
+met_adds old marks s t v number st may is e a met =
+    let live : IsLiveWord old marks number = record { v = v; within = may.within; is = sym is; live = may.live } in
+    let quiet = adds_none old marks s (record { nodes = t.nodes; at = t.at; met = s.met }) st e a refl in
+    record {
+      stands =
+          record {
+            long = quiet.stands.long;
+            computed = λ w m h. let c = quiet.stands.computed w m h in (c.0, c.1, computes_grows old (record { nodes = t.nodes; at = t.at; met = s.met }) t m (value_at old w) (record { longer = omega arith; nodes = λ k x i. i; at = λ k x i. i }) c.2);
+            apart = quiet.stands.apart;
+            used = quiet.stands.used;
+            met = λ n i. ⊎_elim (λ h. st.met n h) (λ (h : n ≡ number). subst (λ (z : ℕ). IsLiveWord old marks z) (sym h) live) (met n i);
+          };
+      grows = record { longer = quiet.grows.longer; nodes = quiet.grows.nodes; at = quiet.grows.at };
+      quiet = quiet.quiet;
+    }
+
+-- v gets its node after those of its two operands
+pub placed_two : (old : List Value) (marks : List Bool) (s a b t : Made) (v m first second : ℕ) (op : Op) → node_in s v ≡ None → MayBeMade old marks s v → values.Two op first second ≡ value_at old v →
+    MayStand v (values.Two op first second) → AddsQuiet old marks s a → ((w : ℕ) → first < w → node_in a w ≡ node_in s w) → AddsQuiet old marks a b → ((w : ℕ) → second < w → node_in b w ≡ node_in a w) →
+    Adds old marks b t m → OnTwo old t m op 0 first second → AddsQuiet old marks s (with_place t v m)
+placed_two old marks s a b t v m first second op none may is stand x f y h d on =
+    placed old marks s b t v m (adds_twice old marks s a b x y) d may.within (h v stand.2 ∙ f v stand.1 ∙ none) (subst (λ (z : Value). Computes old t m z) is on)
+    (quiet_at t m 0 op _ on.is (plain_quiet op stand.0))
+
+-- so does a selection after those of its three
+pub placed_three : (old : List Value) (marks : List Bool) (s a b c t : Made) (v m first second third : ℕ) → node_in s v ≡ None → MayBeMade old marks s v → values.Select first second third ≡ value_at old v →
+    MayStand v (values.Select first second third) → AddsQuiet old marks s a → ((w : ℕ) → first < w → node_in a w ≡ node_in s w) → AddsQuiet old marks a b → ((w : ℕ) → second < w → node_in b w ≡ node_in a w) →
+    AddsQuiet old marks b c → ((w : ℕ) → third < w → node_in c w ≡ node_in b w) → Adds old marks c t m → OnThree old t m ops.Select first second third → AddsQuiet old marks s (with_place t v m)
+placed_three old marks s a b c t v m first second third none may is stand x f y h z i d on =
+    placed old marks s c t v m (adds_twice old marks s b c (adds_twice old marks s a b x y) z) d may.within (i v stand.2 ∙ h v stand.1 ∙ f v stand.0 ∙ none) (subst (λ (z : Value). Computes old t m z) is on)
+    (quiet_at t m 0 ops.Select _ on.is (refl, refl))
+
+-- and a leaf
+pub placed_leaf : (old : List Value) (marks : List Bool) (s t : Made) (v m : ℕ) (value : Value) → Stands old marks s → node_in s v ≡ None → MayBeMade old marks s v → value ≡ value_at old v → IsLeaf value →
+    Gains old marks s t m value → AddsQuiet old marks s (with_place t v m)
+placed_leaf old marks s t v m value st none may is leaf g =
+    placed old marks s s t v m (adds_none old marks s s st refl refl refl) g.adds may.within none (subst (λ (z : Value). Computes old t m z) is g.computes) (leaf_quiet old t m value leaf g.computes)

@@ -202,3 +202,27 @@ pub record Gains (old : List Value) (marks : List Bool) (s t : Made) (m : ℕ) (
 -- value v got the node m
 abbrev pub with_place : Made → (v m : ℕ) → Made
 with_place s v m = record { nodes = s.nodes; at = slice_set s.at v (Some m); met = s.met }
+
+-- ---- effects
+
+-- nodes were added, quiet ones but for the last, m, and values got nodes
+pub record AddsNode (old : List Value) (marks : List Bool) (s t : Made) (m : ℕ) : Type 0 where
+  pub stands : Stands old marks t
+  pub grows : Grows s t
+  pub last : m + 1 ≡ length t.nodes
+  pub fresh : length s.nodes ≤ m
+  pub quiet : AreQuiet t (length s.nodes) m
+
+-- a guard that may get its node
+abbrev pub IsGuardMade : List Value → List Bool → Made → Option ℕ → Type 0
+IsGuardMade old marks s None = Unit {0}
+IsGuardMade old marks s (Some guard) = MayBeMade old marks s guard
+
+-- node m stores a word, or sends it
+abbrev pub IsStore : List Value → Made → ℕ → Option ℕ → (address word : ℕ) → Type 0
+IsStore old s m None address word = OnTwo old s m ops.Store 0 address word
+IsStore old s m (Some guard) address word = OnThree old s m ops.StoreIf guard address word
+
+abbrev pub IsSend : List Value → Made → ℕ → Option ℕ → (port word : ℕ) → Type 0
+IsSend old s m None port word = OnOne old s m ops.Output port word
+IsSend old s m (Some guard) port word = OnTwo old s m ops.OutputIf port guard word

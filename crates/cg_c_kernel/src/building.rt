@@ -22,6 +22,17 @@ fn after(first: u32, by: u32) -> Result<u32, AllocError> {
     first.checked_add(by).ok_or(AllocError)
 }
 
+/// Returns the edge of the word of a number as an operand; the constant 0 if it has none.
+fn carried(alloc: Global, edges: &Edges, number: usize) -> Result<Operand, AllocError> {
+    if number >= edges.edges.len() {
+        return Ok(Operand::Const(0));
+    }
+    match &edges.edges[number] {
+        Some(carry) => edge(alloc, carry.from, &carry.words),
+        None => Ok(Operand::Const(0)),
+    }
+}
+
 /// Returns `operand` as an operand of the kernel, where carried words have these edges.
 fn operand_of(alloc: Global, edges: &Edges, operand: Ref) -> Result<Operand, AllocError> {
     match operand {
@@ -30,10 +41,7 @@ fn operand_of(alloc: Global, edges: &Edges, operand: Ref) -> Result<Operand, All
         Ref::Rotation(node) => edge(alloc, node, &[0, 1, 2]),
         Ref::Remainder(first) => edge(alloc, after(first, 3)?, &[u32::MAX - 1, u32::MAX]),
         Ref::Quotient(first) => edge(alloc, after(first, 4)?, &[u32::MAX, u32::MAX]),
-        Ref::Carried(number) => match edges.get(number) {
-            Some(carry) => edge(alloc, carry.from, &carry.words),
-            None => Ok(Operand::Const(0)),
-        },
+        Ref::Carried(number) => carried(alloc, edges, number),
     }
 }
 

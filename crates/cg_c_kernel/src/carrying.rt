@@ -75,7 +75,7 @@ impl<'a> Carrying<'a> {
         live: &Live,
         number: usize,
     ) -> Result<(), AllocError> {
-        if self.edges.get(number).is_some() {
+        if self.edges.has(number) {
             return Ok(());
         }
         let word = self.initial_of(number);
@@ -90,7 +90,7 @@ impl<'a> Carrying<'a> {
     fn next_of(&self, live: &Live, number: usize) -> Option<usize> {
         let v = final_of(live.finals, number)?;
         match live.values.value(v) {
-            Value::Carried(next) if self.edges.get(next).is_none() => Some(next),
+            Value::Carried(next) if !self.edges.has(next) => Some(next),
             _ => None,
         }
     }

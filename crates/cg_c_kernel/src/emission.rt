@@ -2,13 +2,12 @@
 
 ghost use Rattle.std.specs.Prelude.{◌≡◌, ◌<◌, ◌++◌, ◌∷◌, [], true, length, IfOk, IfSome, Some, slice_get};
 ghost use Rattle.cg_word.specs.declared.op.Op.TheVariants as ops;
-ghost use Rattle.cg_word.specs.Word.{apply_of};
 ghost use Rattle.cg_c_kernel.specs.Made.{One, sketch};
 
 use crate::marked::Live;
 use crate::sketch::{Ref, Refs, Sketch};
 use cg_c_values::{Value, Values};
-use cg_word::Op;
+use cg_word::{Op, apply};
 use std::alloc::{AllocError, Global};
 
 /// The nodes so far, the node of each value that has one, and the words that nodes need as they were when the turn began,
@@ -33,13 +32,6 @@ pub(crate) struct Triple {
     pub first: usize,
     pub second: usize,
     pub third: usize,
-}
-
-/// Returns 2 less `divisor`, as a word.
-fn two_less(divisor: u32) -> u32
-    ensures { result ≡ apply_of ops.Sub 2 divisor 0 }
-{
-    2u32.wrapping_sub(divisor)
 }
 
 /// Returns whether a node is that of a constant with this operand, a word or a word that is carried.
@@ -69,7 +61,7 @@ fn found(nodes: &[Sketch], operand: Ref) -> Option<usize>
 }
 
 impl Emission {
-    ghost use Rattle.std.specs.Prelude.{◌≡◌, ◌⊎◌, ℕ, ◌+◌, ◌<◌, ◌++◌, ◌∷◌, [], true, length, IfOk, IfSome, Some, None, Contains, replicate};
+    ghost use Rattle.std.specs.Prelude.{◌≡◌, ◌⊎◌, ℕ, ◌+◌, ◌<◌, ◌++◌, ◌∷◌, [], true, false, length, IfOk, IfSome, Some, None, Contains, replicate};
     ghost use Rattle.cg_c_values.specs.Listed.{listed};
     ghost use Rattle.cg_c_values.specs.Values.{value_at};
     ghost use Rattle.cg_word.specs.declared.op.Op.TheVariants as ops;
@@ -85,6 +77,18 @@ impl Emission {
             at: vec![in alloc; None; count]?,
             met: Vec::new(alloc),
         })
+    }
+
+    /// Returns whether the value `v` has a node.
+    pub fn has_node(&self, v: usize) -> bool
+        requires { v < length (made_of self.now).at }
+        ensures some { result ≡ true → (m : ℕ) × (node_in (made_of self.now) v ≡ Some m) }
+        ensures none { result ≡ false → node_in (made_of self.now) v ≡ None }
+    {
+        match self.at[v] {
+            Some(_) => true,
+            None => false,
+        }
     }
 
     /// Returns the number of nodes.
@@ -213,7 +217,7 @@ impl Emission {
     {
         let first = self.count()?;
         let remainder = Ref::Remainder(first);
-        let less = two_less(divisor);
+        let less = apply(Op::Sub, 2, divisor, 0);
         let wraps = self.push(Op::Lts, 0, Refs::Two(Ref::Word(u32::MAX - 2), remainder))?;
         let again = self.push(Op::Add, 0, Refs::Two(remainder, Ref::Word(less)))?;
         let further = self.push(Op::Add, 0, Refs::Two(remainder, Ref::Word(2)))?;
@@ -254,7 +258,7 @@ impl Emission {
         ensures ready { IfOk result (λ u. IsReady (listed live.now.values.now) live.now.marks.items (made_of self.new) v) }
         ensures frame { IfOk result (λ u. (w : ℕ) → v < w → node_in (made_of self.new) w ≡ node_in (made_of self.old) w) }
     {
-        if self.at[v].is_some() {
+        if self.has_node(v) {
             return Ok(());
         }
         match live.values.value(v) {

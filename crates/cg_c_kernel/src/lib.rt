@@ -9,6 +9,7 @@ mod acts;
 mod building;
 mod carrying;
 mod edges;
+mod effects;
 mod emission;
 mod kernel;
 mod live;
