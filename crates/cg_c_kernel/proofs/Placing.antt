@@ -9,9 +9,9 @@ use Rattle.cg_c_values.specs.declared.value.Value.{Value}
 use Rattle.cg_c_values.specs.declared.value.Value.TheVariants as values
 use Rattle.cg_c_values.specs.Values.{IsLoad, MayStand, is_plain, value_at}
 use Rattle.cg_c_kernel.specs.Live.{AreClosed, has_mark, parts_marked}
-use Rattle.cg_c_kernel.specs.Made.{Made, Sketch, Ref, Refs, Is, OnOne, OnTwo, OnThree, Recurs, Computes, Gains, Stands, IsLeaf, IsQuiet, Grows, AddsQuiet, Adds, HasLoads, IsLiveWord, IsReady, IsReadyAs, MayBeMade, node_in, sketch, with_place}
+use Rattle.cg_c_kernel.specs.Made.{Made, Sketch, Ref, Refs, Is, OnOne, OnTwo, OnThree, Recurs, Computes, Gains, Stands, IsLeaf, IsQuiet, Grows, AddsQuiet, Adds, HasLoads, IsGrownBy, IsLiveWord, One, Carried, IsReady, IsReadyAs, MayBeMade, node_in, sketch, with_place}
 use Rattle.cg_c_kernel.proofs.Growing.{computes_grows, grows_twice}
-use Rattle.cg_c_kernel.proofs.Making.{adds_none, adds_twice}
+use Rattle.cg_c_kernel.proofs.Making.{adds_none, adds_twice, constant_adds}
 
 -- ---- quiet nodes
 
@@ -182,11 +182,10 @@ some_ready old marks s v may (m, e) = record { within = may.within; live = may.l
     by (values.Const word) = tt
     by (values.Carried number) = tt
 
--- a word is met
-pub met_adds : (old : List Value) (marks : List Bool) (s t : Made) (v number : ℕ) → Stands old marks s → MayBeMade old marks s v → values.Carried number ≡ value_at old v → t.nodes ≡ s.nodes → t.at ≡ s.at →
+-- a live word is met
+pub live_met : (old : List Value) (marks : List Bool) (s t : Made) (number : ℕ) → Stands old marks s → IsLiveWord old marks number → t.nodes ≡ s.nodes → t.at ≡ s.at →
     ((n : ℕ) → Contains t.met n → Contains s.met n ⊎ (n ≡ number)) → AddsQuiet old marks s t
-met_adds old marks s t v number st may is e a met =
-    let live : IsLiveWord old marks number = record { v = v; within = may.within; is = sym is; live = may.live } in
+live_met old marks s t number st live e a met =
     let quiet = adds_none old marks s (record { nodes = t.nodes; at = t.at; met = s.met }) st e a refl in
     record {
       stands =
@@ -200,6 +199,17 @@ met_adds old marks s t v number st may is e a met =
       grows = record { longer = quiet.grows.longer; nodes = quiet.grows.nodes; at = quiet.grows.at };
       quiet = quiet.quiet;
     }
+
+pub met_adds : (old : List Value) (marks : List Bool) (s t : Made) (v number : ℕ) → Stands old marks s → MayBeMade old marks s v → values.Carried number ≡ value_at old v → t.nodes ≡ s.nodes → t.at ≡ s.at →
+    ((n : ℕ) → Contains t.met n → Contains s.met n ⊎ (n ≡ number)) → AddsQuiet old marks s t
+met_adds old marks s t v number st may is = live_met old marks s t number st (record { v = v; within = may.within; is = sym is; live = may.live })
+
+-- a live word is copied and met
+pub copied : (old : List Value) (marks : List Bool) (s t u : Made) (number : ℕ) → Stands old marks s → IsLiveWord old marks number → IsGrownBy s t (sketch ops.Const 0 (One (Carried number))) → u.nodes ≡ t.nodes → u.at ≡ t.at →
+    ((n : ℕ) → Contains u.met n → Contains t.met n ⊎ (n ≡ number)) → AddsQuiet old marks s u
+copied old marks s t u number st live g e a met =
+    let first = constant_adds old marks s t (Carried number) st g (λ n (h : Carried number ≡ Carried n). let same : number ≡ n = cc in subst (λ (z : ℕ). IsLiveWord old marks z) same live) in
+    adds_twice old marks s t u first (live_met old marks t u number first.stands live e a met)
 
 -- v gets its node after those of its two operands
 pub placed_two : (old : List Value) (marks : List Bool) (s a b t : Made) (v m first second : ℕ) (op : Op) → node_in s v ≡ None → MayBeMade old marks s v → values.Two op first second ≡ value_at old v →

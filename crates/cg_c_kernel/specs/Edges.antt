@@ -1,5 +1,10 @@
 -- The edges of words that are carried from turn to turn.
-use Rattle.std.specs.Prelude.{◌≡◌, ℕ, Bool, true, false, List, ◌∷◌, Option, Some, None, slice_index_or}
+use Rattle.std.specs.Prelude.{◌≡◌, ◌⊎◌, ℕ, Bool, true, false, List, [], ◌∷◌, Option, Some, None, slice_index_or}
+use Rattle.cg_word.specs.declared.op.Op.TheVariants as ops
+use Rattle.cg_c_values.specs.declared.value.Value.{Value}
+use Rattle.cg_c_values.specs.declared.value.Value.TheVariants as values
+use Rattle.cg_c_values.specs.Values.{value_at}
+use Rattle.cg_c_kernel.specs.Made.{Made, Is, One, Word, Carried, node_in}
 use Rattle.cg_c_kernel.specs.declared.edges.Edge.{Edge}
 
 -- the edge of a word, if it has one
@@ -17,3 +22,32 @@ has_edge edges number = is_there (edge_in edges number)
 abbrev pub IsOneMore : Option Edge → (word : ℕ) → Edge → Type 0
 IsOneMore None word e = ⊥
 IsOneMore (Some next) word e = (e.from ≡ next.from) × (e.words.items ≡ word ∷ next.words.items)
+
+-- ---- what an edge leads to
+
+-- the node and the words after the first are those of this edge
+abbrev pub Continues : Option Edge → (from : ℕ) → (rest : List ℕ) → Type 0
+Continues None from rest = ⊥
+Continues (Some next) from rest = (from ≡ next.from) × (rest ≡ next.words.items)
+
+-- the edge begins at a copy of a word, or goes on with that of the word
+abbrev pub IsFollowed : Made → List (Option Edge) → (number from : ℕ) → (rest : List ℕ) → Type 0
+IsFollowed s edges number from rest = ((rest ≡ []) × Is s from ops.Const 0 (One (Carried number))) ⊎ Continues (edge_in edges number) from rest
+
+-- the edge has the value v, a turn later
+abbrev pub IsFinal : Made → List (Option Edge) → (v from : ℕ) → (rest : List ℕ) → Value → Type 0
+IsFinal s edges v from rest (values.Const word) = (rest ≡ []) × Is s from ops.Const 0 (One (Word word))
+IsFinal s edges v from rest (values.Carried number) = IsFollowed s edges number from rest
+IsFinal s edges v from rest value = (rest ≡ []) × (node_in s v ≡ Some from)
+
+-- the edge of a word that begins with `word` and becomes word `number`
+pub record IsEdgeAfter (s : Made) (edges : List (Option Edge)) (number word : ℕ) (e : Edge) : Type 0 where
+  pub rest : List ℕ
+  pub words : e.words.items ≡ word ∷ rest
+  pub followed : IsFollowed s edges number e.from rest
+
+-- the edge of a word that begins with `word` and becomes the value v
+pub record IsEdgeTo (old : List Value) (s : Made) (edges : List (Option Edge)) (v word : ℕ) (e : Edge) : Type 0 where
+  pub rest : List ℕ
+  pub words : e.words.items ≡ word ∷ rest
+  pub final : IsFinal s edges v e.from rest (value_at old v)

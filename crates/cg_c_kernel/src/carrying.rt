@@ -17,6 +17,11 @@ pub(crate) struct Carrying<'a> {
 }
 
 impl<'a> Carrying<'a> {
+    ghost use Rattle.std.specs.Prelude.{◌≡◌, IfOk};
+    ghost use Rattle.cg_c_values.specs.Listed.{listed};
+    ghost use Rattle.cg_c_kernel.specs.Edges.{IsEdgeAfter, IsEdgeTo};
+    ghost use Rattle.cg_c_kernel.specs.Made.{AddsQuiet, IsLiveWord, MayBeMade, Stands, made_of};
+
     /// Returns no edges, for words with these initial words.
     pub fn new(alloc: Global, initial: &'a [u32]) -> Carrying<'a> {
         Carrying {
@@ -37,35 +42,50 @@ impl<'a> Carrying<'a> {
 
     /// Returns the edge of a word with the initial word `word` that becomes word `next`: a turn more than that one's, or
     /// one from a copy of it.
-    fn follow(&self, emission: &mut Emission, next: usize, word: u32) -> Result<Edge, AllocError> {
+    fn follow(
+        &self,
+        emission: &mut Emission,
+        live: &Live,
+        next: usize,
+        word: u32,
+    ) -> Result<Edge, AllocError>
+        requires stands { Stands (listed live.now.values.now) live.now.marks.items (made_of emission.now) }
+        requires live { IsLiveWord (listed live.now.values.now) live.now.marks.items next }
+        ensures adds { IfOk result (λ e. AddsQuiet (listed live.now.values.now) live.now.marks.items (made_of emission.old) (made_of emission.new)) }
+        ensures edge { IfOk result (λ e. IsEdgeAfter (made_of emission.new) self.now.edges.edges.items next word e) }
+    {
         if let Some(edge) = self.edges.over_more(next, word)? {
             return Ok(edge);
         }
-        let from = emission.constant(Ref::Carried(next))?;
-        emission.meet(next)?;
+        let from = emission.copy(live, next)?;
         self.edges.over_one(from, word)
     }
 
-    /// Returns the edge of a word with the initial word `word` that becomes the value `v`.
+    /// Returns the edge of a word with the initial word `word` that becomes the live value `v`.
     fn edge_to(
         &self,
         emission: &mut Emission,
         live: &Live,
         v: usize,
         word: u32,
-    ) -> Result<Edge, AllocError> {
-        let from = match live.values.value(v) {
-            Value::Carried(next) => return self.follow(emission, next, word),
-            Value::Const(word) => emission.constant(Ref::Word(word))?,
+    ) -> Result<Edge, AllocError>
+        requires stands { Stands (listed live.now.values.now) live.now.marks.items (made_of emission.now) }
+        requires may { MayBeMade (listed live.now.values.now) live.now.marks.items (made_of emission.now) v }
+        ensures adds { IfOk result (λ e. AddsQuiet (listed live.now.values.now) live.now.marks.items (made_of emission.old) (made_of emission.new)) }
+        ensures edge { IfOk result (λ e. IsEdgeTo (listed live.now.values.now) (made_of emission.new) self.now.edges.edges.items v word e) }
+    {
+        match live.values.value(v) {
+            Value::Carried(next) => self.follow(emission, live, next, word),
+            Value::Const(last) => {
+                let from = emission.constant(Ref::Word(last))?;
+                self.edges.over_one(from, word)
+            }
             _ => {
                 emission.emit(live, v)?;
-                match emission.at[v] {
-                    Some(from) => from,
-                    None => unreachable!(),
-                }
+                let from = emission.node_of(v);
+                self.edges.over_one(from, word)
             }
-        };
-        self.edges.over_one(from, word)
+        }
     }
 
     /// Gives the word of a number its edge, unless it has one.
@@ -80,7 +100,7 @@ impl<'a> Carrying<'a> {
         }
         let word = self.initial_of(number);
         let edge = match final_of(live.finals, number) {
-            None => self.follow(emission, number, word)?,
+            None => self.follow(emission, live, number, word)?,
             Some(v) => self.edge_to(emission, live, v, word)?,
         };
         self.edges.set(number, edge)

@@ -66,7 +66,7 @@ impl Emission {
     ghost use Rattle.cg_c_values.specs.Values.{value_at};
     ghost use Rattle.cg_word.specs.declared.op.Op.TheVariants as ops;
     ghost use Rattle.cg_c_values.specs.declared.value.Value.TheVariants.{Quotient};
-    ghost use Rattle.cg_c_kernel.specs.Made.{Adds, AddsQuiet, Gains, GrowsByConstant, Is, IsGrownBy, IsLeaf, IsPushed, IsReady, IsReadyAs, IsRef, MayBeMade, OnOne, OnThree, OnTwo, One, Rotation, Stands, made_of, node_in, sketch, with_place};
+    ghost use Rattle.cg_c_kernel.specs.Made.{Adds, AddsQuiet, Carried, Gains, GrowsByConstant, Is, IsGrownBy, IsLeaf, IsLiveWord, IsPushed, IsReady, IsReadyAs, IsRef, MayBeMade, OnOne, OnThree, OnTwo, One, Rotation, Stands, made_of, node_in, sketch, with_place};
 
     /// Returns an emission without nodes for `count` values.
     pub fn new(alloc: Global, count: usize) -> Result<Emission, AllocError>
@@ -88,6 +88,18 @@ impl Emission {
         match self.at[v] {
             Some(_) => true,
             None => false,
+        }
+    }
+
+    /// Returns the node of the value `v`, which has one.
+    pub fn node_of(&self, v: usize) -> u32
+        requires within { v < length (made_of self.now).at }
+        requires there { (m : ℕ) × (node_in (made_of self.now) v ≡ Some m) }
+        ensures { node_in (made_of self.now) v ≡ Some result }
+    {
+        match self.at[v] {
+            Some(m) => m,
+            None => unreachable!(),
         }
     }
 
@@ -126,6 +138,19 @@ impl Emission {
             self.met.push(number)?;
         }
         Ok(())
+    }
+
+    /// Returns the number of the node that copies a live word as it was when the turn began, which is added if there is
+    /// none; the word is met.
+    pub fn copy(&mut self, live: &Live, number: usize) -> Result<u32, AllocError>
+        requires stands { Stands (listed live.now.values.now) live.now.marks.items (made_of self.now) }
+        requires live { IsLiveWord (listed live.now.values.now) live.now.marks.items number }
+        ensures adds { IfOk result (λ m. AddsQuiet (listed live.now.values.now) live.now.marks.items (made_of self.old) (made_of self.new)) }
+        ensures is { IfOk result (λ m. Is (made_of self.new) m ops.Const 0 (One (Carried number))) }
+    {
+        let m = self.constant(Ref::Carried(number))?;
+        self.meet(number)?;
+        Ok(m)
     }
 
     /// Returns the word that was met as number `i`, if so many were.
