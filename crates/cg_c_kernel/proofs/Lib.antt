@@ -1,3 +1,4 @@
+pub mod Carried
 pub mod Growing
 pub mod Making
 pub mod Needs

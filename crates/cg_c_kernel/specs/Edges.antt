@@ -1,9 +1,10 @@
 -- The edges of words that are carried from turn to turn.
-use Rattle.std.specs.Prelude.{◌≡◌, ◌⊎◌, ℕ, Bool, true, false, List, [], ◌∷◌, Option, Some, None, slice_index_or}
+use Rattle.std.specs.Prelude.{◌≡◌, ◌⊎◌, ℕ, Bool, true, false, List, [], ◌∷◌, Option, Some, None, slice_index, slice_index_or}
 use Rattle.cg_word.specs.declared.op.Op.TheVariants as ops
 use Rattle.cg_c_values.specs.declared.value.Value.{Value}
 use Rattle.cg_c_values.specs.declared.value.Value.TheVariants as values
 use Rattle.cg_c_values.specs.Values.{value_at}
+use Rattle.cg_c_kernel.specs.Live.{final_in}
 use Rattle.cg_c_kernel.specs.Made.{Made, Is, One, Word, Carried, node_in}
 use Rattle.cg_c_kernel.specs.declared.edges.Edge.{Edge}
 
@@ -51,3 +52,18 @@ pub record IsEdgeTo (old : List Value) (s : Made) (edges : List (Option Edge)) (
   pub rest : List ℕ
   pub words : e.words.items ≡ word ∷ rest
   pub final : IsFinal s edges v e.from rest (value_at old v)
+
+-- ---- all edges
+
+-- the edge of a word that begins with `word`, as far as the word is assigned
+abbrev pub IsEdge : List Value → Made → List (Option Edge) → (number : ℕ) → Option ℕ → (word : ℕ) → Edge → Type 0
+IsEdge old s edges number None word e = IsEdgeAfter s edges number word e
+IsEdge old s edges number (Some v) word e = IsEdgeTo old s edges v word e
+
+-- each edge is one of its word
+pub record AreEdges (old : List Value) (finals : List (Option ℕ)) (initial : List ℕ) (s : Made) (edges : List (Option Edge)) : Type 0 where
+  pub each : (number : ℕ) (e : Edge) → edge_in edges number ≡ Some e → IsEdge old s edges number (final_in finals number) (slice_index initial number) e
+
+-- edges were added
+abbrev pub KeepsEdges : (before after : List (Option Edge)) → Type 0
+KeepsEdges before after = (number : ℕ) (e : Edge) → edge_in before number ≡ Some e → edge_in after number ≡ Some e

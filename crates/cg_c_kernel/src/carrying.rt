@@ -17,10 +17,11 @@ pub(crate) struct Carrying<'a> {
 }
 
 impl<'a> Carrying<'a> {
-    ghost use Rattle.std.specs.Prelude.{◌≡◌, IfOk};
+    ghost use Rattle.std.specs.Prelude.{◌≡◌, true, length, slice_index, IfOk};
     ghost use Rattle.cg_c_values.specs.Listed.{listed};
-    ghost use Rattle.cg_c_kernel.specs.Edges.{IsEdgeAfter, IsEdgeTo};
-    ghost use Rattle.cg_c_kernel.specs.Made.{AddsQuiet, IsLiveWord, MayBeMade, Stands, made_of};
+    ghost use Rattle.cg_c_kernel.specs.Edges.{AreEdges, IsEdge, IsEdgeAfter, IsEdgeTo, KeepsEdges, has_edge};
+    ghost use Rattle.cg_c_kernel.specs.Live.{final_in};
+    ghost use Rattle.cg_c_kernel.specs.Made.{AddsQuiet, HasLoads, IsLiveWord, MayBeMade, Stands, made_of};
 
     /// Returns no edges, for words with these initial words.
     pub fn new(alloc: Global, initial: &'a [u32]) -> Carrying<'a> {
@@ -32,7 +33,9 @@ impl<'a> Carrying<'a> {
     }
 
     /// Returns the word that the word of a number has when the first turn begins.
-    fn initial_of(&self, number: usize) -> u32 {
+    fn initial_of(&self, number: usize) -> u32
+        ensures { result ≡ slice_index self.now.initial.now number }
+    {
         if number < self.initial.len() {
             self.initial[number]
         } else {
@@ -88,21 +91,47 @@ impl<'a> Carrying<'a> {
         }
     }
 
-    /// Gives the word of a number its edge, unless it has one.
+    /// Returns the edge of a live word.
+    fn edge_of(
+        &self,
+        emission: &mut Emission,
+        live: &Live,
+        number: usize,
+    ) -> Result<Edge, AllocError>
+        requires stands { Stands (listed live.now.values.now) live.now.marks.items (made_of emission.now) }
+        requires live { IsLiveWord (listed live.now.values.now) live.now.marks.items number }
+        requires loads { HasLoads (listed live.now.values.now) live.now.marks.items (made_of emission.now) (length (listed live.now.values.now)) }
+        ensures adds { IfOk result (λ e. AddsQuiet (listed live.now.values.now) live.now.marks.items (made_of emission.old) (made_of emission.new)) }
+        ensures edge { IfOk result (λ e. IsEdge (listed live.now.values.now) (made_of emission.new) self.now.edges.edges.items number (final_in live.now.finals.now number) (slice_index self.now.initial.now number) e) }
+    {
+        let word = self.initial_of(number);
+        match final_of(live.finals, number) {
+            None => self.follow(emission, live, number, word),
+            Some(v) => self.edge_to(emission, live, v, word),
+        }
+    }
+
+    /// Gives a live word its edge, unless it has one.
     fn settle(
         &mut self,
         emission: &mut Emission,
         live: &Live,
         number: usize,
-    ) -> Result<(), AllocError> {
+    ) -> Result<(), AllocError>
+        requires stands { Stands (listed live.now.values.now) live.now.marks.items (made_of emission.now) }
+        requires live { IsLiveWord (listed live.now.values.now) live.now.marks.items number }
+        requires loads { HasLoads (listed live.now.values.now) live.now.marks.items (made_of emission.now) (length (listed live.now.values.now)) }
+        requires edges { AreEdges (listed live.now.values.now) live.now.finals.now self.now.initial.now (made_of emission.now) self.now.edges.edges.items }
+        ensures adds { IfOk result (λ u. AddsQuiet (listed live.now.values.now) live.now.marks.items (made_of emission.old) (made_of emission.new)) }
+        ensures edges { IfOk result (λ u. AreEdges (listed live.now.values.now) live.now.finals.now self.new.initial.now (made_of emission.new) self.new.edges.edges.items) }
+        ensures kept { IfOk result (λ u. KeepsEdges self.old.edges.edges.items self.new.edges.edges.items) }
+        ensures there { IfOk result (λ u. has_edge self.new.edges.edges.items number ≡ true) }
+        ensures same { self.new.initial.now ≡ self.old.initial.now }
+    {
         if self.edges.has(number) {
             return Ok(());
         }
-        let word = self.initial_of(number);
-        let edge = match final_of(live.finals, number) {
-            None => self.follow(emission, live, number, word)?,
-            Some(v) => self.edge_to(emission, live, v, word)?,
-        };
+        let edge = self.edge_of(emission, live, number)?;
         self.edges.set(number, edge)
     }
 
