@@ -2,6 +2,7 @@
 use Rattle.std.proofs.Common.{◌≡◌, ◌≢◌, ◌⊎◌, ℕ, ◌<◌, ◌≤◌, ◌==◌, if◌then◌else◌, Bool, true, false, List, [], ◌∷◌, length, Option, Some, None, get_or, refl, sym, ap, ◌∙◌, subst, arith, inl, inr, ⊎_elim}
 use Rattle.std.specs.Prelude.{slice_index}
 use Rattle.std.proofs.lemmas.Bool.{cases_eq, cases_lt}
+use Rattle.std.proofs.lemmas.Bool.Decides.{nat_tests}
 use Rattle.std.proofs.lemmas.List.{get_or_past}
 use Rattle.cg_word.specs.declared.op.Op.TheVariants as ops
 use Rattle.cg_c_values.specs.declared.value.Value.{Value}
@@ -54,10 +55,10 @@ there_not None e h i = absurd (cc)
 there_not (Some f) e h i = absurd (cc)
 
 set_here : (a b : List (Option Edge)) (number : ℕ) (e : Edge) → HasMore a b number e → edge_in b number ≡ Some e
-set_here a b number e h = ?
+set_here a b number e h = grind (arith, nat_tests, h.set number)
 
 set_other : (a b : List (Option Edge)) (number n : ℕ) (e : Edge) → HasMore a b number e → n ≢ number → edge_in b n ≡ edge_in a n
-set_other a b number n e h ne = ?
+set_other a b number n e h ne = grind (arith, nat_tests, h.set n)
 
 pub more_keeps : (a b : List (Option Edge)) (number : ℕ) (e : Edge) → HasMore a b number e → KeepsEdges a b
 more_keeps a b number e h n f is =
@@ -95,3 +96,19 @@ final_may old finals marks s number v long closed live loads is =
     let has : has_mark marks v ≡ true = rw (sym is) at needs in
     let within = marked_within marks v has in
     record { within = omega arith; live = has; loads = λ u le. loads u (omega arith) }
+
+-- the final value of a live word is live
+pub final_live : (old : List Value) (finals : List (Option ℕ)) (marks : List Bool) (number v : ℕ) → length marks ≡ length old → AreClosed old finals marks → IsLiveWord old marks number →
+    Some v ≡ final_in finals number → (v < length old) × (has_mark marks v ≡ true)
+final_live old finals marks number v long closed live is =
+    let needs = rw live.is at (closed live.v live.within live.live) in
+    let has : has_mark marks v ≡ true = rw (sym is) at needs in
+    let within = marked_within marks v has in
+    (omega arith, has)
+
+-- a word that a live word becomes is live
+pub next_live : (old : List Value) (finals : List (Option ℕ)) (marks : List Bool) (number v next : ℕ) → length marks ≡ length old → AreClosed old finals marks → IsLiveWord old marks number →
+    Some v ≡ final_in finals number → values.Carried next ≡ value_at old v → IsLiveWord old marks next
+next_live old finals marks number v next long closed live is e =
+    let f = final_live old finals marks number v long closed live is in
+    record { v = v; within = f.0; is = sym e; live = f.1 }

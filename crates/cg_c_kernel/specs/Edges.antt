@@ -4,7 +4,7 @@ use Rattle.cg_word.specs.declared.op.Op.TheVariants as ops
 use Rattle.cg_c_values.specs.declared.value.Value.{Value}
 use Rattle.cg_c_values.specs.declared.value.Value.TheVariants as values
 use Rattle.cg_c_values.specs.Values.{value_at}
-use Rattle.cg_c_kernel.specs.Live.{final_in}
+use Rattle.cg_c_kernel.specs.Live.{final_in, has_mark}
 use Rattle.cg_c_kernel.specs.Made.{Made, Is, One, Word, Carried, node_in}
 use Rattle.cg_c_kernel.specs.declared.edges.Edge.{Edge}
 
@@ -67,3 +67,7 @@ pub record AreEdges (old : List Value) (finals : List (Option ℕ)) (initial : L
 -- edges were added
 abbrev pub KeepsEdges : (before after : List (Option Edge)) → Type 0
 KeepsEdges before after = (number : ℕ) (e : Edge) → edge_in before number ≡ Some e → edge_in after number ≡ Some e
+
+-- the value v, if it is a live word that is carried, has an edge
+abbrev pub IsSettled : List Value → List Bool → List (Option Edge) → (v : ℕ) → Type 0
+IsSettled old marks edges v = (number : ℕ) → value_at old v ≡ values.Carried number → has_mark marks v ≡ true → has_edge edges number ≡ true

@@ -17,9 +17,9 @@ pub(crate) struct Carrying<'a> {
 }
 
 impl<'a> Carrying<'a> {
-    ghost use Rattle.std.specs.Prelude.{◌≡◌, true, length, slice_index, IfOk};
+    ghost use Rattle.std.specs.Prelude.{◌≡◌, ℕ, ◌<◌, true, length, slice_index, IfOk, IfSome};
     ghost use Rattle.cg_c_values.specs.Listed.{listed};
-    ghost use Rattle.cg_c_kernel.specs.Edges.{AreEdges, IsEdge, IsEdgeAfter, IsEdgeTo, KeepsEdges, has_edge};
+    ghost use Rattle.cg_c_kernel.specs.Edges.{AreEdges, IsEdge, IsEdgeAfter, IsEdgeTo, IsSettled, KeepsEdges, has_edge};
     ghost use Rattle.cg_c_kernel.specs.Live.{final_in};
     ghost use Rattle.cg_c_kernel.specs.Made.{AddsQuiet, HasLoads, IsLiveWord, MayBeMade, Stands, made_of};
 
@@ -135,8 +135,11 @@ impl<'a> Carrying<'a> {
         self.edges.set(number, edge)
     }
 
-    /// Returns the word that the word of a number becomes, if that one has no edge yet.
-    fn next_of(&self, live: &Live, number: usize) -> Option<usize> {
+    /// Returns the word that a live word becomes, if that one has no edge yet.
+    fn next_of(&self, live: &Live, number: usize) -> Option<usize>
+        requires { IsLiveWord (listed live.now.values.now) live.now.marks.items number }
+        ensures { IfSome result (λ next. IsLiveWord (listed live.now.values.now) live.now.marks.items next) }
+    {
         let v = final_of(live.finals, number)?;
         match live.values.value(v) {
             Value::Carried(next) if !self.edges.has(next) => Some(next),
@@ -144,9 +147,11 @@ impl<'a> Carrying<'a> {
         }
     }
 
-    /// Returns the word of a number and those that it becomes, one after another, up to one that has an edge or comes
-    /// again.
-    fn way_from(&self, live: &Live, number: usize) -> Result<Vec<usize>, AllocError> {
+    /// Returns a live word and those that it becomes, one after another, up to one that has an edge or comes again.
+    fn way_from(&self, live: &Live, number: usize) -> Result<Vec<usize>, AllocError>
+        requires { IsLiveWord (listed live.now.values.now) live.now.marks.items number }
+        ensures { IfOk result (λ way. (i : ℕ) → i < length way.items → IsLiveWord (listed live.now.values.now) live.now.marks.items (slice_index way.items i)) }
+    {
         let mut way = vec![in self.alloc; number]?;
         let mut last = number;
         for _ in 0..live.finals.len() {
@@ -161,22 +166,37 @@ impl<'a> Carrying<'a> {
         Ok(way)
     }
 
-    /// Gives the word of a number its edge, after the words that it becomes.
+    /// Gives a live word its edge, after the words that it becomes.
     fn resolve(
         &mut self,
         emission: &mut Emission,
         live: &Live,
         number: usize,
-    ) -> Result<(), AllocError> {
+    ) -> Result<(), AllocError>
+        requires stands { Stands (listed live.now.values.now) live.now.marks.items (made_of emission.now) }
+        requires live { IsLiveWord (listed live.now.values.now) live.now.marks.items number }
+        requires loads { HasLoads (listed live.now.values.now) live.now.marks.items (made_of emission.now) (length (listed live.now.values.now)) }
+        requires edges { AreEdges (listed live.now.values.now) live.now.finals.now self.now.initial.now (made_of emission.now) self.now.edges.edges.items }
+        ensures adds { IfOk result (λ u. AddsQuiet (listed live.now.values.now) live.now.marks.items (made_of emission.old) (made_of emission.new)) }
+        ensures edges { IfOk result (λ u. AreEdges (listed live.now.values.now) live.now.finals.now self.new.initial.now (made_of emission.new) self.new.edges.edges.items) }
+        ensures same { self.new.initial.now ≡ self.old.initial.now }
+    {
         let way = self.way_from(live, number)?;
-        for number in way.iter().rev() {
-            self.settle(emission, live, *number)?;
+        for i in 0..way.len() {
+            self.settle(emission, live, way[way.len() - 1 - i])?;
         }
         Ok(())
     }
 
     /// Gives the words that were met their edges, in their order.
-    pub fn resolve_met(&mut self, emission: &mut Emission, live: &Live) -> Result<(), AllocError> {
+    pub fn resolve_met(&mut self, emission: &mut Emission, live: &Live) -> Result<(), AllocError>
+        requires stands { Stands (listed live.now.values.now) live.now.marks.items (made_of emission.now) }
+        requires loads { HasLoads (listed live.now.values.now) live.now.marks.items (made_of emission.now) (length (listed live.now.values.now)) }
+        requires edges { AreEdges (listed live.now.values.now) live.now.finals.now self.now.initial.now (made_of emission.now) self.now.edges.edges.items }
+        ensures adds { IfOk result (λ u. AddsQuiet (listed live.now.values.now) live.now.marks.items (made_of emission.old) (made_of emission.new)) }
+        ensures edges { IfOk result (λ u. AreEdges (listed live.now.values.now) live.now.finals.now self.new.initial.now (made_of emission.new) self.new.edges.edges.items) }
+        ensures same { self.new.initial.now ≡ self.old.initial.now }
+    {
         for i in 0..live.values.len() {
             if let Some(number) = emission.met_at(i) {
                 self.resolve(emission, live, number)?;
@@ -185,14 +205,41 @@ impl<'a> Carrying<'a> {
         Ok(())
     }
 
+    /// Gives the value `v` its edge, if it is a live word that is carried.
+    fn settle_value(
+        &mut self,
+        emission: &mut Emission,
+        live: &Live,
+        v: usize,
+    ) -> Result<(), AllocError>
+        requires within { v < length (listed live.now.values.now) }
+        requires stands { Stands (listed live.now.values.now) live.now.marks.items (made_of emission.now) }
+        requires loads { HasLoads (listed live.now.values.now) live.now.marks.items (made_of emission.now) (length (listed live.now.values.now)) }
+        requires edges { AreEdges (listed live.now.values.now) live.now.finals.now self.now.initial.now (made_of emission.now) self.now.edges.edges.items }
+        ensures adds { IfOk result (λ u. AddsQuiet (listed live.now.values.now) live.now.marks.items (made_of emission.old) (made_of emission.new)) }
+        ensures edges { IfOk result (λ u. AreEdges (listed live.now.values.now) live.now.finals.now self.new.initial.now (made_of emission.new) self.new.edges.edges.items) }
+        ensures kept { IfOk result (λ u. KeepsEdges self.old.edges.edges.items self.new.edges.edges.items) }
+        ensures there { IfOk result (λ u. IsSettled (listed live.now.values.now) live.now.marks.items self.new.edges.edges.items v) }
+        ensures same { self.new.initial.now ≡ self.old.initial.now }
+    {
+        match live.values.value(v) {
+            Value::Carried(number) if live.marks[v] => self.settle(emission, live, number),
+            _ => Ok(()),
+        }
+    }
+
     /// Gives each live word its edge.
-    pub fn settle_all(&mut self, emission: &mut Emission, live: &Live) -> Result<(), AllocError> {
+    pub fn settle_all(&mut self, emission: &mut Emission, live: &Live) -> Result<(), AllocError>
+        requires stands { Stands (listed live.now.values.now) live.now.marks.items (made_of emission.now) }
+        requires loads { HasLoads (listed live.now.values.now) live.now.marks.items (made_of emission.now) (length (listed live.now.values.now)) }
+        requires edges { AreEdges (listed live.now.values.now) live.now.finals.now self.now.initial.now (made_of emission.now) self.now.edges.edges.items }
+        ensures adds { IfOk result (λ u. AddsQuiet (listed live.now.values.now) live.now.marks.items (made_of emission.old) (made_of emission.new)) }
+        ensures edges { IfOk result (λ u. AreEdges (listed live.now.values.now) live.now.finals.now self.new.initial.now (made_of emission.new) self.new.edges.edges.items) }
+        ensures all { IfOk result (λ u. (v : ℕ) → v < length (listed live.now.values.now) → IsSettled (listed live.now.values.now) live.now.marks.items self.new.edges.edges.items v) }
+        ensures same { self.new.initial.now ≡ self.old.initial.now }
+    {
         for v in 0..live.values.len() {
-            if let Value::Carried(number) = live.values.value(v)
-                && live.marks[v]
-            {
-                self.settle(emission, live, number)?;
-            }
+            self.settle_value(emission, live, v)?;
         }
         Ok(())
     }

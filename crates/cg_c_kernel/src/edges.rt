@@ -18,7 +18,7 @@ pub(crate) struct Edges {
 }
 
 impl Edges {
-    ghost use Rattle.std.specs.Prelude.{◌≡◌, ℕ, ◌==◌, ◌∷◌, [], true, if◌then◌else◌, IfOk, IfSome, OnOk, Some, None};
+    ghost use Rattle.std.specs.Prelude.{◌≡◌, ℕ, ◌==◌, ◌∷◌, [], true, if◌then◌else◌, IfOk, IfSome, Some, None};
     ghost use Rattle.cg_c_kernel.specs.Edges.{IsOneMore, edge_in, has_edge};
 
     /// Returns no edges.
@@ -40,7 +40,7 @@ impl Edges {
 
     /// Gives the word of a number an edge.
     pub fn set(&mut self, number: usize, edge: Edge) -> Result<(), AllocError>
-        ensures { OnOk result ((n : ℕ) → edge_in self.new.edges.items n ≡ (if n == number then Some edge else edge_in self.old.edges.items n)) }
+        ensures { IfOk result (λ u. (n : ℕ) → edge_in self.new.edges.items n ≡ (if n == number then Some edge else edge_in self.old.edges.items n)) }
     {
         while self.edges.len() <= number {
             self.edges.push(None)?;
