@@ -12,7 +12,7 @@ use Rattle.cg_c_kernel.specs.declared.edges.Edge.{Edge}
 use Rattle.cg_c_kernel.specs.Live.{AreClosed, final_in, has_any_mark, has_mark, parts_marked}
 use Rattle.cg_c_kernel.specs.Made.{Made, Is, IsLiveWord, One, Word, Grows, HasLoads, MayBeMade, node_in}
 use Rattle.cg_c_kernel.specs.Made as made
-use Rattle.cg_c_kernel.specs.Edges.{AreEdges, Continues, IsEdge, IsEdgeAfter, IsEdgeTo, IsFinal, IsFollowed, KeepsEdges, edge_in, has_edge, is_there}
+use Rattle.cg_c_kernel.specs.Edges.{AreEdges, Continues, IsEdge, IsEdgeAfter, IsEdgeTo, IsFinal, IsFollowed, IsSettled, KeepsEdges, edge_in, has_edge, is_there}
 use Rattle.cg_c_kernel.proofs.Growing.{is_grows}
 
 -- ---- edges stay what they are
@@ -112,3 +112,15 @@ pub next_live : (old : List Value) (finals : List (Option ℕ)) (marks : List Bo
 next_live old finals marks number v next long closed live is e =
     let f = final_live old finals marks number v long closed live is in
     record { v = v; within = f.0; is = sym e; live = f.1 }
+
+-- ---- settled values
+
+has_kept : (a b : List (Option Edge)) (number : ℕ) → KeepsEdges a b → has_edge a number ≡ true → has_edge b number ≡ true
+has_kept a b number k = by (edge_in a number) (k number)
+  where
+    by : (o : Option Edge) → ((e : Edge) → o ≡ Some e → edge_in b number ≡ Some e) → is_there o ≡ true → has_edge b number ≡ true
+    by None f h = absurd (cc)
+    by (Some e) f h = ap is_there (f e refl)
+
+pub settled_kept : (old : List Value) (marks : List Bool) (a b : List (Option Edge)) (v : ℕ) → KeepsEdges a b → IsSettled old marks a v → IsSettled old marks b v
+settled_kept old marks a b v k h number is live = has_kept a b number k (h number is live)

@@ -188,6 +188,26 @@ impl<'a> Carrying<'a> {
         Ok(())
     }
 
+    /// Gives the word that was met as number `i` its edge, if so many were.
+    fn resolve_at(
+        &mut self,
+        emission: &mut Emission,
+        live: &Live,
+        i: usize,
+    ) -> Result<(), AllocError>
+        requires stands { Stands (listed live.now.values.now) live.now.marks.items (made_of emission.now) }
+        requires loads { HasLoads (listed live.now.values.now) live.now.marks.items (made_of emission.now) (length (listed live.now.values.now)) }
+        requires edges { AreEdges (listed live.now.values.now) live.now.finals.now self.now.initial.now (made_of emission.now) self.now.edges.edges.items }
+        ensures adds { IfOk result (λ u. AddsQuiet (listed live.now.values.now) live.now.marks.items (made_of emission.old) (made_of emission.new)) }
+        ensures edges { IfOk result (λ u. AreEdges (listed live.now.values.now) live.now.finals.now self.new.initial.now (made_of emission.new) self.new.edges.edges.items) }
+        ensures same { self.new.initial.now ≡ self.old.initial.now }
+    {
+        match emission.met_at(i) {
+            Some(number) => self.resolve(emission, live, number),
+            None => Ok(()),
+        }
+    }
+
     /// Gives the words that were met their edges, in their order.
     pub fn resolve_met(&mut self, emission: &mut Emission, live: &Live) -> Result<(), AllocError>
         requires stands { Stands (listed live.now.values.now) live.now.marks.items (made_of emission.now) }
@@ -198,9 +218,7 @@ impl<'a> Carrying<'a> {
         ensures same { self.new.initial.now ≡ self.old.initial.now }
     {
         for i in 0..live.values.len() {
-            if let Some(number) = emission.met_at(i) {
-                self.resolve(emission, live, number)?;
-            }
+            self.resolve_at(emission, live, i)?;
         }
         Ok(())
     }
