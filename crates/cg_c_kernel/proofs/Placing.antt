@@ -9,9 +9,9 @@ use Rattle.cg_c_values.specs.declared.value.Value.{Value}
 use Rattle.cg_c_values.specs.declared.value.Value.TheVariants as values
 use Rattle.cg_c_values.specs.Values.{IsLoad, MayStand, is_plain, value_at}
 use Rattle.cg_c_kernel.specs.Live.{AreClosed, has_mark, parts_marked}
-use Rattle.cg_c_kernel.specs.Made.{Made, Sketch, Ref, Refs, Is, OnOne, OnTwo, OnThree, Recurs, Computes, Gains, Stands, IsLeaf, IsQuiet, Grows, AddsQuiet, Adds, HasLoads, IsGrownBy, IsLiveWord, One, Carried, IsReady, IsReadyAs, MayBeMade, node_in, sketch, with_place}
+use Rattle.cg_c_kernel.specs.Made.{Made, Sketch, Ref, Refs, Is, OnOne, OnTwo, OnThree, Recurs, Computes, Gains, Stands, IsLeaf, IsQuiet, Grows, AddsNode, AddsQuiet, Adds, HasLoads, HasLoadsBelow, IsGrownBy, IsLiveWord, One, Carried, IsReady, IsReadyAs, MayBeMade, node_in, sketch, with_place}
 use Rattle.cg_c_kernel.proofs.Growing.{computes_grows, grows_twice}
-use Rattle.cg_c_kernel.proofs.Making.{adds_none, adds_twice, constant_adds}
+use Rattle.cg_c_kernel.proofs.Making.{adds_none, adds_then, adds_twice, constant_adds}
 
 -- ---- quiet nodes
 
@@ -232,3 +232,26 @@ pub placed_leaf : (old : List Value) (marks : List Bool) (s t : Made) (v m : ℕ
     Gains old marks s t m value → AddsQuiet old marks s (with_place t v m)
 placed_leaf old marks s t v m value st none may is leaf g =
     placed old marks s s t v m (adds_none old marks s s st refl refl refl) g.adds may.within none (subst (λ (z : Value). Computes old t m z) is g.computes) (leaf_quiet old t m value leaf g.computes)
+
+-- a load gets its node, the last one
+pub placed_node : (old : List Value) (marks : List Bool) (s b t : Made) (v m : ℕ) → AddsQuiet old marks s b → Adds old marks b t m → v < length old → node_in b v ≡ None → Computes old t m (value_at old v) → IsLoad (value_at old v) →
+    AddsNode old marks s (with_place t v m) m × IsLoad (value_at old v) × (node_in (with_place t v m) v ≡ Some m)
+placed_node old marks s b t v m a d l none c load =
+    let g = place_grows t v m (rw d.at none) in
+    let n = adds_then old marks s b t m a d in (
+      record {
+        stands =
+            place_stands old marks t v m (length b.nodes) d.stands l (rw d.at none) (omega (arith, d.last)) d.fresh
+            (λ w k is. (a.stands.computed w k (rw d.at at is)).1) c;
+        grows = grows_twice s t (with_place t v m) n.grows g;
+        last = n.last;
+        fresh = n.fresh;
+        quiet = n.quiet;
+      },
+      load,
+      place_at t v m (rw d.stands.long l),
+    )
+
+-- the operands of a live load may be made
+pub below_may : (old : List Value) (marks : List Bool) (s : Made) (v a : ℕ) → HasLoadsBelow old marks s v → v < length old → a < v → has_mark marks a ≡ true → MayBeMade old marks s a
+below_may old marks s v a loads within l live = record { within = omega arith; live = live; loads = λ u le. loads u (omega arith) }

@@ -226,3 +226,12 @@ IsStore old s m (Some guard) address word = OnThree old s m ops.StoreIf guard ad
 abbrev pub IsSend : List Value → Made → ℕ → Option ℕ → (port word : ℕ) → Type 0
 IsSend old s m None port word = OnOne old s m ops.Output port word
 IsSend old s m (Some guard) port word = OnTwo old s m ops.OutputIf port guard word
+
+-- the live loads before v have nodes
+abbrev pub HasLoadsBelow : List Value → List Bool → Made → (v : ℕ) → Type 0
+HasLoadsBelow old marks s v = (u : ℕ) → u < v → IsLoad (value_at old u) → has_mark marks u ≡ true → (m : ℕ) × (node_in s u ≡ Some m)
+
+-- value v, if it is a live load, has a node: it had it, or got the node m, the last one
+abbrev pub IsLoaded : List Value → List Bool → (s t : Made) → (v : ℕ) → Option ℕ → Type 0
+IsLoaded old marks s t v None = (t ≡ s) × (IsLoad (value_at old v) → has_mark marks v ≡ true → (m : ℕ) × (node_in s v ≡ Some m))
+IsLoaded old marks s t v (Some m) = AddsNode old marks s t m × IsLoad (value_at old v) × (node_in t v ≡ Some m)

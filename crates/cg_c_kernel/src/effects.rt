@@ -1,7 +1,7 @@
 //! The nodes of what a turn does beside computing.
-ghost use Rattle.std.specs.Prelude.{◌≡◌, IfOk};
+ghost use Rattle.std.specs.Prelude.{◌≡◌, ◌<◌, length, IfOk};
 ghost use Rattle.cg_c_values.specs.Listed.{listed};
-ghost use Rattle.cg_c_kernel.specs.Made.{AddsNode, IsGuardMade, IsSend, IsStore, MayBeMade, Stands, made_of};
+ghost use Rattle.cg_c_kernel.specs.Made.{AddsNode, HasLoadsBelow, IsGuardMade, IsLoaded, IsSend, IsStore, MayBeMade, Stands, made_of};
 
 use crate::acts::Act;
 use crate::emission::{Emission, Pair, Triple};
@@ -11,18 +11,25 @@ use cg_word::Op;
 use std::alloc::AllocError;
 
 /// Makes the node of the value `v` after those of its operands, if `v` is a live load without a node.
-fn load(emission: &mut Emission, live: &Live, v: usize) -> Result<Option<u32>, AllocError> {
-    if !live.marks[v] || emission.at[v].is_some() {
+fn load(emission: &mut Emission, live: &Live, v: usize) -> Result<Option<u32>, AllocError>
+    requires within { v < length (listed live.now.values.now) }
+    requires stands { Stands (listed live.now.values.now) live.now.marks.items (made_of emission.now) }
+    requires loads { HasLoadsBelow (listed live.now.values.now) live.now.marks.items (made_of emission.now) v }
+    ensures { IfOk result (λ o. IsLoaded (listed live.now.values.now) live.now.marks.items (made_of emission.old) (made_of emission.new) v o) }
+{
+    if !live.marks[v] || emission.has_node(v) {
         return Ok(None);
     }
-    let node = match live.values.value(v) {
+    match live.values.value(v) {
         Value::Loaded {
             guard: None,
             address,
             ..
         } => {
             emission.emit(live, address)?;
-            emission.one(live, Op::Load, 0, address)?
+            let m = emission.one(live, Op::Load, 0, address)?;
+            emission.place(v, m);
+            Ok(Some(m))
         }
         Value::Loaded {
             guard: Some(guard),
@@ -35,12 +42,12 @@ fn load(emission: &mut Emission, live: &Live, v: usize) -> Result<Option<u32>, A
                 first: guard,
                 second: address,
             };
-            emission.two(live, Op::LoadIf, 0, parts)?
+            let m = emission.two(live, Op::LoadIf, 0, parts)?;
+            emission.place(v, m);
+            Ok(Some(m))
         }
-        _ => return Ok(None),
-    };
-    emission.at[v] = Some(node);
-    Ok(Some(node))
+        _ => Ok(None),
+    }
 }
 
 /// Makes the node of a store of `parts`, an address and a word, after those of its operands.
