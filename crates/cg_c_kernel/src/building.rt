@@ -101,7 +101,8 @@ pub(crate) fn nodes_from(
 {
     let mut nodes = Vec::new(alloc);
     for number in 0..sketches.len() {
-        nodes.push(node_of(alloc, edges, number, sketches[number])?)?;
+        let node = node_of(alloc, edges, number, sketches[number])?;
+        nodes.push(node)?;
     }
     Ok(nodes)
 }
