@@ -3,7 +3,6 @@ ghost use Rattle.std.specs.Prelude.{◌≡◌, ◌<◌, length, IfOk};
 ghost use Rattle.cg_c_values.specs.Listed.{listed};
 ghost use Rattle.cg_c_kernel.specs.Made.{AddsNode, HasLoadsBelow, IsGuardMade, IsLoaded, IsSend, IsStore, MayBeMade, Stands, made_of};
 
-use crate::acts::Act;
 use crate::emission::{Emission, Pair, Triple};
 use crate::marked::Live;
 use cg_c_values::Value;
@@ -11,7 +10,11 @@ use cg_word::Op;
 use std::alloc::AllocError;
 
 /// Makes the node of the value `v` after those of its operands, if `v` is a live load without a node.
-fn load(emission: &mut Emission, live: &Live, v: usize) -> Result<Option<u32>, AllocError>
+pub(crate) fn load(
+    emission: &mut Emission,
+    live: &Live,
+    v: usize,
+) -> Result<Option<u32>, AllocError>
     requires within { v < length (listed live.now.values.now) }
     requires stands { Stands (listed live.now.values.now) live.now.marks.items (made_of emission.now) }
     requires loads { HasLoadsBelow (listed live.now.values.now) live.now.marks.items (made_of emission.now) v }
@@ -51,7 +54,7 @@ fn load(emission: &mut Emission, live: &Live, v: usize) -> Result<Option<u32>, A
 }
 
 /// Makes the node of a store of `parts`, an address and a word, after those of its operands.
-fn store(
+pub(crate) fn store(
     emission: &mut Emission,
     live: &Live,
     guard: Option<usize>,
@@ -85,7 +88,7 @@ fn store(
 }
 
 /// Makes the node of an output, after those of its operands.
-fn send(
+pub(crate) fn send(
     emission: &mut Emission,
     live: &Live,
     guard: Option<usize>,
@@ -112,30 +115,5 @@ fn send(
             };
             emission.two(live, Op::OutputIf, port, parts)
         }
-    }
-}
-
-/// Makes the node of an act, if it needs one, after those of its operands.
-pub(crate) fn perform(
-    emission: &mut Emission,
-    live: &Live,
-    act: Act,
-) -> Result<Option<u32>, AllocError> {
-    match act {
-        Act::Idle => Ok(None),
-        Act::Load { value, .. } => load(emission, live, value),
-        Act::Store {
-            guard,
-            address,
-            word,
-            ..
-        } => {
-            let parts = Pair {
-                first: address,
-                second: word,
-            };
-            Ok(Some(store(emission, live, guard, parts)?))
-        }
-        Act::Send { guard, port, word } => Ok(Some(send(emission, live, guard, port, word)?)),
     }
 }

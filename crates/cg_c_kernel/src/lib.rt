@@ -11,10 +11,7 @@ mod carrying;
 mod edges;
 mod effects;
 mod emission;
-mod kernel;
 mod live;
 mod marked;
 mod marks;
 mod sketch;
-
-pub use kernel::{Emitted, nodes_of};

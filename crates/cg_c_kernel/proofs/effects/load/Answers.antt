@@ -14,8 +14,8 @@ returns-in_ok-m-in-Loaded-default-default-None-default c =
     let less : MayStand c.args.v (Loaded c.in-Loaded-default-default-None-default.array c.in-Loaded-default-default-None-default.version None c.in-Loaded-default-default-None-default.address) = rw c.in-Loaded-default-default-None-default.guard-is at c.in-Loaded-default-default-None-default.ensures.may_stand in
     subst
     (λ (z : Made).
-      AddsNode (listed c.args.live.now.values.now) c.args.live.now.marks.items (made_of c.args.emission.now) z c.in_ok-m-in-Loaded-default-default-None-default.m
-      × IsLoad (value_at (listed c.args.live.now.values.now) c.args.v) × (node_in z c.args.v ≡ Some c.in_ok-m-in-Loaded-default-default-None-default.m))
+    AddsNode (listed c.args.live.now.values.now) c.args.live.now.marks.items (made_of c.args.emission.now) z c.in_ok-m-in-Loaded-default-default-None-default.m
+    × IsLoad (value_at (listed c.args.live.now.values.now) c.args.v) × (node_in z c.args.v ≡ Some c.in_ok-m-in-Loaded-default-default-None-default.m))
     (sym c.place.ensures)
     (placed_node _ _ _ _ _ c.args.v c.in_ok-m-in-Loaded-default-default-None-default.m c.in_ok-emit-in-Loaded-default-default-None-default.ensures.adds c.in_ok-m-in-Loaded-default-default-None-default.ensures.adds c.requires.within
     (c.in_ok-emit-in-Loaded-default-default-None-default.ensures.frame c.args.v less.1 ∙ c.has_node.ensures.none c.if-has_node.false)
@@ -28,8 +28,8 @@ returns-in_ok-m-in-Loaded-default-default-Some-default c =
     let less : MayStand c.args.v (Loaded c.in-Loaded-default-default-Some-default.array c.in-Loaded-default-default-Some-default.version (Some c.in-Loaded-default-default-Some-default.guard) c.in-Loaded-default-default-Some-default.address) = search rules in
     subst
     (λ (z : Made).
-      AddsNode (listed c.args.live.now.values.now) c.args.live.now.marks.items (made_of c.args.emission.now) z c.in_ok-m-in-Loaded-default-default-Some-default.m
-      × IsLoad (value_at (listed c.args.live.now.values.now) c.args.v) × (node_in z c.args.v ≡ Some c.in_ok-m-in-Loaded-default-default-Some-default.m))
+    AddsNode (listed c.args.live.now.values.now) c.args.live.now.marks.items (made_of c.args.emission.now) z c.in_ok-m-in-Loaded-default-default-Some-default.m
+    × IsLoad (value_at (listed c.args.live.now.values.now) c.args.v) × (node_in z c.args.v ≡ Some c.in_ok-m-in-Loaded-default-default-Some-default.m))
     (sym c.place-in-Loaded-default-default-Some-default.ensures)
     (placed_node _ _ _ _ _ c.args.v c.in_ok-m-in-Loaded-default-default-Some-default.m (adds_twice _ _ _ _ _ c.in_ok-emit-in-Loaded-default-default-Some-default.ensures.adds c.in_ok-emit-in-Loaded-default-default-Some-default-2.ensures.adds) c.in_ok-m-in-Loaded-default-default-Some-default.ensures.adds c.requires.within
     (c.in_ok-emit-in-Loaded-default-default-Some-default-2.ensures.frame c.args.v less.1 ∙ c.in_ok-emit-in-Loaded-default-default-Some-default.ensures.frame c.args.v less.0 ∙ c.has_node.ensures.none c.if-has_node.false)
