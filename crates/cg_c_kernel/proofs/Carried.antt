@@ -1,18 +1,16 @@
 -- Edges of words.
-use Rattle.std.proofs.Common.{◌≡◌, ◌≢◌, ◌⊎◌, ℕ, ◌<◌, ◌≤◌, ◌==◌, if◌then◌else◌, Bool, true, false, List, [], ◌∷◌, length, Option, Some, None, get_or, refl, sym, ap, ◌∙◌, subst, arith, inl, inr, ⊎_elim}
+use Rattle.std.proofs.Common.{◌≡◌, ◌≢◌, ℕ, ◌<◌, ◌≤◌, ◌==◌, if◌then◌else◌, Bool, true, false, List, length, Option, Some, None, refl, sym, ap, ◌∙◌, subst, arith, inl, inr, ⊎_elim}
 use Rattle.std.specs.Prelude.{slice_index}
 use Rattle.std.proofs.lemmas.Bool.{cases_eq, cases_lt}
 use Rattle.std.proofs.lemmas.Bool.Decides.{nat_tests}
 use Rattle.std.proofs.lemmas.List.{get_or_past}
-use Rattle.cg_word.specs.declared.op.Op.TheVariants as ops
 use Rattle.cg_c_values.specs.declared.value.Value.{Value}
 use Rattle.cg_c_values.specs.declared.value.Value.TheVariants as values
 use Rattle.cg_c_values.specs.Values.{value_at}
 use Rattle.cg_c_kernel.specs.declared.edges.Edge.{Edge}
-use Rattle.cg_c_kernel.specs.Live.{AreClosed, final_in, has_any_mark, has_mark, parts_marked}
-use Rattle.cg_c_kernel.specs.Made.{Made, Is, IsLiveWord, One, Word, Grows, HasLoads, MayBeMade, node_in}
-use Rattle.cg_c_kernel.specs.Made as made
-use Rattle.cg_c_kernel.specs.Edges.{AreEdges, Continues, IsEdge, IsEdgeAfter, IsEdgeTo, IsFinal, IsFollowed, IsSettled, KeepsEdges, edge_in, has_edge, is_there}
+use Rattle.cg_c_kernel.specs.Live.{AreClosed, final_in, has_mark}
+use Rattle.cg_c_kernel.specs.Made.{Made, IsLiveWord, Grows, HasLoads, MayBeMade}
+use Rattle.cg_c_kernel.specs.Edges.{AreEdges, Continues, IsEdge, IsFinal, IsFollowed, IsSettled, KeepsEdges, edge_in, has_edge, is_there}
 use Rattle.cg_c_kernel.proofs.Growing.{is_grows}
 
 -- ---- edges stay what they are

@@ -1,16 +1,14 @@
 -- Nodes that are added at the end.
-use Rattle.std.proofs.Common.{◌≡◌, ◌⊎◌, ℕ, suc, ◌+◌, ◌<◌, ◌≤◌, true, false, List, [], ◌∷◌, ◌++◌, length, Contains, Option, Some, None, slice_get, refl, sym, ap, ◌∙◌, subst, arith, Bool, inl, inr, length-append, ⊎_elim}
+use Rattle.std.proofs.Common.{◌≡◌, ◌⊎◌, ℕ, ◌+◌, ◌<◌, ◌≤◌, List, [], ◌∷◌, ◌++◌, length, Option, Some, None, slice_get, refl, sym, ap, ◌∙◌, subst, arith, Bool, inl, inr, length-append, ⊎_elim}
 use Rattle.std.proofs.lemmas.Option.{slice_get-get_or, get_or_from_slice_get, slice_get_within}
 use Rattle.std.proofs.lemmas.List.{get_or_append_left, get_or_push}
 use Rattle.std.proofs.lemmas.Bool.{cases_lt}
 use Rattle.cg_word.specs.declared.op.Op.{Op}
 use Rattle.cg_word.specs.declared.op.Op.TheVariants as ops
-use Rattle.cg_word.specs.Word.{is_access, is_output}
 use Rattle.cg_c_values.specs.declared.value.Value.{Value}
 use Rattle.cg_c_values.specs.declared.value.Value.TheVariants as values
 use Rattle.cg_c_values.specs.Values.{value_at}
-use Rattle.cg_c_kernel.specs.Live.{has_mark}
-use Rattle.cg_c_kernel.specs.Made.{Made, Sketch, Ref, Refs, Zero, One, Two, Three, Word, Now, Carried, Is, IsRef, IsRefOf, IsAt, OnOne, OnTwo, OnThree, Recurs, Computes, IsLiveWord, Uses, Stands, IsQuiet, Grows, IsGrownBy, GrowsByConstant, AreQuiet, AddsQuiet, Adds, IsReady, IsReadyAs, sketch, node_in}
+use Rattle.cg_c_kernel.specs.Made.{Made, Sketch, Ref, Refs, Zero, One, Word, Is, IsRef, IsRefOf, IsAt, OnOne, OnTwo, OnThree, Recurs, Computes, IsLiveWord, Uses, Stands, Grows, IsGrownBy, node_in}
 
 -- ---- lists
 

@@ -1,15 +1,13 @@
 -- Nodes of values whose operands have theirs.
-use Rattle.std.proofs.Common.{◌≡◌, ◌⊎◌, ℕ, suc, ◌+◌, ◌<◌, ◌≤◌, Bool, true, false, List, [], ◌∷◌, ◌++◌, length, Contains, Option, Some, None, slice_get, refl, sym, ap, ◌∙◌, subst, arith, inl, inr, length-append, ⊎_elim, get_or}
+use Rattle.std.proofs.Common.{◌≡◌, ◌⊎◌, ℕ, ◌<◌, ◌≤◌, Bool, List, [], ◌∷◌, ◌++◌, length, Option, Some, None, refl, sym, ap, ◌∙◌, subst, arith, inl, inr, length-append, ⊎_elim, get_or}
 use Rattle.std.proofs.lemmas.Option.{slice_get-get_or}
 use Rattle.std.proofs.lemmas.Bool.{cases_lt}
 use Rattle.cg_word.specs.declared.op.Op.{Op}
 use Rattle.cg_word.specs.declared.op.Op.TheVariants as ops
-use Rattle.cg_word.specs.Word.{is_access, is_output}
 use Rattle.cg_c_values.specs.declared.value.Value.{Value}
 use Rattle.cg_c_values.specs.declared.value.Value.TheVariants as values
 use Rattle.cg_c_values.specs.Values.{value_at}
-use Rattle.cg_c_kernel.specs.Live.{has_mark}
-use Rattle.cg_c_kernel.specs.Made.{Made, Sketch, Ref, Refs, Zero, One, Two, Three, Word, Now, Carried, Is, IsRef, IsRefOf, IsAt, OnOne, OnTwo, OnThree, Computes, IsLiveWord, Uses, Stands, IsQuiet, Grows, IsGrownBy, GrowsByConstant, AreQuiet, AddsQuiet, Adds, IsReady, IsReadyAs, AddsNode, IsPushed, sketch, node_in}
+use Rattle.cg_c_kernel.specs.Made.{Made, Sketch, Ref, Refs, One, Two, Three, Word, Carried, Is, IsRef, IsRefOf, IsAt, OnOne, OnTwo, OnThree, IsLiveWord, Uses, Stands, IsQuiet, Grows, IsGrownBy, GrowsByConstant, AddsQuiet, Adds, IsReady, IsReadyAs, AddsNode, IsPushed, sketch, node_in}
 use Rattle.cg_c_kernel.proofs.Growing.{stands_more, stands_same, same_grows, more_grows, grows_twice, ref_grows, comes, is_new, was}
 
 -- ---- quiet nodes

@@ -1,5 +1,5 @@
 -- Values that all have marks.
-use Rattle.std.proofs.Common.{◌≡◌, ℕ, ◌<◌, Bool, ◌&&◌, true, false, List, length, Option, Some, None, refl, replicate, arith}
+use Rattle.std.proofs.Common.{◌≡◌, ℕ, ◌<◌, true, false, List, length, Option, Some, None, refl, replicate, arith}
 use Rattle.std.proofs.lemmas.List.{get_or-replicate}
 use Rattle.cg_c_values.specs.declared.value.Value.{Value}
 use Rattle.cg_c_values.specs.declared.value.Value.TheVariants.{Const, Turn, Quotient, Digit, Input, Carried, Loaded, Two, Select}

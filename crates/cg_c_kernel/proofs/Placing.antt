@@ -1,5 +1,5 @@
 -- Values that get their nodes.
-use Rattle.std.proofs.Common.{Contains, ◌≡◌, ◌≢◌, ◌⊎◌, ℕ, suc, ◌+◌, ◌-◌, ◌<◌, ◌≤◌, Bool, ◌&&◌, true, false, List, [], ◌∷◌, ◌++◌, length, Option, Some, None, slice_get, set, get_or, refl, sym, ap, ◌∙◌, subst, arith, ⊎_elim, length-set, get_or-set_same, get_or-set_other}
+use Rattle.std.proofs.Common.{Contains, ◌≡◌, ◌≢◌, ◌⊎◌, ℕ, ◌+◌, ◌<◌, ◌≤◌, Bool, true, false, List, length, Option, Some, None, slice_get, get_or, refl, sym, ap, ◌∙◌, subst, arith, ⊎_elim, length-set, get_or-set_same, get_or-set_other}
 use Rattle.std.proofs.lemmas.Option.{slice_get-get_or}
 use Rattle.std.proofs.lemmas.Bool.{and_parts, cases_eq, cases_lt}
 use Rattle.cg_word.specs.declared.op.Op.{Op}
@@ -8,8 +8,8 @@ use Rattle.cg_word.specs.Word.{is_access, is_output}
 use Rattle.cg_c_values.specs.declared.value.Value.{Value}
 use Rattle.cg_c_values.specs.declared.value.Value.TheVariants as values
 use Rattle.cg_c_values.specs.Values.{IsLoad, MayStand, is_plain, value_at}
-use Rattle.cg_c_kernel.specs.Live.{AreClosed, has_mark, parts_marked}
-use Rattle.cg_c_kernel.specs.Made.{Made, Sketch, Ref, Refs, Is, OnOne, OnTwo, OnThree, Recurs, Computes, Gains, Stands, IsLeaf, IsQuiet, Grows, AddsNode, AddsQuiet, Adds, HasLoads, HasLoadsBelow, IsGrownBy, IsLiveWord, One, Carried, IsReady, IsReadyAs, MayBeMade, node_in, sketch, with_place}
+use Rattle.cg_c_kernel.specs.Live.{AreClosed, has_mark}
+use Rattle.cg_c_kernel.specs.Made.{Made, Sketch, Refs, Is, OnTwo, OnThree, Computes, Gains, Stands, IsLeaf, IsQuiet, Grows, AddsNode, AddsQuiet, Adds, HasLoadsBelow, IsGrownBy, IsLiveWord, One, Carried, IsReady, IsReadyAs, MayBeMade, node_in, sketch, with_place}
 use Rattle.cg_c_kernel.proofs.Growing.{computes_grows, grows_twice}
 use Rattle.cg_c_kernel.proofs.Making.{adds_none, adds_then, adds_twice, constant_adds}
 

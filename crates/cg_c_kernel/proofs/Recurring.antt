@@ -1,11 +1,11 @@
 -- The nodes of values that are computed from no others.
-use Rattle.std.proofs.Common.{◌≡◌, ◌⊎◌, ℕ, suc, ◌+◌, ◌-◌, ◌<◌, ◌≤◌, Bool, true, false, List, [], ◌∷◌, ◌++◌, length, refl, sym, ap, ◌∙◌, subst, arith, length-append, ⊎_elim}
+use Rattle.std.proofs.Common.{◌≡◌, ℕ, ◌+◌, ◌-◌, Bool, List, length, refl, sym, ap, ◌∙◌, subst, arith, length-append, ⊎_elim}
 use Rattle.cg_word.specs.declared.op.Op.{Op}
 use Rattle.cg_word.specs.declared.op.Op.TheVariants as ops
 use Rattle.cg_word.specs.Word.{words, apply_of}
 use Rattle.cg_c_values.specs.declared.value.Value.{Value}
 use Rattle.cg_c_values.specs.declared.value.Value.TheVariants as values
-use Rattle.cg_c_kernel.specs.Made.{Made, Sketch, Ref, Refs, Zero, One, Two, Three, Word, Now, Carried, Rotation, Remainder, Quotient, Is, Recurs, Computes, Gains, IsLiveWord, Uses, Stands, IsQuiet, Grows, AddsQuiet, Adds, IsPushed, sketch}
+use Rattle.cg_c_kernel.specs.Made.{Made, Sketch, Ref, Refs, Zero, One, Two, Three, Word, Now, Carried, Rotation, Remainder, Quotient, Is, Computes, Gains, IsLiveWord, Uses, Stands, IsQuiet, AddsQuiet, IsPushed, sketch}
 use Rattle.cg_c_kernel.proofs.Growing.{grows_twice, is_grows}
 use Rattle.cg_c_kernel.proofs.Making.{adds_none, adds_one, adds_twice, pushed_adds, pushed_is, pushed_grows}
 

@@ -1,4 +1,4 @@
-use Rattle.std.proofs.Common.{◌≡◌, ℕ, ◌<◌, length}
+use Rattle.std.proofs.Common.{ℕ, ◌<◌, length}
 use Rattle.std.specs.Prelude.{slice_index}
 use Rattle.cg_c_values.specs.Listed.{listed}
 use Rattle.cg_c_kernel.specs.Made.{IsLiveWord}
