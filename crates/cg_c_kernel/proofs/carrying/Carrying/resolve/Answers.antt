@@ -1,0 +1,6 @@
+use Rattle.cg_c_kernel.proofs.Making.{adds_twice}
+use Rattle.cg_c_kernel.proofs.carrying.Carrying.resolve.Goals as goal
+
+pub loop-i-preserved : goal.loop-i-preserved
+loop-i-preserved c =
+    record { adds = adds_twice _ _ _ _ _ c.loop-i.invariant.adds c.in_ok-settle.ensures.adds; edges = c.in_ok-settle.ensures.edges; same = cc }

@@ -1,0 +1,4 @@
+pub mod Built
+pub mod Edges
+pub mod Live
+pub mod Made
