@@ -2,7 +2,7 @@
 
 /// What becomes of an effect. What it uses are new values, by their numbers.
 #[derive(Clone, Copy, Debug, PartialEq, Eq)]
-pub(crate) enum Act {
+pub enum Act {
     /// A store or an output that never acts.
     Idle,
     /// Loads a value, if that is a load still, from an array.

@@ -92,7 +92,7 @@ fn node_of(alloc: Global, edges: &Edges, number: usize, sketch: Sketch) -> Resul
 }
 
 /// Returns the nodes of the kernel, where carried words have these edges.
-pub(crate) fn nodes_from(
+pub fn nodes_from(
     alloc: Global,
     edges: &Edges,
     sketches: &[Sketch],

@@ -10,7 +10,7 @@ use std::alloc::{AllocError, Global};
 
 /// The initial words of words, by their numbers, and their edges so far.
 #[derive(Drop)]
-pub(crate) struct Carrying<'a> {
+pub struct Carrying<'a> {
     alloc: Global,
     initial: &'a [u32],
     pub edges: Edges,

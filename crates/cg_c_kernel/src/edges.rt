@@ -5,14 +5,14 @@ use std::alloc::{AllocError, Global};
 /// The edge of a word: it is what was the value of node `from` some turns ago, one for each of `words`, which it is in the
 /// first turns.
 #[derive(Drop)]
-pub(crate) struct Edge {
+pub struct Edge {
     pub from: u32,
     pub words: Vec<u32>,
 }
 
 /// The edges of words, by their numbers.
 #[derive(Drop)]
-pub(crate) struct Edges {
+pub struct Edges {
     alloc: Global,
     pub edges: Vec<Option<Edge>>,
 }

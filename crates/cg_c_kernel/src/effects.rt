@@ -10,11 +10,7 @@ use cg_word::Op;
 use std::alloc::AllocError;
 
 /// Makes the node of the value `v` after those of its operands, if `v` is a live load without a node.
-pub(crate) fn load(
-    emission: &mut Emission,
-    live: &Live,
-    v: usize,
-) -> Result<Option<u32>, AllocError>
+pub fn load(emission: &mut Emission, live: &Live, v: usize) -> Result<Option<u32>, AllocError>
     requires within { v < length (listed live.now.values.now) }
     requires stands { Stands (listed live.now.values.now) live.now.marks.items (made_of emission.now) }
     requires loads { HasLoadsBelow (listed live.now.values.now) live.now.marks.items (made_of emission.now) v }
@@ -54,7 +50,7 @@ pub(crate) fn load(
 }
 
 /// Makes the node of a store of `parts`, an address and a word, after those of its operands.
-pub(crate) fn store(
+pub fn store(
     emission: &mut Emission,
     live: &Live,
     guard: Option<usize>,
@@ -88,7 +84,7 @@ pub(crate) fn store(
 }
 
 /// Makes the node of an output, after those of its operands.
-pub(crate) fn send(
+pub fn send(
     emission: &mut Emission,
     live: &Live,
     guard: Option<usize>,

@@ -13,7 +13,7 @@ use std::alloc::{AllocError, Global};
 /// The nodes so far, the node of each value that has one, and the words that nodes need as they were when the turn began,
 /// in the order in which they were met.
 #[derive(Drop)]
-pub(crate) struct Emission {
+pub struct Emission {
     pub nodes: Vec<Sketch>,
     pub at: Vec<Option<u32>>,
     pub met: Vec<usize>,
@@ -21,14 +21,14 @@ pub(crate) struct Emission {
 
 /// Two values, by their numbers.
 #[derive(Clone, Copy, Debug, PartialEq, Eq)]
-pub(crate) struct Pair {
+pub struct Pair {
     pub first: usize,
     pub second: usize,
 }
 
 /// Three values, by their numbers.
 #[derive(Clone, Copy, Debug, PartialEq, Eq)]
-pub(crate) struct Triple {
+pub struct Triple {
     pub first: usize,
     pub second: usize,
     pub third: usize,

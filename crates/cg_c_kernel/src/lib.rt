@@ -1,4 +1,4 @@
-//! The nodes of a kernel, made from the draft of a turn of a loop nest in C.
+//! The parts of which the nodes of a kernel are made from the draft of a turn of a loop nest in C.
 //!
 //! The values of the turn are made again in the forms that nodes compute, and those that no store and no output needs get
 //! no node. The others get theirs in the order in which the effects of the turn need them; at last each word that is
@@ -15,3 +15,13 @@ mod live;
 mod marked;
 mod marks;
 mod sketch;
+
+pub use acts::Act;
+pub use building::nodes_from;
+pub use carrying::Carrying;
+pub use edges::{Edge, Edges};
+pub use effects::{load, send, store};
+pub use emission::Emission;
+pub use live::live_of;
+pub use marked::Live;
+pub use sketch::{Ref, Refs, Sketch};

@@ -80,7 +80,7 @@ fn live_marks(
 }
 
 /// Returns the values with marks of those that the acts need.
-pub(crate) fn live_of<'a>(
+pub fn live_of<'a>(
     alloc: Global,
     values: &'a Values,
     finals: &'a [Option<usize>],

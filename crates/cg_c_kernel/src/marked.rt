@@ -7,7 +7,7 @@ use cg_c_values::Values;
 
 /// The values of a turn, the final value of each word that is assigned, and marks of the live values.
 #[derive(Drop)]
-pub(crate) struct Live<'a> {
+pub struct Live<'a> {
     pub values: &'a Values,
     pub finals: &'a [Option<usize>],
     pub marks: Vec<bool>,

@@ -6,14 +6,14 @@ use crate::acts::Act;
 use cg_c_values::Value;
 
 /// Returns whether the value `v` has a mark.
-pub(crate) fn is_marked(marks: &[bool], v: usize) -> bool
+pub fn is_marked(marks: &[bool], v: usize) -> bool
     ensures { result ≡ has_mark marks.now v }
 {
     v < marks.len() && marks[v]
 }
 
 /// Returns whether the value `v`, if there is one, has a mark.
-pub(crate) fn is_none_or_marked(marks: &[bool], v: Option<usize>) -> bool
+pub fn is_none_or_marked(marks: &[bool], v: Option<usize>) -> bool
     ensures { result ≡ has_any_mark marks.now v }
 {
     match v {
@@ -23,7 +23,7 @@ pub(crate) fn is_none_or_marked(marks: &[bool], v: Option<usize>) -> bool
 }
 
 /// Returns the value of word `number` when the turn ends, if it was assigned.
-pub(crate) fn final_of(finals: &[Option<usize>], number: usize) -> Option<usize>
+pub fn final_of(finals: &[Option<usize>], number: usize) -> Option<usize>
     ensures { result ≡ final_in finals.now number }
 {
     if number < finals.len() {
@@ -34,7 +34,7 @@ pub(crate) fn final_of(finals: &[Option<usize>], number: usize) -> Option<usize>
 }
 
 /// Returns whether all that `value` needs has marks: its operands or, for a word that is carried, its final value.
-pub(crate) fn are_parts_marked(marks: &[bool], finals: &[Option<usize>], value: Value) -> bool
+pub fn are_parts_marked(marks: &[bool], finals: &[Option<usize>], value: Value) -> bool
     ensures { result ≡ parts_marked marks.now finals.now value }
 {
     match value {
@@ -53,7 +53,7 @@ pub(crate) fn are_parts_marked(marks: &[bool], finals: &[Option<usize>], value: 
 }
 
 /// Returns whether all that `act` needs has marks.
-pub(crate) fn are_needs_marked(marks: &[bool], act: Act) -> bool
+pub fn are_needs_marked(marks: &[bool], act: Act) -> bool
     ensures { result ≡ needs_marked marks.now act }
 {
     match act {
@@ -83,7 +83,7 @@ fn mark_any(marks: &mut [bool], v: Option<usize>) {
 }
 
 /// Marks what `value` needs.
-pub(crate) fn mark_parts(marks: &mut [bool], finals: &[Option<usize>], value: Value) {
+pub fn mark_parts(marks: &mut [bool], finals: &[Option<usize>], value: Value) {
     match value {
         Value::Carried(number) => mark_any(marks, final_of(finals, number)),
         Value::Loaded { guard, address, .. } => {
@@ -108,7 +108,7 @@ pub(crate) fn mark_parts(marks: &mut [bool], finals: &[Option<usize>], value: Va
 }
 
 /// Marks what `act` needs.
-pub(crate) fn mark_needs(marks: &mut [bool], act: Act) {
+pub fn mark_needs(marks: &mut [bool], act: Act) {
     match act {
         Act::Store {
             guard,

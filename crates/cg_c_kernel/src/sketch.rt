@@ -3,7 +3,7 @@ use cg_word::Op;
 
 /// An operand of a node that was made.
 #[derive(Clone, Copy, Debug, PartialEq, Eq)]
-pub(crate) enum Ref {
+pub enum Ref {
     /// A constant.
     Word(u32),
     /// The value of a node in the same turn.
@@ -20,7 +20,7 @@ pub(crate) enum Ref {
 
 /// The operands of a node that was made.
 #[derive(Clone, Copy, Debug, PartialEq, Eq)]
-pub(crate) enum Refs {
+pub enum Refs {
     Zero,
     One(Ref),
     Two(Ref, Ref),
@@ -29,7 +29,7 @@ pub(crate) enum Refs {
 
 /// A node that was made.
 #[derive(Clone, Copy, Debug, PartialEq, Eq)]
-pub(crate) struct Sketch {
+pub struct Sketch {
     pub op: Op,
     pub port: u32,
     pub operands: Refs,
